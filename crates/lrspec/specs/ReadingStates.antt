@@ -1,0 +1,68 @@
+use Rattle.std.specs.Prelude.{ℕ, Bool, true, false, cond, List, [], ◌∷◌, Option, None, Some}
+use Rattle.lrspec.specs.TextItems.{TextItem, Name, Quoted, StartWord, TokenWord, KindWord, Separator, Colon, Bar, Semicolon, Placed}
+
+-- a place between two items of a document. The flag says whether `%start` came
+pub data ReadingState : Type 0 where
+  -- at a declaration or the first `%%`
+  AtDeclaration : Bool → ReadingState
+  -- behind `%start`
+  WantsStart : ReadingState
+  -- behind the word of a line of tokens, and behind a name of it
+  WantsName InLine : Bool → ReadingState
+  -- at a rule, the second `%%` or the end
+  AtRule : ReadingState
+  -- behind the name of a rule, and in its bodies
+  WantsColon InBody : ReadingState
+  -- behind the second `%%`
+  Behind : ReadingState
+
+-- before the first item
+abbrev pub first_state : ReadingState
+first_state = AtDeclaration false
+
+-- a document may end there
+abbrev pub may_end : ReadingState → Bool
+may_end AtRule = true
+may_end Behind = true
+may_end _ = false
+
+-- a declaration or the first `%%` begins with the item
+abbrev pub declare : Bool → TextItem → Option ReadingState
+declare seen StartWord = cond seen None (Some WantsStart)
+declare seen TokenWord = Some (WantsName seen)
+declare seen (KindWord k) = Some (WantsName seen)
+declare seen Separator = Some AtRule
+declare seen _ = None
+
+-- the place behind the item, if it may come
+abbrev pub next_state : ReadingState → TextItem → Option ReadingState
+next_state (AtDeclaration seen) i = declare seen i
+next_state WantsStart (Name w) = Some (AtDeclaration true)
+next_state WantsStart _ = None
+next_state (WantsName seen) (Name w) = Some (InLine seen)
+next_state (WantsName seen) (Quoted w) = Some (InLine seen)
+next_state (WantsName seen) _ = None
+next_state (InLine seen) (Name w) = Some (InLine seen)
+next_state (InLine seen) (Quoted w) = Some (InLine seen)
+next_state (InLine seen) i = declare seen i
+next_state AtRule (Name w) = Some WantsColon
+next_state AtRule Separator = Some Behind
+next_state AtRule _ = None
+next_state WantsColon Colon = Some InBody
+next_state WantsColon _ = None
+next_state InBody (Name w) = Some InBody
+next_state InBody (Quoted w) = Some InBody
+next_state InBody Bar = Some InBody
+next_state InBody Semicolon = Some AtRule
+next_state InBody _ = None
+next_state Behind i = Some Behind
+
+-- the place behind all the items
+abbrev pub state_behind : ReadingState → List TextItem → Option ReadingState
+state_behind s [] = Some s
+state_behind s (i ∷ is) = elim (next_state s i) [ None ↦ None | Some t ↦ state_behind t is ]
+
+-- the place of the first item that may not come, or `end` if the items end too early
+abbrev pub error_place : ℕ → ReadingState → List Placed → Option ℕ
+error_place end s [] = cond (may_end s) None (Some end)
+error_place end s (p ∷ ps) = elim (next_state s p.item) [ None ↦ Some p.place | Some t ↦ error_place end t ps ]
