@@ -1,0 +1,13 @@
+use Rattle.std.proofs.Common.{◌≡◌, rules}
+use Rattle.std.specs.Prelude.{codes}
+use Rattle.std.specs.String.{string_bytes}
+use Rattle.lrgrammar.proofs.MappedFacts.{any_image, no_image, true_if, false_if, Contains-from_any, any_from_Contains}
+use Rattle.lrgrammar.proofs.grammar.causes.reserved_name.Goals as goal
+
+pub returns-then-eq : goal.returns-then-eq
+returns-then-eq c =
+    true_if (Contains-from_any _ _ (any_image string_bytes (λ n. n ≡ codes "^") c.args.parts.now.rules.items _ _ c.name-item.result c.deref-name-items.ensures.value c.loop-name-test.true c.name-item.is (search rules)))
+
+pub returns : goal.returns
+returns c =
+    false_if (λ h. no_image string_bytes (λ n. n ≡ codes "^") c.args.parts.now.rules.items _ _ c.deref-name-items.ensures.value c.loop-name-test.false c.loop-name.invariant (any_from_Contains _ _ h))

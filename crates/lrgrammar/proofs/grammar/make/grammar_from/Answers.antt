@@ -1,0 +1,54 @@
+use Rattle.std.proofs.Common.{◌≡◌, ◌≤◌, ◌+◌, length, map, sym, ap, ◌∙◌, subst, arith, rules}
+use Rattle.std.specs.BTreeMap.{get_by_text}
+use Rattle.std.specs.String.{string_bytes}
+use Rattle.std.proofs.lemmas.List.{length-map}
+use Rattle.lrspec.specs.Grammar.{IsGrammar}
+use Rattle.lrspec.specs.Parts.{HasDouble, grammar_of_parts}
+use Rattle.lrspec.proofs.PartsFacts.{grammar_from_parts, length-productions}
+use Rattle.lrgrammar.specs.Places.{Seen}
+use Rattle.lrgrammar.specs.Sizes.{IsWithin}
+use Rattle.lrgrammar.specs.StoredParts.{parts_of, part_production_of}
+use Rattle.lrgrammar.specs.Stored.{production_of}
+use Rattle.lrgrammar.proofs.MadeFacts.{small_from_no_cause, no_double_rule, no_double_token, sizes_from_no_cause, rules_within, same_grammar, room}
+use Rattle.lrgrammar.proofs.ListFacts.{lists_along}
+use Rattle.lrgrammar.proofs.grammar.make.grammar_from.Goals as goal
+
+pub productions-requires : goal.productions-requires
+productions-requires g c = small_from_no_cause g.T.IndexStorage.MAX c.args.parts.now c.requires
+
+pub unwrap-requires : goal.unwrap-requires
+unwrap-requires g c =
+    let few : length c.args.parts.now.prods.items + 1 ≤ g.T.IndexStorage.MAX = room g.T.IndexStorage.MAX c.args.parts.now c.requires in
+    search rules
+
+pub production_lists-requires-clause-few : goal.production_lists-requires-clause-few
+production_lists-requires-clause-few g c =
+    omega (arith, ap length c.deref.ensures.value, ap length c.in_ok-prods.ensures, length-map c.in_ok-prods.prods.items (production_of g.T.IndexStorage.number), length-productions (parts_of c.args.parts.now), length-map c.args.parts.now.prods.items part_production_of, room g.T.IndexStorage.MAX c.args.parts.now c.requires)
+
+pub production_lists-requires-clause-within : goal.production_lists-requires-clause-within
+production_lists-requires-clause-within g c =
+    let ps = parts_of c.args.parts.now in
+    rules_within (production_of g.T.IndexStorage.number) (grammar_of_parts ps) c.in_ok-prods.prods.items c.deref.result.now c.len-2.result (grammar_from_parts g.T.IndexStorage.MAX ps c.requires) c.in_ok-prods.ensures c.deref.ensures.value
+    (omega (arith, ap length c.in_ok-rule_names.ensures, length-map c.in_ok-rule_names.rule_names.items string_bytes, c.in_ok-rule_names.rule_names.ok.0))
+
+pub places-requires : goal.places-requires
+places-requires g c = λ h.
+    no_double_rule g.T.IndexStorage.MAX (parts_of c.args.parts.now) c.requires (subst HasDouble (ap (map string_bytes) c.deref-2.ensures.value ∙ c.in_ok-rule_names.ensures) h)
+
+pub places-requires-2 : goal.places-requires-2
+places-requires-2 g c = λ h.
+    no_double_token g.T.IndexStorage.MAX (parts_of c.args.parts.now) c.requires (subst HasDouble (ap (map string_bytes) c.deref-3.ensures.value ∙ c.in_ok-token_names.ensures) h)
+
+pub invariant_of-result : goal.invariant_of-result
+invariant_of-result g c =
+    let ps = parts_of c.args.parts.now in
+    let numbered : g.T.IndexStorage.number c.unwrap.result ≡ c.len.result = search rules in
+    let same = same_grammar (grammar_of_parts ps) _ _ _ _ (g.T.IndexStorage.number c.unwrap.result) c.in_ok-rule_names.ensures c.in_ok-token_names.ensures c.in_ok-token_precedences.ensures c.in_ok-prods.ensures
+    (omega (arith, numbered, length-map c.args.parts.now.prods.items part_production_of, c.args.parts.now.prods.ok.0)) in
+    record {
+      shape = subst IsGrammar (sym same) (grammar_from_parts g.T.IndexStorage.MAX ps c.requires);
+      sizes = subst (IsWithin g.T.IndexStorage.MAX) (sym same) (sizes_from_no_cause g.T.IndexStorage.MAX ps (omega (arith, g.met.T.IndexStorage.least)) c.requires);
+      lists = lists_along g.T.IndexStorage.number (production_of g.T.IndexStorage.number) c.in_ok-prods.prods.items c.deref.result.now c.len-2.result (length c.in_ok-rule_names.rule_names.items) c.in_ok-rule_prods.rule_prods.items c.deref.ensures.value (c.len-2.ensures ∙ c.in_ok-rule_names.rule_names.ok.0) c.in_ok-rule_prods.ensures;
+      rules = subst (λ xs. Seen (get_by_text c.in_ok-rule_places.rule_places) (map string_bytes xs) (length xs)) c.deref-2.ensures.value c.in_ok-rule_places.ensures;
+      tokens = subst (λ xs. Seen (get_by_text c.in_ok-token_places.token_places) (map string_bytes xs) (length xs)) c.deref-3.ensures.value c.in_ok-token_places.ensures;
+    }

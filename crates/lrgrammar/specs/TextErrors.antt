@@ -1,0 +1,38 @@
+use Rattle.std.specs.Prelude.{◌≡◌, ◌≢◌, ℕ, List}
+use Rattle.std.specs.String.{string_bytes}
+use Rattle.lrgrammar.specs.declared.grammar.parts.GrammarError.{GrammarError}
+use Rattle.lrgrammar.specs.declared.grammar.parts.GrammarError.TheVariants as error
+use Rattle.lrgrammar.specs.declared.grammar.TextError.{TextError}
+use Rattle.lrgrammar.specs.declared.grammar.TextError.TheVariants as text_error
+use Rattle.lrspec.specs.Grammar.{Grammar}
+use Rattle.lrspec.specs.Parts.{Parts, grammar_of_parts, NoCause}
+use Rattle.lrspec.specs.Meaning as meaning
+use Rattle.lrspec.specs.Meaning.{IsRefused, Means}
+use Rattle.lrgrammar.specs.Refusals.{IsRefusedBy}
+
+-- the same error of a text; want of memory has one of its own
+abbrev pub text_error_of : GrammarError → TextError
+text_error_of error.Memory = text_error.Memory
+text_error_of e = text_error.Grammar e
+
+-- the text means parts against which nothing stands, and the grammar is theirs
+pub record IsGrammarOf (most : ℕ) (text : List ℕ) (g : Grammar) : Type 0 where
+  pub parts : Parts
+  pub means : Means text parts
+  pub free : NoCause most parts
+  pub grammar : g ≡ grammar_of_parts parts
+
+-- the text means parts that are refused so, and not for want of memory
+pub record IsGrammarRefusal (most : ℕ) (text : List ℕ) (e : GrammarError) : Type 0 where
+  pub parts : Parts
+  pub means : Means text parts
+  pub refused : IsRefusedBy most parts e
+  pub not_memory : e ≢ error.Memory
+
+-- why the text gives no grammar
+abbrev pub IsTextError : ℕ → List ℕ → TextError → Type 0
+IsTextError most text (text_error.Syntax n) = IsRefused text (meaning.TextRefusal.Syntax n)
+IsTextError most text (text_error.UnknownSymbol w) = IsRefused text (meaning.TextRefusal.UnknownSymbol (string_bytes w))
+IsTextError most text (text_error.DuplicatePrecedence w) = IsRefused text (meaning.TextRefusal.DuplicatePrecedence (string_bytes w))
+IsTextError most text (text_error.Grammar e) = IsGrammarRefusal most text e
+IsTextError most text text_error.Memory = Unit {0}

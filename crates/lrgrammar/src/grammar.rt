@@ -1,0 +1,247 @@
+//! Grammars.
+
+ghost use Rattle.std.specs.Prelude.{◌≡◌, ℕ, ◌+◌, ◌<◌, ◌≤◌, Bool, List, length, map, slice_get, option_map, Some, Contains, MatchOption};
+ghost use Rattle.std.specs.List.{range_with_len};
+ghost use Rattle.lrspec.specs.Parts.{HasDouble};
+ghost use Rattle.lrspec.specs.Grammar as math;
+ghost use Rattle.lrgrammar.specs.Symbols.{symbol_of};
+ghost use Rattle.lrgrammar.specs.Sizes.{IsWithin};
+
+mod causes;
+mod doubles;
+mod lists;
+mod make;
+mod parts;
+mod precedences;
+mod texts;
+mod tidxs;
+
+use crate::idx::{IndexStorage, PIdx, RIdx, SIdx, Symbol, TIdx};
+pub use parts::{
+    AssocKind, GrammarError, GrammarParts, PartProd, PartSymbol, PartToken, Precedence,
+};
+use std::alloc::{AllocError, AllocFailed, Global};
+use std::collections::BTreeMap;
+use std::marker::Model;
+use thiserror::Error;
+pub use tidxs::TIdxIterator;
+
+/// Why there is no grammar of a text. Of several causes the first in this order is told, and of several of one kind the
+/// first in the text.
+#[derive(PartialEq, Debug, Drop, Error)]
+pub enum TextError {
+    /// The text is no document: the byte offset of the first item that fits nowhere, or the text's length.
+    #[error("syntax error at byte {0}")]
+    Syntax(usize),
+    /// Nothing defines the name.
+    #[error("unknown symbol {0}")]
+    UnknownSymbol(String),
+    /// The token is named twice in precedence lines.
+    #[error("token {0} has two precedences")]
+    DuplicatePrecedence(String),
+    /// The parts of the grammar are refused; never for want of memory.
+    #[error(transparent)]
+    Grammar(GrammarError),
+    /// A growth was refused.
+    #[error("out of memory")]
+    Memory,
+}
+
+impl From<AllocError> for TextError {
+    ghost use Rattle.lrgrammar.specs.declared.grammar.TextError.TheVariants as text_error;
+
+    ghost from_gives = { λ _ e. e ≡ text_error.Memory };
+
+    fn from(_refused: AllocError) -> TextError {
+        TextError::Memory
+    }
+}
+
+impl<T: Drop> From<AllocFailed<T>> for TextError {
+    ghost use Rattle.lrgrammar.specs.declared.grammar.TextError.TheVariants as text_error;
+
+    ghost from_gives = { λ _ e. e ≡ text_error.Memory };
+
+    fn from(_refused: AllocFailed<T>) -> TextError {
+        TextError::Memory
+    }
+}
+
+impl From<GrammarError> for TextError {
+    ghost use Rattle.lrgrammar.specs.TextErrors.{text_error_of};
+
+    ghost from_gives = { λ error e. e ≡ text_error_of error };
+
+    fn from(error: GrammarError) -> TextError {
+        match error {
+            GrammarError::Memory => TextError::Memory,
+            error => TextError::Grammar(error),
+        }
+    }
+}
+
+/// A production: its rule and its body.
+#[derive(Drop)]
+struct Production<T> {
+    rule: RIdx<T>,
+    body: Vec<Symbol<T>>,
+}
+
+/// A grammar.
+#[derive(Drop)]
+pub struct YaccGrammar<T: IndexStorage> {
+    rule_names: Vec<String>,
+    token_names: Vec<String>,
+    token_precedences: Vec<Option<Precedence>>,
+    prods: Vec<Production<T>>,
+    start: PIdx<T>,
+    rule_prods: Vec<Vec<PIdx<T>>>,
+    rule_places: BTreeMap<String, usize>,
+    token_places: BTreeMap<String, usize>,
+}
+
+impl<T: IndexStorage> Model for YaccGrammar<T> {
+    ghost use Rattle.std.specs.Prelude.{◌≡◌};
+    ghost use Rattle.lrspec.specs.Grammar.{Grammar};
+
+    ghost Value = { Grammar };
+
+    ghost use Rattle.lrgrammar.specs.Stored.{grammar_of, IsStored};
+
+    ghost view = { grammar_of T.number };
+
+    ghost invariant = { IsStored T.number T.MAX };
+}
+
+impl<T: IndexStorage> YaccGrammar<T> {
+    /// The memory in which the grammar lies, for what is made beside it.
+    pub fn allocator(&self) -> Global {
+        *self.prods.allocator()
+    }
+
+    /// The number of rules, `^` among them.
+    pub fn rules_len(&self) -> RIdx<T>
+        ensures value { T.number result.0 ≡ length self.now.rule_names }
+        ensures shape { math.IsGrammar self.now }
+        ensures sizes { IsWithin T.MAX self.now }
+    {
+        RIdx(T::from_usize(self.rule_names.len()).unwrap())
+    }
+
+    /// The number of tokens, the end token among them.
+    pub fn tokens_len(&self) -> TIdx<T>
+        ensures value { T.number result.0 ≡ math.token_count self.now }
+        ensures shape { math.IsGrammar self.now }
+        ensures sizes { IsWithin T.MAX self.now }
+    {
+        TIdx(T::from_usize(self.token_names.len() + 1).unwrap())
+    }
+
+    /// The number of productions, the start production among them.
+    pub fn prods_len(&self) -> PIdx<T>
+        ensures value { T.number result.0 ≡ length self.now.productions }
+        ensures shape { math.IsGrammar self.now }
+        ensures sizes { IsWithin T.MAX self.now }
+    {
+        PIdx(T::from_usize(self.prods.len()).unwrap())
+    }
+
+    /// The body of a production.
+    pub fn prod(&self, pidx: PIdx<T>) -> &[Symbol<T>]
+        requires { T.number pidx.0 < length self.now.productions }
+        ensures body { map (symbol_of T.number) result.now ≡ math.body_of self.now (T.number pidx.0) }
+        ensures shape { math.IsGrammar self.now }
+        ensures sizes { IsWithin T.MAX self.now }
+    {
+        self.prods[pidx.0.to_usize()].body.as_slice()
+    }
+
+    /// The number of symbols in the body of a production.
+    pub fn prod_len(&self, pidx: PIdx<T>) -> SIdx<T>
+        requires { T.number pidx.0 < length self.now.productions }
+        ensures { T.number result.0 ≡ length (math.body_of self.now (T.number pidx.0)) }
+    {
+        SIdx(T::from_usize(self.prod(pidx).len()).unwrap())
+    }
+
+    /// The rule of a production.
+    pub fn prod_to_rule(&self, pidx: PIdx<T>) -> RIdx<T>
+        requires { T.number pidx.0 < length self.now.productions }
+        ensures rule { math.IsProductionOf self.now (T.number pidx.0) (T.number result.0) }
+        ensures shape { math.IsGrammar self.now }
+    {
+        self.prods[pidx.0.to_usize()].rule
+    }
+
+    /// The productions of a rule, upwards; of rule 0 the start production alone.
+    pub fn rule_to_prods(&self, ridx: RIdx<T>) -> &[PIdx<T>]
+        requires { T.number ridx.0 < length self.now.rule_names }
+        ensures prods { map (λ p. T.number p.0) result.now ≡ math.productions_of self.now (T.number ridx.0) }
+        ensures shape { math.IsGrammar self.now }
+        ensures sizes { IsWithin T.MAX self.now }
+    {
+        self.rule_prods[ridx.0.to_usize()].as_slice()
+    }
+
+    /// The start production.
+    pub fn start_prod(&self) -> PIdx<T>
+        ensures { T.number result.0 ≡ self.now.start_production }
+    {
+        self.start
+    }
+
+    /// The end token, which comes last and has no name.
+    pub fn eof_token_idx(&self) -> TIdx<T>
+        ensures { T.number result.0 ≡ math.end_token self.now }
+    {
+        TIdx(T::from_usize(self.token_names.len()).unwrap())
+    }
+
+    /// The name of a rule.
+    pub fn rule_name_str(&self, ridx: RIdx<T>) -> &str
+        requires { T.number ridx.0 < length self.now.rule_names }
+        ensures { Some result.now ≡ slice_get self.now.rule_names (T.number ridx.0) }
+    {
+        self.rule_names[ridx.0.to_usize()].as_str()
+    }
+
+    /// The name of a token; None for the end token.
+    pub fn token_name(&self, tidx: TIdx<T>) -> Option<&str>
+        requires { T.number tidx.0 < math.token_count self.now }
+        ensures { option_map (λ s. s.now) result ≡ slice_get self.now.token_names (T.number tidx.0) }
+    {
+        match self.token_names.get(tidx.0.to_usize()) {
+            Some(name) => Some(name.as_str()),
+            None => None,
+        }
+    }
+
+    /// The rule of a name; None where there is none.
+    pub fn rule_idx(&self, name: &str) -> Option<RIdx<T>>
+        ensures place { MatchOption result (¬ (Contains self.now.rule_names name.now)) (λ r. slice_get self.now.rule_names (T.number r.0) ≡ Some name.now) }
+        ensures apart { ¬ (HasDouble self.now.rule_names) }
+    {
+        match self.rule_places.get(name) {
+            Some(place) => Some(RIdx(T::from_usize(*place).unwrap())),
+            None => None,
+        }
+    }
+
+    /// The token of a name; None where there is none. A rule and a token may share a name.
+    pub fn token_idx(&self, name: &str) -> Option<TIdx<T>>
+        ensures place { MatchOption result (¬ (Contains self.now.token_names name.now)) (λ t. slice_get self.now.token_names (T.number t.0) ≡ Some name.now) }
+        ensures apart { ¬ (HasDouble self.now.token_names) }
+    {
+        match self.token_places.get(name) {
+            Some(place) => Some(TIdx(T::from_usize(*place).unwrap())),
+            None => None,
+        }
+    }
+
+    /// All tokens upwards, the end token last.
+    pub fn iter_tidxs(&self) -> TIdxIterator<T>
+        ensures { result ≡ range_with_len 0 (math.token_count self.now) }
+    {
+        TIdxIterator::new(self.token_names.len() + 1)
+    }
+}

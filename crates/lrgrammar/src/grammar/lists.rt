@@ -1,0 +1,76 @@
+//! The productions of each rule, and the places of names.
+
+ghost use Rattle.std.specs.Prelude.{◌≡◌, ◌≢◌, ℕ, ◌+◌, ◌<◌, ◌≤◌, ◌∷◌, [], ◌++◌, IfOk, OnOk, map, length, All, slice_index_or};
+ghost use Rattle.std.specs.String.{string_bytes};
+ghost use Rattle.std.specs.BTreeMap.{get_by_text};
+ghost use Rattle.std.specs.declared.vec.Vec.{Vec as VecOf};
+ghost use Rattle.std.specs.declared.alloc.Global.{Global as GlobalOf};
+ghost use Rattle.lrspec.specs.Parts.{HasDouble};
+ghost use Rattle.lrgrammar.specs.Places.{Seen};
+ghost use Rattle.lrgrammar.specs.Stored.{production_of, numbers_of, AreListsOf};
+ghost use Rattle.lrgrammar.specs.declared.idx.PIdx.{PIdx as PIdxOf};
+
+use crate::grammar::Production;
+use crate::idx::{IndexStorage, PIdx};
+use std::alloc::{AllocError, Global};
+use std::collections::BTreeMap;
+
+/// Adds the production to the list of the rule.
+fn add_to<T: IndexStorage>(
+    lists: &mut Vec<Vec<PIdx<T>>>,
+    rule: usize,
+    pidx: PIdx<T>,
+) -> Result<(), AllocError>
+    requires { rule < length lists.old.items }
+    ensures count { length lists.new.items ≡ length lists.old.items }
+    ensures added { OnOk result ((d : VecOf (PIdxOf T) GlobalOf) → (slice_index_or lists.new.items rule d).items ≡ (slice_index_or lists.old.items rule d).items ++ pidx ∷ []) }
+    ensures others { (k : ℕ) (d : VecOf (PIdxOf T) GlobalOf) → k ≢ rule → slice_index_or lists.new.items k d ≡ slice_index_or lists.old.items k d }
+{
+    lists[rule].push(pidx)?;
+    Ok(())
+}
+
+/// An empty list for each rule.
+fn empty_lists<T: IndexStorage>(
+    alloc: Global,
+    rules: usize,
+) -> Result<Vec<Vec<PIdx<T>>>, AllocError>
+    ensures count { IfOk result (λ v. length v.items ≡ rules) }
+    ensures empty { IfOk result (λ v. All (λ xs. xs.items ≡ []) v.items) }
+{
+    let mut lists = Vec::new(alloc);
+    for _rule in 0..rules {
+        lists.push(Vec::new(alloc))?;
+    }
+    Ok(lists)
+}
+
+/// For each rule its productions, upwards.
+pub(super) fn production_lists<T: IndexStorage>(
+    alloc: Global,
+    prods: &[Production<T>],
+    rules: usize,
+) -> Result<Vec<Vec<PIdx<T>>>, AllocError>
+    requires few { length prods.now ≤ T.MAX }
+    requires within { All (λ p. T.number p.rule.0 < rules) prods.now }
+    ensures { IfOk result (λ v. AreListsOf T.number (map (production_of T.number) prods.now) rules v.items) }
+{
+    let mut lists = empty_lists(alloc, rules)?;
+    for i in 0..prods.len() {
+        let pidx = PIdx(T::from_usize(i).unwrap());
+        add_to(&mut lists, prods[i].rule.0.to_usize(), pidx)?;
+    }
+    Ok(lists)
+}
+
+/// The place of each name.
+pub(super) fn places(alloc: Global, names: &[String]) -> Result<BTreeMap<String, usize>, AllocError>
+    requires { HasDouble (map string_bytes names.now) → ⊥ }
+    ensures { IfOk result (λ m. Seen (get_by_text m) (map string_bytes names.now) (length names.now)) }
+{
+    let mut places = BTreeMap::new(alloc);
+    for i in 0..names.len() {
+        places.insert(names[i].clone()?, i)?;
+    }
+    Ok(places)
+}

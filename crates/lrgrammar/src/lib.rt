@@ -1,0 +1,8 @@
+//! Context-free grammars over index types, with their bit vectors and FIRST sets.
+#![tactic(auto)]
+
+pub mod firsts;
+pub mod grammar;
+pub mod idx;
+mod reader;
+pub mod vob;
