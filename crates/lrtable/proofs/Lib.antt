@@ -1,0 +1,14 @@
+pub mod KeyFacts
+pub mod AddFacts
+pub mod MergedFacts
+pub mod PutFacts
+pub mod RuleFacts
+pub mod RoomFacts
+pub mod BehindFacts
+pub mod PassFacts
+pub mod ExpandFacts
+pub mod Underway
+pub mod Walk
+pub mod GotoFacts
+pub mod SymbolFacts
+pub mod SameFacts

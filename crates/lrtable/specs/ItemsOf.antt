@@ -1,0 +1,22 @@
+use Rattle.std.specs.Prelude.{◌≡◌, ℕ, Bool, List, map, Option, None, Some, length}
+use Rattle.lrgrammar.specs.declared.idx.PIdx.{PIdx}
+use Rattle.lrgrammar.specs.declared.idx.SIdx.{SIdx}
+use Rattle.lrgrammar.specs.Bits.{union}
+use Rattle.lrspec.specs.ItemSets.{Items, item_at}
+
+-- the items of a map, each by the numbers of its production and its dot
+abbrev pub items_of : {T X : Type 0} → (T → ℕ) → List ((PIdx T × SIdx T) × X) → List ((ℕ × ℕ) × X)
+items_of number es = map (λ e. ((number e.0.0.0, number e.0.1.0), e.1)) es
+
+-- the lookaheads of an item together with more; those alone for an item that isn't there
+abbrev pub merged : Option (List Bool) → List Bool → List Bool
+merged None ctx = ctx
+merged (Some old) ctx = union old ctx
+
+-- each item has `n` bits
+abbrev pub HaveBits : ℕ → Items → Type 0
+HaveBits n a = (p d : ℕ) (v : List Bool) → item_at a p d ≡ Some v → length v ≡ n
+
+-- both item sets have the same items with the same bits
+abbrev pub Agree : Items → Items → Type 0
+Agree a b = (p d : ℕ) → item_at a p d ≡ item_at b p d

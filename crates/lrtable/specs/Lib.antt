@@ -1,0 +1,3 @@
+pub mod ItemsOf
+pub mod Expansion
+pub mod Start

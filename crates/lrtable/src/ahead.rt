@@ -1,0 +1,106 @@
+//! What an item passes on to the productions of the rule behind its dot.
+
+ghost use Rattle.std.specs.Prelude.{◌≡◌, ℕ, ◌+◌, ◌<◌, ◌≤◌, false, length, map, IfOk, MatchOption};
+ghost use Rattle.lrspec.specs.Grammar as math;
+ghost use Rattle.lrspec.specs.ItemSets.{Fits, IsBefore};
+ghost use Rattle.lrgrammar.specs.Bits.{bit};
+ghost use Rattle.lrgrammar.specs.Firsts.{AreFirstsOf};
+ghost use Rattle.lrtable.specs.ItemsOf.{items_of};
+ghost use Rattle.lrtable.specs.Expansion.{ArePassedOn, PutsNothingIn, PassesOn};
+
+use crate::itemset::{Ctx, Itemset};
+use lrgrammar::firsts::YaccFirsts;
+use lrgrammar::grammar::YaccGrammar;
+use lrgrammar::idx::{IndexStorage, PIdx, RIdx, SIdx, Symbol};
+use lrgrammar::vob::Vob;
+use std::alloc::AllocError;
+
+/// As many bits, none of them set.
+fn blank(like: &Ctx) -> Result<Vob, AllocError>
+    ensures len { IfOk result (λ v. length v ≡ length like.now) }
+    ensures clear { IfOk result (λ v. (t : ℕ) → bit v t ≡ false) }
+{
+    let mut bits = like.clone()?;
+    bits.set_all(false);
+    Ok(bits)
+}
+
+/// The tokens that an item passes on to the productions of the rule before place `from`: those that begin the
+/// rest of its body, and where that is nullable those of its own lookaheads.
+fn passed_on<T: IndexStorage>(
+    grm: &YaccGrammar<T>,
+    firsts: &YaccFirsts<T>,
+    pidx: PIdx<T>,
+    from: usize,
+    ctx: &Ctx,
+) -> Result<Vob, AllocError>
+    requires of { AreFirstsOf grm.now firsts.now }
+    requires production { T.number pidx.0 < length grm.now.productions }
+    requires place { from ≤ length (math.body_of grm.now (T.number pidx.0)) }
+    requires len { length ctx.now ≡ math.token_count grm.now }
+    ensures { IfOk result (ArePassedOn grm.now (math.rest grm.now (T.number pidx.0) from) ctx.now) }
+{
+    let mut ahead = blank(ctx)?;
+    for symbol in &grm.prod(pidx)[from..] {
+        match symbol {
+            Symbol::Token(token) => {
+                ahead.set(token.0.to_usize(), true);
+                return Ok(ahead);
+            }
+            Symbol::Rule(rule) => {
+                ahead.or(firsts.firsts(*rule));
+                if !firsts.is_epsilon_set(*rule) {
+                    return Ok(ahead);
+                }
+            }
+        }
+    }
+    ahead.or(ctx);
+    Ok(ahead)
+}
+
+/// The rule behind the dot of an item.
+fn rule_behind<T: IndexStorage>(
+    grm: &YaccGrammar<T>,
+    pidx: PIdx<T>,
+    dot: SIdx<T>,
+) -> Option<RIdx<T>>
+    requires { T.number pidx.0 < length grm.now.productions }
+    ensures rule { MatchOption result ((r : ℕ) → IsBefore grm.now (T.number pidx.0) (T.number dot.0) (math.Rule r) → ⊥) (λ r. IsBefore grm.now (T.number pidx.0) (T.number dot.0) (math.Rule (T.number r.0))) }
+    ensures shape { math.IsGrammar grm.now }
+{
+    let body = grm.prod(pidx);
+    let at = dot.0.to_usize();
+    if at < body.len() {
+        match body[at] {
+            Symbol::Rule(rule) => Some(rule),
+            Symbol::Token(_) => None,
+        }
+    } else {
+        None
+    }
+}
+
+/// The rule behind the dot of an item that is there, and the tokens that the item passes on to it.
+pub fn ahead_of<T: IndexStorage>(
+    items: &Itemset<T>,
+    grm: &YaccGrammar<T>,
+    firsts: &YaccFirsts<T>,
+    pidx: PIdx<T>,
+    dot: SIdx<T>,
+) -> Result<Option<(RIdx<T>, Vob)>, AllocError>
+    requires fits { Fits grm.now (items_of T.number items.now.items.entries) }
+    requires of { AreFirstsOf grm.now firsts.now }
+    ensures { IfOk result (λ o. MatchOption o (PutsNothingIn grm.now (items_of T.number items.now.items.entries) (T.number pidx.0) (T.number dot.0)) (λ x. PassesOn grm.now (items_of T.number items.now.items.entries) (T.number pidx.0) (T.number dot.0) (T.number x.0.0) x.1)) }
+{
+    match items.items.get(&(pidx, dot)) {
+        None => Ok(None),
+        Some(ctx) => match rule_behind(grm, pidx, dot) {
+            None => Ok(None),
+            Some(rule) => {
+                let ahead = passed_on(grm, firsts, pidx, dot.0.to_usize() + 1, ctx)?;
+                Ok(Some((rule, ahead)))
+            }
+        },
+    }
+}

@@ -1,0 +1,99 @@
+//! The closure rule at one item.
+
+ghost use Rattle.std.specs.Prelude.{◌≡◌, ℕ, ◌+◌, ◌<◌, ◌≤◌, length, [], OnOk, IfNone, IfSome, OnSome};
+ghost use Rattle.std.specs.BTreeMap.{btree_map_len};
+ghost use Rattle.lrspec.specs.Grammar as math;
+ghost use Rattle.lrspec.specs.ItemSets.{Fits};
+ghost use Rattle.lrgrammar.specs.Firsts.{AreFirstsOf};
+ghost use Rattle.lrtable.specs.ItemsOf.{items_of, HaveBits};
+ghost use Rattle.lrtable.specs.Expansion.{ArePut, IsExpanded, room, Keeps, IsWithout};
+
+use crate::ahead::ahead_of;
+use crate::itemset::{Ctx, Itemset};
+use lrgrammar::firsts::YaccFirsts;
+use lrgrammar::grammar::YaccGrammar;
+use lrgrammar::idx::{IndexStorage, PIdx, RIdx, SIdx};
+use std::alloc::AllocError;
+
+/// Adds lookaheads at dot 0 of a production, which is to be done where that changes it.
+fn put<T: IndexStorage>(
+    closed: &mut Itemset<T>,
+    todo: &mut Itemset<T>,
+    pidx: PIdx<T>,
+    ahead: &Ctx,
+) -> Result<(), AllocError>
+    requires { HaveBits (length ahead.now) (items_of T.number closed.old.items.entries) }
+    ensures bits { OnOk result (HaveBits (length ahead.now) (items_of T.number closed.new.items.entries)) }
+    ensures put { OnOk result (ArePut (λ q. q ≡ T.number pidx.0) ahead.now (items_of T.number closed.old.items.entries) (items_of T.number closed.new.items.entries) (items_of T.number todo.new.items.entries)) }
+    ensures kept { OnOk result (Keeps (items_of T.number todo.old.items.entries) (items_of T.number todo.new.items.entries)) }
+    ensures less { OnOk result ((n : ℕ) → T.number pidx.0 < n → room (length ahead.now) n (items_of T.number closed.new.items.entries) + btree_map_len todo.new.items ≤ room (length ahead.now) n (items_of T.number closed.old.items.entries) + btree_map_len todo.old.items) }
+{
+    let dot = SIdx(T::from_usize(0).unwrap());
+    if closed.add(pidx, dot, ahead)? {
+        let copy = ahead.clone()?;
+        todo.items.insert((pidx, dot), copy)?;
+    }
+    Ok(())
+}
+
+/// Adds lookaheads at dot 0 of each production of a rule.
+fn put_all<T: IndexStorage>(
+    closed: &mut Itemset<T>,
+    todo: &mut Itemset<T>,
+    grm: &YaccGrammar<T>,
+    rule: RIdx<T>,
+    ahead: &Ctx,
+) -> Result<(), AllocError>
+    requires rule { T.number rule.0 < length grm.now.rule_names }
+    requires bits { HaveBits (length ahead.now) (items_of T.number closed.old.items.entries) }
+    ensures bits { OnOk result (HaveBits (length ahead.now) (items_of T.number closed.new.items.entries)) }
+    ensures put { OnOk result (ArePut (λ q. math.IsProductionOf grm.now q (T.number rule.0)) ahead.now (items_of T.number closed.old.items.entries) (items_of T.number closed.new.items.entries) (items_of T.number todo.new.items.entries)) }
+    ensures kept { OnOk result (Keeps (items_of T.number todo.old.items.entries) (items_of T.number todo.new.items.entries)) }
+    ensures less { OnOk result (room (length ahead.now) (length grm.now.productions) (items_of T.number closed.new.items.entries) + btree_map_len todo.new.items ≤ room (length ahead.now) (length grm.now.productions) (items_of T.number closed.old.items.entries) + btree_map_len todo.old.items) }
+{
+    for pidx in grm.rule_to_prods(rule) {
+        put(closed, todo, *pidx, ahead)?;
+    }
+    Ok(())
+}
+
+/// The closure rule at one item: adds every production of the rule behind its dot, looking at what the item
+/// passes on, and puts what that changes among what is to be done.
+pub fn expand<T: IndexStorage>(
+    closed: &mut Itemset<T>,
+    todo: &mut Itemset<T>,
+    grm: &YaccGrammar<T>,
+    firsts: &YaccFirsts<T>,
+    pidx: PIdx<T>,
+    dot: SIdx<T>,
+) -> Result<(), AllocError>
+    requires fits { Fits grm.now (items_of T.number closed.old.items.entries) }
+    requires of { AreFirstsOf grm.now firsts.now }
+    ensures fits { OnOk result (Fits grm.now (items_of T.number closed.new.items.entries)) }
+    ensures expanded { OnOk result (IsExpanded grm.now (T.number pidx.0) (T.number dot.0) (items_of T.number closed.old.items.entries) (items_of T.number closed.new.items.entries) (items_of T.number todo.new.items.entries)) }
+    ensures kept { OnOk result (Keeps (items_of T.number todo.old.items.entries) (items_of T.number todo.new.items.entries)) }
+    ensures less { OnOk result (room (math.token_count grm.now) (length grm.now.productions) (items_of T.number closed.new.items.entries) + btree_map_len todo.new.items ≤ room (math.token_count grm.now) (length grm.now.productions) (items_of T.number closed.old.items.entries) + btree_map_len todo.old.items) }
+{
+    if let Some((rule, ahead)) = ahead_of(closed, grm, firsts, pidx, dot)? {
+        put_all(closed, todo, grm, rule, &ahead)?;
+    }
+    Ok(())
+}
+
+/// Takes an item out of what is to be done, if there is one: the first or the last.
+pub fn take_item<T: IndexStorage>(
+    todo: &mut Itemset<T>,
+    from_front: bool,
+) -> Option<(PIdx<T>, SIdx<T>)>
+    ensures none { IfNone result (items_of T.number todo.old.items.entries ≡ []) }
+    ensures less { OnSome result (btree_map_len todo.new.items + 1 ≡ btree_map_len todo.old.items) }
+    ensures others { IfSome result (λ k. IsWithout (T.number k.0.0) (T.number k.1.0) (items_of T.number todo.old.items.entries) (items_of T.number todo.new.items.entries)) }
+{
+    if from_front {
+        let (key, _ctx) = todo.items.pop_first()?;
+        Some(key)
+    } else {
+        let (key, _ctx) = todo.items.pop_last()?;
+        Some(key)
+    }
+}

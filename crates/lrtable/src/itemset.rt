@@ -1,0 +1,156 @@
+//! Items with lookaheads.
+
+ghost use Rattle.std.specs.Prelude.{◌≡◌, ℕ, ◌+◌, ◌<◌, ◌≤◌, ◌≢◌, [], length, Some, IfOk, OnOk, OnErr, IsOk, IfSome, IsTrue, ◌↔◌};
+ghost use Rattle.std.specs.Cmp.{on_per, and_per, partial_equiv_from_equiv, bool_eq_equiv};
+ghost use Rattle.std.specs.Cmp.Lexicographic.{lists_per};
+ghost use Rattle.lrspec.specs.ItemSets.{item_at, HasItem, Fits, IsClosure, IsGoto};
+ghost use Rattle.lrspec.specs.Merging.{Apart};
+ghost use Rattle.lrgrammar.specs.Symbols.{symbol_of};
+ghost use Rattle.lrgrammar.specs.Firsts.{AreFirstsOf};
+ghost use Rattle.lrtable.specs.ItemsOf.{items_of, merged, Agree};
+ghost use Rattle.lrtable.specs.Start.{IsStartCore, IsCanonicalStart};
+
+use crate::closing::{expand, take_item};
+use crate::moving::{dot_behind, item_fits};
+use crate::printing::push_item;
+use lrgrammar::firsts::YaccFirsts;
+use lrgrammar::grammar::YaccGrammar;
+use lrgrammar::idx::{IndexStorage, PIdx, SIdx, Symbol};
+use lrgrammar::vob::Vob;
+use std::alloc::{AllocError, Global};
+use std::collections::BTreeMap;
+use std::default::Emptied;
+
+/// The lookaheads of an item: one bit a token.
+pub type Ctx = Vob;
+
+/// Items by production and dot, each with its lookaheads.
+#[derive(Drop)]
+pub struct Itemset<T: IndexStorage> {
+    pub items: BTreeMap<(PIdx<T>, SIdx<T>), Ctx>,
+}
+
+impl<T: IndexStorage> Itemset<T> {
+    /// No items.
+    pub fn new(alloc: Global, _grm: &YaccGrammar<T>) -> Itemset<T>
+        ensures { items_of T.number result.items.entries ≡ [] }
+    {
+        Itemset {
+            items: BTreeMap::new(alloc),
+        }
+    }
+
+    /// Adds lookaheads to an item, which is put in where it isn't there, and says whether that changed
+    /// anything. Takes no memory for an item that is there.
+    pub fn add(&mut self, pidx: PIdx<T>, dot: SIdx<T>, ctx: &Ctx) -> Result<bool, AllocError>
+        requires { IfSome (item_at (items_of T.number self.old.items.entries) (T.number pidx.0) (T.number dot.0)) (λ v. length ctx.now ≡ length v) }
+        ensures present { HasItem (items_of T.number self.old.items.entries) (T.number pidx.0) (T.number dot.0) → IsOk result }
+        ensures here { OnOk result (item_at (items_of T.number self.new.items.entries) (T.number pidx.0) (T.number dot.0) ≡ Some (merged (item_at (items_of T.number self.old.items.entries) (T.number pidx.0) (T.number dot.0)) ctx.now)) }
+        ensures others { OnOk result ((p d : ℕ) → Apart (T.number pidx.0) (T.number dot.0) p d → item_at (items_of T.number self.new.items.entries) p d ≡ item_at (items_of T.number self.old.items.entries) p d) }
+        ensures changed { IfOk result (λ b. IsTrue b ↔ (item_at (items_of T.number self.new.items.entries) (T.number pidx.0) (T.number dot.0) ≢ item_at (items_of T.number self.old.items.entries) (T.number pidx.0) (T.number dot.0))) }
+        ensures unchanged { OnErr result (items_of T.number self.new.items.entries ≡ items_of T.number self.old.items.entries) }
+    {
+        match self.items.get_mut(&(pidx, dot)) {
+            Some(old) => Ok(old.or(ctx)),
+            None => {
+                let copy = ctx.clone()?;
+                self.items.insert((pidx, dot), copy)?;
+                Ok(true)
+            }
+        }
+    }
+
+    /// The closure of the item set: the least one that has its items and lookaheads, and where an item stands
+    /// before a rule, each production of that rule at dot 0, looking at each token that begins the rest
+    /// behind the rule, and where that rest is nullable at each token at which the item looks.
+    pub fn close(
+        &self,
+        grm: &YaccGrammar<T>,
+        firsts: &YaccFirsts<T>,
+    ) -> Result<Itemset<T>, AllocError>
+        requires fits { Fits grm.now (items_of T.number self.now.items.entries) }
+        requires of { AreFirstsOf grm.now firsts.now }
+        ensures closure { IfOk result (λ s. IsClosure grm.now (items_of T.number self.now.items.entries) (items_of T.number s.items.entries)) }
+        ensures fits { IfOk result (λ s. Fits grm.now (items_of T.number s.items.entries)) }
+        ensures start { IfOk result (λ s. IsStartCore grm.now (items_of T.number self.now.items.entries) → IsCanonicalStart grm.now (items_of T.number s.items.entries)) }
+    {
+        // Any getter tells the shape that each grammar has, which the start of an automaton rests on.
+        let _shape = grm.prods_len();
+        let mut closed = self.clone()?;
+        let mut todo = self.clone()?;
+        // From both ends in turn: rules may stand below or above those in whose bodies they come first.
+        let mut from_front = true;
+        while let Some((pidx, dot)) = take_item(&mut todo, from_front) {
+            expand(&mut closed, &mut todo, grm, firsts, pidx, dot)?;
+            from_front = !from_front;
+        }
+        Ok(closed)
+    }
+
+    /// The items before the symbol, each with its dot moved over it and its lookaheads.
+    pub fn goto(&self, grm: &YaccGrammar<T>, sym: &Symbol<T>) -> Result<Itemset<T>, AllocError>
+        requires { Fits grm.now (items_of T.number self.now.items.entries) }
+        ensures moved { IfOk result (λ s. IsGoto grm.now (items_of T.number self.now.items.entries) (symbol_of T.number sym.now) (items_of T.number s.items.entries)) }
+        ensures fits { IfOk result (λ s. Fits grm.now (items_of T.number s.items.entries)) }
+    {
+        let mut moved = Itemset {
+            items: Emptied::emptied(&self.items)?,
+        };
+        for (key, ctx) in &self.items {
+            if let Some(dot) = dot_behind(grm, key.0, key.1, sym) {
+                moved.add(key.0, dot, ctx)?;
+            }
+        }
+        Ok(moved)
+    }
+
+    /// Whether each item exists in the grammar, and has one bit a token.
+    pub fn fits(&self, grm: &YaccGrammar<T>) -> bool
+        ensures { IsTrue result ↔ Fits grm.now (items_of T.number self.now.items.entries) }
+    {
+        for (key, ctx) in &self.items {
+            if !item_fits(grm, key.0, key.1, ctx) {
+                return false;
+            }
+        }
+        true
+    }
+
+    /// The texts of the items by production and then dot, joined by line feeds: `[S -> 'a' . B, {'b', '$'}]`.
+    pub fn pp(&self, grm: &YaccGrammar<T>) -> Result<String, AllocError>
+        requires { Fits grm.now (items_of T.number self.now.items.entries) }
+    {
+        let mut text = String::new(grm.allocator());
+        for (key, ctx) in &self.items {
+            if !text.is_empty() {
+                text.push('\n')?;
+            }
+            push_item(&mut text, grm, key.0, key.1, ctx)?;
+        }
+        Ok(text)
+    }
+}
+
+impl<T: IndexStorage> Clone for Itemset<T> {
+    ghost is_clone = { λ a b. b.items.entries ≡ a.items.entries };
+
+    fn clone(&self) -> Result<Itemset<T>, AllocError> {
+        Ok(Itemset {
+            items: self.items.clone()?,
+        })
+    }
+}
+
+impl<T: IndexStorage> PartialEq for Itemset<T> {
+    ghost eq = { λ a b. ⟦<BTreeMap<(PIdx<T>, SIdx<T>), Ctx> as PartialEq>⟧.eq a.items b.items };
+
+    ghost laws = { on_per (λ s. s.items.entries) (lists_per (and_per (on_per (λ e. e.0) (and_per (on_per (λ k. k.0.0) T.PartialEq.laws) (on_per (λ k. k.1.0) T.PartialEq.laws))) (on_per (λ e. e.1) (lists_per (partial_equiv_from_equiv bool_eq_equiv))))) };
+
+    /// Whether both have the same items with the same lookaheads.
+    fn eq(&self, other: &Itemset<T>) -> bool
+        ensures value { result ≡ ⟦<BTreeMap<(PIdx<T>, SIdx<T>), Ctx> as PartialEq>⟧.eq self.now.items other.now.items }
+        ensures agree { IsTrue result ↔ Agree (items_of T.number self.now.items.entries) (items_of T.number other.now.items.entries) }
+    {
+        self.items.len() == other.items.len() && self.items == other.items
+    }
+}
