@@ -1,0 +1,104 @@
+//! `lrt`: prints what LR(1) tables are made of.
+#![tactic(auto)]
+
+mod answers;
+mod requests;
+#[cfg(test)]
+mod tests;
+
+use answers::{Fault, answer};
+use requests::{Request, USAGE, requested};
+use std::alloc::{AllocError, Global};
+use std::io::{self, Read, Write};
+use std::process::ExitCode;
+use std::{env, fs};
+
+/// Carries out the command that the arguments, without the program's name, ask for, and answers the exit status: 0 is
+/// success, 1 a fault, 2 wrong usage.
+///
+/// `file` is what was read of the file that the arguments name, or of standard input where there are no arguments; None
+/// where it could not be read, or no argument names a file. The answer goes to `out`, and a fault as one line to
+/// `faults`; both are given back. `reader` is standard input.
+pub fn command<R: Read + Drop, W: Write, F: Write>(
+    alloc: Global,
+    args: &[String],
+    file: Option<&[u8]>,
+    reader: R,
+    mut out: W,
+    mut faults: F,
+) -> (u8, W, F) {
+    let Some(request) = requested(args) else {
+        let _ = writeln!(faults, "{USAGE}");
+        return (2, out, faults);
+    };
+    let _ = reader;
+    match print(alloc, &request, file, &mut out) {
+        Ok(()) => (0, out, faults),
+        Err(fault) => {
+            let _ = writeln!(faults, "lrt: {fault}");
+            (1, out, faults)
+        }
+    }
+}
+
+/// Prints the answer to a request.
+fn print<'a, W: Write>(
+    alloc: Global,
+    request: &Request<'a>,
+    file: Option<&[u8]>,
+    out: &mut W,
+) -> Result<(), Fault<'a>> {
+    let text = answer(alloc, request, file)?;
+    out.write_all(text.as_bytes())
+        .map_err(|_| Fault::CannotWrite)?;
+    out.flush().map_err(|_| Fault::CannotWrite)
+}
+
+/// The bytes of the file that the second argument names, or of standard input where there are no arguments; None where
+/// they can't be had.
+fn input(rt: &HostRuntime, args: &[String]) -> Result<Option<Vec<u8>>, AllocError> {
+    let mut bytes = Vec::new(rt.alloc());
+    let read = match args.get(1) {
+        Some(name) => match fs::File::open(rt, name.as_str()) {
+            Ok(mut file) => file.read_to_end(&mut bytes),
+            Err(error) => Err(error),
+        },
+        None if args.is_empty() => rt.stdin().read_to_end(&mut bytes),
+        None => return Ok(None),
+    };
+    match read {
+        Ok(_) => Ok(Some(bytes)),
+        Err(error) if error.kind() == io::ErrorKind::OutOfMemory => Err(AllocError),
+        Err(_) => Ok(None),
+    }
+}
+
+/// The arguments without the program's name.
+fn arguments(rt: &HostRuntime) -> io::Result<Vec<String>> {
+    let mut args = Vec::new(rt.alloc());
+    for arg in env::args(rt)?.skip(1) {
+        args.push(arg)?;
+    }
+    Ok(args)
+}
+
+fn main(rt: HostRuntime) -> ExitCode {
+    let Ok(args) = arguments(&rt) else {
+        let _ = eprintln!(rt; "lrt: {}", Fault::Memory);
+        return ExitCode::from(1);
+    };
+    let Ok(bytes) = input(&rt, args.as_slice()) else {
+        let _ = eprintln!(rt; "lrt: {}", Fault::Memory);
+        return ExitCode::from(1);
+    };
+    let file = bytes.as_ref().map(|bytes| bytes.as_slice());
+    let (status, _, _) = command(
+        rt.alloc(),
+        args.as_slice(),
+        file,
+        rt.stdin(),
+        rt.stdout(),
+        rt.stderr(),
+    );
+    ExitCode::from(status)
+}

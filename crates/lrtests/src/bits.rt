@@ -1,0 +1,52 @@
+//! Bit vectors.
+
+use lrgrammar::vob::Vob;
+use std::alloc::AllocError;
+
+#[test]
+fn meeting_bits(rt: HostRuntime) -> Result<(), AllocError> {
+    let mut one = Vob::from_elem(rt.alloc(), false, 128)?;
+    let mut other = one.clone()?;
+    assert!(rt; one == other);
+    assert!(rt; !one.intersects(&other));
+    assert!(rt; one.set(64, true));
+    assert!(rt; !one.set(64, true));
+    assert!(rt; one != other);
+    assert!(rt; !one.intersects(&other));
+    assert!(rt; other.set(64, true));
+    assert!(rt; one.intersects(&other));
+    Ok(())
+}
+
+#[test]
+fn bits_in_a_range(rt: HostRuntime) -> Result<(), AllocError> {
+    let mut bits = Vob::from_elem(rt.alloc(), false, 128)?;
+    for place in [59, 60, 63, 64, 69, 70] {
+        assert!(rt; place < bits.len());
+        bits.set(place, true);
+    }
+    assert_eq!(rt; bits.len(), 128);
+    let found: Vec<usize> = bits.iter_set_bits(60..70).collect(rt.alloc())?;
+    assert_eq!(rt; found.as_slice(), [60, 63, 64, 69].as_slice());
+    assert!(rt; bits.get(70));
+    assert!(rt; !bits.get(71));
+    Ok(())
+}
+
+#[test]
+fn all_bits_and_unions(rt: HostRuntime) -> Result<(), AllocError> {
+    for len in [0, 1, 63, 64, 65, 127, 128, 129] {
+        let mut none = Vob::from_elem(rt.alloc(), false, len)?;
+        let all = Vob::from_elem(rt.alloc(), true, len)?;
+        assert_eq!(rt; none.or(&all), len > 0, "{len}");
+        assert!(rt; !none.or(&all), "{len}");
+        none.set_all(false);
+        let places: Vec<usize> = none.iter_set_bits(0..len).collect(rt.alloc())?;
+        assert!(rt; places.is_empty(), "{len}");
+        none.set_all(true);
+        assert!(rt; none == all, "{len}");
+        let places: Vec<usize> = all.iter_set_bits(0..len).collect(rt.alloc())?;
+        assert_eq!(rt; places.len(), len, "{len}");
+    }
+    Ok(())
+}

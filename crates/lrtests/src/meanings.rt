@@ -1,0 +1,68 @@
+//! What texts mean: tokens in their order, productions, precedences.
+
+use lrgrammar::grammar::{AssocKind, Precedence, YaccGrammar};
+use lrgrammar::idx::{IndexStorage, PIdx, TIdx};
+use std::alloc::{AllocError, Global};
+use std::test::Fail;
+
+/// The names of the tokens with their precedences, and then the productions: `a b+0L $; S: "a" "b"`, where a level is
+/// followed by the first letter of its kind.
+fn meaning<T: IndexStorage>(alloc: Global, grm: &YaccGrammar<T>) -> Result<String, AllocError> {
+    let mut text = String::new(alloc);
+    for token in 0..usize::from(grm.tokens_len()) {
+        let tidx = TIdx(T::from_usize(token).unwrap());
+        text.push_str(grm.token_name(tidx).unwrap_or("$"))?;
+        push_precedence(&mut text, grm.token_precedence(tidx))?;
+        text.push(' ')?;
+    }
+    for prod in 0..usize::from(grm.prods_len()) {
+        let pidx = PIdx(T::from_usize(prod).unwrap());
+        text.push_str("; ")?;
+        text.push_str(grm.pp_prod(pidx)?.as_str())?;
+        push_precedence(&mut text, grm.prod_precedence(pidx))?;
+    }
+    Ok(text)
+}
+
+/// Adds a precedence, where there is one.
+fn push_precedence(text: &mut String, precedence: Option<Precedence>) -> Result<(), AllocError> {
+    let Some(precedence) = precedence else {
+        return Ok(());
+    };
+    let level = precedence.level;
+    let kind = match precedence.kind {
+        AssocKind::Left => 'L',
+        AssocKind::Right => 'R',
+        AssocKind::Nonassoc => 'N',
+    };
+    write!(text, "+{level}{kind}")
+}
+
+#[test]
+fn meanings_of_texts(rt: HostRuntime) -> Result<(), Fail> {
+    let alloc = rt.alloc();
+    for (text, wanted) in [
+        (
+            "%token a %% S: a \"b\" | 'a'; %% '",
+            "a b $ ; S: \"a\" \"b\"; S: \"a\"; ^: \"S\"",
+        ),
+        (
+            "%left '+' %left '*' %% E: E '+' E | E '*' E | i; i: 'x';",
+            "++0L *+1L x $ ; E: \"E\" \"+\" \"E\"+0L; E: \"E\" \"*\" \"E\"+1L; E: \"i\"; i: \"x\"; ^: \"E\"",
+        ),
+        (
+            "%nonassoc x %% S: x; x: 'a';",
+            "a x+0N $ ; S: \"x\"; x: \"a\"; ^: \"S\"",
+        ),
+        (
+            "%% S: A 'c'; A: 'a'; S: ; A: 'b'; // end",
+            "c a b $ ; S: \"A\" \"c\"; A: \"a\"; S:; A: \"b\"; ^: \"S\"",
+        ),
+    ] {
+        let small = YaccGrammar::<u8>::from_text(alloc, text)?;
+        assert_eq!(rt; meaning(alloc, &small)?.as_str(), wanted, "{text}");
+        let large = YaccGrammar::<u32>::from_text(alloc, text)?;
+        assert_eq!(rt; meaning(alloc, &large)?.as_str(), wanted, "{text}");
+    }
+    Ok(())
+}

@@ -1,0 +1,90 @@
+//! Texts that are read and texts that are refused.
+
+use lrgrammar::grammar::{GrammarError, TextError, YaccGrammar};
+use std::alloc::Global;
+use std::test::Fail;
+
+/// A text's refusal with `u32` indices, None where it is a grammar.
+fn refusal(alloc: Global, text: &str) -> Option<TextError> {
+    YaccGrammar::<u32>::from_text(alloc, text).err()
+}
+
+#[test]
+fn syntax_errors(rt: HostRuntime) {
+    for (text, place) in [
+        ("", 0),
+        ("%% S 'a';", 5),
+        ("%% S: 'a'", 9),
+        ("%% S: 'a", 6),
+        ("%% S: 'a' %prec 'b';", 10),
+        ("%% S: '' ;", 6),
+        ("%% S: ; /* x", 8),
+        ("%start S %start S %% S: ;", 9),
+        ("%start1 S", 6),
+        ("%%%", 2),
+        ("%% S: 'a'; /*/", 11),
+        ("%% S: 'a\n';", 6),
+        ("%left", 5),
+        ("%% \u{e9}: ;", 3),
+    ] {
+        assert_eq!(rt;
+            refusal(rt.alloc(), text),
+            Some(TextError::Syntax(place)),
+            "{text}"
+        );
+    }
+}
+
+#[test]
+fn beginnings_of_a_text(rt: HostRuntime) {
+    let none = Some(TextError::Grammar(GrammarError::NoStart));
+    for (text, place) in [
+        ("", 0),
+        ("%", 0),
+        ("%% S", 4),
+        ("%% S:", 5),
+        ("%% S: ", 6),
+        ("%% S: '", 6),
+        ("%% S: 'a", 6),
+        ("%% S: 'a'", 9),
+    ] {
+        assert_eq!(rt;
+            refusal(rt.alloc(), text),
+            Some(TextError::Syntax(place)),
+            "{text}"
+        );
+    }
+    assert_eq!(rt; refusal(rt.alloc(), "%%"), none);
+    assert!(rt; refusal(rt.alloc(), "%% ") == Some(TextError::Grammar(GrammarError::NoStart)));
+    assert_eq!(rt; refusal(rt.alloc(), "%% S: 'a';"), None);
+}
+
+#[test]
+fn unknown_and_doubled_names(rt: HostRuntime) -> Result<(), Fail> {
+    let alloc = rt.alloc();
+    for (text, name) in [
+        ("%% S: x;", "x"),
+        ("%start T %% S: ;", "T"),
+        ("%start T %% S: y;", "T"),
+    ] {
+        let name = String::from_str(alloc, name)?;
+        assert_eq!(rt;
+            refusal(alloc, text),
+            Some(TextError::UnknownSymbol(name)),
+            "{text}"
+        );
+    }
+    for (text, name) in [
+        ("%left '+' %right '+' %% S: '+';", "+"),
+        ("%left '+' '+' %% S: '+';", "+"),
+        ("%left a b %left b a %% S: ;", "b"),
+    ] {
+        let name = String::from_str(alloc, name)?;
+        assert_eq!(rt;
+            refusal(alloc, text),
+            Some(TextError::DuplicatePrecedence(name)),
+            "{text}"
+        );
+    }
+    Ok(())
+}
