@@ -1,8 +1,8 @@
 #!/usr/bin/env python3
 """Hands `lrt start` bad and odd texts: each must be a grammar, or one fault line that the formats name.
 
-For each example every beginning, and each text with one byte deleted, doubled or turned into another; and some long and
-odd texts, whose times are printed.
+For each example, at about five hundred places: the beginning up to there, and the text with that byte deleted, doubled or
+turned into another. Then some long and odd texts, whose times are printed.
 """
 
 import re
