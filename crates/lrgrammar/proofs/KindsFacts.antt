@@ -8,11 +8,11 @@ use Rattle.std.proofs.lemmas.Bool.{cases_lt}
 use Rattle.std.proofs.lemmas.Bool.Decides.{Decides-eqb}
 use Rattle.lrspec.specs.Grammar as math
 use Rattle.lrspec.specs.Parts.{HasMixed, precedences_of}
-use Rattle.lrgrammar.specs.declared.grammar.parts.AssocKind.{AssocKind}
-use Rattle.lrgrammar.specs.declared.grammar.parts.AssocKind.TheVariants.{Left, Right, Nonassoc}
-use Rattle.lrgrammar.specs.declared.grammar.parts.PartToken.{PartToken}
-use Rattle.lrgrammar.specs.declared.grammar.parts.Precedence.{Precedence}
-use Rattle.lrgrammar.specs.StoredParts.{kind_of, precedence_of, token_of}
+use Rattle.lrtext.specs.declared.parts.AssocKind.{AssocKind}
+use Rattle.lrtext.specs.declared.parts.AssocKind.TheVariants.{Left, Right, Nonassoc}
+use Rattle.lrtext.specs.declared.parts.PartToken.{PartToken}
+use Rattle.lrtext.specs.declared.parts.Precedence.{Precedence}
+use Rattle.lrtext.specs.StoredParts.{kind_of, precedence_of, token_of}
 use Rattle.lrgrammar.specs.Refusals.{IsOtherKind, IsSameKind}
 use Rattle.lrgrammar.specs.Places.{KindsOf, precedence_at}
 

@@ -2,8 +2,8 @@ use Rattle.std.proofs.Common.{◌≡◌, ℕ, ◌+◌, ◌<◌, List, [], ◌∷
 use Rattle.std.proofs.lemmas.List.{map_more}
 use Rattle.std.specs.Prelude.{IsSome}
 use Rattle.std.specs.Option.{option_map}
-use Rattle.lrgrammar.specs.declared.grammar.parts.Precedence.{Precedence}
-use Rattle.lrgrammar.specs.StoredParts.{precedence_of}
+use Rattle.lrtext.specs.declared.parts.Precedence.{Precedence}
+use Rattle.lrtext.specs.StoredParts.{precedence_of}
 use Rattle.lrspec.specs.Grammar as math
 use Rattle.lrspec.specs.Grammar.{last_token_or}
 use Rattle.lrgrammar.specs.declared.idx.Symbol.{Symbol}

@@ -14,12 +14,4 @@ pub mod KindsFacts
 pub mod ListFacts
 pub mod MadeFacts
 pub mod LastFacts
-pub mod NumberedFacts
-pub mod ListSteps
-pub mod LevelFacts
-pub mod BodySteps
-pub mod ReaderFacts
-pub mod SightFacts
-pub mod TakenFacts
 pub mod TextFacts
-pub mod RunFacts

@@ -5,10 +5,10 @@ use Rattle.lrspec.specs.Grammar.{Grammar, Production, Precedence, IsGrammar, IsO
 use Rattle.lrspec.specs.Parts.{Parts, IsOutOfRange, NoCause, HasDouble, names_of, grammar_of_parts}
 use Rattle.lrspec.specs.Parts as part
 use Rattle.lrspec.proofs.PartsFacts.{bodies_from_parts, length-productions}
-use Rattle.lrgrammar.specs.declared.grammar.parts.GrammarParts.{GrammarParts}
-use Rattle.lrgrammar.specs.declared.grammar.parts.PartSymbol.{PartSymbol}
-use Rattle.lrgrammar.specs.declared.grammar.parts.PartSymbol.TheVariants.{Rule, Token}
-use Rattle.lrgrammar.specs.StoredParts.{parts_of, part_production_of, part_symbol_of}
+use Rattle.lrtext.specs.declared.parts.GrammarParts.{GrammarParts}
+use Rattle.lrtext.specs.declared.parts.PartSymbol.{PartSymbol}
+use Rattle.lrtext.specs.declared.parts.PartSymbol.TheVariants.{Rule, Token}
+use Rattle.lrtext.specs.StoredParts.{parts_of, part_production_of, part_symbol_of}
 use Rattle.lrgrammar.specs.Numbers.{AreSmall, part_number}
 use Rattle.lrgrammar.specs.Sizes.{IsWithin}
 use Rattle.lrgrammar.proofs.MappedFacts.{any_image}

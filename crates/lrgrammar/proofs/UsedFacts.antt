@@ -8,9 +8,9 @@ use Rattle.std.proofs.lemmas.List.Elements.{All-nil, All-cons, All-head, All-tai
 use Rattle.std.specs.String.{string_bytes}
 use Rattle.lrspec.specs.Grammar.{Production}
 use Rattle.lrspec.specs.Parts.{EmptyRule}
-use Rattle.lrgrammar.specs.declared.grammar.parts.GrammarParts.{GrammarParts}
-use Rattle.lrgrammar.specs.declared.grammar.parts.PartProd.{PartProd}
-use Rattle.lrgrammar.specs.StoredParts.{parts_of, part_production_of}
+use Rattle.lrtext.specs.declared.parts.GrammarParts.{GrammarParts}
+use Rattle.lrtext.specs.declared.parts.PartProd.{PartProd}
+use Rattle.lrtext.specs.StoredParts.{parts_of, part_production_of}
 use Rattle.lrgrammar.specs.Refusals.{AreUsed}
 
 split_or : (a b : Bool) → (a || b) ≡ false → (a ≡ false) × (b ≡ false)

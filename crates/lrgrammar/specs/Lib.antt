@@ -1,3 +1,4 @@
+pub use Rattle.lrtext.specs.StoredParts
 pub mod Bits
 pub mod HashLaws
 pub mod SymbolLaws
@@ -8,17 +9,7 @@ pub mod Firsts
 pub mod StoredFirsts
 pub mod NullableBits
 pub mod FirstRows
-pub mod StoredParts
 pub mod Refusals
 pub mod Places
 pub mod Numbers
-pub mod StoredSaid
-pub mod Numbered
-pub mod StoredLevels
-pub mod ReaderParts
-pub mod NextItems
-pub mod Sights
-pub mod StoredReading
-pub mod ReadErrors
 pub mod TextErrors
-pub mod Runs

@@ -1,7 +1,7 @@
 use Rattle.std.specs.Prelude.{ℕ, ◌+◌, ◌≤◌, All}
-use Rattle.lrgrammar.specs.declared.grammar.parts.GrammarParts.{GrammarParts}
-use Rattle.lrgrammar.specs.declared.grammar.parts.PartSymbol.{PartSymbol}
-use Rattle.lrgrammar.specs.declared.grammar.parts.PartSymbol.TheVariants.{Rule, Token}
+use Rattle.lrtext.specs.declared.parts.GrammarParts.{GrammarParts}
+use Rattle.lrtext.specs.declared.parts.PartSymbol.{PartSymbol}
+use Rattle.lrtext.specs.declared.parts.PartSymbol.TheVariants.{Rule, Token}
 
 -- the number that a symbol of the parts gets in the grammar
 abbrev pub part_number : PartSymbol → ℕ

@@ -1,8 +1,8 @@
 use Rattle.std.specs.Prelude.{◌≡◌, ℕ, ◌<◌, List, [], Option, Some, IsSome, slice_get, slice_index_or}
 use Rattle.std.specs.Option.{option_and_then}
-use Rattle.lrgrammar.specs.declared.grammar.parts.AssocKind.{AssocKind}
-use Rattle.lrgrammar.specs.declared.grammar.parts.PartToken.{PartToken}
-use Rattle.lrgrammar.specs.declared.grammar.parts.Precedence.{Precedence}
+use Rattle.lrtext.specs.declared.parts.AssocKind.{AssocKind}
+use Rattle.lrtext.specs.declared.parts.PartToken.{PartToken}
+use Rattle.lrtext.specs.declared.parts.Precedence.{Precedence}
 
 -- the precedence of the token at a place
 abbrev pub precedence_at : List PartToken → ℕ → Option Precedence

@@ -1,9 +1,9 @@
 use Rattle.std.specs.Prelude.{◌≡◌, ℕ, ◌<◌, ◌==◌, Bool, false, List, length, slice_index_or, ◌≢◌, Option, None, Some}
-use Rattle.lrgrammar.specs.declared.grammar.parts.AssocKind.{AssocKind}
+use Rattle.lrtext.specs.declared.parts.AssocKind.{AssocKind}
 use Rattle.std.specs.List.{list_any}
-use Rattle.lrgrammar.specs.declared.grammar.parts.GrammarError.{GrammarError}
-use Rattle.lrgrammar.specs.declared.grammar.parts.GrammarError.TheVariants as error
-use Rattle.lrgrammar.specs.declared.grammar.parts.GrammarParts.{GrammarParts}
+use Rattle.lrgrammar.specs.declared.grammar.errors.GrammarError.{GrammarError}
+use Rattle.lrgrammar.specs.declared.grammar.errors.GrammarError.TheVariants as error
+use Rattle.lrtext.specs.declared.parts.GrammarParts.{GrammarParts}
 use Rattle.lrspec.specs.Parts.{Parts, IsRefusal}
 
 -- the parts are refused so: by the cause of least number that holds, or for want of memory

@@ -10,7 +10,7 @@ use Rattle.lrgrammar.specs.declared.idx.PIdx.{PIdx}
 use Rattle.lrspec.specs.Grammar.{Grammar, Production, IsGrammar, places_of_rule}
 use Rattle.lrgrammar.specs.Symbols.{symbol_of}
 use Rattle.lrgrammar.specs.Sizes.{IsWithin}
-use Rattle.lrgrammar.specs.StoredParts.{precedence_of}
+use Rattle.lrtext.specs.StoredParts.{precedence_of}
 use Rattle.lrgrammar.specs.Places.{Seen}
 
 -- a stored production as the grammar has it

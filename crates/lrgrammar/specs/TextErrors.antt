@@ -1,14 +1,23 @@
 use Rattle.std.specs.Prelude.{◌≡◌, ◌≢◌, ℕ, List}
 use Rattle.std.specs.String.{string_bytes}
-use Rattle.lrgrammar.specs.declared.grammar.parts.GrammarError.{GrammarError}
-use Rattle.lrgrammar.specs.declared.grammar.parts.GrammarError.TheVariants as error
-use Rattle.lrgrammar.specs.declared.grammar.TextError.{TextError}
-use Rattle.lrgrammar.specs.declared.grammar.TextError.TheVariants as text_error
+use Rattle.lrgrammar.specs.declared.grammar.errors.GrammarError.{GrammarError}
+use Rattle.lrgrammar.specs.declared.grammar.errors.GrammarError.TheVariants as error
+use Rattle.lrgrammar.specs.declared.grammar.errors.TextError.{TextError}
+use Rattle.lrgrammar.specs.declared.grammar.errors.TextError.TheVariants as text_error
+use Rattle.lrtext.specs.declared.reader.ReadError.{ReadError}
+use Rattle.lrtext.specs.declared.reader.ReadError.TheVariants as read_error
 use Rattle.lrspec.specs.Grammar.{Grammar}
 use Rattle.lrspec.specs.Parts.{Parts, grammar_of_parts, NoCause}
 use Rattle.lrspec.specs.Meaning as meaning
 use Rattle.lrspec.specs.Meaning.{IsRefused, Means}
 use Rattle.lrgrammar.specs.Refusals.{IsRefusedBy}
+
+-- the same error of a text
+abbrev pub read_refusal_of : ReadError → TextError
+read_refusal_of (read_error.Syntax n) = text_error.Syntax n
+read_refusal_of (read_error.UnknownSymbol w) = text_error.UnknownSymbol w
+read_refusal_of (read_error.DuplicatePrecedence w) = text_error.DuplicatePrecedence w
+read_refusal_of read_error.Memory = text_error.Memory
 
 -- the same error of a text; want of memory has one of its own
 abbrev pub text_error_of : GrammarError → TextError

@@ -9,76 +9,20 @@ ghost use Rattle.lrgrammar.specs.Sizes.{IsWithin};
 
 mod causes;
 mod doubles;
+mod errors;
 mod lists;
 mod make;
-mod parts;
 mod precedences;
 mod texts;
 mod tidxs;
 
 use crate::idx::{IndexStorage, PIdx, RIdx, SIdx, Symbol, TIdx};
-pub use parts::{
-    AssocKind, GrammarError, GrammarParts, PartProd, PartSymbol, PartToken, Precedence,
-};
-use std::alloc::{AllocError, AllocFailed, Global};
+pub use errors::{GrammarError, TextError};
+pub use lrtext::parts::{AssocKind, GrammarParts, PartProd, PartSymbol, PartToken, Precedence};
+use std::alloc::Global;
 use std::collections::BTreeMap;
 use std::marker::Model;
-use thiserror::Error;
 pub use tidxs::TIdxIterator;
-
-/// Why there is no grammar of a text. Of several causes the first in this order is told, and of several of one kind the
-/// first in the text.
-#[derive(PartialEq, Debug, Drop, Error)]
-pub enum TextError {
-    /// The text is no document: the byte offset of the first item that fits nowhere, or the text's length.
-    #[error("syntax error at byte {0}")]
-    Syntax(usize),
-    /// Nothing defines the name.
-    #[error("unknown symbol {0}")]
-    UnknownSymbol(String),
-    /// The token is named twice in precedence lines.
-    #[error("token {0} has two precedences")]
-    DuplicatePrecedence(String),
-    /// The parts of the grammar are refused; never for want of memory.
-    #[error(transparent)]
-    Grammar(GrammarError),
-    /// A growth was refused.
-    #[error("out of memory")]
-    Memory,
-}
-
-impl From<AllocError> for TextError {
-    ghost use Rattle.lrgrammar.specs.declared.grammar.TextError.TheVariants as text_error;
-
-    ghost from_gives = { λ _ e. e ≡ text_error.Memory };
-
-    fn from(_refused: AllocError) -> TextError {
-        TextError::Memory
-    }
-}
-
-impl<T: Drop> From<AllocFailed<T>> for TextError {
-    ghost use Rattle.lrgrammar.specs.declared.grammar.TextError.TheVariants as text_error;
-
-    ghost from_gives = { λ _ e. e ≡ text_error.Memory };
-
-    fn from(_refused: AllocFailed<T>) -> TextError {
-        TextError::Memory
-    }
-}
-
-impl From<GrammarError> for TextError {
-    ghost use Rattle.lrgrammar.specs.TextErrors.{text_error_of};
-
-    ghost from_gives = { λ error e. e ≡ text_error_of error };
-
-    fn from(error: GrammarError) -> TextError {
-        match error {
-            GrammarError::Memory => TextError::Memory,
-            error => TextError::Grammar(error),
-        }
-    }
-}
 
 /// A production: its rule and its body.
 #[derive(Drop)]

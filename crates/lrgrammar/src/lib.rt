@@ -4,5 +4,4 @@
 pub mod firsts;
 pub mod grammar;
 pub mod idx;
-mod reader;
 pub mod vob;

@@ -1,6 +1,6 @@
 use Rattle.std.proofs.Common.{◌≡◌, ◌≢◌, ℕ, zero, suc, ◌<◌, ◌≤◌, Bool, true, false, ◌==◌, ◌&&◌, List, [], ◌∷◌, None, Some, option_map, length, take, drop, get_or, refl, ap, ◌∙◌, sym, arith}
 use Rattle.std.proofs.lemmas.Bool.{and_parts, and_from, cond-true, cond-false, eqb-true, eq-eqb}
-use Rattle.lrspec.proofs.Splits.{onto, split_while, until_close}
+use Rattle.lrspec.specs.Splits.{onto, split_while, until_close}
 
 -- where each byte before place `n` passes and the one there doesn't, the run ends at `n`
 pub cut_splits : (p : ℕ → Bool) (bs : List ℕ) (n : ℕ) → n ≤ length bs → ((k : ℕ) → k < n → p (get_or bs k 0) ≡ true) → (n < length bs → p (get_or bs n 0) ≡ false) → (take n bs, drop n bs) ≡ split_while p bs

@@ -4,8 +4,9 @@ use Rattle.std.specs.List.{list_all}
 use Rattle.std.proofs.lemmas.Bool.{cond-true, or_cases, eqb-true, eq-eqb}
 use Rattle.lrspec.specs.TextItems as text
 use Rattle.lrspec.specs.TextItems.{TextItem, Name, Quoted, StartWord, TokenWord, KindWord, Separator, Colon, Bar, Semicolon, is_blank, is_no_line_feed, is_name_start, is_name_byte, is_quote, may_be_quoted, IsGap, Spells, goes_on}
-use Rattle.lrspec.proofs.Splits.{split_while, split_while_is, until_close_is}
-use Rattle.lrspec.proofs.Fronts.{Gap, Found, OfQuoted, beginning, name_front, quoted_front, word_front, line_front, block_front, front_by, front}
+use Rattle.lrspec.specs.Splits.{split_while}
+use Rattle.lrspec.proofs.Splits.{split_while_is, until_close_is}
+use Rattle.lrspec.specs.Fronts.{Gap, Found, OfQuoted, beginning, name_front, quoted_front, word_front, line_front, block_front, front_by, front}
 
 -- each of the four blanks
 blank_front : (b : ℕ) (rest : List ℕ) → IsTrue (is_blank b) → front (b ∷ rest) ≡ Gap (b ∷ []) rest

@@ -6,7 +6,7 @@ use Rattle.lrspec.specs.Grammar.{Left, Right, Nonassoc}
 use Rattle.lrspec.specs.TextItems as text
 use Rattle.lrspec.specs.TextItems.{TextItem, Name, Quoted, StartWord, TokenWord, KindWord, Separator, Colon, Bar, Semicolon, is_blank, is_no_line_feed, is_name_start, is_name_byte, is_quote, may_be_quoted, IsGap, Spells, IsMisfit, goes_on}
 use Rattle.lrspec.proofs.Splits.{IsSplit, split_while_splits, IsClosed, until_close_closes}
-use Rattle.lrspec.proofs.Fronts.{Front, Gap, Found, Unfit, Beginning, OfName, OfQuoted, OfWord, OfComment, OfBlank, OfMark, OfNothing, beginning, name_front, quoted_front, word_item, word_found, word_front, line_front, block_front, comment_front, front_by, front}
+use Rattle.lrspec.specs.Fronts.{Front, Gap, Found, Unfit, Beginning, OfName, OfQuoted, OfWord, OfComment, OfBlank, OfMark, OfNothing, beginning, name_front, quoted_front, word_item, word_found, word_front, line_front, block_front, comment_front, front_by, front}
 use Rattle.lrspec.proofs.FrontFacts.{front_gap, front_item}
 
 -- what a front says of its text

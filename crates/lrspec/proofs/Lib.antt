@@ -29,7 +29,6 @@ pub mod Enumerated
 pub mod ContestTest
 pub mod ExampleSets
 pub mod Splits
-pub mod Fronts
 pub mod FrontFacts
 pub mod FrontSound
 pub mod TextItemFacts
@@ -41,7 +40,6 @@ pub mod RepeatFacts
 pub mod NameFacts
 pub mod MeaningFacts
 pub mod TextExamples
-pub mod Readings
 pub mod ReadingFacts
 pub mod ReadingEnds
 pub mod Cuts
@@ -52,3 +50,4 @@ pub mod ReadingSteps
 pub mod MeaningExamples
 pub mod PartsFacts
 pub mod Refusals
+pub mod Results

@@ -4,7 +4,7 @@ use Rattle.lrspec.specs.Documents.{NameText, Plain, InQuotes, Declaration, Start
 use Rattle.lrspec.specs.ReadingStates.{ReadingState, AtRule, InBody, Behind}
 use Rattle.lrspec.specs.Meaning.{Said, bare_name, token_line_names, kind_line, alternatives_of, said_by}
 use Rattle.lrspec.proofs.DocumentStates.{rule_grouped}
-use Rattle.lrspec.proofs.Readings.{Reading, first_reading, reading_behind}
+use Rattle.lrspec.specs.Readings.{Reading, first_reading, reading_behind, starts_in, said_in}
 use Rattle.lrspec.proofs.ReadingFacts.{read_declarations, declarations_read}
 
 -- rules with their bodies
@@ -54,15 +54,6 @@ rules_read (r ∷ rs) x rest =
 pub behind_read : (is : List TextItem) (x : Reading) → reading_behind (record x { state = Behind }) is ≡ Some (record x { state = Behind })
 behind_read [] x = refl
 behind_read (i ∷ is) x = behind_read is x
-
--- the name as a list
-abbrev pub starts_in : Option (List ℕ) → List (List ℕ)
-starts_in None = []
-starts_in (Some w) = w ∷ []
-
--- what the document says, as it was read
-abbrev pub said_in : Reading → Said
-said_in x = record { starts = starts_in x.start; declared = x.declared; kind_lines = x.kind_lines; alternatives = x.alternatives }
 
 -- without `%start` its name stays
 start_kept : (ds : List Declaration) (x : Reading) → length (start_names ds) ≤ 0 → (read_declarations ds x).start ≡ x.start

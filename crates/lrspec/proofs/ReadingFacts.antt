@@ -5,7 +5,7 @@ use Rattle.lrspec.specs.Documents.{NameText, Plain, InQuotes, Declaration, Start
 use Rattle.lrspec.specs.ReadingStates.{AtDeclaration, InLine, AtRule}
 use Rattle.lrspec.specs.Meaning.{bare_name}
 use Rattle.lrspec.proofs.DocumentRests.{count_seen}
-use Rattle.lrspec.proofs.Readings.{Reading, reading_behind}
+use Rattle.lrspec.specs.Readings.{Reading, reading_behind}
 
 -- the items of declarations and of what follows them
 abbrev declarations_items : List Declaration → List TextItem → List TextItem

@@ -1,21 +1,16 @@
 use Rattle.std.proofs.Common.{◌≡◌, ℕ, true, false, List, [], ◌∷◌, ◌++◌, length, Option, None, Some, refl, ap, ◌∙◌, sym, subst}
 use Rattle.std.proofs.lemmas.List.{map-append}
 use Rattle.lrspec.specs.TextItems.{TextItem, Placed, HasItems}
-use Rattle.lrspec.specs.Documents.{Document, items_of, Reads, IsSyntaxErrorAt}
+use Rattle.lrspec.specs.Documents.{items_of, IsSyntaxErrorAt}
 use Rattle.lrspec.specs.ReadingStates.{ReadingState, Behind, may_end, next_state, state_behind}
-use Rattle.lrspec.specs.Meaning.{Said, said_by}
+use Rattle.lrspec.specs.Meaning.{said_by, IsSaidIn}
 use Rattle.lrspec.proofs.TextItemFacts.{text_items_only}
 use Rattle.lrspec.proofs.DocumentStates.{leads_document}
 use Rattle.lrspec.proofs.SyntaxErrors as error
 use Rattle.lrspec.proofs.SyntaxErrors.{stops_error}
-use Rattle.lrspec.proofs.Readings.{Reading, first_reading, added, moved, take_item, reading_behind}
-use Rattle.lrspec.proofs.ReadingEnds.{behind_read, said_in, document_reading}
-
--- the text is a document that says this
-pub record IsSaidIn (text : List ℕ) (s : Said) : Type 0 where
-  pub document : Document
-  pub reads : Reads text document
-  pub says : s ≡ said_by document
+use Rattle.lrspec.specs.Readings.{Reading, first_reading, added, moved, take_item, reading_behind}
+use Rattle.lrspec.specs.Readings.{said_in}
+use Rattle.lrspec.proofs.ReadingEnds.{behind_read, document_reading}
 
 -- the place behind an item that was taken
 moved_state : (x y : Reading) (i : TextItem) (o : Option ReadingState) → moved i x o ≡ Some y → o ≡ Some y.state

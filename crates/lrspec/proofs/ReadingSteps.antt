@@ -5,9 +5,10 @@ use Rattle.lrspec.specs.Documents.{items_of, IsSyntaxErrorAt}
 use Rattle.lrspec.specs.ReadingStates.{ReadingState, AtDeclaration, WantsStart, WantsName, InLine, AtRule, WantsColon, InBody, Behind, may_end, next_state}
 use Rattle.lrspec.proofs.TextItemFacts.{items_within, within_has}
 use Rattle.lrspec.proofs.ReadItems.{HasRead, has_read_none, has_read_more, has_read_all, has_read_misfit}
-use Rattle.lrspec.proofs.Readings.{Reading, first_reading, moved, take_item, reading_behind}
-use Rattle.lrspec.proofs.ReadingEnds.{said_in}
-use Rattle.lrspec.proofs.ReadingLaws.{IsSaidIn, reading_more, read_stops, read_ends_early, read_ends, read_ends_behind}
+use Rattle.lrspec.specs.Readings.{Reading, first_reading, moved, take_item, reading_behind}
+use Rattle.lrspec.specs.Readings.{said_in}
+use Rattle.lrspec.specs.Meaning.{IsSaidIn}
+use Rattle.lrspec.proofs.ReadingLaws.{reading_more, read_stops, read_ends_early, read_ends, read_ends_behind}
 
 -- the text was read up to `rest`, not behind its second `%%`, and `x` is what was read
 pub record IsReadTo (text : List ℕ) (x : Reading) (rest : List ℕ) : Type 0 where

@@ -1,15 +1,8 @@
-use Rattle.std.proofs.Common.{◌≡◌, ℕ, Bool, true, false, cond, ◌==◌, ◌&&◌, List, [], ◌∷◌, ◌++◌, Option, None, Some, option_map, refl, ap, ◌∙◌}
+use Rattle.std.proofs.Common.{◌≡◌, ℕ, Bool, true, false, ◌==◌, ◌&&◌, List, [], ◌∷◌, ◌++◌, Option, None, Some, option_map, refl, ap, ◌∙◌}
 use Rattle.std.specs.List.{list_all}
 use Rattle.std.proofs.lemmas.Bool.{and_parts, and_from, and_right, eqb-true, or_parts, or_from, cond-true, cond-false, cond_both}
 use Rattle.lrspec.specs.TextItems.{goes_on, has_close}
-
-abbrev pub onto : ℕ → List ℕ × List ℕ → List ℕ × List ℕ
-onto b (w, rest) = (b ∷ w, rest)
-
--- the bytes that pass, as far as they go, and the rest
-abbrev pub split_while : (ℕ → Bool) → List ℕ → List ℕ × List ℕ
-split_while p [] = ([], [])
-split_while p (b ∷ bs) = cond (p b) (onto b (split_while p bs)) ([], b ∷ bs)
+use Rattle.lrspec.specs.Splits.{onto, split_while, until_close}
 
 split_at_stop : (p : ℕ → Bool) (rest : List ℕ) → goes_on p rest ≡ false → split_while p rest ≡ ([], rest)
 split_at_stop p [] h = refl
@@ -36,12 +29,6 @@ split_while_splits p [] = record { whole = refl; all = refl; stops = refl }
 split_while_splits p (b ∷ bs) = cond_both (p b) (onto b (split_while p bs)) ([], b ∷ bs) (IsSplit p (b ∷ bs))
     (λ h. split_onto p b bs (split_while p bs) h (split_while_splits p bs))
     (λ h. record { whole = refl; all = refl; stops = h })
-
--- the bytes before the first `*/`, and those behind it
-abbrev pub until_close : List ℕ → Option (List ℕ × List ℕ)
-until_close [] = None
-until_close (b ∷ []) = None
-until_close (b ∷ c ∷ bs) = cond (b == 42 && c == 47) (Some ([], bs)) (option_map (onto b) (until_close (c ∷ bs)))
 
 -- a comment ends at its first `*/`
 pub until_close_is : (c rest : List ℕ) → has_close (c ++ 42 ∷ []) ≡ false → until_close (c ++ 42 ∷ 47 ∷ rest) ≡ Some (c, rest)

@@ -1,7 +1,7 @@
 use Rattle.std.proofs.Common.{◌≡◌, ◌≢◌, ℕ, zero, suc, ◌+◌, ◌≤◌, List, [], ◌∷◌, ◌++◌, length, refl, ap, ◌∙◌, sym, length-append, arith}
 use Rattle.lrspec.specs.TextItems as text
 use Rattle.lrspec.specs.TextItems.{TextItem, Misfit, IsGap, Spells, IsMisfit, Placed, HasItems}
-use Rattle.lrspec.proofs.Fronts.{Front, Gap, Found, Unfit, front}
+use Rattle.lrspec.specs.Fronts.{Front, Gap, Found, Unfit, front}
 use Rattle.lrspec.proofs.FrontFacts.{front_gap, front_item}
 use Rattle.lrspec.proofs.FrontSound.{IsFront, front_is, unfit_is}
 

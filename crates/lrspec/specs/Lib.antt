@@ -19,3 +19,6 @@ pub mod ReadingStates
 pub mod Meaning
 pub mod Gaps
 pub mod Texts
+pub mod Splits
+pub mod Fronts
+pub mod Readings

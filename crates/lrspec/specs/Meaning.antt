@@ -151,3 +151,9 @@ pub record Means (text : List ℕ) (p : Parts) : Type 0 where
   pub known : unknown_names (said_by document) ≡ []
   pub once : IsTrue (has_no_repeats (precedence_names (said_by document)))
   pub parts : parts_of (said_by document) ≡ p
+
+-- the text is a document that says this
+pub record IsSaidIn (text : List ℕ) (s : Said) : Type 0 where
+  pub document : Document
+  pub reads : Reads text document
+  pub says : s ≡ said_by document

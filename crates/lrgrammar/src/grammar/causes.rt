@@ -2,11 +2,11 @@
 
 ghost use Rattle.std.specs.Prelude.{◌≡◌, ℕ, false, IsTrue, ◌↔◌, IfOk, MatchResult, Any, map};
 ghost use Rattle.lrspec.specs.Parts as part;
-ghost use Rattle.lrgrammar.specs.StoredParts.{parts_of, part_production_of};
+ghost use Rattle.lrtext.specs.StoredParts.{parts_of, part_production_of};
 ghost use Rattle.lrgrammar.specs.Refusals.{AreUsed, IsRefusedBy};
 
 use crate::grammar::doubles::{duplicate_name, mixed_level};
-use crate::grammar::parts::{GrammarError, GrammarParts, PartProd, PartSymbol};
+use crate::grammar::{GrammarError, GrammarParts, PartProd, PartSymbol};
 use crate::idx::IndexStorage;
 use std::alloc::{AllocError, Global};
 

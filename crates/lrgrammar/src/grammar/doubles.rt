@@ -3,9 +3,9 @@
 ghost use Rattle.std.specs.Prelude.{◌≡◌, ℕ, false, IsTrue, ◌↔◌, IfOk, map};
 ghost use Rattle.lrspec.specs.Parts as part;
 ghost use Rattle.lrgrammar.specs.Refusals.{IsOtherKind, IsSameKind};
-ghost use Rattle.lrgrammar.specs.StoredParts.{parts_of};
+ghost use Rattle.lrtext.specs.StoredParts.{parts_of};
 
-use crate::grammar::parts::{AssocKind, GrammarParts};
+use crate::grammar::{AssocKind, GrammarParts};
 use std::alloc::{AllocError, Global};
 use std::collections::BTreeMap;
 

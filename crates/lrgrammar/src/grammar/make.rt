@@ -1,20 +1,24 @@
-//! A grammar from its parts.
+//! A grammar from its parts or from a text.
 
 ghost use Rattle.std.specs.Prelude.{◌≡◌, ℕ, ◌+◌, ◌<◌, ◌≤◌, ◌∷◌, IfOk, OnOk, IfErr, map, codes, All};
 ghost use Rattle.std.specs.String.{string_bytes};
 ghost use Rattle.std.specs.Option.{option_map};
 ghost use Rattle.lrspec.specs.Parts as part;
-ghost use Rattle.lrgrammar.specs.StoredParts.{parts_of, part_symbol_of, precedence_of};
+ghost use Rattle.lrtext.specs.StoredParts.{parts_of, part_symbol_of, precedence_of};
 ghost use Rattle.lrgrammar.specs.Refusals.{IsRefusedBy};
 ghost use Rattle.lrgrammar.specs.Numbers.{part_number, AreSmall};
 ghost use Rattle.lrgrammar.specs.Symbols.{symbol_of};
 ghost use Rattle.lrgrammar.specs.Stored.{production_of};
+ghost use Rattle.lrgrammar.specs.TextErrors.{IsGrammarOf, IsTextError};
 
 use crate::grammar::causes::refuse;
 use crate::grammar::lists::{places, production_lists};
-use crate::grammar::parts::{GrammarError, GrammarParts, PartProd, PartSymbol, Precedence};
-use crate::grammar::{Production, YaccGrammar};
+use crate::grammar::{
+    GrammarError, GrammarParts, PartProd, PartSymbol, Precedence, Production, TextError,
+    YaccGrammar,
+};
 use crate::idx::{IndexStorage, PIdx, RIdx, Symbol, TIdx};
+use lrtext::reader::read_parts;
 use std::alloc::{AllocError, Global};
 
 /// The names of the rules, `^` first.
@@ -149,5 +153,19 @@ impl<T: IndexStorage> YaccGrammar<T> {
         refuse::<T>(alloc, parts)?;
         let grammar = grammar_from(alloc, parts)?;
         Ok(grammar)
+    }
+
+    /// The grammar of a text. The error is `Syntax` where the text is no document, with the place
+    /// of its first item that may not come, in bytes from 0, or else its length where it ends too
+    /// early; or else `UnknownSymbol` of the first name that nothing defines; or else
+    /// `DuplicatePrecedence` of the first name that comes again in precedence lines; or else
+    /// `Grammar` with the first cause for which `from_parts` refuses the parts; or `Memory` where a
+    /// growth was refused, which may come in place of any.
+    pub fn from_text(alloc: Global, text: &str) -> Result<YaccGrammar<T>, TextError>
+        ensures ok { IfOk result (IsGrammarOf T.MAX text.now) }
+        ensures err { IfErr result (IsTextError T.MAX text.now) }
+    {
+        let parts = read_parts(alloc, text)?;
+        Ok(YaccGrammar::from_parts(alloc, &parts)?)
     }
 }

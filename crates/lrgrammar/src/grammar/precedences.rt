@@ -3,11 +3,10 @@
 ghost use Rattle.std.specs.Prelude.{◌≡◌, ℕ, ◌<◌, IsTrue, ◌↔◌, IsSome, None, Any, length, map};
 ghost use Rattle.std.specs.Option.{option_map};
 ghost use Rattle.lrspec.specs.Grammar as math;
-ghost use Rattle.lrgrammar.specs.StoredParts.{precedence_of};
+ghost use Rattle.lrtext.specs.StoredParts.{precedence_of};
 ghost use Rattle.lrgrammar.specs.Symbols.{symbol_of};
 
-use crate::grammar::YaccGrammar;
-use crate::grammar::parts::Precedence;
+use crate::grammar::{Precedence, YaccGrammar};
 use crate::idx::{IndexStorage, PIdx, Symbol, TIdx};
 
 /// The last token of a body.

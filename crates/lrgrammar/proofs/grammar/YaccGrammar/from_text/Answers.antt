@@ -1,24 +1,16 @@
-use Rattle.lrgrammar.specs.StoredParts.{parts_of}
-use Rattle.lrgrammar.specs.StoredSaid.{said_of}
-use Rattle.lrgrammar.specs.TextErrors.{text_error_of, IsTextError}
-use Rattle.lrgrammar.proofs.TextFacts.{read_cause, said_cause, said_means, parts_cause, error_passed}
+use Rattle.lrtext.specs.StoredParts.{parts_of}
+use Rattle.lrgrammar.specs.TextErrors.{read_refusal_of, text_error_of, IsTextError}
+use Rattle.lrspec.proofs.Results.{error_passed}
+use Rattle.lrgrammar.proofs.TextFacts.{read_cause, parts_cause}
 use Rattle.lrgrammar.proofs.grammar.YaccGrammar.from_text.Goals as goal
 
--- the text is no document
-pub returns-in_err-document-clause-err : goal.returns-in_err-document-clause-err
-returns-in_err-document-clause-err g c =
-    let most = g.T.IndexStorage.MAX in
-    let text = c.args.text.now in
-    let e = c.in_err-document.field-0.0 in
-    error_passed (IsTextError most text) _ e c.from_residual.ensures.1 (read_cause most text e c.in_err-document.ensures.err)
-
--- a name is unknown or repeated
+-- the text means no parts
 pub returns-in_err-parts-clause-err : goal.returns-in_err-parts-clause-err
 returns-in_err-parts-clause-err g c =
     let most = g.T.IndexStorage.MAX in
     let text = c.args.text.now in
     let e = c.in_err-parts.field-0.0 in
-    error_passed (IsTextError most text) _ e c.from_residual-in_err-parts.ensures.1 (said_cause most text (said_of c.in_ok-document.document) e c.in_ok-document.ensures.ok c.in_err-parts.ensures.err)
+    error_passed (IsTextError most text) _ (read_refusal_of e) c.from_residual.ensures.1 (read_cause most text e c.in_err-parts.ensures.err)
 
 -- the parts are refused
 pub returns-in_err-from_parts-clause-err : goal.returns-in_err-from_parts-clause-err
@@ -27,16 +19,14 @@ returns-in_err-from_parts-clause-err g c =
     let text = c.args.text.now in
     let parts = parts_of c.in_ok-parts.parts in
     let e = c.in_err-from_parts.field-0.0 in
-    let means = said_means text (said_of c.in_ok-document.document) parts c.in_ok-document.ensures.ok c.in_ok-parts.ensures.ok in
-    error_passed (IsTextError most text) _ (text_error_of e) c.from_residual-in_err-from_parts.ensures.1 (parts_cause most text parts e means c.in_err-from_parts.ensures.refused)
+    error_passed (IsTextError most text) _ (text_error_of e) c.from_residual-in_err-from_parts.ensures.1 (parts_cause most text parts e c.in_ok-parts.ensures.ok c.in_err-from_parts.ensures.refused)
 
 -- nothing stands against the parts
 pub returns-clause-ok : goal.returns-clause-ok
 returns-clause-ok g c =
-    let parts = parts_of c.in_ok-parts.parts in
     record {
-      parts = parts;
-      means = said_means c.args.text.now (said_of c.in_ok-document.document) parts c.in_ok-document.ensures.ok c.in_ok-parts.ensures.ok;
+      parts = parts_of c.in_ok-parts.parts;
+      means = c.in_ok-parts.ensures.ok;
       free = c.in_ok-from_parts.ensures.free;
       grammar = c.in_ok-from_parts.ensures.made;
     }

@@ -3,7 +3,7 @@ use Rattle.std.proofs.lemmas.List.{get_or_default}
 use Rattle.std.specs.Prelude.{IsSome}
 use Rattle.std.specs.Option.{option_map}
 use Rattle.lrspec.specs.Grammar.{Precedence}
-use Rattle.lrgrammar.specs.StoredParts.{precedence_of}
+use Rattle.lrtext.specs.StoredParts.{precedence_of}
 use Rattle.lrgrammar.proofs.MappedFacts.{any_image, no_image, true_if, false_if}
 use Rattle.lrgrammar.proofs.LastFacts.{has_image, has_source}
 use Rattle.lrgrammar.proofs.grammar.YaccGrammar.has_precedences.Goals as goal

@@ -1,6 +1,6 @@
 use Rattle.std.proofs.Common.{◌<◌, ℕ, Option, get_or}
 use Rattle.std.specs.Prelude.{IsSome}
-use Rattle.lrgrammar.specs.declared.grammar.parts.Precedence.{Precedence}
+use Rattle.lrtext.specs.declared.parts.Precedence.{Precedence}
 use Rattle.lrgrammar.proofs.grammar.YaccGrammar.has_precedences.Given as goal
 
 abbrev pub invariant-loop-precedence : goal.invariant-loop-precedence

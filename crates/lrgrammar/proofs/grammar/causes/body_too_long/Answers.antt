@@ -1,6 +1,6 @@
 use Rattle.std.proofs.Common.{◌<◌, length, arith}
 use Rattle.std.proofs.lemmas.List.{length-map}
-use Rattle.lrgrammar.specs.StoredParts.{part_production_of, part_symbol_of}
+use Rattle.lrtext.specs.StoredParts.{part_production_of, part_symbol_of}
 use Rattle.lrgrammar.proofs.MappedFacts.{any_image, no_image, true_if, false_if}
 use Rattle.lrgrammar.proofs.grammar.causes.body_too_long.Goals as goal
 

@@ -1,6 +1,6 @@
 use Rattle.std.proofs.Common.{◌<◌, ℕ, length, get_or}
-use Rattle.lrgrammar.specs.declared.grammar.parts.PartProd.{PartProd}
-use Rattle.lrgrammar.specs.StoredParts.{part_production_of}
+use Rattle.lrtext.specs.declared.parts.PartProd.{PartProd}
+use Rattle.lrtext.specs.StoredParts.{part_production_of}
 use Rattle.lrgrammar.proofs.grammar.causes.body_too_long.Given as goal
 
 abbrev pub invariant-loop-prod : goal.invariant-loop-prod

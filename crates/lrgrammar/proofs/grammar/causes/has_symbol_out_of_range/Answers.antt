@@ -1,5 +1,5 @@
 use Rattle.lrspec.specs.Parts.{IsOutOfRange}
-use Rattle.lrgrammar.specs.StoredParts.{parts_of, part_symbol_of}
+use Rattle.lrtext.specs.StoredParts.{parts_of, part_symbol_of}
 use Rattle.lrgrammar.proofs.MappedFacts.{no_image, false_if}
 use Rattle.lrgrammar.proofs.grammar.causes.has_symbol_out_of_range.Goals as goal
 

@@ -1,7 +1,7 @@
 use Rattle.std.proofs.Common.{◌<◌, ℕ, get_or}
-use Rattle.lrgrammar.specs.declared.grammar.parts.PartSymbol.{PartSymbol}
+use Rattle.lrtext.specs.declared.parts.PartSymbol.{PartSymbol}
 use Rattle.lrspec.specs.Parts.{IsOutOfRange}
-use Rattle.lrgrammar.specs.StoredParts.{parts_of, part_symbol_of}
+use Rattle.lrtext.specs.StoredParts.{parts_of, part_symbol_of}
 use Rattle.lrgrammar.proofs.grammar.causes.has_symbol_out_of_range.Given as goal
 
 abbrev pub invariant-loop-symbol : goal.invariant-loop-symbol

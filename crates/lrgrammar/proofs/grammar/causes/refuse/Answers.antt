@@ -1,6 +1,6 @@
 use Rattle.lrspec.proofs.Refusals.{none_below_one, none_below_2, none_below_3, none_below_4, none_below_5, none_below_6, none_below_7, none_below_8, none_below_9, none_below_10, none_below_11, no_cause_from_none_below}
 use Rattle.lrspec.specs.Parts as part
-use Rattle.lrgrammar.specs.StoredParts.{parts_of}
+use Rattle.lrtext.specs.StoredParts.{parts_of}
 use Rattle.lrgrammar.proofs.MappedFacts.{holds_if, fails_if}
 use Rattle.lrgrammar.proofs.grammar.causes.refuse.Goals as goal
 

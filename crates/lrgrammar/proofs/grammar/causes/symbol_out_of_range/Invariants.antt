@@ -1,8 +1,8 @@
 use Rattle.std.proofs.Common.{◌<◌, ◌≤◌, ◌⊎◌, ℕ, get_or, length}
 use Rattle.std.specs.Prelude.{Any}
-use Rattle.lrgrammar.specs.declared.grammar.parts.PartProd.{PartProd}
+use Rattle.lrtext.specs.declared.parts.PartProd.{PartProd}
 use Rattle.lrspec.specs.Parts.{IsOutOfRange}
-use Rattle.lrgrammar.specs.StoredParts.{parts_of, part_production_of}
+use Rattle.lrtext.specs.StoredParts.{parts_of, part_production_of}
 use Rattle.lrgrammar.proofs.grammar.causes.symbol_out_of_range.Given as goal
 
 abbrev pub invariant-loop-prod : goal.invariant-loop-prod

@@ -1,6 +1,6 @@
 use Rattle.std.proofs.Common.{◌≡◌, map, take}
 use Rattle.lrspec.specs.Parts.{names_of}
-use Rattle.lrgrammar.specs.StoredParts.{token_of}
+use Rattle.lrtext.specs.StoredParts.{token_of}
 use Rattle.lrgrammar.proofs.grammar.doubles.token_names.Given as goal
 
 abbrev pub invariant-loop-token : goal.invariant-loop-token

@@ -7,7 +7,7 @@ use Rattle.lrspec.specs.Parts.{HasDouble, grammar_of_parts}
 use Rattle.lrspec.proofs.PartsFacts.{grammar_from_parts, length-productions}
 use Rattle.lrgrammar.specs.Places.{Seen}
 use Rattle.lrgrammar.specs.Sizes.{IsWithin}
-use Rattle.lrgrammar.specs.StoredParts.{parts_of, part_production_of}
+use Rattle.lrtext.specs.StoredParts.{parts_of, part_production_of}
 use Rattle.lrgrammar.specs.Stored.{production_of}
 use Rattle.lrgrammar.proofs.MadeFacts.{small_from_no_cause, no_double_rule, no_double_token, sizes_from_no_cause, rules_within, same_grammar, room}
 use Rattle.lrgrammar.proofs.ListFacts.{lists_along}

@@ -1,6 +1,6 @@
 use Rattle.std.proofs.Common.{◌≡◌, map, take}
 use Rattle.lrspec.specs.Parts.{shifted_production}
-use Rattle.lrgrammar.specs.StoredParts.{part_production_of}
+use Rattle.lrtext.specs.StoredParts.{part_production_of}
 use Rattle.lrgrammar.specs.Stored.{production_of}
 use Rattle.lrgrammar.proofs.grammar.make.productions.Given as goal
 

@@ -1,7 +1,7 @@
 use Rattle.std.proofs.Common.{◌≡◌, map, take}
 use Rattle.std.specs.String.{string_bytes}
 use Rattle.lrspec.specs.Parts.{names_of}
-use Rattle.lrgrammar.specs.StoredParts.{token_of}
+use Rattle.lrtext.specs.StoredParts.{token_of}
 use Rattle.lrgrammar.proofs.grammar.make.token_names.Given as goal
 
 abbrev pub invariant-loop-token : goal.invariant-loop-token

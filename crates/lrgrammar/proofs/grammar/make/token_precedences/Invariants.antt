@@ -1,7 +1,7 @@
 use Rattle.std.proofs.Common.{◌≡◌, map, take}
 use Rattle.std.specs.Option.{option_map}
 use Rattle.lrspec.specs.Parts.{precedences_of}
-use Rattle.lrgrammar.specs.StoredParts.{token_of, precedence_of}
+use Rattle.lrtext.specs.StoredParts.{token_of, precedence_of}
 use Rattle.lrgrammar.proofs.grammar.make.token_precedences.Given as goal
 
 abbrev pub invariant-loop-token : goal.invariant-loop-token

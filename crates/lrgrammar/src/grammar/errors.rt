@@ -1,0 +1,111 @@
+//! Why there is no grammar.
+
+ghost use Rattle.lrgrammar.specs.declared.grammar.errors.GrammarError.TheVariants.{Memory};
+ghost use Rattle.std.specs.Prelude.{◌≡◌};
+
+use lrtext::reader::ReadError;
+use std::alloc::{AllocError, AllocFailed};
+use thiserror::Error;
+
+/// Why there is no grammar of some parts. Of several causes the first in this order is told.
+#[derive(Clone, Copy, Debug, PartialEq, Eq, Error)]
+pub enum GrammarError {
+    /// The rules and `^` pass the index type.
+    #[error("too many rules")]
+    TooManyRules,
+    /// The tokens and the end token pass the index type.
+    #[error("too many tokens")]
+    TooManyTokens,
+    /// The productions and the start production pass the index type.
+    #[error("too many productions")]
+    TooManyProductions,
+    /// The symbols of a body pass the index type.
+    #[error("production too long")]
+    BodyTooLong,
+    /// A symbol of a body or the rule of a production is in no list.
+    #[error("symbol out of range")]
+    SymbolOutOfRange,
+    /// A rule has no production.
+    #[error("rule without production")]
+    EmptyRule,
+    /// A rule is named `^`.
+    #[error("reserved rule name")]
+    ReservedName,
+    /// Two rules or two tokens share a name.
+    #[error("duplicate name")]
+    DuplicateName,
+    /// Two tokens of one level have different kinds.
+    #[error("mixed precedence level")]
+    MixedLevel,
+    /// The start rule is in no list.
+    #[error("no start rule")]
+    NoStart,
+    /// A growth was refused.
+    #[error("out of memory")]
+    Memory,
+}
+
+impl From<AllocError> for GrammarError {
+    ghost from_gives = { λ _ e. e ≡ Memory };
+
+    fn from(_e: AllocError) -> GrammarError {
+        GrammarError::Memory
+    }
+}
+
+impl<T: Drop> From<AllocFailed<T>> for GrammarError {
+    ghost from_gives = { λ _ e. e ≡ Memory };
+
+    fn from(_e: AllocFailed<T>) -> GrammarError {
+        GrammarError::Memory
+    }
+}
+
+/// Why there is no grammar of a text. Of several causes the first in this order is told, and of several of one kind the
+/// first in the text.
+#[derive(PartialEq, Debug, Drop, Error)]
+pub enum TextError {
+    /// The text is no document: the byte offset of the first item that fits nowhere, or the text's length.
+    #[error("syntax error at byte {0}")]
+    Syntax(usize),
+    /// Nothing defines the name.
+    #[error("unknown symbol {0}")]
+    UnknownSymbol(String),
+    /// The token is named twice in precedence lines.
+    #[error("token {0} has two precedences")]
+    DuplicatePrecedence(String),
+    /// The parts of the grammar are refused; never for want of memory.
+    #[error(transparent)]
+    Grammar(GrammarError),
+    /// A growth was refused.
+    #[error("out of memory")]
+    Memory,
+}
+
+impl From<ReadError> for TextError {
+    ghost use Rattle.lrgrammar.specs.TextErrors.{read_refusal_of};
+
+    ghost from_gives = { λ error e. e ≡ read_refusal_of error };
+
+    fn from(error: ReadError) -> TextError {
+        match error {
+            ReadError::Syntax(at) => TextError::Syntax(at),
+            ReadError::UnknownSymbol(name) => TextError::UnknownSymbol(name),
+            ReadError::DuplicatePrecedence(name) => TextError::DuplicatePrecedence(name),
+            ReadError::Memory => TextError::Memory,
+        }
+    }
+}
+
+impl From<GrammarError> for TextError {
+    ghost use Rattle.lrgrammar.specs.TextErrors.{text_error_of};
+
+    ghost from_gives = { λ error e. e ≡ text_error_of error };
+
+    fn from(error: GrammarError) -> TextError {
+        match error {
+            GrammarError::Memory => TextError::Memory,
+            error => TextError::Grammar(error),
+        }
+    }
+}

@@ -1,0 +1,9 @@
+pub mod NumberedFacts
+pub mod ListSteps
+pub mod LevelFacts
+pub mod BodySteps
+pub mod ReaderFacts
+pub mod SightFacts
+pub mod TakenFacts
+pub mod RunFacts
+pub mod CauseFacts

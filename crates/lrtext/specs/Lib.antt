@@ -1,0 +1,10 @@
+pub mod StoredParts
+pub mod StoredSaid
+pub mod Numbered
+pub mod StoredLevels
+pub mod ReaderParts
+pub mod NextItems
+pub mod Sights
+pub mod StoredReading
+pub mod ReadErrors
+pub mod Runs

@@ -1,0 +1,89 @@
+//! Reads a grammar text.
+
+ghost use Rattle.std.specs.Prelude.{◌≡◌, IfOk, IfErr};
+ghost use Rattle.lrspec.specs.Meaning.{Means};
+ghost use Rattle.lrspec.specs.Meaning.{IsSaidIn};
+ghost use Rattle.lrtext.specs.StoredParts.{parts_of};
+ghost use Rattle.lrtext.specs.StoredSaid.{said_of};
+ghost use Rattle.lrtext.specs.ReadErrors.{IsSyntaxError, IsReadError};
+ghost use Rattle.lrtext.specs.declared.reader.ReadError.TheVariants.{Memory};
+
+use crate::document::Document;
+use crate::items::{Next, next_item};
+use crate::numbering::parts_of;
+use crate::parts::GrammarParts;
+use crate::reading::Reading;
+use std::alloc::{AllocError, AllocFailed, Global};
+
+/// Why a text gives no parts. Of several causes the first in this order is told, and of several of one kind the first in
+/// the text.
+#[derive(PartialEq, Debug, Drop)]
+pub enum ReadError {
+    /// The text is no document: the byte offset of the first item that fits nowhere, or the text's length.
+    Syntax(usize),
+    /// Nothing defines the name.
+    UnknownSymbol(String),
+    /// The token is named twice in precedence lines.
+    DuplicatePrecedence(String),
+    /// A growth was refused.
+    Memory,
+}
+
+impl From<AllocError> for ReadError {
+    ghost from_gives = { λ _ e. e ≡ Memory };
+
+    fn from(_refused: AllocError) -> ReadError {
+        ReadError::Memory
+    }
+}
+
+impl<T: Drop> From<AllocFailed<T>> for ReadError {
+    ghost from_gives = { λ _ e. e ≡ Memory };
+
+    fn from(_refused: AllocFailed<T>) -> ReadError {
+        ReadError::Memory
+    }
+}
+
+/// What the text says. The error is `Syntax` where the text is no document, with the place of its
+/// first item that may not come, or else of its end; or `Memory`. Nothing behind the second `%%`
+/// is read.
+fn read(alloc: Global, text: &str) -> Result<Document<'_>, ReadError>
+    ensures ok { IfOk result (λ d. IsSaidIn text.now (said_of d)) }
+    ensures err { IfErr result (IsSyntaxError text.now) }
+{
+    let mut reading = Reading::new(alloc);
+    let mut rest = text;
+    loop {
+        match next_item(rest) {
+            Next::End => {
+                if !reading.may_end() {
+                    return Err(ReadError::Syntax(text.len()));
+                }
+                return Ok(reading.into_document());
+            }
+            Next::Misfit(at) => return Err(ReadError::Syntax(text.len() - at.len())),
+            Next::Item { at, item, behind } => {
+                if !reading.take(item)? {
+                    return Err(ReadError::Syntax(text.len() - at.len()));
+                }
+                if reading.is_behind() {
+                    return Ok(reading.into_document());
+                }
+                rest = behind;
+            }
+        }
+    }
+}
+
+/// The parts that a text means. The error is `Syntax` where the text is no document, with the place of its first item
+/// that may not come, in bytes from 0, or else its length where it ends too early; or else `UnknownSymbol` of the first
+/// name that nothing defines; or else `DuplicatePrecedence` of the first name that comes again in precedence lines; or
+/// `Memory` where a growth was refused, which may come in place of any.
+pub fn read_parts(alloc: Global, text: &str) -> Result<GrammarParts, ReadError>
+    ensures ok { IfOk result (λ p. Means text.now (parts_of p)) }
+    ensures err { IfErr result (IsReadError text.now) }
+{
+    let document = read(alloc, text)?;
+    parts_of(alloc, &document)
+}
