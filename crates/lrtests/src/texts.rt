@@ -1,6 +1,7 @@
 //! Texts that are read and texts that are refused.
 
-use lrgrammar::grammar::{GrammarError, TextError, YaccGrammar};
+use lrgrammar::grammar::{AssocKind, GrammarError, PartSymbol, Precedence, TextError, YaccGrammar};
+use lrtext::reader::{ReadError, read_parts};
 use std::alloc::Global;
 use std::test::Fail;
 
@@ -86,5 +87,41 @@ fn unknown_and_doubled_names(rt: HostRuntime) -> Result<(), Fail> {
             "{text}"
         );
     }
+    Ok(())
+}
+
+#[test]
+fn parts_of_a_text(rt: HostRuntime) -> Result<(), Fail> {
+    let alloc = rt.alloc();
+    let parts = read_parts(alloc, "%nonassoc x %% S: x; x: 'a';")
+        .ok()
+        .ok_or("parts")?;
+    assert_eq!(rt; parts.rules.len(), 2);
+    assert_eq!(rt; parts.rules.first().ok_or("a rule")?.as_str(), "S");
+    assert_eq!(rt; parts.rules.last().ok_or("a rule")?.as_str(), "x");
+    let (Some(a), Some(x), 2) = (
+        parts.tokens.first(),
+        parts.tokens.get(1),
+        parts.tokens.len(),
+    ) else {
+        return Err(Fail::from("two tokens"));
+    };
+    assert_eq!(rt; a.name.as_str(), "a");
+    assert_eq!(rt; a.precedence, None);
+    assert_eq!(rt; x.name.as_str(), "x");
+    let kind = AssocKind::Nonassoc;
+    assert_eq!(rt; x.precedence, Some(Precedence { level: 0, kind }));
+    assert_eq!(rt; parts.prods.len(), 2);
+    let first = parts.prods.first().ok_or("a production")?;
+    assert_eq!(rt; first.rule, 0);
+    assert_eq!(rt; first.symbols.as_slice(), [PartSymbol::Rule(1)].as_slice());
+    let last = parts.prods.last().ok_or("a production")?;
+    assert_eq!(rt; last.rule, 1);
+    assert_eq!(rt; last.symbols.as_slice(), [PartSymbol::Token(0)].as_slice());
+    assert_eq!(rt; parts.start, 0);
+    assert_eq!(rt;
+        read_parts(alloc, "%% S: x").err(),
+        Some(ReadError::Syntax(7))
+    );
     Ok(())
 }
