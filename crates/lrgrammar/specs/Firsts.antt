@@ -1,5 +1,5 @@
 use Rattle.std.specs.Prelude.{◌≡◌, ℕ, ◌<◌, Bool, IsTrue, List, [], length, slice_index_or, ◌↔◌}
-use Rattle.lrspec.specs.Grammar.{Grammar, token_count, body_of, IsProductionOf}
+use Rattle.lrspec.specs.Grammar.{Grammar, IsGrammar, token_count, body_of, IsProductionOf}
 use Rattle.lrspec.specs.First.{Nullable, Begins}
 use Rattle.lrgrammar.specs.Bits.{bit}
 
@@ -18,6 +18,7 @@ BeginsRule g r t = (p : ℕ) × IsProductionOf g p r × Begins g (body_of g p) t
 
 -- the nullable rules and the FIRST sets of the grammar
 pub record AreFirstsOf (g : Grammar) (f : Firsts) : Type 0 where
+  pub shape : IsGrammar g
   pub rules : length f.nullable ≡ length g.rule_names
   pub rows : length f.tokens ≡ length g.rule_names
   pub bits : (r : ℕ) → r < length g.rule_names → length (firsts_of f r) ≡ token_count g

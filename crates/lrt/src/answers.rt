@@ -5,7 +5,7 @@ use lrgrammar::grammar::{TextError, YaccGrammar};
 use lrgrammar::idx::SIdx;
 use lrgrammar::vob::Vob;
 use lrtable::itemset::Itemset;
-use std::alloc::{AllocError, AllocFailed, Global};
+use std::alloc::{AllocError, Global};
 use std::fmt;
 
 /// Why a request has no answer; each displays as the rest of its fault line.

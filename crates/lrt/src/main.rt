@@ -82,14 +82,24 @@ fn arguments(rt: &HostRuntime) -> io::Result<Vec<String>> {
     Ok(args)
 }
 
+/// Tells that memory was refused.
+fn out_of_memory(rt: &HostRuntime) -> ExitCode {
+    let _ = eprintln!(rt; "lrt: {}", Fault::Memory);
+    ExitCode::from(1)
+}
+
 fn main(rt: HostRuntime) -> ExitCode {
-    let Ok(args) = arguments(&rt) else {
-        let _ = eprintln!(rt; "lrt: {}", Fault::Memory);
-        return ExitCode::from(1);
+    let args = match arguments(&rt) {
+        Ok(args) => args,
+        Err(error) if error.kind() == io::ErrorKind::OutOfMemory => return out_of_memory(&rt),
+        Err(_) => {
+            // An argument is not UTF-8.
+            let _ = eprintln!(rt; "{USAGE}");
+            return ExitCode::from(2);
+        }
     };
     let Ok(bytes) = input(&rt, args.as_slice()) else {
-        let _ = eprintln!(rt; "lrt: {}", Fault::Memory);
-        return ExitCode::from(1);
+        return out_of_memory(&rt);
     };
     let file = bytes.as_ref().map(|bytes| bytes.as_slice());
     let (status, _, _) = command(

@@ -64,6 +64,13 @@ fn statuses_and_lines(rt: HostRuntime) -> Result<(), Fail> {
         ),
         (
             "start a.y",
+            Some(b"%left '+' '+' %% S: ;".as_slice()),
+            1,
+            "",
+            "lrt: token + has two precedences\n",
+        ),
+        (
+            "start a.y",
             Some(b"%%".as_slice()),
             1,
             "",
