@@ -16,12 +16,6 @@ use Rattle.lrtext.specs.StoredParts.{kind_of, precedence_of, token_of}
 use Rattle.lrgrammar.specs.Refusals.{IsOtherKind, IsSameKind}
 use Rattle.lrgrammar.specs.Places.{KindsOf, precedence_at}
 
-pub kinds_none : (look : ℕ → Option AssocKind) (tokens : List PartToken) → ((q : ℕ) → look q ≡ None) → KindsOf look tokens 0
-kinds_none look tokens nothing = record {
-  found = λ q k e. let n = nothing q in cc;
-  kept = λ k p l. absurd (omega arith);
-}
-
 -- what a look-up finds after an update
 found_in : (b : Bool) (v w : AssocKind) (o : Option AssocKind) → cond b (Some v) o ≡ Some w → ((b ≡ true) × (v ≡ w)) ⊎ (o ≡ Some w)
 found_in true v w o e = inl (refl, cc)

@@ -9,14 +9,6 @@ use Rattle.std.proofs.lemmas.Slice.Eq.{bytes_eq-Decides}
 use Rattle.lrspec.specs.Parts.{HasDouble}
 use Rattle.lrgrammar.specs.Places.{Seen}
 
--- nothing is seen yet
-pub seen_none : (look : List ℕ → Option ℕ) (names : List (List ℕ)) → ((q : List ℕ) → look q ≡ None) → Seen look names 0
-seen_none look names nothing = record {
-  found = λ q k e. let n = nothing q in cc;
-  kept = λ k l. absurd (omega arith);
-  apart = λ j k l m e. omega arith;
-}
-
 -- what a look-up finds after an update
 found_in : (b : Bool) (n : ℕ) (o : Option ℕ) (k : ℕ) → cond b (Some n) o ≡ Some k → ((b ≡ true) × (k ≡ n)) ⊎ (o ≡ Some k)
 found_in true n o k e = inl (refl, cc)
@@ -92,7 +84,3 @@ place_within look names n k w seen all e = let (below, is) = seen.found w k e in
 pub place_missing : (look : List ℕ → Option ℕ) (names : List (List ℕ)) (n : ℕ) (w : List ℕ) → Seen look names n → n ≡ length names → look w ≡ None → Contains names w → ⊥
 place_missing look names n w seen all none (k, l, e) =
     is_some_none (look (get_or names k [])) (seen.kept k (omega arith)) (ap look (get_or_default names k [] w l ∙ e) ∙ none)
-
--- names that were all seen are all different
-pub apart_from_seen : (look : List ℕ → Option ℕ) (names : List (List ℕ)) (n : ℕ) → Seen look names n → n ≡ length names → HasDouble names → ⊥
-apart_from_seen look names n seen all (j, k, l, m, e) = seen.apart j k l (omega arith) e

@@ -73,7 +73,9 @@ pub struct TIdx<T>(pub T);
 /// All rules stand before all tokens, and then the numbers decide.
 #[derive(Clone, Copy, PartialEq, Eq, PartialOrd, Ord, Hash, Debug)]
 pub enum Symbol<T> {
+    /// A rule.
     Rule(RIdx<T>),
+    /// A token.
     Token(TIdx<T>),
 }
 

@@ -25,7 +25,7 @@ impl Model for Vob {
 }
 
 impl Vob {
-    /// `len` bits that are all `value`. Takes memory; an `Err` comes only where it is refused.
+    /// `len` bits that are all `value`. The error says that memory was refused.
     pub fn from_elem(alloc: Global, value: bool, len: usize) -> Result<Vob, AllocError>
         ensures bits { IfOk result (λ v. v ≡ replicate len value) }
     {
@@ -134,6 +134,7 @@ impl Eq for Vob {
     ghost laws = { Prim.search (comparing, rules) };
 }
 
+/// Sets what is set in the other, and says whether that changed a bit.
 fn or_bits(bits: &mut [bool], other: &[bool]) -> bool
     requires { length other.now ≡ length bits.old }
     ensures after { bits.new ≡ union bits.old other.now }

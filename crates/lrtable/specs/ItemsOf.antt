@@ -8,6 +8,10 @@ use Rattle.lrspec.specs.ItemSets.{Items, item_at}
 abbrev pub items_of : {T X : Type 0} → (T → ℕ) → List ((PIdx T × SIdx T) × X) → List ((ℕ × ℕ) × X)
 items_of number es = map (λ e. ((number e.0.0.0, number e.0.1.0), e.1)) es
 
+-- the bits of an item in a map, if it is there
+abbrev pub look_up : {T : Type 0} → (T → ℕ) → List ((PIdx T × SIdx T) × List Bool) → PIdx T → SIdx T → Option (List Bool)
+look_up number es pidx dot = item_at (items_of number es) (number pidx.0) (number dot.0)
+
 -- the lookaheads of an item together with more; those alone for an item that isn't there
 abbrev pub merged : Option (List Bool) → List Bool → List Bool
 merged None ctx = ctx

@@ -82,7 +82,7 @@ fn rule_behind<T: IndexStorage>(
 }
 
 /// The rule behind the dot of an item that is there, and the tokens that the item passes on to it.
-pub fn ahead_of<T: IndexStorage>(
+pub(crate) fn ahead_of<T: IndexStorage>(
     items: &Itemset<T>,
     grm: &YaccGrammar<T>,
     firsts: &YaccFirsts<T>,

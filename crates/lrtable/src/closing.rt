@@ -59,7 +59,7 @@ fn put_all<T: IndexStorage>(
 
 /// The closure rule at one item: adds every production of the rule behind its dot, looking at what the item
 /// passes on, and puts what that changes among what is to be done.
-pub fn expand<T: IndexStorage>(
+pub(crate) fn expand<T: IndexStorage>(
     closed: &mut Itemset<T>,
     todo: &mut Itemset<T>,
     grm: &YaccGrammar<T>,
@@ -81,7 +81,7 @@ pub fn expand<T: IndexStorage>(
 }
 
 /// Takes an item out of what is to be done, if there is one: the first or the last.
-pub fn take_item<T: IndexStorage>(
+pub(crate) fn take_item<T: IndexStorage>(
     todo: &mut Itemset<T>,
     from_front: bool,
 ) -> Option<(PIdx<T>, SIdx<T>)>

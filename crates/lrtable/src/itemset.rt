@@ -7,11 +7,11 @@ ghost use Rattle.lrspec.specs.ItemSets.{item_at, HasItem, Fits, IsClosure, IsGot
 ghost use Rattle.lrspec.specs.Merging.{Apart};
 ghost use Rattle.lrgrammar.specs.Symbols.{symbol_of};
 ghost use Rattle.lrgrammar.specs.Firsts.{AreFirstsOf};
-ghost use Rattle.lrtable.specs.ItemsOf.{items_of, merged, Agree};
+ghost use Rattle.lrtable.specs.ItemsOf.{items_of, look_up, merged, Agree};
 ghost use Rattle.lrtable.specs.Start.{IsStartCore, IsCanonicalStart};
 
 use crate::closing::{expand, take_item};
-use crate::moving::{dot_behind, item_fits};
+use crate::items::{dot_behind, item_fits};
 use crate::printing::push_item;
 use lrgrammar::firsts::YaccFirsts;
 use lrgrammar::grammar::YaccGrammar;
@@ -27,6 +27,7 @@ pub type Ctx = Vob;
 /// Items by production and dot, each with its lookaheads.
 #[derive(Drop)]
 pub struct Itemset<T: IndexStorage> {
+    /// The lookaheads of each item, by its production and the place of its dot.
     pub items: BTreeMap<(PIdx<T>, SIdx<T>), Ctx>,
 }
 
@@ -40,14 +41,15 @@ impl<T: IndexStorage> Itemset<T> {
         }
     }
 
-    /// Adds lookaheads to an item, which is put in where it isn't there, and says whether that changed
-    /// anything. Takes no memory for an item that is there.
+    /// Adds lookaheads to an item, which is put in where it isn't there, also with no lookahead, and says whether that
+    /// changed anything. An item that is there has as many bits as `ctx`. Takes no memory for an item that is there; the
+    /// error says that memory was refused, and leaves the item set as it was.
     pub fn add(&mut self, pidx: PIdx<T>, dot: SIdx<T>, ctx: &Ctx) -> Result<bool, AllocError>
-        requires { IfSome (item_at (items_of T.number self.old.items.entries) (T.number pidx.0) (T.number dot.0)) (λ v. length ctx.now ≡ length v) }
+        requires { IfSome (look_up T.number self.old.items.entries pidx dot) (λ v. length ctx.now ≡ length v) }
         ensures present { HasItem (items_of T.number self.old.items.entries) (T.number pidx.0) (T.number dot.0) → IsOk result }
-        ensures here { OnOk result (item_at (items_of T.number self.new.items.entries) (T.number pidx.0) (T.number dot.0) ≡ Some (merged (item_at (items_of T.number self.old.items.entries) (T.number pidx.0) (T.number dot.0)) ctx.now)) }
+        ensures here { OnOk result (look_up T.number self.new.items.entries pidx dot ≡ Some (merged (look_up T.number self.old.items.entries pidx dot) ctx.now)) }
         ensures others { OnOk result ((p d : ℕ) → Apart (T.number pidx.0) (T.number dot.0) p d → item_at (items_of T.number self.new.items.entries) p d ≡ item_at (items_of T.number self.old.items.entries) p d) }
-        ensures changed { IfOk result (λ b. IsTrue b ↔ (item_at (items_of T.number self.new.items.entries) (T.number pidx.0) (T.number dot.0) ≢ item_at (items_of T.number self.old.items.entries) (T.number pidx.0) (T.number dot.0))) }
+        ensures changed { IfOk result (λ b. IsTrue b ↔ (look_up T.number self.new.items.entries pidx dot ≢ look_up T.number self.old.items.entries pidx dot)) }
         ensures unchanged { OnErr result (items_of T.number self.new.items.entries ≡ items_of T.number self.old.items.entries) }
     {
         match self.items.get_mut(&(pidx, dot)) {
@@ -62,7 +64,8 @@ impl<T: IndexStorage> Itemset<T> {
 
     /// The closure of the item set: the least one that has its items and lookaheads, and where an item stands
     /// before a rule, each production of that rule at dot 0, looking at each token that begins the rest
-    /// behind the rule, and where that rest is nullable at each token at which the item looks.
+    /// behind the rule, and where that rest is nullable at each token at which the item looks. The error says that
+    /// memory was refused.
     pub fn close(
         &self,
         grm: &YaccGrammar<T>,
@@ -74,8 +77,6 @@ impl<T: IndexStorage> Itemset<T> {
         ensures fits { IfOk result (λ s. Fits grm.now (items_of T.number s.items.entries)) }
         ensures start { IfOk result (λ s. IsStartCore grm.now (items_of T.number self.now.items.entries) → IsCanonicalStart grm.now (items_of T.number s.items.entries)) }
     {
-        // Any getter tells the shape that each grammar has, which the start of an automaton rests on.
-        let _shape = grm.prods_len();
         let mut closed = self.clone()?;
         let mut todo = self.clone()?;
         // From both ends in turn: rules may stand below or above those in whose bodies they come first.
@@ -87,7 +88,8 @@ impl<T: IndexStorage> Itemset<T> {
         Ok(closed)
     }
 
-    /// The items before the symbol, each with its dot moved over it and its lookaheads.
+    /// The items before the symbol, each with its dot moved over it and its lookaheads. The error says that memory was
+    /// refused.
     pub fn goto(&self, grm: &YaccGrammar<T>, sym: &Symbol<T>) -> Result<Itemset<T>, AllocError>
         requires { Fits grm.now (items_of T.number self.now.items.entries) }
         ensures moved { IfOk result (λ s. IsGoto grm.now (items_of T.number self.now.items.entries) (symbol_of T.number sym.now) (items_of T.number s.items.entries)) }
@@ -117,6 +119,7 @@ impl<T: IndexStorage> Itemset<T> {
     }
 
     /// The texts of the items by production and then dot, joined by line feeds: `[S -> 'a' . B, {'b', '$'}]`.
+    /// The error says that memory was refused.
     pub fn pp(&self, grm: &YaccGrammar<T>) -> Result<String, AllocError>
         requires { Fits grm.now (items_of T.number self.now.items.entries) }
     {

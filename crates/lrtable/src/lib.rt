@@ -5,8 +5,9 @@ ghost use Rattle.std.specs.Prelude.{◌≡◌};
 
 mod ahead;
 mod closing;
+mod items;
 pub mod itemset;
-mod moving;
+mod laws;
 mod printing;
 
 use lrgrammar::idx::IndexStorage;

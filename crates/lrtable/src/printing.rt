@@ -80,7 +80,7 @@ fn push_looks<T: IndexStorage>(
 }
 
 /// Adds the text of an item.
-pub fn push_item<T: IndexStorage>(
+pub(crate) fn push_item<T: IndexStorage>(
     text: &mut String,
     grm: &YaccGrammar<T>,
     pidx: PIdx<T>,

@@ -178,6 +178,7 @@ fn front_of(text: &str) -> Front<'_>
         return Front::Unfit;
     };
     let first = *first;
+    // No item begins with a byte from 128 up, and a text may be cut behind any other.
     if first >= 128 {
         return Front::Unfit;
     }
@@ -193,8 +194,8 @@ fn front_of(text: &str) -> Front<'_>
     }
 }
 
-/// What comes next in the text. It takes time as far as it reads, so that a text is read in time in proportion to its
-/// length.
+/// What comes next in the text. It reads no further than what it answers, so that a whole text is read in time in
+/// proportion to its length.
 pub(crate) fn next_item(rest: &str) -> Next<'_>
     ensures { IsNext rest.now result }
 {

@@ -3,6 +3,7 @@
 
 mod document;
 mod items;
+mod meaning;
 mod numbering;
 mod numbers;
 pub mod parts;
@@ -11,5 +12,4 @@ mod precedences;
 pub mod reader;
 mod reading;
 mod runs;
-mod tokens;
 mod unknown;

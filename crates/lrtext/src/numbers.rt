@@ -60,6 +60,7 @@ impl<'a> Numbers<'a> {
         if self.places.contains_key(&name) {
             return Ok(());
         }
+        // Room first, so that a refusal leaves no name in one of the two alone.
         self.names.reserve(1)?;
         self.places.insert(name, self.names.len())?;
         self.names.push(name).unwrap();

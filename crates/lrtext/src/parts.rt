@@ -13,38 +13,49 @@ pub struct GrammarParts {
     pub start: usize,
 }
 
-/// A token: its name, and its precedence if it has one.
+/// A token.
 #[derive(Debug, Drop)]
 pub struct PartToken {
+    /// Any text.
     pub name: String,
+    /// None where the token has no precedence.
     pub precedence: Option<Precedence>,
 }
 
-/// A production: its rule and its body.
+/// A production.
 #[derive(Debug, Drop)]
 pub struct PartProd {
+    /// The place of its rule in `rules`.
     pub rule: usize,
+    /// Its body.
     pub symbols: Vec<PartSymbol>,
 }
 
-/// A symbol of a body, by the place of its rule or token.
+/// A symbol of a body.
 #[derive(Clone, Copy, Debug, PartialEq, Eq)]
 pub enum PartSymbol {
+    /// The rule at this place of `rules`.
     Rule(usize),
+    /// The token at this place of `tokens`.
     Token(usize),
 }
 
-/// The precedence of a token: a higher level binds tighter.
+/// The precedence of a token.
 #[derive(Clone, Copy, Debug, PartialEq, Eq)]
 pub struct Precedence {
+    /// A higher level binds tighter.
     pub level: u64,
+    /// One for all tokens of the level.
     pub kind: AssocKind,
 }
 
 /// How operators of one level group.
 #[derive(Clone, Copy, Debug, PartialEq, Eq)]
 pub enum AssocKind {
+    /// `a - b - c` is `(a - b) - c`.
     Left,
+    /// `a = b = c` is `a = (b = c)`.
     Right,
+    /// `a < b < c` is an error.
     Nonassoc,
 }

@@ -1,8 +1,7 @@
 //! Reads a grammar text.
 
 ghost use Rattle.std.specs.Prelude.{◌≡◌, IfOk, IfErr};
-ghost use Rattle.lrspec.specs.Meaning.{Means};
-ghost use Rattle.lrspec.specs.Meaning.{IsSaidIn};
+ghost use Rattle.lrspec.specs.Meaning.{Means, IsSaidIn};
 ghost use Rattle.lrtext.specs.StoredParts.{parts_of};
 ghost use Rattle.lrtext.specs.StoredSaid.{said_of};
 ghost use Rattle.lrtext.specs.ReadErrors.{IsSyntaxError, IsReadError};
@@ -10,16 +9,17 @@ ghost use Rattle.lrtext.specs.declared.reader.ReadError.TheVariants.{Memory};
 
 use crate::document::Document;
 use crate::items::{Next, next_item};
-use crate::numbering::parts_of;
+use crate::meaning::parts_of;
 use crate::parts::GrammarParts;
 use crate::reading::Reading;
-use std::alloc::{AllocError, AllocFailed, Global};
+use std::alloc::{AllocError, Global};
 
 /// Why a text gives no parts. Of several causes the first in this order is told, and of several of one kind the first in
 /// the text.
 #[derive(PartialEq, Debug, Drop)]
 pub enum ReadError {
-    /// The text is no document: the byte offset of the first item that fits nowhere, or the text's length.
+    /// The text is no document: the place, in bytes from 0, of the first item that may not come, or the text's length
+    /// where it ends too early.
     Syntax(usize),
     /// Nothing defines the name.
     UnknownSymbol(String),
@@ -33,14 +33,6 @@ impl From<AllocError> for ReadError {
     ghost from_gives = { λ _ e. e ≡ Memory };
 
     fn from(_refused: AllocError) -> ReadError {
-        ReadError::Memory
-    }
-}
-
-impl<T: Drop> From<AllocFailed<T>> for ReadError {
-    ghost from_gives = { λ _ e. e ≡ Memory };
-
-    fn from(_refused: AllocFailed<T>) -> ReadError {
         ReadError::Memory
     }
 }

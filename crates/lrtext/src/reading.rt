@@ -18,7 +18,7 @@ use std::alloc::{AllocError, Global};
 #[derive(Drop)]
 pub(crate) struct Reading<'a> {
     place: Place,
-    /// What is done.
+    /// What is whole so far.
     document: Document<'a>,
     /// The kind and the names of the precedence line in hand.
     line: Option<AssocKind>,
@@ -163,7 +163,7 @@ impl<'a> Reading<'a> {
         matches!(self.place, Place::Behind)
     }
 
-    /// What is done.
+    /// The document that was read.
     pub(crate) fn into_document(self) -> Document<'a>
         ensures { said_of result ≡ said_in (reading_of self.entry) }
     {

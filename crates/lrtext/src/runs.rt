@@ -7,7 +7,7 @@ ghost use Rattle.lrtext.specs.Runs.{passes, EndsByAscii, is_byte};
 
 /// Which bytes belong together.
 #[derive(Clone, Copy)]
-pub(super) enum Run {
+pub(crate) enum Run {
     /// Those of a name.
     Name,
     /// Those of a word behind its `%`.
@@ -45,7 +45,7 @@ fn run_len(bytes: &[u8], run: Run) -> usize
 }
 
 /// The bytes of the run at the front, and what stands behind them.
-pub(super) fn split_run(text: &str, run: Run) -> (&str, &str)
+pub(crate) fn split_run(text: &str, run: Run) -> (&str, &str)
     requires { EndsByAscii run }
     ensures { (result.0.now, result.1.now) ≡ split_while (passes run) text.now }
 {
@@ -53,7 +53,7 @@ pub(super) fn split_run(text: &str, run: Run) -> (&str, &str)
 }
 
 /// What stands behind the ASCII byte with which the text begins.
-pub(super) fn behind_byte(text: &str, b: u8) -> Option<&str>
+pub(crate) fn behind_byte(text: &str, b: u8) -> Option<&str>
     requires { b < 128 }
     ensures { MatchOption result (goes_on (is_byte b) text.now ≡ false) (λ r. text.now ≡ b ∷ r.now) }
 {

@@ -15,6 +15,7 @@ use std::alloc::AllocError;
 pub(super) fn nullable_rules<T: IndexStorage>(grm: &YaccGrammar<T>) -> Result<Vob, AllocError>
     ensures rules { IfOk result (λ v. length v ≡ length grm.now.rule_names) }
     ensures nullable { IfOk result (λ v. (r : ℕ) → IsTrue (bit v r) ↔ Nullable grm.now r) }
+    ensures shape { math.IsGrammar grm.now }
 {
     let mut known = Vob::from_elem(grm.allocator(), false, grm.rules_len().0.to_usize())?;
     while grow_nullable(grm, &mut known) {}

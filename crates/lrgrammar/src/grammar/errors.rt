@@ -4,22 +4,22 @@ ghost use Rattle.lrgrammar.specs.declared.grammar.errors.GrammarError.TheVariant
 ghost use Rattle.std.specs.Prelude.{◌≡◌};
 
 use lrtext::reader::ReadError;
-use std::alloc::{AllocError, AllocFailed};
+use std::alloc::AllocError;
 use thiserror::Error;
 
 /// Why there is no grammar of some parts. Of several causes the first in this order is told.
 #[derive(Clone, Copy, Debug, PartialEq, Eq, Error)]
 pub enum GrammarError {
-    /// The rules and `^` pass the index type.
+    /// The rules and `^` are more than the greatest index.
     #[error("too many rules")]
     TooManyRules,
-    /// The tokens and the end token pass the index type.
+    /// The tokens and the end token are more than the greatest index.
     #[error("too many tokens")]
     TooManyTokens,
-    /// The productions and the start production pass the index type.
+    /// The productions and the start production are more than the greatest index.
     #[error("too many productions")]
     TooManyProductions,
-    /// The symbols of a body pass the index type.
+    /// The symbols of a body are more than the greatest index.
     #[error("production too long")]
     BodyTooLong,
     /// A symbol of a body or the rule of a production is in no list.
@@ -53,19 +53,12 @@ impl From<AllocError> for GrammarError {
     }
 }
 
-impl<T: Drop> From<AllocFailed<T>> for GrammarError {
-    ghost from_gives = { λ _ e. e ≡ Memory };
-
-    fn from(_e: AllocFailed<T>) -> GrammarError {
-        GrammarError::Memory
-    }
-}
-
 /// Why there is no grammar of a text. Of several causes the first in this order is told, and of several of one kind the
 /// first in the text.
 #[derive(PartialEq, Debug, Drop, Error)]
 pub enum TextError {
-    /// The text is no document: the byte offset of the first item that fits nowhere, or the text's length.
+    /// The text is no document: the place, in bytes from 0, of the first item that may not come, or the text's length
+    /// where it ends too early.
     #[error("syntax error at byte {0}")]
     Syntax(usize),
     /// Nothing defines the name.

@@ -26,7 +26,7 @@ impl<T: IndexStorage> YaccGrammar<T> {
     }
 
     /// The text of a production: its rule's name, a colon, and for each symbol a space and its name in double quotes,
-    /// as `B: "a"`.
+    /// as `B: "a"`. The error says that memory was refused.
     pub fn pp_prod(&self, pidx: PIdx<T>) -> Result<String, AllocError>
         requires { T.number pidx.0 < length self.now.productions }
         ensures { IfOk result (λ s. string_bytes s ≡ production_text self.now (T.number pidx.0)) }

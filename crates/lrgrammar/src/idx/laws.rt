@@ -1,7 +1,7 @@
 //! How the derived order, equality and hash of the indices go by their numbers: each contract is
 //! such a law, and nothing calls these functions.
 
-ghost use Rattle.std.specs.Prelude.{◌≡◌, IsTrue, ◌↔◌, fold};
+ghost use Rattle.std.specs.Prelude.{◌≡◌, ◌++◌, IsTrue, ◌↔◌, fold};
 ghost use Rattle.std.specs.Ordering.{nat_cmp, ordering_then};
 ghost use Rattle.lrgrammar.specs.SymbolLaws.{symbol_cmp, symbol_writes};
 
@@ -31,6 +31,12 @@ fn item_order<T: IndexStorage>(a: (PIdx<T>, SIdx<T>), b: (PIdx<T>, SIdx<T>)) -> 
     ensures { result ≡ ordering_then (nat_cmp (T.number a.0.0) (T.number b.0.0)) (nat_cmp (T.number a.1.0) (T.number b.1.0)) }
 {
     a.cmp(&b)
+}
+
+fn item_hash<T: IndexStorage, H: Hasher>(a: (PIdx<T>, SIdx<T>), state: &mut H)
+    ensures { state.new ≡ fold H.write state.old (T.hash_input a.0.0 ++ T.hash_input a.1.0) }
+{
+    a.hash(state);
 }
 
 fn item_equality<T: IndexStorage>(a: (PIdx<T>, SIdx<T>), b: (PIdx<T>, SIdx<T>)) -> bool

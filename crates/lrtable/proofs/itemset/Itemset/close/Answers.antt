@@ -30,4 +30,4 @@ returns-clause-start g c = λ h.
     let number = g.T.IndexStorage.number in
     let closure : IsClosure c.args.grm.now (items_of number c.args.self.now.items.entries) (items_of number c.loop-pidx.closed.items.entries) =
     end_underway c.args.grm.now _ _ _ c.loop-pidx.invariant.underway c.in_default.ensures.none in
-    record { items = start_stands h.item closure; looks = start_looks c.prods_len-shape.ensures.shape h.item h.look closure }
+    record { items = start_stands h.item closure; looks = start_looks c.requires.of.shape h.item h.look closure }

@@ -1,6 +1,0 @@
-use Rattle.std.proofs.Common.{◌≡◌, map, take, string_bytes}
-use Rattle.lrtext.specs.Numbered.{names_of}
-use Rattle.lrtext.proofs.numbering.own_names.Given as goal
-
-abbrev pub invariant-loop-name : goal.invariant-loop-name
-invariant-loop-name l = map string_bytes l.own.items ≡ names_of (take l.name-index l.names)

@@ -1,9 +1,0 @@
-use Rattle.std.proofs.Common.{◌≡◌, map, take}
-use Rattle.lrspec.specs.Meaning.{token_in}
-use Rattle.lrtext.specs.Numbered.{names_of}
-use Rattle.lrtext.specs.StoredParts.{token_of}
-use Rattle.lrtext.specs.StoredLevels.{leveled_of}
-use Rattle.lrtext.proofs.numbering.part_tokens.Given as goal
-
-abbrev pub invariant-loop-word : goal.invariant-loop-word
-invariant-loop-word l = map token_of l.tokens.items ≡ map (token_in (map leveled_of l.leveled)) (names_of (take l.word-index l.names))

@@ -1,0 +1,17 @@
+use Rattle.std.proofs.Common.{◌∙◌, ap, filter_map, flat_map, []}
+use Rattle.lrspec.specs.Names.{with_names}
+use Rattle.lrspec.specs.Meaning.{token_in_body}
+use Rattle.lrtext.specs.StoredSaid.{line_names_of, body_of}
+use Rattle.lrtext.specs.Numbered.{names_of}
+use Rattle.lrtext.proofs.ReaderFacts.{tokens_are}
+use Rattle.lrtext.proofs.numbering.tokens.Goals as goal
+
+-- the names of the three sources in turn
+pub returns : goal.returns
+returns c =
+    let d = c.args.document.now in
+    let h = token_in_body c.args.rules.now in
+    let first = c.in_ok-add_all.ensures ∙ ap (λ ws. with_names ws (names_of c.as_slice.result.now)) c.new-tokens.ensures ∙ ap (λ xs. with_names [] (names_of xs)) c.as_slice.ensures.value in
+    let used = c.in_ok-add_bodies.ensures ∙ ap (λ ws. with_names ws (filter_map h (flat_map body_of c.as_slice-2.result.now))) first ∙ ap (λ xs. with_names (with_names [] (names_of d.tokens.items)) (filter_map h (flat_map body_of xs))) c.as_slice-2.ensures.value in
+    let last = c.in_ok-add_lines.ensures ∙ ap (λ ws. with_names ws (flat_map line_names_of c.as_slice-3.result.now)) used ∙ ap (λ xs. with_names (with_names (with_names [] (names_of d.tokens.items)) (filter_map h (flat_map body_of d.alternatives.items))) (flat_map line_names_of xs)) c.as_slice-3.ensures.value in
+    tokens_are d c.args.rules.now c.add_lines.new.numbers c.requires last

@@ -1,0 +1,128 @@
+//! From what a document says to the parts of its grammar.
+
+ghost use Rattle.std.specs.Prelude.{◌≡◌, map, string_bytes, IfOk, IfErr};
+ghost use Rattle.lrspec.specs.Meaning.{token_in, symbol_in, production_in, start_in};
+ghost use Rattle.lrtext.specs.Numbered.{names_of};
+ghost use Rattle.lrtext.specs.StoredParts.{token_of, part_symbol_of, part_production_of, parts_of};
+ghost use Rattle.lrtext.specs.StoredSaid.{name_text_of, alternative_of, starts_of, said_of};
+ghost use Rattle.lrtext.specs.StoredLevels.{leveled_of, leveled_names};
+ghost use Rattle.lrtext.specs.ReaderParts.{AreMeant, IsCauseIn};
+
+use crate::document::{Alternative, Document, NameText};
+use crate::numbering::{declared, rules, tokens};
+use crate::numbers::Numbers;
+use crate::parts::{GrammarParts, PartProd, PartSymbol, PartToken};
+use crate::precedences::{Leveled, distinct, find_precedence, levels};
+use crate::reader::ReadError;
+use crate::unknown::first_unknown;
+use std::alloc::{AllocError, Global};
+
+/// The names as text of their own.
+fn own_names(alloc: Global, names: &[&str]) -> Result<Vec<String>, AllocError>
+    ensures { IfOk result (λ v. map string_bytes v.items ≡ names_of names.now) }
+{
+    let mut own = Vec::with_capacity(alloc, names.len())?;
+    for name in names {
+        own.push(String::from_str(alloc, name)?)?;
+    }
+    Ok(own)
+}
+
+/// The tokens with their precedences.
+fn part_tokens<'a>(
+    alloc: Global,
+    names: &[&'a str],
+    numbers: &Numbers<'a>,
+    leveled: &[Leveled<'a>],
+) -> Result<Vec<PartToken>, AllocError>
+    requires { numbers.now ≡ leveled_names leveled.now }
+    ensures { IfOk result (λ v. map token_of v.items ≡ map (token_in (map leveled_of leveled.now)) (names_of names.now)) }
+{
+    let mut tokens = Vec::with_capacity(alloc, names.len())?;
+    for token in names {
+        let name = String::from_str(alloc, token)?;
+        let precedence = find_precedence(numbers, leveled, token);
+        tokens.push(PartToken { name, precedence })?;
+    }
+    Ok(tokens)
+}
+
+/// The symbol that a name in a body means.
+fn symbol<'a>(rules: &Numbers<'a>, tokens: &Numbers<'a>, name: NameText<'a>) -> PartSymbol
+    ensures { part_symbol_of result ≡ symbol_in rules.now tokens.now (name_text_of name.entry) }
+{
+    match name {
+        NameText::Plain(name) => match rules.find(name) {
+            Some(rule) => PartSymbol::Rule(rule),
+            None => PartSymbol::Token(tokens.place(name)),
+        },
+        NameText::InQuotes(name) => PartSymbol::Token(tokens.place(name)),
+    }
+}
+
+/// The symbols of a body.
+fn symbols<'a>(
+    alloc: Global,
+    rules: &Numbers<'a>,
+    tokens: &Numbers<'a>,
+    body: &[NameText<'a>],
+) -> Result<Vec<PartSymbol>, AllocError>
+    ensures { IfOk result (λ v. map part_symbol_of v.items ≡ map (symbol_in rules.now tokens.now) (map name_text_of body.now)) }
+{
+    let mut symbols = Vec::with_capacity(alloc, body.len())?;
+    for name in body {
+        symbols.push(symbol(rules, tokens, *name))?;
+    }
+    Ok(symbols)
+}
+
+/// The productions, one for each alternative.
+fn prods<'a>(
+    alloc: Global,
+    rules: &Numbers<'a>,
+    tokens: &Numbers<'a>,
+    alternatives: &[Alternative<'a>],
+) -> Result<Vec<PartProd>, AllocError>
+    ensures { IfOk result (λ v. map part_production_of v.items ≡ map (production_in rules.now tokens.now) (map alternative_of alternatives.now)) }
+{
+    let mut prods = Vec::with_capacity(alloc, alternatives.len())?;
+    for alternative in alternatives {
+        let rule = rules.place(alternative.rule);
+        let symbols = symbols(alloc, rules, tokens, alternative.body.as_slice())?;
+        prods.push(PartProd { rule, symbols })?;
+    }
+    Ok(prods)
+}
+
+/// The rule of `%start`, or else the first.
+fn start<'a>(rules: &Numbers<'a>, name: Option<&'a str>) -> usize
+    ensures { result ≡ start_in rules.now (starts_of name.entry) }
+{
+    match name {
+        Some(name) => rules.place(name),
+        None => 0,
+    }
+}
+
+/// The parts of the grammar that a document means. The error is `UnknownSymbol` of the first name
+/// that nothing defines; or else `DuplicatePrecedence` of the first name that comes again in
+/// precedence lines; or `Memory`.
+pub(crate) fn parts_of(alloc: Global, document: &Document<'_>) -> Result<GrammarParts, ReadError>
+    ensures ok { IfOk result (λ p. AreMeant (said_of document.now) (parts_of p)) }
+    ensures err { IfErr result (IsCauseIn (said_of document.now)) }
+{
+    let rules = rules(alloc, document)?;
+    let declared = declared(alloc, document)?;
+    if let Some(name) = first_unknown(&rules, &declared, document) {
+        return Err(ReadError::UnknownSymbol(String::from_str(alloc, name)?));
+    }
+    let leveled = levels(alloc, document)?;
+    let numbers = distinct(alloc, leveled.as_slice())?;
+    let tokens = tokens(alloc, document, &rules)?;
+    Ok(GrammarParts {
+        rules: own_names(alloc, rules.names())?,
+        tokens: part_tokens(alloc, tokens.names(), &numbers, leveled.as_slice())?,
+        prods: prods(alloc, &rules, &tokens, document.alternatives.as_slice())?,
+        start: start(&rules, document.start),
+    })
+}
