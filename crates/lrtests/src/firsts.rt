@@ -27,7 +27,7 @@ fn rule_line<T: IndexStorage>(
         line.push('?')?;
     }
     let bits = firsts.firsts(ridx);
-    for token in 0..usize::from(grm.eof_token_idx()) {
+    for token in 0..usize::from(grm.tokens_len()) {
         if bits.get(token)
             && let Some(tidx) = T::from_usize(token)
         {

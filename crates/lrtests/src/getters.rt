@@ -2,7 +2,7 @@
 
 use lrgrammar::grammar::YaccGrammar;
 use lrgrammar::idx::{IndexStorage, PIdx, RIdx, Symbol};
-use std::alloc::Global;
+use std::alloc::{AllocError, Global};
 use std::process::Abort;
 use std::test::Fail;
 
@@ -36,30 +36,48 @@ fn getters<T: IndexStorage>(rt: &impl Abort, alloc: Global) -> Result<(), Fail> 
     assert!(rt; grm.prod_to_rule(last) == a);
     assert!(rt; grm.prod(last).last() == Some(&Symbol::Token(token)));
     assert!(rt; grm.has_precedences());
+    let plain = YaccGrammar::<T>::from_text(alloc, "%% S: 'a';")?;
+    assert!(rt; !plain.has_precedences());
     assert_eq!(rt; grm.iter_tidxs().count(), 7);
     Ok(())
+}
+
+/// Adds the numbers of the productions, each behind a space.
+fn push_prods<T: IndexStorage>(text: &mut String, prods: &[PIdx<T>]) -> Result<(), AllocError> {
+    for pidx in prods {
+        let number = usize::from(*pidx);
+        write!(text, " {number}")?;
+    }
+    Ok(())
+}
+
+/// The names of the rules, each with the numbers of its productions.
+fn rules<T: IndexStorage>(alloc: Global, grm: &YaccGrammar<T>) -> Result<String, AllocError> {
+    let mut text = String::new(alloc);
+    for rule in 0..usize::from(grm.rules_len()) {
+        let ridx = RIdx(T::from_usize(rule).unwrap());
+        text.push_str(grm.rule_name_str(ridx))?;
+        push_prods(&mut text, grm.rule_to_prods(ridx))?;
+        text.push(';')?;
+    }
+    Ok(text)
+}
+
+/// The numbers of the tokens.
+fn tokens<T: IndexStorage>(alloc: Global, grm: &YaccGrammar<T>) -> Result<String, AllocError> {
+    let mut text = String::new(alloc);
+    for tidx in grm.iter_tidxs() {
+        let number = usize::from(tidx);
+        write!(text, "{number} ")?;
+    }
+    Ok(text)
 }
 
 /// The lists of rules and tokens at that grammar.
 fn lists<T: IndexStorage>(rt: &impl Abort, alloc: Global) -> Result<(), Fail> {
     let grm = YaccGrammar::<T>::from_text(alloc, IN_TWO_PLACES)?;
-    let mut names = String::new(alloc);
-    for rule in 0..usize::from(grm.rules_len()) {
-        let ridx = RIdx(T::from_usize(rule).unwrap());
-        names.push_str(grm.rule_name_str(ridx))?;
-        for pidx in grm.rule_to_prods(ridx) {
-            let number = usize::from(*pidx);
-            write!(names, " {number}")?;
-        }
-        names.push(';')?;
-    }
-    assert_eq!(rt; names.as_str(), "^ 6;S 0 1;A 2 5;B 3 4;");
-    let mut tokens = String::new(alloc);
-    for tidx in grm.iter_tidxs() {
-        let number = usize::from(tidx);
-        write!(tokens, "{number} ")?;
-    }
-    assert_eq!(rt; tokens.as_str(), "0 1 2 3 4 5 6 ");
+    assert_eq!(rt; rules(alloc, &grm)?.as_str(), "^ 6;S 0 1;A 2 5;B 3 4;");
+    assert_eq!(rt; tokens(alloc, &grm)?.as_str(), "0 1 2 3 4 5 6 ");
     Ok(())
 }
 

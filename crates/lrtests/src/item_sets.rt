@@ -121,8 +121,8 @@ fn through_nullables_by_both_indices(rt: HostRuntime) -> Result<(), Fail> {
     through_nullables::<u32>(&rt, rt.alloc())
 }
 
-#[test]
-fn start_states(rt: HostRuntime) -> Result<(), Fail> {
+/// The closed start states of small grammars; that of the last takes three passes over the items.
+fn start_states<T: IndexStorage>(rt: &impl Abort, alloc: Global) -> Result<(), Fail> {
     for (text, start, closed) in [
         (EMPTY_RULE, 1, "[S -> ., {'$'}]\n[^ -> . S, {'$'}]"),
         (
@@ -141,38 +141,55 @@ fn start_states(rt: HostRuntime) -> Result<(), Fail> {
             "[S -> . C 'd', {'x', '$'}]\n[A -> . 'a', {'b'}]\n[A -> . S 'x', {'b'}]\n[B -> . A 'b', {'c'}]\n[C -> . B 'c', {'d'}]\n[C -> ., {'d'}]\n[^ -> . S, {'$'}]",
         ),
     ] {
-        let grm = YaccGrammar::<u32>::from_text(rt.alloc(), text)?;
+        let grm = YaccGrammar::<T>::from_text(alloc, text)?;
         assert_eq!(rt;
-            closed_text(&rt, rt.alloc(), &grm, start, 0, &["$"])?.as_str(),
+            closed_text(rt, alloc, &grm, start, 0, &["$"])?.as_str(),
             closed
         );
     }
     Ok(())
 }
 
+#[test]
+fn start_states_by_both_indices(rt: HostRuntime) -> Result<(), Fail> {
+    start_states::<u8>(&rt, rt.alloc())?;
+    start_states::<u32>(&rt, rt.alloc())
+}
+
 /// What adding, copying and comparing item sets answer.
 fn added_and_copied<T: IndexStorage>(rt: &impl Abort, alloc: Global) -> Result<(), Fail> {
     let grm = YaccGrammar::<T>::from_text(alloc, NO_SENTENCE)?;
-    let mut none = Vob::from_elem(alloc, false, usize::from(grm.tokens_len()))?;
+    let mut bits = Vob::from_elem(alloc, false, usize::from(grm.tokens_len()))?;
     let zero = SIdx(T::from_usize(0).ok_or("a dot")?);
     let mut set = Itemset::new(alloc, &grm);
-    assert!(rt; set.add(grm.start_prod(), zero, &none)?);
+    assert!(rt; set.add(grm.start_prod(), zero, &bits)?);
     assert!(rt; set.fits(&grm));
-    let same = set.clone()?;
-    assert!(rt; set == same);
-    none.set_all(true);
-    let mut more = set.clone()?;
+    let none = set.clone()?;
+    assert!(rt; set == none);
+    bits.set_all(true);
+    assert!(rt; set.add(grm.start_prod(), zero, &bits)?);
+    assert!(rt; set != none);
     let mut all = Itemset::new(alloc, &grm);
-    assert!(rt; all.add(grm.start_prod(), zero, &none)?);
-    assert!(rt; more != all);
-    more = all.clone()?;
-    assert!(rt; more == all);
-    assert_eq!(rt; more.items.len(), 1);
+    assert!(rt; all.add(grm.start_prod(), zero, &bits)?);
+    assert!(rt; !all.add(grm.start_prod(), zero, &bits)?);
+    assert!(rt; set == all);
+    assert_eq!(rt; all.items.len(), 1);
+    Ok(())
+}
+
+/// A dot past the end of its body fits nowhere.
+fn past_the_end<T: IndexStorage>(rt: &impl Abort, alloc: Global) -> Result<(), Fail> {
+    let grm = YaccGrammar::<T>::from_text(alloc, NO_SENTENCE)?;
+    assert!(rt; one_item(rt, alloc, &grm, 1, 1, &[])?.fits(&grm));
+    assert!(rt; !one_item(rt, alloc, &grm, 1, 2, &[])?.fits(&grm));
+    assert!(rt; !one_item(rt, alloc, &grm, 2, 0, &[])?.fits(&grm));
     Ok(())
 }
 
 #[test]
 fn added_and_copied_by_both_indices(rt: HostRuntime) -> Result<(), Fail> {
     added_and_copied::<u8>(&rt, rt.alloc())?;
-    added_and_copied::<u32>(&rt, rt.alloc())
+    added_and_copied::<u32>(&rt, rt.alloc())?;
+    past_the_end::<u8>(&rt, rt.alloc())?;
+    past_the_end::<u32>(&rt, rt.alloc())
 }

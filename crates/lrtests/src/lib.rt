@@ -4,6 +4,8 @@
 #[cfg(test)]
 mod bits;
 #[cfg(test)]
+mod faults;
+#[cfg(test)]
 mod firsts;
 #[cfg(test)]
 mod getters;

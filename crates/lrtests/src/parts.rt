@@ -6,8 +6,8 @@ use lrgrammar::grammar::{
 use std::alloc::{AllocError, Global};
 use std::test::Fail;
 
-/// A production of the first rule with that many times one symbol.
-fn body(
+/// A production of the rule, whose body is one symbol that many times.
+fn production(
     alloc: Global,
     rule: usize,
     symbol: PartSymbol,
@@ -32,7 +32,7 @@ fn plain(alloc: Global, rules: usize) -> Result<GrammarParts, AllocError> {
         parts.rules.push(format!(in alloc; "r{rule}")?)?;
         parts
             .prods
-            .push(body(alloc, rule, PartSymbol::Rule(0), 0)?)?;
+            .push(production(alloc, rule, PartSymbol::Rule(0), 0)?)?;
     }
     Ok(parts)
 }
@@ -68,10 +68,14 @@ fn parts_with_too_much(rt: HostRuntime) -> Result<(), Fail> {
     assert_eq!(rt; refusal(alloc, &tokens), Some(GrammarError::TooManyTokens));
     let mut prods = plain(alloc, 1)?;
     for _ in 1..254 {
-        prods.prods.push(body(alloc, 0, PartSymbol::Rule(0), 0)?)?;
+        prods
+            .prods
+            .push(production(alloc, 0, PartSymbol::Rule(0), 0)?)?;
     }
     assert_eq!(rt; refusal(alloc, &prods), None);
-    prods.prods.push(body(alloc, 0, PartSymbol::Rule(0), 0)?)?;
+    prods
+        .prods
+        .push(production(alloc, 0, PartSymbol::Rule(0), 0)?)?;
     assert_eq!(rt;
         refusal(alloc, &prods),
         Some(GrammarError::TooManyProductions)
@@ -83,12 +87,15 @@ fn parts_with_too_much(rt: HostRuntime) -> Result<(), Fail> {
 fn parts_with_bodies_out_of_range(rt: HostRuntime) -> Result<(), Fail> {
     let alloc = rt.alloc();
     let mut long = plain(alloc, 1)?;
-    long.prods.push(body(alloc, 0, PartSymbol::Rule(0), 255)?)?;
+    long.prods
+        .push(production(alloc, 0, PartSymbol::Rule(0), 255)?)?;
     assert_eq!(rt; refusal(alloc, &long), None);
-    long.prods.push(body(alloc, 0, PartSymbol::Rule(0), 256)?)?;
+    long.prods
+        .push(production(alloc, 0, PartSymbol::Rule(0), 256)?)?;
     assert_eq!(rt; refusal(alloc, &long), Some(GrammarError::BodyTooLong));
     let mut out = plain(alloc, 1)?;
-    out.prods.push(body(alloc, 0, PartSymbol::Token(0), 1)?)?;
+    out.prods
+        .push(production(alloc, 0, PartSymbol::Token(0), 1)?)?;
     assert_eq!(rt; refusal(alloc, &out), Some(GrammarError::SymbolOutOfRange));
     Ok(())
 }
@@ -103,7 +110,7 @@ fn parts_with_unfit_rules(rt: HostRuntime) -> Result<(), Fail> {
     reserved.rules.push(String::from_str(alloc, "^")?)?;
     reserved
         .prods
-        .push(body(alloc, 1, PartSymbol::Rule(0), 0)?)?;
+        .push(production(alloc, 1, PartSymbol::Rule(0), 0)?)?;
     assert_eq!(rt; refusal(alloc, &reserved), Some(GrammarError::ReservedName));
     let mut start = plain(alloc, 1)?;
     start.start = 1;

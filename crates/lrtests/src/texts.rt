@@ -26,6 +26,8 @@ fn syntax_errors(rt: HostRuntime) {
         ("%% S: 'a'; /*/", 11),
         ("%% S: 'a\n';", 6),
         ("%left", 5),
+        ("% %% S: ;", 0),
+        ("%% S: 'a\r';", 6),
         ("%% \u{e9}: ;", 3),
     ] {
         assert_eq!(rt;
@@ -38,7 +40,7 @@ fn syntax_errors(rt: HostRuntime) {
 
 #[test]
 fn beginnings_of_a_text(rt: HostRuntime) {
-    let none = Some(TextError::Grammar(GrammarError::NoStart));
+    let no_start = Some(TextError::Grammar(GrammarError::NoStart));
     for (text, place) in [
         ("", 0),
         ("%", 0),
@@ -55,8 +57,8 @@ fn beginnings_of_a_text(rt: HostRuntime) {
             "{text}"
         );
     }
-    assert_eq!(rt; refusal(rt.alloc(), "%%"), none);
-    assert!(rt; refusal(rt.alloc(), "%% ") == Some(TextError::Grammar(GrammarError::NoStart)));
+    assert_eq!(rt; refusal(rt.alloc(), "%%"), no_start);
+    assert_eq!(rt; refusal(rt.alloc(), "%% "), no_start);
     assert_eq!(rt; refusal(rt.alloc(), "%% S: 'a';"), None);
 }
 
