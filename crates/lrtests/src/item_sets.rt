@@ -1,5 +1,9 @@
 //! Closures and gotos of the worked grammars.
 
+ghost use Rattle.std.specs.Prelude.{IfOk};
+ghost use Rattle.lrspec.specs.ItemSets.{Fits};
+ghost use Rattle.lrtable.specs.ItemsOf.{items_of};
+
 use crate::grammars::{EMPTY_RULE, NESTED_STATES, NO_SENTENCE, ROUND, RULE_WITHOUT_A_TREE};
 use crate::nullables::closure_through_nullables;
 use lrgrammar::grammar::YaccGrammar;
@@ -32,6 +36,25 @@ fn one_item<T: IndexStorage>(
     Ok(set)
 }
 
+/// The closure of one item.
+fn closed<T: IndexStorage>(
+    rt: &impl Abort,
+    alloc: Global,
+    grm: &YaccGrammar<T>,
+    prod: usize,
+    dot: usize,
+    looks: &[&str],
+) -> Result<Itemset<T>, Fail>
+    ensures { IfOk result (λ s. Fits grm.now (items_of T.number s.items.entries)) }
+{
+    let firsts = grm.firsts()?;
+    let given = one_item(rt, alloc, grm, prod, dot, looks)?;
+    if !given.fits(grm) {
+        return Err(Fail::from("an item of the grammar"));
+    }
+    Ok(given.close(grm, &firsts)?)
+}
+
 /// The text of the closure of one item.
 fn closed_text<T: IndexStorage>(
     rt: &impl Abort,
@@ -41,13 +64,7 @@ fn closed_text<T: IndexStorage>(
     dot: usize,
     looks: &[&str],
 ) -> Result<String, Fail> {
-    let firsts = grm.firsts()?;
-    let given = one_item(rt, alloc, grm, prod, dot, looks)?;
-    if !given.fits(grm) {
-        return Ok(String::new(alloc));
-    }
-    let closed = given.close(grm, &firsts)?;
-    Ok(closed.pp(grm)?)
+    Ok(closed(rt, alloc, grm, prod, dot, looks)?.pp(grm)?)
 }
 
 /// The text of the goto of the closure of one item.
@@ -60,12 +77,7 @@ fn goto_text<T: IndexStorage>(
     looks: &[&str],
     symbol: Symbol<T>,
 ) -> Result<String, Fail> {
-    let firsts = grm.firsts()?;
-    let given = one_item(rt, alloc, grm, prod, dot, looks)?;
-    if !given.fits(grm) {
-        return Ok(String::new(alloc));
-    }
-    let closed = given.close(grm, &firsts)?;
+    let closed = closed(rt, alloc, grm, prod, dot, looks)?;
     Ok(closed.goto(grm, &symbol)?.pp(grm)?)
 }
 
