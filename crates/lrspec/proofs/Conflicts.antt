@@ -3,7 +3,7 @@ use Rattle.lrspec.specs.Grammar.{Rule, Token, Grammar, IsGrammar, end_token, bod
 use Rattle.lrspec.specs.Items.{Looks}
 use Rattle.lrspec.specs.ItemSets.{LooksIn}
 use Rattle.lrspec.specs.Candidates as candidate
-use Rattle.lrspec.specs.Candidates.{IsCandidate}
+use Rattle.lrspec.specs.Candidates.{IsCandidate, IsContested}
 use Rattle.lrspec.specs.Graph.{Graph, core_of, closed_of, IsGraphOf, AreShared, InventsNoConflict}
 use Rattle.lrspec.specs.Table.{AcceptsAndReduces}
 use Rattle.lrspec.specs.Headline.{AreReductionsContested, AreShiftsContested, IsAcceptContested, AcceptsWhereContested}
@@ -48,6 +48,16 @@ shifts_contested g h m t p s i =
     let (q, e, f, before) = (m.gotos.edges s (Token t)).0 (rw k.leads refl) in
     let stands = (rooted_closes w root j closure q e).0 f in
     (w, root.cores w j, candidate.IsCandidate.shift stands before, candidate.IsCandidate.reduce n look)
+
+-- where accepting and reducing by a production contend, the end token is contested after the start rule alone
+pub accept_contested : {g : Grammar} {p : ℕ} (k : IsAcceptContested g p) → IsContested g (Rule k.start_rule ∷ []) (end_token g)
+accept_contested {p = p} k = record {
+  one = candidate.Candidate.Accept;
+  other = candidate.Candidate.Reduce p;
+  differ = λ e. cc;
+  is_one = candidate.IsCandidate.accept k.accepts;
+  is_other = candidate.IsCandidate.reduce k.differ k.reduces;
+}
 
 module _ (g : Grammar) (h : Graph) (grammar : IsGrammar g) (m : IsGraphOf g h) where
   -- after each list with the core of a state that has the complete start production there is its body alone

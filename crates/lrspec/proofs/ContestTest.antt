@@ -1,4 +1,4 @@
-use Rattle.std.proofs.Common.{◌≡◌, ℕ, suc, Bool, true, false, not, ◌||◌, List, [], ◌∷◌, length, refl, sym, ap, ◌∙◌, arith, Some, inl, inr}
+use Rattle.std.proofs.Common.{◌≡◌, ℕ, suc, Bool, true, false, not, ◌||◌, List, [], ◌∷◌, length, refl, sym, ap, ◌∙◌, arith, Option, Some, inl, inr}
 use Rattle.std.specs.Prelude.{◌==◌}
 use Rattle.std.specs.List.{list_all, list_any}
 use Rattle.std.proofs.Math.Seq.{drop-length}
@@ -9,8 +9,8 @@ use Rattle.lrspec.specs.Candidates.{Candidate, IsCandidate, IsContested}
 use Rattle.lrspec.specs.Merging.{Among}
 use Rattle.lrspec.specs.Graph.{same_symbol}
 use Rattle.lrspec.proofs.Members.{test_from_among}
-use Rattle.lrspec.proofs.Entries.{Entry, same_list, all_among, tokens_at, entry_found}
-use Rattle.lrspec.proofs.Enumerated.{implied, is_enumeration, stands_listed, looks_listed}
+use Rattle.lrspec.proofs.Entries.{Entry, same_list, all_among, tokens_at, entry_found, implied, is_asked}
+use Rattle.lrspec.proofs.Enumerated.{is_enumeration, stands_listed, looks_listed}
 
 -- the tokens on which something can be done by an item with this rest
 abbrev pub acts_by : List Symbol → List ℕ → List ℕ
@@ -67,7 +67,7 @@ unless true b e h = refl
 unless false true e h = cc
 unless false false e h = cc
 
-module _ (g : Grammar) (null : ℕ → Bool) (begins : ℕ → List ℕ) (es : List Entry) (holds : is_enumeration g null begins es ≡ true) where
+module _ (g : Grammar) (most : Option ℕ) (null : ℕ → Bool) (begins : ℕ → List ℕ) (es : List Entry) (holds : is_enumeration g most null begins es ≡ true) where
   -- an entry by which the token has the candidate after the list
   record Gives (w : List Symbol) (t : ℕ) (c : Candidate) : Type 0 where
     production : ℕ
@@ -89,12 +89,12 @@ module _ (g : Grammar) (null : ℕ → Bool) (begins : ℕ → List ℕ) (es : L
     same = rw (drop-length (body_of g p)) (sym e);
   }
 
-  gives : {w : List Symbol} {t : ℕ} {c : Candidate} → IsCandidate g w t c → Gives w t c
-  gives {w} {t} (candidate.IsCandidate.shift {p = p} {d = d} s b) =
-      let (ts, k) = stands_listed g null begins es holds s in
+  gives : {w : List Symbol} {t : ℕ} {c : Candidate} → IsCandidate g w t c → is_asked most w ≡ true → Gives w t c
+  gives {w} {t} (candidate.IsCandidate.shift {p = p} {d = d} s b) a =
+      let (ts, k) = stands_listed g most null begins es holds s a in
       record { production = p; dot = d; tokens = ts; among = entry_found es w p d ts k; act = rw b.1 (inl refl); same = rw b.1 refl }
-  gives {w} {t} (candidate.IsCandidate.reduce {p = p} n l) = complete_gives w p t (candidate.Candidate.Reduce p) (looks_listed g null begins es holds l) refl
-  gives {w} {t} (candidate.IsCandidate.accept l) = complete_gives w g.start_production t candidate.Candidate.Accept (looks_listed g null begins es holds l) refl
+  gives {w} {t} (candidate.IsCandidate.reduce {p = p} n l) a = complete_gives w p t (candidate.Candidate.Reduce p) (looks_listed g most null begins es holds l a) refl
+  gives {w} {t} (candidate.IsCandidate.accept l) a = complete_gives w g.start_production t candidate.Candidate.Accept (looks_listed g most null begins es holds l a) refl
 
   allowed_by :
       (allow : List Symbol → ℕ → Bool) (w : List Symbol) (t : ℕ) (e f : Entry) → e.0 ≡ w → f.0 ≡ w → agree g allow e f ≡ true
@@ -117,8 +117,8 @@ module _ (g : Grammar) (null : ℕ → Bool) (begins : ℕ → List ℕ) (es : L
       (all_among (agree g allow (w, a.production, a.dot, a.tokens)) (w, b.production, b.dot, b.tokens) es pass b.among)
       a.act b.act (λ e. differ (sym a.same ∙ (e ∙ b.same)))
 
-  -- only tokens that are let through are contested
+  -- after lists that are asked for only tokens that are let through are contested
   pub contested_within :
-      (allow : List Symbol → ℕ → Bool) → agree_all g allow es ≡ true → (w : List Symbol) (t : ℕ) → IsContested g w t → allow w t ≡ true
-  contested_within allow agreed w t k =
-      pair_allowed allow agreed w t k.one k.other (gives k.is_one) (gives k.is_other) (λ e. k.differ (code_same k.is_one k.is_other e))
+      (allow : List Symbol → ℕ → Bool) → agree_all g allow es ≡ true → (w : List Symbol) (t : ℕ) → IsContested g w t → is_asked most w ≡ true → allow w t ≡ true
+  contested_within allow agreed w t k a =
+      pair_allowed allow agreed w t k.one k.other (gives k.is_one a) (gives k.is_other a) (λ e. k.differ (code_same k.is_one k.is_other e))

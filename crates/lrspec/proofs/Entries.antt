@@ -1,8 +1,8 @@
-use Rattle.std.proofs.Common.{◌≡◌, ℕ, Bool, true, false, cond, ◌&&◌, List, [], ◌∷◌, refl, sym, ap, Option, None, Some, ◌⊎◌, inl, inr}
-use Rattle.std.specs.Prelude.{◌==◌}
+use Rattle.std.proofs.Common.{◌≡◌, ℕ, Bool, true, false, cond, not, ◌&&◌, ◌||◌, List, [], ◌∷◌, ◌++◌, length, refl, sym, ap, Option, None, Some, ◌⊎◌, inl, inr, arith, length-append}
+use Rattle.std.specs.Prelude.{◌==◌, nat_le}
 use Rattle.std.specs.List.{list_all, list_any}
-use Rattle.std.proofs.lemmas.Bool.{and_parts, eqb-true}
-use Rattle.lrspec.specs.Grammar.{Symbol, Rule, Token}
+use Rattle.std.proofs.lemmas.Bool.{and_parts, eqb-true, eq-eqb, le-leb, leb-true}
+use Rattle.lrspec.specs.Grammar.{Symbol, Rule, Token, Production, IsOfRule, is_of_rule}
 use Rattle.lrspec.specs.Merging.{Among}
 use Rattle.lrspec.specs.Graph.{same_symbol}
 use Rattle.lrspec.proofs.Members.{among_from_test}
@@ -78,3 +78,23 @@ found_among (Some us) ts t e h = (us, refl, covered us ts t e h)
 pub some_from_covers : (o : Option (List ℕ)) (ts : List ℕ) → covers o ts ≡ true → (us : List ℕ) × (o ≡ Some us)
 some_from_covers None ts e = cc
 some_from_covers (Some us) ts e = (us, refl)
+
+-- the test of the rule answers true where it is that rule
+pub rule_test : (o : Option Production) (r : ℕ) → IsOfRule o r → is_of_rule o r ≡ true
+rule_test None r h = absurd h
+rule_test (Some p) r h = eq-eqb p.rule r h
+
+-- what an implication by tests tells
+pub implied : (a b : Bool) → (not a || b) ≡ true → a ≡ true → b ≡ true
+implied true b e h = e
+implied false b e h = cc
+
+-- whether the list is one of those that are asked for: all, or those of so many symbols at most
+abbrev pub is_asked : Option ℕ → List Symbol → Bool
+is_asked None w = true
+is_asked (Some n) w = nat_le (length w) n
+
+-- with a list each beginning of it is asked for
+pub asked_before : (most : Option ℕ) (w : List Symbol) (x : Symbol) → is_asked most (w ++ x ∷ []) ≡ true → is_asked most w ≡ true
+asked_before None w x a = refl
+asked_before (Some n) w x a = le-leb (length w) n (omega (arith, leb-true (length (w ++ x ∷ [])) n a, length-append w (x ∷ [])))

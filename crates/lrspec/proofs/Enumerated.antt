@@ -1,8 +1,8 @@
-use Rattle.std.proofs.Common.{◌≡◌, ℕ, zero, suc, Bool, true, false, cond, not, ◌&&◌, ◌||◌, List, [], ◌∷◌, ◌++◌, length, refl, Option, None, Some, inl}
-use Rattle.std.specs.Prelude.{slice_get, ◌==◌}
+use Rattle.std.proofs.Common.{◌≡◌, ℕ, zero, suc, Bool, true, false, cond, not, ◌&&◌, ◌||◌, List, [], ◌∷◌, ◌++◌, length, refl, Option, Some, inl}
+use Rattle.std.specs.Prelude.{slice_get}
 use Rattle.std.specs.List.{list_all, range_with_len}
-use Rattle.std.proofs.lemmas.Bool.{and_parts, eq-eqb}
-use Rattle.lrspec.specs.Grammar.{Symbol, Rule, Token, Production, Grammar, end_token, IsOfRule, IsProductionOf, body_or_none, body_of, rest}
+use Rattle.std.proofs.lemmas.Bool.{and_parts}
+use Rattle.lrspec.specs.Grammar.{Symbol, Rule, Token, Production, Grammar, end_token, IsOfRule, is_of_rule, IsProductionOf, body_or_none, body_of, rest}
 use Rattle.lrspec.specs.First.{Nullable, AllNullable, Begins}
 use Rattle.lrspec.specs.First as first
 use Rattle.lrspec.specs.Items as item
@@ -11,21 +11,9 @@ use Rattle.lrspec.specs.Merging.{Among}
 use Rattle.lrspec.proofs.Rooted.{among_front, among_back}
 use Rattle.lrspec.proofs.Bodies.{below_of_production}
 use Rattle.lrspec.proofs.Members.{among_below}
-use Rattle.lrspec.proofs.Entries.{all_among, Entry, tokens_at, entry_found, covers, covered, found_among, some_from_covers}
+use Rattle.lrspec.proofs.Entries.{all_among, Entry, tokens_at, entry_found, covers, covered, found_among, some_from_covers, rule_test, implied, is_asked, asked_before}
 
-abbrev pub is_of_rule : Option Production → ℕ → Bool
-is_of_rule None r = false
-is_of_rule (Some p) r = p.rule == r
-
-rule_test : (o : Option Production) (r : ℕ) → IsOfRule o r → is_of_rule o r ≡ true
-rule_test None r h = absurd h
-rule_test (Some p) r h = eq-eqb p.rule r h
-
-pub implied : (a b : Bool) → (not a || b) ≡ true → a ≡ true → b ≡ true
-implied true b e h = e
-implied false b e h = cc
-
-module _ (g : Grammar) (null : ℕ → Bool) (begins : ℕ → List ℕ) where
+module _ (g : Grammar) (most : Option ℕ) (null : ℕ → Bool) (begins : ℕ → List ℕ) where
   -- whether the symbols are nullable rules, by the table
   abbrev pub all_null : List Symbol → Bool
   all_null [] = true
@@ -55,10 +43,14 @@ module _ (g : Grammar) (null : ℕ → Bool) (begins : ℕ → List ℕ) where
   abbrev put : List Symbol → List ℕ → List ℕ
   put y ts = first_tokens y ++ cond (all_null y) ts []
 
+  -- whether the entries hold the item moved over the symbol, if that list is asked for
+  abbrev moves_on : List Entry → List Symbol → ℕ → ℕ → List ℕ → Symbol → Bool
+  moves_on es w p d ts x = not (is_asked most (w ++ x ∷ [])) || covers (tokens_at es (w ++ x ∷ []) p (suc d)) ts
+
   -- whether the entries hold what the item with this rest asks for
   abbrev pub test_rest : List Entry → List Symbol → ℕ → ℕ → List ℕ → List Symbol → Bool
   test_rest es w p d ts [] = true
-  test_rest es w p d ts (x ∷ y) = covers (tokens_at es (w ++ x ∷ []) p (suc d)) ts && puts_in es w x (put y ts)
+  test_rest es w p d ts (x ∷ y) = moves_on es w p d ts x && puts_in es w x (put y ts)
 
   abbrev pub test_entry : List Entry → Entry → Bool
   test_entry es e = test_rest es e.0 e.1 e.2 e.3 (rest g e.1 e.2)
@@ -118,42 +110,44 @@ module _ (g : Grammar) (null : ℕ → Bool) (begins : ℕ → List ℕ) where
 
     moves :
         (w : List Symbol) (p d : ℕ) (ts : List ℕ) (x : Symbol) (y : List Symbol) → tokens_at es w p d ≡ Some ts → rest g p d ≡ x ∷ y
-        → covers (tokens_at es (w ++ x ∷ []) p (suc d)) ts ≡ true
-    moves w p d ts x y k e =
+        → is_asked most (w ++ x ∷ []) ≡ true → covers (tokens_at es (w ++ x ∷ []) p (suc d)) ts ≡ true
+    moves w p d ts x y k e a =
         let passed = entry_passes w p d ts k in
-        (and_parts (covers (tokens_at es (w ++ x ∷ []) p (suc d)) ts) (puts_in es w x (put y ts)) (rw e at passed)).0
+        implied (is_asked most (w ++ x ∷ [])) (covers (tokens_at es (w ++ x ∷ []) p (suc d)) ts)
+        (and_parts (moves_on es w p d ts x) (puts_in es w x (put y ts)) (rw e at passed)).0 a
 
     expands :
         (w : List Symbol) (p d : ℕ) (ts : List ℕ) (r q : ℕ) (y : List Symbol) → tokens_at es w p d ≡ Some ts → rest g p d ≡ Rule r ∷ y
         → IsProductionOf g q r → covers (tokens_at es w q 0) (put y ts) ≡ true
     expands w p d ts r q y k e h =
         let passed = entry_passes w p d ts k in
-        let all = (and_parts (covers (tokens_at es (w ++ Rule r ∷ []) p (suc d)) ts) (puts_in es w (Rule r) (put y ts)) (rw e at passed)).1 in
+        let all = (and_parts (moves_on es w p d ts (Rule r)) (puts_in es w (Rule r) (put y ts)) (rw e at passed)).1 in
         let below = among_below (length g.productions) q (below_of_production g q r h) in
         let one = all_among (puts es w r (put y ts)) q (range_with_len 0 (length g.productions)) all below in
         implied (is_of_rule (slice_get g.productions q) r) (covers (tokens_at es w q 0) (put y ts)) one (rule_test (slice_get g.productions q) r h)
 
-    -- what stands is listed
-    pub stands_listed : {w : List Symbol} {p d : ℕ} → Stands g w p d → (ts : List ℕ) × (tokens_at es w p d ≡ Some ts)
-    stands_listed item.Stands.begin = some_from_covers (tokens_at es [] g.start_production 0) (end_token g ∷ []) entries_hold.0
-    stands_listed (item.Stands.expand {w = w} {p = p} {d = d} {r = r} {q = q} {y = y} s e h) =
-        let (ts, k) = stands_listed s in
+    -- what stands after a list that is asked for is listed
+    pub stands_listed : {w : List Symbol} {p d : ℕ} → Stands g w p d → is_asked most w ≡ true → (ts : List ℕ) × (tokens_at es w p d ≡ Some ts)
+    stands_listed item.Stands.begin a = some_from_covers (tokens_at es [] g.start_production 0) (end_token g ∷ []) entries_hold.0
+    stands_listed (item.Stands.expand {w = w} {p = p} {d = d} {r = r} {q = q} {y = y} s e h) a =
+        let (ts, k) = stands_listed s a in
         some_from_covers (tokens_at es w q 0) (put y ts) (expands w p d ts r q y k e h)
-    stands_listed (item.Stands.advance {w = w} {p = p} {d = d} {x = x} {y = y} s e) =
-        let (ts, k) = stands_listed s in
-        some_from_covers (tokens_at es (w ++ x ∷ []) p (suc d)) ts (moves w p d ts x y k e)
+    stands_listed (item.Stands.advance {w = w} {p = p} {d = d} {x = x} {y = y} s e) a =
+        let (ts, k) = stands_listed s (asked_before most w x a) in
+        some_from_covers (tokens_at es (w ++ x ∷ []) p (suc d)) ts (moves w p d ts x y k e a)
 
     -- and so is where it looks
-    pub looks_listed : {w : List Symbol} {p d t : ℕ} → Looks g w p d t → (ts : List ℕ) × (tokens_at es w p d ≡ Some ts) × Among t ts
-    looks_listed item.Looks.begin = found_among (tokens_at es [] g.start_production 0) (end_token g ∷ []) (end_token g) entries_hold.0 (inl refl)
-    looks_listed (item.Looks.expand {w = w} {p = p} {d = d} {r = r} {q = q} {t = t} {y = y} s e h b) =
-        let (ts, k) = stands_listed s in
+    pub looks_listed :
+        {w : List Symbol} {p d t : ℕ} → Looks g w p d t → is_asked most w ≡ true → (ts : List ℕ) × (tokens_at es w p d ≡ Some ts) × Among t ts
+    looks_listed item.Looks.begin a = found_among (tokens_at es [] g.start_production 0) (end_token g ∷ []) (end_token g) entries_hold.0 (inl refl)
+    looks_listed (item.Looks.expand {w = w} {p = p} {d = d} {r = r} {q = q} {t = t} {y = y} s e h b) a =
+        let (ts, k) = stands_listed s a in
         found_among (tokens_at es w q 0) (put y ts) t (expands w p d ts r q y k e h)
         (among_front t (first_tokens y) (cond (all_null y) ts []) (begins_in b))
-    looks_listed (item.Looks.inherit {w = w} {p = p} {d = d} {r = r} {q = q} {t = t} {y = y} l e h n) =
-        let (ts, k, i) = looks_listed l in
+    looks_listed (item.Looks.inherit {w = w} {p = p} {d = d} {r = r} {q = q} {t = t} {y = y} l e h n) a =
+        let (ts, k, i) = looks_listed l a in
         found_among (tokens_at es w q 0) (put y ts) t (expands w p d ts r q y k e h)
         (among_back t (first_tokens y) (cond (all_null y) ts []) (rw (all_null_in n) i))
-    looks_listed (item.Looks.advance {w = w} {p = p} {d = d} {t = t} {x = x} {y = y} l e) =
-        let (ts, k, i) = looks_listed l in
-        found_among (tokens_at es (w ++ x ∷ []) p (suc d)) ts t (moves w p d ts x y k e) i
+    looks_listed (item.Looks.advance {w = w} {p = p} {d = d} {t = t} {x = x} {y = y} l e) a =
+        let (ts, k, i) = looks_listed l (asked_before most w x a) in
+        found_among (tokens_at es (w ++ x ∷ []) p (suc d)) ts t (moves w p d ts x y k e a) i

@@ -1,4 +1,4 @@
-use Rattle.std.proofs.Common.{◌≡◌, ℕ, Bool, true, false, ◌&&◌, List, [], ◌∷◌, ◌++◌, map, refl, Some}
+use Rattle.std.proofs.Common.{◌≡◌, ℕ, Bool, true, false, ◌&&◌, List, [], ◌∷◌, ◌++◌, map, refl, None, Some}
 use Rattle.std.specs.Prelude.{◌==◌, slice_index_or}
 use Rattle.std.proofs.lemmas.Bool.{and_parts, eqb-true, false≢true}
 use Rattle.lrspec.specs.Grammar.{Symbol, Rule, Token}
@@ -11,11 +11,11 @@ use Rattle.lrspec.proofs.Enumerated.{is_enumeration, looks_listed}
 use Rattle.lrspec.proofs.ContestTest.{agree_all, contested_within}
 
 -- the items after one list, each with its production, its dot and its tokens
-abbrev after : List Symbol → List (ℕ × ℕ × List ℕ) → List Entry
+abbrev pub after : List Symbol → List (ℕ × ℕ × List ℕ) → List Entry
 after w items = map (λ i. (w, i.0, i.1, i.2)) items
 
 -- no rule of these grammars is nullable
-abbrev no_null : ℕ → Bool
+abbrev pub no_null : ℕ → Bool
 no_null r = false
 
 abbrev lr_not_lalr_entries : List Entry
@@ -74,16 +74,17 @@ contested_begins r = slice_index_or ((0 ∷ 4 ∷ []) ∷ (0 ∷ 4 ∷ []) ∷ (
 abbrev without_tree_begins : ℕ → List ℕ
 without_tree_begins r = slice_index_or ((0 ∷ 1 ∷ []) ∷ (0 ∷ 1 ∷ []) ∷ (1 ∷ []) ∷ [] ∷ []) r []
 
-lr_not_lalr_holds : is_enumeration lr_not_lalr no_null lr_not_lalr_begins lr_not_lalr_entries ≡ true
+lr_not_lalr_holds : is_enumeration lr_not_lalr None no_null lr_not_lalr_begins lr_not_lalr_entries ≡ true
 lr_not_lalr_holds = refl
 
-contested_holds : is_enumeration contested_on_x no_null contested_begins contested_entries ≡ true
+contested_holds : is_enumeration contested_on_x None no_null contested_begins contested_entries ≡ true
 contested_holds = refl
 
-without_tree_holds : is_enumeration rule_without_tree no_null without_tree_begins without_tree_entries ≡ true
+without_tree_holds : is_enumeration rule_without_tree None no_null without_tree_begins without_tree_entries ≡ true
 without_tree_holds = refl
 
-abbrev nothing : List Symbol → ℕ → Bool
+-- no token may be contested
+abbrev pub nothing : List Symbol → ℕ → Bool
 nothing w t = false
 
 abbrev x_after_a_c : List Symbol → ℕ → Bool
@@ -100,20 +101,20 @@ without_tree_agree = refl
 
 -- no token is contested after any list
 pub lr_not_lalr_uncontested : IsUncontested lr_not_lalr
-lr_not_lalr_uncontested w t k = false≢true (contested_within lr_not_lalr no_null lr_not_lalr_begins lr_not_lalr_entries lr_not_lalr_holds nothing lr_not_lalr_agree w t k)
+lr_not_lalr_uncontested w t k = false≢true (contested_within lr_not_lalr None no_null lr_not_lalr_begins lr_not_lalr_entries lr_not_lalr_holds nothing lr_not_lalr_agree w t k refl)
 
 -- `x` after `a c` alone is contested
 pub contested_on_x_alone : (w : List Symbol) (t : ℕ) → IsContested contested_on_x w t → (w ≡ Token 0 ∷ Token 5 ∷ []) × (t ≡ 2)
 contested_on_x_alone w t k =
     let (i, j) =
     and_parts (same_list w (Token 0 ∷ Token 5 ∷ [])) (t == 2)
-    (contested_within contested_on_x no_null contested_begins contested_entries contested_holds x_after_a_c contested_agree w t k) in
+    (contested_within contested_on_x None no_null contested_begins contested_entries contested_holds x_after_a_c contested_agree w t k refl) in
     (list_from_same w (Token 0 ∷ Token 5 ∷ []) i, eqb-true t 2 j)
 
 -- no token is contested after any list, though one rule has no tree
 pub without_tree_uncontested : IsUncontested rule_without_tree
 without_tree_uncontested w t k =
-    false≢true (contested_within rule_without_tree no_null without_tree_begins without_tree_entries without_tree_holds nothing without_tree_agree w t k)
+    false≢true (contested_within rule_without_tree None no_null without_tree_begins without_tree_entries without_tree_holds nothing without_tree_agree w t k refl)
 
 found_nothing : (ts : List ℕ) (t : ℕ) → Some [] ≡ Some ts → Among t ts → ⊥
 found_nothing [] t e h = h
@@ -122,5 +123,5 @@ found_nothing (u ∷ ts) t e h = cc
 -- after `a` the complete A looks at no token
 pub without_tree_looks_at_nothing : (t : ℕ) → Looks rule_without_tree (Token 1 ∷ []) 2 1 t → ⊥
 without_tree_looks_at_nothing t l =
-    let (ts, k, i) = looks_listed rule_without_tree no_null without_tree_begins without_tree_entries without_tree_holds l in
+    let (ts, k, i) = looks_listed rule_without_tree None no_null without_tree_begins without_tree_entries without_tree_holds l refl in
     found_nothing ts t k i

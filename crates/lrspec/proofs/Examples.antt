@@ -17,7 +17,7 @@ pub assignments_grammar : IsGrammar assignments
 assignments_grammar = grammar_from_test assignments 1 refl refl refl refl refl refl
 
 -- at the start `S: . L '=' R` stands
-assignments_start : Stands assignments [] 0 0
+pub assignments_start : Stands assignments [] 0 0
 assignments_start = item.Stands.expand item.Stands.begin refl refl
 
 -- `L: . 'id'` looks at '=', which stands behind L

@@ -7,14 +7,14 @@ use Rattle.lrspec.specs.Graph.{Graph, closed_of, edge, IsGraphOf, AreShared, Lea
 use Rattle.lrspec.specs.Table as table
 use Rattle.lrspec.specs.Table.{reductions, IsContender, IsCrowded, NoCellIsCrowded, token_precedence, reduce_reduce_of, shift_reduce_of, AcceptsAndReduces, Table, IsTableOf, IsTableFor, IsUncrowded}
 use Rattle.lrspec.proofs.Machine.{never_stuck, sound, complete, one_tree}
-use Rattle.lrspec.specs.Headline.{TablesRecognise, HasNoPrecedences, HasNoConflicts, IsExact, ListsNothing, TablesAreExact}
+use Rattle.lrspec.specs.Headline.{TablesRecognise, HasNoPrecedences, HasNoConflicts, IsExact, ListsNothing, TablesAreExact, TablesAreUncrowded}
 use Rattle.lrspec.proofs.Bodies.{symbol_at_dot}
 use Rattle.lrspec.proofs.Standing.{stands_of_looks, start_looks_end}
 use Rattle.lrspec.proofs.Rooted.{rooted_closes_looks}
 use Rattle.lrspec.proofs.Members.{nothing_among}
 use Rattle.lrspec.proofs.Cells.{among_reductions}
 use Rattle.lrspec.proofs.Listed.{two_listed, mix_listed}
-use Rattle.lrspec.proofs.Conflicts.{IsCompleteIn, reductions_contested, shifts_contested, accepts_where_contested}
+use Rattle.lrspec.proofs.Conflicts.{IsCompleteIn, reductions_contested, shifts_contested, accept_contested, accepts_where_contested}
 use Rattle.lrspec.proofs.Holding.{leads_below, value_of_some}
 use Rattle.lrspec.proofs.Stacks.{look_fits}
 
@@ -126,13 +126,7 @@ module _ (g : Grammar) (h : Graph) (grammar : IsGrammar g) (m : IsGraphOf g h) w
         }));
     no_contest = λ s p k.
         let c = (accepts_where_contested g h grammar m p).0 (s, k) in
-        none (Rule c.start_rule ∷ []) (end_token g) (record {
-          one = candidate.Candidate.Accept;
-          other = candidate.Candidate.Reduce p;
-          differ = λ e. cc;
-          is_one = candidate.IsCandidate.accept c.accepts;
-          is_other = candidate.IsCandidate.reduce c.differ c.reduces;
-        });
+        none (Rule c.start_rule ∷ []) (end_token g) (accept_contested c);
   }
 
   -- without precedences: there are no conflicts exactly where the grammar is uncontested
@@ -150,7 +144,7 @@ module _ (g : Grammar) (h : Graph) (grammar : IsGrammar g) (m : IsGraphOf g h) w
   )
 
   -- and where it lists nothing, none of its cells is crowded
-  pub uncrowded_without_precedences : HasNoPrecedences g → (b : Table) → IsTableOf g h b → ListsNothing b → IsUncrowded g b
+  pub uncrowded_without_precedences : HasNoPrecedences g → TablesAreUncrowded g h
   uncrowded_without_precedences plain b k n = record {
     graph = h;
     graph_of = m;

@@ -3,12 +3,13 @@ use Rattle.std.specs.Option.{IsSome}
 use Rattle.lrspec.specs.Grammar.{Symbol, Grammar, IsGrammar}
 use Rattle.lrspec.specs.Items as item
 use Rattle.lrspec.specs.Items.{Stands, Looks}
-use Rattle.lrspec.specs.ItemSets.{HasItem, LooksIn}
+use Rattle.lrspec.specs.ItemSets.{HasItem, LooksIn, Fits, IsClosure}
 use Rattle.lrspec.specs.Merging.{IsCoreItem, HasCoreAfter, IsRooted}
 use Rattle.lrspec.specs.Graph as graph
 use Rattle.lrspec.specs.Graph.{Graph, core_of, closed_of, edge, Leads, AreClosures, ContainGotos, AreReached, HoldWhatStands, IsGraphOf}
 use Rattle.lrspec.proofs.Closing.{moved_mono}
-use Rattle.lrspec.proofs.Canonical.{closed_of_looks, core_closes, start_core, start_core_looks, goto_core, moved_of_looks}
+use Rattle.lrspec.proofs.Canonical.{closed_of_looks, core_closes, HasStartItem, LooksAtEnd, start_core, start_core_looks, goto_core, moved_of_looks}
+use Rattle.lrspec.proofs.Rooted.{rooted_sisters}
 
 -- an edge that is there leads to a state
 pub value_of_some : (o : Option ℕ) → IsSome o → (u : ℕ) × (o ≡ Some u)
@@ -71,10 +72,12 @@ leads_of_stands {g} {h} n m k (item.Stands.advance {w = w} {p = p} {d = d} {x = 
         let to = value_of_some (edge h l.0 x) ((k.edges l.0 x).1 (p, d, has, (y, e))) in
         (to.0, graph.Leads.follow x l.1 to.1)
 
+-- every core is rooted
+abbrev pub AreRooted : Grammar → Graph → Type 0
+AreRooted g h = (s : ℕ) → s < length h → IsRooted g (core_of h s)
+
 -- where closed states are closures, edges contain gotos and cores are rooted, states hold what stands
-pub hold_what_stands :
-    {g : Grammar} {h : Graph} → IsGrammar g → AreClosures g h → ContainGotos g h → ((s : ℕ) → s < length h → IsRooted g (core_of h s))
-    → HoldWhatStands g h
+pub hold_what_stands : {g : Grammar} {h : Graph} → IsGrammar g → AreClosures g h → ContainGotos g h → AreRooted g h → HoldWhatStands g h
 hold_what_stands n m k r = record {
   cores = λ w s l. (held n m k l).core;
   closed = λ w s p d l. held_items m (held n m k l) p d;
@@ -84,7 +87,32 @@ hold_what_stands n m k r = record {
 }
 
 -- and where every state is reached, the graph is the grammar's
-pub graph_of :
-    {g : Grammar} {h : Graph} → IsGrammar g → AreClosures g h → ContainGotos g h → AreReached h
-    → ((s : ℕ) → s < length h → IsRooted g (core_of h s)) → IsGraphOf g h
+pub graph_of : {g : Grammar} {h : Graph} → IsGrammar g → AreClosures g h → ContainGotos g h → AreReached h → AreRooted g h → IsGraphOf g h
 graph_of n m k reached r = record { closures = m; gotos = k; reached = reached; hold = hold_what_stands n m k r }
+
+-- closed states are the closures of their cores, every item set fits the grammar, and the start state has the start
+-- item, looking at the end token: of sisters nothing is said
+pub record CloseCores (g : Grammar) (h : Graph) : Type 0 where
+  pub fit_cores : (s : ℕ) → s < length h → Fits g (core_of h s)
+  pub fit_closed : (s : ℕ) → s < length h → Fits g (closed_of h s)
+  pub closures : (s : ℕ) → s < length h → IsClosure g (core_of h s) (closed_of h s)
+  pub some : 0 < length h
+  pub start_item : HasStartItem g (core_of h 0)
+  pub start_look : LooksAtEnd g (core_of h 0)
+
+-- where cores are rooted, their sisters look at the same tokens
+pub closures_of_rooted : {g : Grammar} {h : Graph} → IsGrammar g → CloseCores g h → AreRooted g h → AreClosures g h
+closures_of_rooted n m r = record {
+  fit_cores = m.fit_cores;
+  fit_closed = m.fit_closed;
+  closures = m.closures;
+  sisters = λ s p q d b t l i j k look. rooted_sisters n (r s l).1 p q d b t i j k look;
+  some = m.some;
+  start_item = m.start_item;
+  start_look = m.start_look;
+}
+
+-- so a graph with rooted cores is the grammar's, whatever is known of sisters
+pub graph_of_rooted :
+    {g : Grammar} {h : Graph} → IsGrammar g → CloseCores g h → ContainGotos g h → AreReached h → AreRooted g h → IsGraphOf g h
+graph_of_rooted n m k reached r = graph_of n (closures_of_rooted n m r) k reached r

@@ -28,6 +28,15 @@ pub mod Entries
 pub mod Enumerated
 pub mod ContestTest
 pub mod ExampleSets
+pub mod ExamplesHidden
+pub mod ExamplesShort
+pub mod ExamplesTrees
+pub mod ExamplesCells
+pub mod ItemsListed
+pub mod ExamplesMerged
+pub mod ExamplesSmallest
+pub mod ExamplesGraph
+pub mod ExamplesTable
 pub mod Splits
 pub mod FrontFacts
 pub mod FrontSound
@@ -37,6 +46,7 @@ pub mod DocumentStates
 pub mod SyntaxErrors
 pub mod DocumentUnique
 pub mod RepeatFacts
+pub mod Outcomes
 pub mod NameFacts
 pub mod MeaningFacts
 pub mod TextExamples

@@ -1,10 +1,11 @@
 use Rattle.std.proofs.Common.{◌≡◌, ℕ, ◌≤◌, List, [], ◌∷◌, length, None, Some, refl, codes, lit≤}
 use Rattle.lrspec.specs.Grammar.{Rule, Token, Kind, Left, Right, Nonassoc}
-use Rattle.lrspec.specs.Parts.{PartToken}
+use Rattle.lrspec.specs.Parts.{PartToken, Parts, grammar_of_parts}
 use Rattle.lrspec.specs.TextItems.{Misfit}
 use Rattle.lrspec.specs.Documents.{Document, Plain, InQuotes, StartLine, TokenLine, KindLine, document_items, start_names, items_of, Reads}
 use Rattle.lrspec.specs.Meaning as meaning
 use Rattle.lrspec.specs.Meaning.{UnknownSymbol, DuplicatePrecedence, IsRefused, Means}
+use Rattle.lrspec.specs.Examples.{hidden_left_recursion}
 use Rattle.lrspec.proofs.TextItemFacts.{text_items, text_has_items}
 
 -- a text is a document with the same items
@@ -88,3 +89,34 @@ second_precedence : IsRefused (codes "%left a b %left b a %%") (DuplicatePrecede
 second_precedence =
     let d : Document = record { declarations = KindLine Left (Plain (codes "a")) (Plain (codes "b") ∷ []) ∷ KindLine Left (Plain (codes "b")) (Plain (codes "a") ∷ []) ∷ []; rules = []; behind = None } in
     meaning.IsRefused.repeated (reads _ d refl (lit≤ tt)) refl (record { before = codes "a" ∷ codes "b" ∷ []; after = codes "a" ∷ []; splits = refl; second = refl; first = refl })
+
+-- hidden left recursion as a text
+abbrev hidden_parts : Parts
+hidden_parts = record {
+  rules = codes "S" ∷ codes "A" ∷ codes "B" ∷ [];
+  tokens = bare (codes "x") ∷ bare (codes "y") ∷ [];
+  prods =
+      record { rule = 0; body = Rule 1 ∷ Rule 0 ∷ Token 0 ∷ [] }
+      ∷ record { rule = 0; body = Rule 2 ∷ Token 1 ∷ [] }
+      ∷ record { rule = 1; body = [] }
+      ∷ record { rule = 2; body = [] }
+      ∷ [];
+  start = 0;
+}
+
+hidden_means : Means (codes "%% S: A S 'x' | B 'y'; A: ; B: ;") hidden_parts
+hidden_means =
+    let d : Document = record {
+      declarations = [];
+      rules =
+          record { name = codes "S"; first = Plain (codes "A") ∷ Plain (codes "S") ∷ InQuotes (codes "x") ∷ []; others = (Plain (codes "B") ∷ InQuotes (codes "y") ∷ []) ∷ [] }
+          ∷ record { name = codes "A"; first = []; others = [] }
+          ∷ record { name = codes "B"; first = []; others = [] }
+          ∷ [];
+      behind = None;
+    } in
+    record { document = d; reads = reads _ d refl (lit≤ tt); known = refl; once = refl; parts = refl }
+
+-- its grammar is that of the examples
+hidden_is_grammar : grammar_of_parts hidden_parts ≡ hidden_left_recursion
+hidden_is_grammar = refl

@@ -1,10 +1,10 @@
 use Rattle.std.proofs.Common.{◌≡◌, ℕ, zero, suc, ◌+◌, ◌<◌, ◌≤◌, List, [], ◌∷◌, ◌++◌, length, drop, refl, ap, ◌∙◌, zero-add, length-append, arith, Option, None, Some, Bool, true, false, cond}
 use Rattle.std.proofs.lemmas.Bool.{lt-leb}
 use Rattle.std.proofs.lemmas.List.{drop_at}
-use Rattle.lrspec.specs.Grammar.{Grammar, body_of}
+use Rattle.lrspec.specs.Grammar.{Grammar, body_of, rule_of}
 use Rattle.lrspec.specs.Table as table
 use Rattle.lrspec.specs.Table.{Table, action_of, goto_of}
-use Rattle.lrspec.specs.Machine.{Config, Goes, Accepts, Sticks, top, next_token, rule_of, reduced, reduce_by, act, step, Accepted, one_step_more, after_step, after}
+use Rattle.lrspec.specs.Machine.{Config, Goes, Accepts, Sticks, top, next_token, reduced, reduce_by, act, step, Accepted, one_step_more, after_step, after}
 
 -- so many steps, each of which goes on
 pub data Moves (g : Grammar) (b : Table) : ℕ → Config → Config → Type 0 where

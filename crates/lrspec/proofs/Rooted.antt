@@ -1,10 +1,11 @@
 use Rattle.std.proofs.Common.{◌≡◌, ℕ, List, [], ◌∷◌, ◌++◌, refl, ◌⊎◌, inl, inr, ◌↔◌}
-use Rattle.lrspec.specs.Grammar.{Symbol, Grammar, IsGrammar}
+use Rattle.lrspec.specs.Grammar.{Symbol, Grammar, IsGrammar, IsProductionOf}
 use Rattle.lrspec.specs.Items as item
 use Rattle.lrspec.specs.Items.{Stands, Looks}
 use Rattle.lrspec.specs.ItemSets as set
 use Rattle.lrspec.specs.ItemSets.{Items, HasItem, LooksIn, ClosedLook, IsClosure, IsBefore, Moved, IsGoto}
 use Rattle.lrspec.specs.Merging.{Among, HasCoreAfter, SameItems, IsUnion, IsRootedBy}
+use Rattle.lrspec.proofs.Standing.{sister_looks}
 use Rattle.lrspec.proofs.Closing.{has_of_looks, moved_mono}
 use Rattle.lrspec.proofs.Origins.{stands_of_closed}
 use Rattle.lrspec.proofs.Canonical.{core_item_stands, closed_of_looks, core_closes, HasStartItem, LooksAtEnd, start_core, start_core_looks, goto_core, moved_of_looks, core_same}
@@ -138,3 +139,12 @@ union_rooted {g} {ws} {vs} {a} {b} {c} m n s u = record {
 
     b_is_c : SameItems b c
     b_is_c p d = (λ i. (u.items p d).1 ((s p d).1 i), λ i. (s p d).0 ((u.items p d).0 i))
+
+-- two items of a rooted item set whose productions are of one rule and whose dots are equal look at the same tokens
+pub rooted_sisters :
+    {g : Grammar} {ws : List (List Symbol)} {a : Items} → IsGrammar g → IsRootedBy g ws a → (p q d r t : ℕ) → IsProductionOf g p r
+    → IsProductionOf g q r → HasItem a q d → LooksIn a p d t → LooksIn a q d t
+rooted_sisters {a = a} n m p q d r t i j k l =
+    let (w, among, look) = (m.looks p d t (has_of_looks a p d t l)).0 l in
+    let stands = core_item_stands (((m.cores w among).items q d).0 k) in
+    (m.looks q d t k).1 (w, among, sister_looks n d q r look stands i j)

@@ -1,13 +1,13 @@
 use Rattle.std.proofs.Common.{◌≡◌, ◌≢◌, ℕ, ◌+◌, ◌<◌, ◌⊎◌, inl, inr, List, [], ◌∷◌, ◌++◌, length, drop, take, refl, sym, ap, ◌∙◌, append_assoc, append-nil, length-append, arith, Some}
 use Rattle.std.proofs.lemmas.List.{take_all}
 use Rattle.std.proofs.lemmas.List.Elements.{All-head, All-tail}
-use Rattle.lrspec.specs.Grammar.{Symbol, Rule, Token, Grammar, IsGrammar, end_token, token_count, body_of, IsProductionOf}
+use Rattle.lrspec.specs.Grammar.{Symbol, Rule, Token, Grammar, IsGrammar, end_token, token_count, body_of, IsProductionOf, rule_of}
 use Rattle.lrspec.specs.Trees.{Forest, Leaf, Node, Bare, And, leaves, forest_leaves, forest_order, IsForest, token, production, bare, and, IsSentence}
 use Rattle.lrspec.specs.ItemSets.{HasItem, LooksIn}
 use Rattle.lrspec.specs.Graph.{Graph, edge, closed_of, IsGraphOf}
 use Rattle.lrspec.specs.Table as table
 use Rattle.lrspec.specs.Table.{Table, IsTableOf, action_of, goto_of, cell_of}
-use Rattle.lrspec.specs.Machine.{top, next_token, rule_of}
+use Rattle.lrspec.specs.Machine.{top, next_token}
 use Rattle.lrspec.specs.Theorems.{AreNamed}
 use Rattle.lrspec.proofs.Bodies.{symbol_at_dot}
 use Rattle.lrspec.proofs.Standing.{stands_split, stands_origin, start_stands_after}

@@ -3,14 +3,14 @@ use Rattle.std.specs.Prelude.{slice_get, slice_index_or, IsTrue}
 use Rattle.std.proofs.lemmas.Bool.{cases_lt}
 use Rattle.std.proofs.lemmas.List.{get_or_past}
 use Rattle.std.specs.Option.{IsSome, IsSomeAnd}
-use Rattle.lrspec.specs.Grammar.{Symbol, Rule, Production, Grammar, IsGrammar, IsOfRule, IsProductionOf, body_or_none, body_of, end_token, token_count}
+use Rattle.lrspec.specs.Grammar.{Symbol, Rule, Production, Grammar, IsGrammar, IsOfRule, IsProductionOf, body_or_none, body_of, end_token, token_count, rule_of, rule_or_zero}
 use Rattle.lrspec.specs.Items.{Stands}
 use Rattle.lrspec.specs.ItemSets.{Items, item_at, LooksIn, Fits, IsBefore, ClosedLook}
 use Rattle.lrspec.specs.ItemSets as closed
 use Rattle.lrspec.specs.Graph as graph
 use Rattle.lrspec.specs.Graph.{Graph, Leads, edge, closed_of, core_of, IsGraphOf}
 use Rattle.lrspec.specs.Table.{Table, IsTableOf, goto_of}
-use Rattle.lrspec.specs.Machine.{top, rule_of, rule_or_zero}
+use Rattle.lrspec.specs.Machine.{top}
 use Rattle.lrspec.proofs.Bodies.{push_same, push_not_empty}
 use Rattle.lrspec.proofs.Standing.{start_looks_end}
 use Rattle.lrspec.proofs.Closing.{has_of_looks}

@@ -3,9 +3,14 @@ use Rattle.std.proofs.lemmas.Bool.{cond-true}
 use Rattle.lrspec.specs.TextItems.{TextItem, Placed}
 use Rattle.lrspec.specs.Documents as document
 use Rattle.lrspec.specs.Documents.{Document, Reads, IsDocument, IsBeginning, IsSyntaxErrorAt, items_of}
-use Rattle.lrspec.specs.ReadingStates.{ReadingState, first_state, may_end, next_state, state_behind, error_place}
+use Rattle.lrspec.specs.ReadingStates.{ReadingState, first_state, may_end, next_state, state_behind}
 use Rattle.lrspec.proofs.TextItemFacts.{text_items, text_has_items, text_items_only}
 use Rattle.lrspec.proofs.DocumentStates.{document_leads, leads_document, leads_beginning, beginning_leads, behind_part}
+
+-- the place of the first item that may not come, or `end` if the items end too early
+abbrev pub error_place : ℕ → ReadingState → List Placed → Option ℕ
+error_place end s [] = cond (may_end s) None (Some end)
+error_place end s (p ∷ ps) = elim (next_state s p.item) [ None ↦ Some p.place | Some t ↦ error_place end t ps ]
 
 -- where items stop leading on from a place: at one of them, or at their end
 pub data Stops (s : ReadingState) (ps : List Placed) (end n : ℕ) : Type 0 where

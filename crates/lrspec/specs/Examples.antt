@@ -1,8 +1,12 @@
-use Rattle.std.specs.Prelude.{ℕ, List, [], ◌∷◌, None, codes}
-use Rattle.lrspec.specs.Grammar.{Symbol, Rule, Token, Production, Grammar}
+use Rattle.std.specs.Prelude.{ℕ, List, [], ◌∷◌, Option, None, Some, codes}
+use Rattle.lrspec.specs.Grammar.{Symbol, Rule, Token, Kind, Left, Right, Nonassoc, Precedence, Production, Grammar}
 
 abbrev pub production : ℕ → List Symbol → Production
 production r y = record { rule = r; body = y }
+
+-- a precedence of this level and kind
+abbrev pub at_level : ℕ → Kind → Option Precedence
+at_level n k = Some (record { level = n; kind = k })
 
 -- assignments, `S: L '=' R | R; L: '*' R | 'id'; R: L;`:
 -- the rules S 1, L 2, R 3; the tokens '=' 0, '*' 1, 'id' 2, and 3 the end token
@@ -78,4 +82,49 @@ contested_on_x = record {
       ∷ production 0 (Rule 1 ∷ [])
       ∷ [];
   start_production = 8;
+}
+
+-- hidden left recursion, `S: A S 'x' | B 'y'; A: ; B: ;`:
+-- the rules S 1, A 2, B 3; the tokens 'x' 0, 'y' 1, and 2 the end token
+abbrev pub hidden_left_recursion : Grammar
+hidden_left_recursion = record {
+  rule_names = codes "^" ∷ codes "S" ∷ codes "A" ∷ codes "B" ∷ [];
+  token_names = codes "x" ∷ codes "y" ∷ [];
+  token_precedences = None ∷ None ∷ [];
+  productions =
+      production 1 (Rule 2 ∷ Rule 1 ∷ Token 0 ∷ [])
+      ∷ production 1 (Rule 3 ∷ Token 1 ∷ [])
+      ∷ production 2 []
+      ∷ production 3 []
+      ∷ production 0 (Rule 1 ∷ [])
+      ∷ [];
+  start_production = 4;
+}
+
+-- operators, `%nonassoc '<' %left '+' %left '*' %right '**'` and `E: E '<' E | E '+' E | E '*' E | E '**' E | 'id';`:
+-- the rule E 1; the tokens '<' 0, '+' 1, '*' 2, '**' 3, 'id' 4, and 5 the end token
+abbrev pub operators : Grammar
+operators = record {
+  rule_names = codes "^" ∷ codes "E" ∷ [];
+  token_names = codes "<" ∷ codes "+" ∷ codes "*" ∷ codes "**" ∷ codes "id" ∷ [];
+  token_precedences = at_level 0 Nonassoc ∷ at_level 1 Left ∷ at_level 2 Left ∷ at_level 3 Right ∷ None ∷ [];
+  productions =
+      production 1 (Rule 1 ∷ Token 0 ∷ Rule 1 ∷ [])
+      ∷ production 1 (Rule 1 ∷ Token 1 ∷ Rule 1 ∷ [])
+      ∷ production 1 (Rule 1 ∷ Token 2 ∷ Rule 1 ∷ [])
+      ∷ production 1 (Rule 1 ∷ Token 3 ∷ Rule 1 ∷ [])
+      ∷ production 1 (Token 4 ∷ [])
+      ∷ production 0 (Rule 1 ∷ [])
+      ∷ [];
+  start_production = 5;
+}
+
+-- the smallest, `S: ;`: the rule S 1; no named token, and 0 the end token
+abbrev pub smallest : Grammar
+smallest = record {
+  rule_names = codes "^" ∷ codes "S" ∷ [];
+  token_names = [];
+  token_precedences = [];
+  productions = production 1 [] ∷ production 0 (Rule 1 ∷ []) ∷ [];
+  start_production = 1;
 }

@@ -46,6 +46,14 @@ body_or_none (Some p) = p.body
 abbrev pub body_of : Grammar → ℕ → List Symbol
 body_of g p = body_or_none (slice_get g.productions p)
 
+abbrev pub rule_or_zero : Option Production → ℕ
+rule_or_zero None = 0
+rule_or_zero (Some p) = p.rule
+
+-- the rule of the production `p`, 0 where there is none
+abbrev pub rule_of : Grammar → ℕ → ℕ
+rule_of g p = rule_or_zero (slice_get g.productions p)
+
 abbrev pub IsOfRule : Option Production → ℕ → Type 0
 IsOfRule None r = ⊥
 IsOfRule (Some p) r = p.rule ≡ r

@@ -5,7 +5,7 @@ use Rattle.lrspec.specs.Candidates.{Shift, Reduce, IsCandidate, IsUncontested}
 use Rattle.lrspec.specs.Merging.{Among, HasCoreAfter}
 use Rattle.lrspec.specs.Graph.{Graph, core_of}
 use Rattle.lrspec.specs.Theorems.{IsNeverStuck, IsSound, IsComplete, IsUnambiguous}
-use Rattle.lrspec.specs.Table.{token_precedence, reduce_reduce_of, shift_reduce_of, AcceptsAndReduces, Table, IsTableOf}
+use Rattle.lrspec.specs.Table.{token_precedence, reduce_reduce_of, shift_reduce_of, AcceptsAndReduces, Table, IsTableOf, IsUncrowded}
 
 -- both productions of each entry of the list of reduce/reduce conflicts are candidates of one token, perhaps another,
 -- after a list with the core of that state
@@ -55,6 +55,10 @@ ListsNothing b = (b.reduce_reduce ≡ []) × (b.shift_reduce ≡ [])
 -- a table of the graph lists nothing exactly where no list leaves a token two canonical candidates
 abbrev pub TablesAreExact : Grammar → Graph → Type 0
 TablesAreExact g h = (b : Table) → IsTableOf g h b → ListsNothing b ↔ IsUncontested g
+
+-- a table of the graph that lists nothing has no crowded cell
+abbrev pub TablesAreUncrowded : Grammar → Graph → Type 0
+TablesAreUncrowded g h = (b : Table) → IsTableOf g h b → ListsNothing b → IsUncrowded g b
 
 -- the machine accepts exactly the sentences, each in a step a token, a step a node of its tree and one more, with the
 -- productions of that tree, which is its only one

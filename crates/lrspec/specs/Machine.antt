@@ -1,5 +1,5 @@
-use Rattle.std.specs.Prelude.{ℕ, zero, suc, ◌+◌, nat_le, cond, List, [], ◌∷◌, ◌++◌, length, drop, Option, None, Some, slice_get}
-use Rattle.lrspec.specs.Grammar.{Grammar, Production, end_token, body_of}
+use Rattle.std.specs.Prelude.{ℕ, zero, suc, ◌+◌, nat_le, cond, List, [], ◌∷◌, ◌++◌, length, drop, Option, None, Some}
+use Rattle.lrspec.specs.Grammar.{Grammar, end_token, body_of, rule_of}
 use Rattle.lrspec.specs.Table as table
 use Rattle.lrspec.specs.Table.{Table, Action, action_of, goto_of}
 
@@ -22,14 +22,6 @@ next_token g (t ∷ ts) = t
 abbrev pub top : List ℕ → ℕ
 top [] = 0
 top (s ∷ ss) = s
-
-abbrev pub rule_or_zero : Option Production → ℕ
-rule_or_zero None = 0
-rule_or_zero (Some p) = p.rule
-
--- the rule of the production
-abbrev pub rule_of : Grammar → ℕ → ℕ
-rule_of g p = rule_or_zero (slice_get g.productions p)
 
 -- the state to which the goto leads is pushed, and the reduction is noted; without one the machine sticks
 abbrev pub reduced : Option ℕ → ℕ → List ℕ → Config → Outcome

@@ -1,5 +1,5 @@
-use Rattle.std.specs.Prelude.{ℕ, Bool, true, false, cond, List, [], ◌∷◌, Option, None, Some}
-use Rattle.lrspec.specs.TextItems.{TextItem, Name, Quoted, StartWord, TokenWord, KindWord, Separator, Colon, Bar, Semicolon, Placed}
+use Rattle.std.specs.Prelude.{Bool, true, false, cond, List, [], ◌∷◌, Option, None, Some}
+use Rattle.lrspec.specs.TextItems.{TextItem, Name, Quoted, StartWord, TokenWord, KindWord, Separator, Colon, Bar, Semicolon}
 
 -- a place between two items of a document. The flag says whether `%start` came
 pub data ReadingState : Type 0 where
@@ -61,8 +61,3 @@ next_state Behind i = Some Behind
 abbrev pub state_behind : ReadingState → List TextItem → Option ReadingState
 state_behind s [] = Some s
 state_behind s (i ∷ is) = elim (next_state s i) [ None ↦ None | Some t ↦ state_behind t is ]
-
--- the place of the first item that may not come, or `end` if the items end too early
-abbrev pub error_place : ℕ → ReadingState → List Placed → Option ℕ
-error_place end s [] = cond (may_end s) None (Some end)
-error_place end s (p ∷ ps) = elim (next_state s p.item) [ None ↦ Some p.place | Some t ↦ error_place end t ps ]

@@ -1,7 +1,7 @@
 use Rattle.std.specs.Prelude.{◌≡◌, ◌≢◌, ℕ, ◌<◌, Bool, false, cond, not, ◌==◌, ◌&&◌, nat_lt, List, [], ◌∷◌, filter, length, Option, None, Some, slice_index_or}
 use Rattle.std.specs.List.{flat_map, filter_map, list_any, range_with_len}
 use Rattle.lrspec.specs.Grammar.{Rule, Token, Kind, Left, Right, Nonassoc, Precedence, Grammar, end_token, token_count, body_of}
-pub use Rattle.lrspec.specs.Grammar.{token_precedence, last_token_or, production_precedence}
+pub use Rattle.lrspec.specs.Grammar.{token_precedence, production_precedence}
 use Rattle.lrspec.specs.ItemSets.{Items, item_at, LooksIn}
 use Rattle.lrspec.specs.Candidates as candidate
 use Rattle.lrspec.specs.Candidates.{Candidate}
@@ -73,7 +73,7 @@ accepts_at g a t = is_complete_at g a t g.start_production
 abbrev pub cell_of : Grammar → Graph → ℕ → ℕ → Action
 cell_of g h s t = cell_by g t (reductions g (closed_of h s) t) (edge h s (Token t)) (accepts_at g (closed_of h s) t)
 
--- `t` is contested in `s` between the least reduction and the reduction `q`
+-- the entry for the token `t` in `s`: the least reduction, and `q`, another one
 abbrev pub reduce_reduce_entry : List ℕ → ℕ → ℕ → ℕ → Option (ℕ × ℕ × ℕ × ℕ)
 reduce_reduce_entry [] s q t = None
 reduce_reduce_entry (p ∷ ps) s q t = cond (list_any (λ r. r == q) ps) (Some (t, p, q, s)) None

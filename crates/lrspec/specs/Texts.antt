@@ -1,14 +1,7 @@
-use Rattle.std.specs.Prelude.{ℕ, List, [], ◌++◌, codes, Option, None, Some, slice_get, slice_index_or}
+use Rattle.std.specs.Prelude.{ℕ, List, [], ◌++◌, codes, slice_index_or}
 use Rattle.std.specs.List.{flat_map}
-use Rattle.lrspec.specs.Grammar.{Symbol, Rule, Token, Production, Grammar, body_of}
-
-abbrev pub rule_or_zero : Option Production → ℕ
-rule_or_zero None = 0
-rule_or_zero (Some p) = p.rule
-
--- the rule of the production `p`
-abbrev pub rule_of : Grammar → ℕ → ℕ
-rule_of g p = rule_or_zero (slice_get g.productions p)
+use Rattle.lrspec.specs.Grammar.{Symbol, Rule, Token, Grammar, body_of}
+pub use Rattle.lrspec.specs.Grammar.{rule_of}
 
 abbrev pub rule_name : Grammar → ℕ → List ℕ
 rule_name g r = slice_index_or g.rule_names r []
