@@ -1,5 +1,7 @@
 // C11 over tokens. A name that a typedef declared is a token of its own, TYPEDEF_NAME, which the lexer tells from
-// IDENTIFIER by what was declared before.
+// IDENTIFIER by what was declared before. It must give IDENTIFIER for such a name too behind `struct`, `union`, `enum`,
+// `goto`, `.` and `->`, for a label, and where a declaration declares the name anew, as `T` in `int T;`. It joins strings
+// that stand side by side.
 
 %token IDENTIFIER TYPEDEF_NAME INTEGER FLOATING CHARACTER STRING
 %token auto break case char const continue default do double else enum extern float for goto if inline int long
@@ -9,6 +11,11 @@
 /* `else` belongs to the nearest `if`: the production of an `if` alone has the precedence of its `)`. */
 %nonassoc ')'
 %nonassoc else
+
+/* A `(` behind `_Atomic` belongs to the type specifier: the production of the qualifier alone has the precedence of its
+   `_Atomic`, which is the lower. */
+%nonassoc _Atomic
+%nonassoc '('
 
 %start TranslationUnit
 

@@ -1,4 +1,8 @@
 // The whole grammar of Lua 5.4 over tokens. Its operators stand as layered rules, the loosest first.
+//
+// A `(` behind a call or another prefix may belong to it or begin the next statement. Lua has it belong to the prefix, and
+// so have the rules for conflicts: where an expression could end, shifting wins; where a statement could end, `Prefix: Call`
+// wins over `Statement: Call` as the lesser production. For that `Prefix` stands in front of `Statement`.
 
 %token Name LiteralString Numeral
 %token and break do else elseif end false for function goto if in local nil not or repeat return then true until while
@@ -15,6 +19,10 @@ Block: Statements
 Statements:
           | Statements Statement
           ;
+Prefix: Variable
+      | Call
+      | '(' Expression ')'
+      ;
 Statement: ';'
          | Variables '=' Expressions
          | Call
@@ -132,10 +140,6 @@ Simple: nil
       | Function
       | Prefix
       | TableConstructor
-      ;
-Prefix: Variable
-      | Call
-      | '(' Expression ')'
       ;
 Call: Prefix Arguments
     | Prefix ':' Name Arguments

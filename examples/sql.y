@@ -1,21 +1,17 @@
 // A part of SQL over tokens: SELECT, INSERT, UPDATE, DELETE and CREATE TABLE.
 
-%token NAME STRING INTEGER DECIMAL PARAMETER
-%token ALL AND ANY AS ASC BETWEEN BIGINT BOOLEAN BY CASCADE CASE CAST CHAR CHECK CONSTRAINT CREATE CROSS DATE DEFAULT
-%token DEFAULTS DELETE DESC DISTINCT DOUBLE ELSE END ESCAPE EXCEPT EXISTS FALSE FIRST FOREIGN FROM FULL GROUP HAVING IF
-%token IN INNER INSERT INT INTERSECT INTO IS JOIN KEY LAST LEFT LIKE LIMIT NATURAL NO NOT NULL NULLS NUMERIC OFFSET ON
-%token OR ORDER OUTER PRECISION PRIMARY REAL REFERENCES RESTRICT RETURNING RIGHT SELECT SET SMALLINT SOME TABLE TEXT
-%token THEN TIME TIMESTAMP TRUE UNION UNIQUE UNKNOWN UPDATE USING VALUES VARCHAR WHEN WHERE WITH ACTION
+%token NAME STRING_LITERAL INTEGER_LITERAL DECIMAL_LITERAL PARAMETER
+%token ACTION ALL AND ANY AS ASC BETWEEN BIGINT BOOLEAN BY CASCADE CASE CAST CHAR CHECK CONSTRAINT CREATE CROSS DATE DECIMAL
+%token DEFAULT DELETE DESC DISTINCT DOUBLE ELSE END ESCAPE EXCEPT EXISTS FALSE FIRST FOREIGN FROM FULL GROUP HAVING IF IN
+%token INNER INSERT INT INTEGER INTERSECT INTO IS JOIN KEY LAST LEFT LIKE LIMIT NATURAL NO NOT NULL NULLS NUMERIC OFFSET ON
+%token OR ORDER OUTER PRECISION PRIMARY REAL REFERENCES RESTRICT RETURNING RIGHT SELECT SET SMALLINT SOME TABLE TEXT THEN
+%token TIME TIMESTAMP TRUE UNION UNIQUE UNKNOWN UPDATE USING VALUES VARCHAR WHEN WHERE WITH
 
-/* Operators, the loosest first. */
-%left UNION EXCEPT
-%left INTERSECT
+/* Operators, the loosest first. Comparisons stand as a layer of rules between IS and `||`. */
 %left OR
 %left AND
 %right NOT
 %nonassoc IS
-%nonassoc '=' '<>' '<' '>' '<=' '>='
-%nonassoc BETWEEN IN LIKE ESCAPE
 %left '||'
 %left '+' '-'
 %left '*' '/' '%'
@@ -222,20 +218,25 @@ TableElement: NAME Type ColumnConstraints
 
 Type: SMALLINT
     | INT
+    | INTEGER
     | BIGINT
     | REAL
     | DOUBLE PRECISION
-    | NUMERIC
-    | NUMERIC '(' INTEGER ')'
-    | NUMERIC '(' INTEGER ',' INTEGER ')'
-    | CHAR '(' INTEGER ')'
-    | VARCHAR '(' INTEGER ')'
+    | ExactNumber
+    | ExactNumber '(' INTEGER_LITERAL ')'
+    | ExactNumber '(' INTEGER_LITERAL ',' INTEGER_LITERAL ')'
+    | CHAR '(' INTEGER_LITERAL ')'
+    | VARCHAR '(' INTEGER_LITERAL ')'
     | TEXT
     | BOOLEAN
     | DATE
     | TIME
     | TIMESTAMP
     ;
+
+ExactNumber: DECIMAL
+           | NUMERIC
+           ;
 
 ColumnConstraints:
                  | ColumnConstraints ColumnConstraint
@@ -278,40 +279,55 @@ Expressions: Expression
            | Expressions ',' Expression
            ;
 
-Expression: Primary
+Expression: Predicate
           | Expression OR Expression
           | Expression AND Expression
           | NOT Expression
-          | Expression IS NULL
-          | Expression IS NOT NULL
-          | Expression IS TRUE
-          | Expression IS FALSE
-          | Expression IS UNKNOWN
-          | Expression '=' Expression
-          | Expression '<>' Expression
-          | Expression '<' Expression
-          | Expression '>' Expression
-          | Expression '<=' Expression
-          | Expression '>=' Expression
-          | Expression '=' Some '(' Select ')'
-          | Expression '<>' Some '(' Select ')'
-          | Expression BETWEEN Primary AND Primary
-          | Expression IN '(' Select ')'
-          | Expression IN '(' Expressions ')'
-          | Expression LIKE Primary
-          | Expression LIKE Primary ESCAPE Primary
-          | Expression '||' Expression
-          | Expression '+' Expression
-          | Expression '-' Expression
-          | Expression '*' Expression
-          | Expression '/' Expression
-          | Expression '%' Expression
+          | Expression IS Truth
+          | Expression IS NOT Truth
+          ;
+
+Truth: NULL
+     | TRUE
+     | FALSE
+     | UNKNOWN
+     ;
+
+Predicate: Value
+         | Value Comparison Value
+         | Value Comparison Some '(' Select ')'
+         | Value Not BETWEEN Value AND Value
+         | Value Not IN '(' Select ')'
+         | Value Not IN '(' Expressions ')'
+         | Value Not LIKE Value
+         | Value Not LIKE Value ESCAPE Value
+         ;
+
+Not:
+   | NOT
+   ;
+
+Comparison: '='
+          | '<>'
+          | '<'
+          | '>'
+          | '<='
+          | '>='
           ;
 
 Some: ALL
     | ANY
     | SOME
     ;
+
+Value: Primary
+     | Value '||' Value
+     | Value '+' Value
+     | Value '-' Value
+     | Value '*' Value
+     | Value '/' Value
+     | Value '%' Value
+     ;
 
 Primary: Literal
        | PARAMETER
@@ -329,9 +345,9 @@ Primary: Literal
        | CASE Expression Whens ElseClause END
        ;
 
-Literal: INTEGER
-       | DECIMAL
-       | STRING
+Literal: INTEGER_LITERAL
+       | DECIMAL_LITERAL
+       | STRING_LITERAL
        | TRUE
        | FALSE
        | NULL
