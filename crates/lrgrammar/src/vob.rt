@@ -13,7 +13,7 @@ use std::marker::Model;
 use std::ops::Range;
 
 /// A vector of bits, whose length stays.
-#[derive(Drop)]
+#[derive(Debug, Drop)]
 pub struct Vob {
     bits: Vec<bool>,
 }

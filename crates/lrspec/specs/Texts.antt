@@ -1,7 +1,6 @@
 use Rattle.std.specs.Prelude.{ℕ, List, [], ◌++◌, codes, slice_index_or}
 use Rattle.std.specs.List.{flat_map}
-use Rattle.lrspec.specs.Grammar.{Symbol, Rule, Token, Grammar, body_of}
-pub use Rattle.lrspec.specs.Grammar.{rule_of}
+use Rattle.lrspec.specs.Grammar.{Symbol, Rule, Token, Grammar, body_of, rule_of}
 
 abbrev pub rule_name : Grammar → ℕ → List ℕ
 rule_name g r = slice_index_or g.rule_names r []

@@ -25,7 +25,7 @@ use std::default::Emptied;
 pub type Ctx = Vob;
 
 /// Items by production and dot, each with its lookaheads.
-#[derive(Drop)]
+#[derive(Debug, Drop)]
 pub struct Itemset<T: IndexStorage> {
     /// The lookaheads of each item, by its production and the place of its dot.
     pub items: BTreeMap<(PIdx<T>, SIdx<T>), Ctx>,
