@@ -1,4 +1,7 @@
 use Rattle.std.specs.Prelude.{◌≡◌, ℕ, ◌<◌, suc, zero, ◌+◌, Bool, IsTrue, List, ◌∷◌, Option, None, Some, length, ◌⊎◌}
+use Rattle.std.specs.BTreeMap.{btree_map_len}
+use Rattle.lrtable.specs.declared.itemset.Itemset.{Itemset}
+use Rattle.lrtable.specs.ItemsOf.{set_of}
 use Rattle.lrspec.specs.Grammar.{Symbol, Rule, Grammar, token_count, rest, IsProductionOf}
 use Rattle.lrspec.specs.First.{AllNullable, Begins}
 use Rattle.lrspec.specs.ItemSets.{Items, item_at, HasItem, LooksIn, IsContained}
@@ -31,6 +34,10 @@ room_at k (Some v) = unset v
 abbrev pub room : ℕ → ℕ → Items → ℕ
 room k zero a = 0
 room k (suc n) a = room k n a + room_at k (item_at a n 0)
+
+-- what closing has still to do at the most: the bits and items that `closed` can gain, and the items in `todo`
+abbrev pub to_do : {T : Type 0} → (T → ℕ) → ℕ → ℕ → Itemset T → Itemset T → ℕ
+to_do number k n closed todo = room k n (set_of number closed) + btree_map_len todo.items
 
 -- the second has each item of the first
 abbrev pub Keeps : Items → Items → Type 0

@@ -1,4 +1,5 @@
 use Rattle.std.specs.Prelude.{◌≡◌, ℕ, Bool, List, map, Option, None, Some, length}
+use Rattle.lrtable.specs.declared.itemset.Itemset.{Itemset}
 use Rattle.lrgrammar.specs.declared.idx.PIdx.{PIdx}
 use Rattle.lrgrammar.specs.declared.idx.SIdx.{SIdx}
 use Rattle.lrgrammar.specs.Bits.{union}
@@ -8,9 +9,13 @@ use Rattle.lrspec.specs.ItemSets.{Items, item_at}
 abbrev pub items_of : {T X : Type 0} → (T → ℕ) → List ((PIdx T × SIdx T) × X) → List ((ℕ × ℕ) × X)
 items_of number es = map (λ e. ((number e.0.0.0, number e.0.1.0), e.1)) es
 
--- the bits of an item in a map, if it is there
-abbrev pub look_up : {T : Type 0} → (T → ℕ) → List ((PIdx T × SIdx T) × List Bool) → PIdx T → SIdx T → Option (List Bool)
-look_up number es pidx dot = item_at (items_of number es) (number pidx.0) (number dot.0)
+-- the items of an item set, each by the numbers of its production and its dot
+abbrev pub set_of : {T : Type 0} → (T → ℕ) → Itemset T → Items
+set_of number s = items_of number s.items.entries
+
+-- the bits of an item in an item set, if it is there
+abbrev pub look_up : {T : Type 0} → (T → ℕ) → Itemset T → PIdx T → SIdx T → Option (List Bool)
+look_up number s pidx dot = item_at (set_of number s) (number pidx.0) (number dot.0)
 
 -- the lookaheads of an item together with more; those alone for an item that isn't there
 abbrev pub merged : Option (List Bool) → List Bool → List Bool

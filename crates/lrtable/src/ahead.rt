@@ -5,7 +5,7 @@ ghost use Rattle.lrspec.specs.Grammar as math;
 ghost use Rattle.lrspec.specs.ItemSets.{Fits, IsBefore};
 ghost use Rattle.lrgrammar.specs.Bits.{bit};
 ghost use Rattle.lrgrammar.specs.Firsts.{AreFirstsOf};
-ghost use Rattle.lrtable.specs.ItemsOf.{items_of};
+ghost use Rattle.lrtable.specs.ItemsOf.{set_of};
 ghost use Rattle.lrtable.specs.Expansion.{ArePassedOn, PutsNothingIn, PassesOn};
 
 use crate::itemset::{Ctx, Itemset};
@@ -89,9 +89,9 @@ pub(crate) fn ahead_of<T: IndexStorage>(
     pidx: PIdx<T>,
     dot: SIdx<T>,
 ) -> Result<Option<(RIdx<T>, Vob)>, AllocError>
-    requires fits { Fits grm.now (items_of T.number items.now.items.entries) }
+    requires fits { Fits grm.now (set_of T.number items.now) }
     requires of { AreFirstsOf grm.now firsts.now }
-    ensures { IfOk result (λ o. MatchOption o (PutsNothingIn grm.now (items_of T.number items.now.items.entries) (T.number pidx.0) (T.number dot.0)) (λ x. PassesOn grm.now (items_of T.number items.now.items.entries) (T.number pidx.0) (T.number dot.0) (T.number x.0.0) x.1)) }
+    ensures { IfOk result (λ o. MatchOption o (PutsNothingIn grm.now (set_of T.number items.now) (T.number pidx.0) (T.number dot.0)) (λ x. PassesOn grm.now (set_of T.number items.now) (T.number pidx.0) (T.number dot.0) (T.number x.0.0) x.1)) }
 {
     match items.items.get(&(pidx, dot)) {
         None => Ok(None),

@@ -5,8 +5,8 @@ ghost use Rattle.std.specs.BTreeMap.{btree_map_len};
 ghost use Rattle.lrspec.specs.Grammar as math;
 ghost use Rattle.lrspec.specs.ItemSets.{Fits};
 ghost use Rattle.lrgrammar.specs.Firsts.{AreFirstsOf};
-ghost use Rattle.lrtable.specs.ItemsOf.{items_of, HaveBits};
-ghost use Rattle.lrtable.specs.Expansion.{ArePut, IsExpanded, room, Keeps, IsWithout};
+ghost use Rattle.lrtable.specs.ItemsOf.{set_of, HaveBits};
+ghost use Rattle.lrtable.specs.Expansion.{ArePut, IsExpanded, to_do, Keeps, IsWithout};
 
 use crate::ahead::ahead_of;
 use crate::itemset::{Ctx, Itemset};
@@ -22,11 +22,11 @@ fn put<T: IndexStorage>(
     pidx: PIdx<T>,
     ahead: &Ctx,
 ) -> Result<(), AllocError>
-    requires { HaveBits (length ahead.now) (items_of T.number closed.old.items.entries) }
-    ensures bits { OnOk result (HaveBits (length ahead.now) (items_of T.number closed.new.items.entries)) }
-    ensures put { OnOk result (ArePut (λ q. q ≡ T.number pidx.0) ahead.now (items_of T.number closed.old.items.entries) (items_of T.number closed.new.items.entries) (items_of T.number todo.new.items.entries)) }
-    ensures kept { OnOk result (Keeps (items_of T.number todo.old.items.entries) (items_of T.number todo.new.items.entries)) }
-    ensures less { OnOk result ((n : ℕ) → T.number pidx.0 < n → room (length ahead.now) n (items_of T.number closed.new.items.entries) + btree_map_len todo.new.items ≤ room (length ahead.now) n (items_of T.number closed.old.items.entries) + btree_map_len todo.old.items) }
+    requires { HaveBits (length ahead.now) (set_of T.number closed.old) }
+    ensures bits { OnOk result (HaveBits (length ahead.now) (set_of T.number closed.new)) }
+    ensures put { OnOk result (ArePut (λ q. q ≡ T.number pidx.0) ahead.now (set_of T.number closed.old) (set_of T.number closed.new) (set_of T.number todo.new)) }
+    ensures kept { OnOk result (Keeps (set_of T.number todo.old) (set_of T.number todo.new)) }
+    ensures less { OnOk result ((n : ℕ) → T.number pidx.0 < n → to_do T.number (length ahead.now) n closed.new todo.new ≤ to_do T.number (length ahead.now) n closed.old todo.old) }
 {
     let dot = SIdx(T::from_usize(0).unwrap());
     if closed.add(pidx, dot, ahead)? {
@@ -45,11 +45,11 @@ fn put_all<T: IndexStorage>(
     ahead: &Ctx,
 ) -> Result<(), AllocError>
     requires rule { T.number rule.0 < length grm.now.rule_names }
-    requires bits { HaveBits (length ahead.now) (items_of T.number closed.old.items.entries) }
-    ensures bits { OnOk result (HaveBits (length ahead.now) (items_of T.number closed.new.items.entries)) }
-    ensures put { OnOk result (ArePut (λ q. math.IsProductionOf grm.now q (T.number rule.0)) ahead.now (items_of T.number closed.old.items.entries) (items_of T.number closed.new.items.entries) (items_of T.number todo.new.items.entries)) }
-    ensures kept { OnOk result (Keeps (items_of T.number todo.old.items.entries) (items_of T.number todo.new.items.entries)) }
-    ensures less { OnOk result (room (length ahead.now) (length grm.now.productions) (items_of T.number closed.new.items.entries) + btree_map_len todo.new.items ≤ room (length ahead.now) (length grm.now.productions) (items_of T.number closed.old.items.entries) + btree_map_len todo.old.items) }
+    requires bits { HaveBits (length ahead.now) (set_of T.number closed.old) }
+    ensures bits { OnOk result (HaveBits (length ahead.now) (set_of T.number closed.new)) }
+    ensures put { OnOk result (ArePut (λ q. math.IsProductionOf grm.now q (T.number rule.0)) ahead.now (set_of T.number closed.old) (set_of T.number closed.new) (set_of T.number todo.new)) }
+    ensures kept { OnOk result (Keeps (set_of T.number todo.old) (set_of T.number todo.new)) }
+    ensures less { OnOk result (to_do T.number (length ahead.now) (length grm.now.productions) closed.new todo.new ≤ to_do T.number (length ahead.now) (length grm.now.productions) closed.old todo.old) }
 {
     for pidx in grm.rule_to_prods(rule) {
         put(closed, todo, *pidx, ahead)?;
@@ -67,12 +67,12 @@ pub(crate) fn expand<T: IndexStorage>(
     pidx: PIdx<T>,
     dot: SIdx<T>,
 ) -> Result<(), AllocError>
-    requires fits { Fits grm.now (items_of T.number closed.old.items.entries) }
+    requires fits { Fits grm.now (set_of T.number closed.old) }
     requires of { AreFirstsOf grm.now firsts.now }
-    ensures fits { OnOk result (Fits grm.now (items_of T.number closed.new.items.entries)) }
-    ensures expanded { OnOk result (IsExpanded grm.now (T.number pidx.0) (T.number dot.0) (items_of T.number closed.old.items.entries) (items_of T.number closed.new.items.entries) (items_of T.number todo.new.items.entries)) }
-    ensures kept { OnOk result (Keeps (items_of T.number todo.old.items.entries) (items_of T.number todo.new.items.entries)) }
-    ensures less { OnOk result (room (math.token_count grm.now) (length grm.now.productions) (items_of T.number closed.new.items.entries) + btree_map_len todo.new.items ≤ room (math.token_count grm.now) (length grm.now.productions) (items_of T.number closed.old.items.entries) + btree_map_len todo.old.items) }
+    ensures fits { OnOk result (Fits grm.now (set_of T.number closed.new)) }
+    ensures expanded { OnOk result (IsExpanded grm.now (T.number pidx.0) (T.number dot.0) (set_of T.number closed.old) (set_of T.number closed.new) (set_of T.number todo.new)) }
+    ensures kept { OnOk result (Keeps (set_of T.number todo.old) (set_of T.number todo.new)) }
+    ensures less { OnOk result (to_do T.number (math.token_count grm.now) (length grm.now.productions) closed.new todo.new ≤ to_do T.number (math.token_count grm.now) (length grm.now.productions) closed.old todo.old) }
 {
     if let Some((rule, ahead)) = ahead_of(closed, grm, firsts, pidx, dot)? {
         put_all(closed, todo, grm, rule, &ahead)?;
@@ -85,9 +85,9 @@ pub(crate) fn take_item<T: IndexStorage>(
     todo: &mut Itemset<T>,
     from_front: bool,
 ) -> Option<(PIdx<T>, SIdx<T>)>
-    ensures none { IfNone result (items_of T.number todo.old.items.entries ≡ []) }
+    ensures none { IfNone result (set_of T.number todo.old ≡ []) }
     ensures less { OnSome result (btree_map_len todo.new.items + 1 ≡ btree_map_len todo.old.items) }
-    ensures others { IfSome result (λ k. IsWithout (T.number k.0.0) (T.number k.1.0) (items_of T.number todo.old.items.entries) (items_of T.number todo.new.items.entries)) }
+    ensures others { IfSome result (λ k. IsWithout (T.number k.0.0) (T.number k.1.0) (set_of T.number todo.old) (set_of T.number todo.new)) }
 {
     if from_front {
         let (key, _ctx) = todo.items.pop_first()?;

@@ -7,7 +7,7 @@ ghost use Rattle.lrspec.specs.ItemSets.{item_at, HasItem, Fits, IsClosure, IsGot
 ghost use Rattle.lrspec.specs.Merging.{Apart};
 ghost use Rattle.lrgrammar.specs.Symbols.{symbol_of};
 ghost use Rattle.lrgrammar.specs.Firsts.{AreFirstsOf};
-ghost use Rattle.lrtable.specs.ItemsOf.{items_of, look_up, merged, Agree};
+ghost use Rattle.lrtable.specs.ItemsOf.{set_of, look_up, merged, Agree};
 ghost use Rattle.lrtable.specs.Start.{IsStartCore, IsCanonicalStart};
 
 use crate::closing::{expand, take_item};
@@ -34,7 +34,7 @@ pub struct Itemset<T: IndexStorage> {
 impl<T: IndexStorage> Itemset<T> {
     /// No items.
     pub fn new(alloc: Global, _grm: &YaccGrammar<T>) -> Itemset<T>
-        ensures { items_of T.number result.items.entries ≡ [] }
+        ensures { set_of T.number result ≡ [] }
     {
         Itemset {
             items: BTreeMap::new(alloc),
@@ -45,12 +45,12 @@ impl<T: IndexStorage> Itemset<T> {
     /// changed anything. An item that is there has as many bits as `ctx`. Takes no memory for an item that is there; the
     /// error says that memory was refused, and leaves the item set as it was.
     pub fn add(&mut self, pidx: PIdx<T>, dot: SIdx<T>, ctx: &Ctx) -> Result<bool, AllocError>
-        requires { IfSome (look_up T.number self.old.items.entries pidx dot) (λ v. length ctx.now ≡ length v) }
-        ensures present { HasItem (items_of T.number self.old.items.entries) (T.number pidx.0) (T.number dot.0) → IsOk result }
-        ensures here { OnOk result (look_up T.number self.new.items.entries pidx dot ≡ Some (merged (look_up T.number self.old.items.entries pidx dot) ctx.now)) }
-        ensures others { OnOk result ((p d : ℕ) → Apart (T.number pidx.0) (T.number dot.0) p d → item_at (items_of T.number self.new.items.entries) p d ≡ item_at (items_of T.number self.old.items.entries) p d) }
-        ensures changed { IfOk result (λ b. IsTrue b ↔ (look_up T.number self.new.items.entries pidx dot ≢ look_up T.number self.old.items.entries pidx dot)) }
-        ensures unchanged { OnErr result (items_of T.number self.new.items.entries ≡ items_of T.number self.old.items.entries) }
+        requires { IfSome (look_up T.number self.old pidx dot) (λ v. length ctx.now ≡ length v) }
+        ensures present { HasItem (set_of T.number self.old) (T.number pidx.0) (T.number dot.0) → IsOk result }
+        ensures here { OnOk result (look_up T.number self.new pidx dot ≡ Some (merged (look_up T.number self.old pidx dot) ctx.now)) }
+        ensures others { OnOk result ((p d : ℕ) → Apart (T.number pidx.0) (T.number dot.0) p d → item_at (set_of T.number self.new) p d ≡ item_at (set_of T.number self.old) p d) }
+        ensures changed { IfOk result (λ b. IsTrue b ↔ (look_up T.number self.new pidx dot ≢ look_up T.number self.old pidx dot)) }
+        ensures unchanged { OnErr result (set_of T.number self.new ≡ set_of T.number self.old) }
     {
         match self.items.get_mut(&(pidx, dot)) {
             Some(old) => Ok(old.or(ctx)),
@@ -71,11 +71,11 @@ impl<T: IndexStorage> Itemset<T> {
         grm: &YaccGrammar<T>,
         firsts: &YaccFirsts<T>,
     ) -> Result<Itemset<T>, AllocError>
-        requires fits { Fits grm.now (items_of T.number self.now.items.entries) }
+        requires fits { Fits grm.now (set_of T.number self.now) }
         requires of { AreFirstsOf grm.now firsts.now }
-        ensures closure { IfOk result (λ s. IsClosure grm.now (items_of T.number self.now.items.entries) (items_of T.number s.items.entries)) }
-        ensures fits { IfOk result (λ s. Fits grm.now (items_of T.number s.items.entries)) }
-        ensures start { IfOk result (λ s. IsStartCore grm.now (items_of T.number self.now.items.entries) → IsCanonicalStart grm.now (items_of T.number s.items.entries)) }
+        ensures closure { IfOk result (λ s. IsClosure grm.now (set_of T.number self.now) (set_of T.number s)) }
+        ensures fits { IfOk result (λ s. Fits grm.now (set_of T.number s)) }
+        ensures start { IfOk result (λ s. IsStartCore grm.now (set_of T.number self.now) → IsCanonicalStart grm.now (set_of T.number s)) }
     {
         let mut closed = self.clone()?;
         let mut todo = self.clone()?;
@@ -91,9 +91,9 @@ impl<T: IndexStorage> Itemset<T> {
     /// The items before the symbol, each with its dot moved over it and its lookaheads. The error says that memory was
     /// refused.
     pub fn goto(&self, grm: &YaccGrammar<T>, sym: &Symbol<T>) -> Result<Itemset<T>, AllocError>
-        requires { Fits grm.now (items_of T.number self.now.items.entries) }
-        ensures moved { IfOk result (λ s. IsGoto grm.now (items_of T.number self.now.items.entries) (symbol_of T.number sym.now) (items_of T.number s.items.entries)) }
-        ensures fits { IfOk result (λ s. Fits grm.now (items_of T.number s.items.entries)) }
+        requires { Fits grm.now (set_of T.number self.now) }
+        ensures moved { IfOk result (λ s. IsGoto grm.now (set_of T.number self.now) (symbol_of T.number sym.now) (set_of T.number s)) }
+        ensures fits { IfOk result (λ s. Fits grm.now (set_of T.number s)) }
     {
         let mut moved = Itemset {
             items: Emptied::emptied(&self.items)?,
@@ -108,7 +108,7 @@ impl<T: IndexStorage> Itemset<T> {
 
     /// Whether each item exists in the grammar, and has one bit a token.
     pub fn fits(&self, grm: &YaccGrammar<T>) -> bool
-        ensures { IsTrue result ↔ Fits grm.now (items_of T.number self.now.items.entries) }
+        ensures { IsTrue result ↔ Fits grm.now (set_of T.number self.now) }
     {
         for (key, ctx) in &self.items {
             if !item_fits(grm, key.0, key.1, ctx) {
@@ -121,7 +121,7 @@ impl<T: IndexStorage> Itemset<T> {
     /// The texts of the items by production and then dot, joined by line feeds: `[S -> 'a' . B, {'b', '$'}]`.
     /// The error says that memory was refused.
     pub fn pp(&self, grm: &YaccGrammar<T>) -> Result<String, AllocError>
-        requires { Fits grm.now (items_of T.number self.now.items.entries) }
+        requires { Fits grm.now (set_of T.number self.now) }
     {
         let mut text = String::new(grm.allocator());
         for (key, ctx) in &self.items {
@@ -152,7 +152,7 @@ impl<T: IndexStorage> PartialEq for Itemset<T> {
     /// Whether both have the same items with the same lookaheads.
     fn eq(&self, other: &Itemset<T>) -> bool
         ensures value { result ≡ ⟦<BTreeMap<(PIdx<T>, SIdx<T>), Ctx> as PartialEq>⟧.eq self.now.items other.now.items }
-        ensures agree { IsTrue result ↔ Agree (items_of T.number self.now.items.entries) (items_of T.number other.now.items.entries) }
+        ensures agree { IsTrue result ↔ Agree (set_of T.number self.now) (set_of T.number other.now) }
     {
         self.items.len() == other.items.len() && self.items == other.items
     }

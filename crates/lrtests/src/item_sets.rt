@@ -2,7 +2,7 @@
 
 ghost use Rattle.std.specs.Prelude.{IfOk};
 ghost use Rattle.lrspec.specs.ItemSets.{Fits};
-ghost use Rattle.lrtable.specs.ItemsOf.{items_of};
+ghost use Rattle.lrtable.specs.ItemsOf.{set_of};
 
 use crate::grammars::{EMPTY_RULE, NESTED_STATES, NO_SENTENCE, ROUND, RULE_WITHOUT_A_TREE};
 use crate::nullables::closure_through_nullables;
@@ -45,7 +45,7 @@ fn closed<T: IndexStorage>(
     dot: usize,
     looks: &[&str],
 ) -> Result<Itemset<T>, Fail>
-    ensures { IfOk result (λ s. Fits grm.now (items_of T.number s.items.entries)) }
+    ensures { IfOk result (λ s. Fits grm.now (set_of T.number s)) }
 {
     let firsts = grm.firsts()?;
     let given = one_item(rt, alloc, grm, prod, dot, looks)?;

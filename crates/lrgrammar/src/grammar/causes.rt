@@ -118,7 +118,10 @@ fn no_start(parts: &GrammarParts) -> bool
 }
 
 /// Answers the first cause of refusal that holds, if one does.
-pub(super) fn refuse<T: IndexStorage>(alloc: Global, parts: &GrammarParts) -> Result<(), GrammarError>
+pub(super) fn refuse<T: IndexStorage>(
+    alloc: Global,
+    parts: &GrammarParts,
+) -> Result<(), GrammarError>
     ensures { MatchResult result (λ _. part.NoCause T.MAX (parts_of parts.now)) (IsRefusedBy T.MAX (parts_of parts.now)) }
 {
     if too_many_rules::<T>(parts) {
