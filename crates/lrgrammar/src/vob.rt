@@ -66,7 +66,7 @@ impl Vob {
         self.bits.as_mut_slice().fill(value);
     }
 
-    /// Sets each bit that is set in `other` too; answers whether that changed anything.
+    /// Sets each bit that is set in `other` too; answers whether that changed anything. Both have one length.
     pub fn or(&mut self, other: &Vob) -> bool
         requires { length other.now ≡ length self.old }
         ensures after { self.new ≡ union self.old other.now }
@@ -77,7 +77,7 @@ impl Vob {
         or_bits(self.bits.as_mut_slice(), other.bits.as_slice())
     }
 
-    /// Whether some place is set in both.
+    /// Whether some place is set in both, which have one length.
     pub fn intersects(&self, other: &Vob) -> bool
         requires { length other.now ≡ length self.now }
         ensures shared { IsTrue result ↔ Intersect self.now other.now }

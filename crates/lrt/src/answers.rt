@@ -42,7 +42,7 @@ impl From<TextError> for Fault<'_> {
     }
 }
 
-/// The text that answers a request for the file with these bytes; None are bytes that could not be read.
+/// The text that answers a request for the file with these bytes; `file` is None where it could not be read.
 pub fn answer<'a>(
     alloc: Global,
     request: &Request<'a>,

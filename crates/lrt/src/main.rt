@@ -18,7 +18,7 @@ use std::{env, fs};
 ///
 /// `file` is what was read of the file that the arguments name, or of standard input where there are no arguments; None
 /// where it could not be read, or no argument names a file. The answer goes to `out`, and a fault as one line to
-/// `faults`; both are given back. `reader` is standard input.
+/// `faults`; both are given back. `reader` is standard input, which no request reads yet.
 pub fn command<R: Read + Drop, W: Write, F: Write>(
     alloc: Global,
     args: &[String],

@@ -3,6 +3,7 @@
 use crate::command;
 use std::alloc::{AllocError, Global};
 use std::io;
+use std::process::Abort;
 use std::test::Fail;
 
 const ASSIGNMENTS: &str = "%% S: L '=' R | R; L: '*' R | 'id'; R: L;";
@@ -21,75 +22,117 @@ fn words(alloc: Global, line: &str) -> Result<Vec<String>, AllocError> {
     Ok(words)
 }
 
+/// The command of these words has that status, and writes and tells so much.
+fn answers(
+    rt: &impl Abort,
+    alloc: Global,
+    line: &str,
+    file: Option<&[u8]>,
+    status: u8,
+    out: &str,
+    faults: &str,
+) -> Result<(), Fail> {
+    let args = words(alloc, line)?;
+    let (found, wrote, told) = command(
+        alloc,
+        args.as_slice(),
+        file,
+        io::empty(),
+        Vec::new(alloc),
+        Vec::new(alloc),
+    );
+    assert_eq!(rt; found, status, "{line}");
+    assert_eq!(rt; wrote.as_slice(), out.as_bytes(), "{line}");
+    assert_eq!(rt; told.as_slice(), faults.as_bytes(), "{line}");
+    Ok(())
+}
+
 #[test]
-fn statuses_and_lines(rt: HostRuntime) -> Result<(), Fail> {
+fn start_states(rt: HostRuntime) -> Result<(), Fail> {
     let text = Some(ASSIGNMENTS.as_bytes());
-    for (line, file, status, out, faults) in [
-        ("start a.y", text, 0, START, ""),
-        ("", text, 0, START, ""),
-        ("start", text, 2, "", USAGE),
-        ("start a.y b.y", text, 2, "", USAGE),
-        ("core a.y", None, 2, "", USAGE),
-        ("run a.y 5", text, 2, "", USAGE),
-        ("begin a.y", None, 2, "", USAGE),
-        ("start a.y", None, 1, "", "lrt: cannot read a.y\n"),
-        ("", None, 1, "", "lrt: cannot read standard input\n"),
+    answers(&rt, rt.alloc(), "start a.y", text, 0, START, "")?;
+    answers(&rt, rt.alloc(), "", text, 0, START, "")
+}
+
+#[test]
+fn wrong_usage(rt: HostRuntime) -> Result<(), Fail> {
+    let text = Some(ASSIGNMENTS.as_bytes());
+    for line in [
+        "start",
+        "start a.y b.y",
+        "core a.y",
+        "closed a.y",
+        "conflicts a.y",
+        "run a.y 5",
+        "begin a.y",
+    ] {
+        answers(&rt, rt.alloc(), line, text, 2, "", USAGE)?;
+        answers(&rt, rt.alloc(), line, None, 2, "", USAGE)?;
+    }
+    Ok(())
+}
+
+#[test]
+fn files_without_a_text(rt: HostRuntime) -> Result<(), Fail> {
+    let bytes = Some(b"\xff".as_slice());
+    answers(
+        &rt,
+        rt.alloc(),
+        "start a.y",
+        None,
+        1,
+        "",
+        "lrt: cannot read a.y\n",
+    )?;
+    answers(
+        &rt,
+        rt.alloc(),
+        "",
+        None,
+        1,
+        "",
+        "lrt: cannot read standard input\n",
+    )?;
+    answers(
+        &rt,
+        rt.alloc(),
+        "start a.y",
+        bytes,
+        1,
+        "",
+        "lrt: a.y is not UTF-8\n",
+    )?;
+    answers(
+        &rt,
+        rt.alloc(),
+        "",
+        bytes,
+        1,
+        "",
+        "lrt: standard input is not UTF-8\n",
+    )
+}
+
+#[test]
+fn refused_texts(rt: HostRuntime) -> Result<(), Fail> {
+    for (text, faults) in [
+        ("%% S", "lrt: syntax error at byte 4\n"),
+        ("%% S: x;", "lrt: unknown symbol x\n"),
         (
-            "start a.y",
-            Some(b"\xff".as_slice()),
-            1,
-            "",
-            "lrt: a.y is not UTF-8\n",
-        ),
-        (
-            "",
-            Some(b"\xff".as_slice()),
-            1,
-            "",
-            "lrt: standard input is not UTF-8\n",
-        ),
-        (
-            "start a.y",
-            Some(b"%% S".as_slice()),
-            1,
-            "",
-            "lrt: syntax error at byte 4\n",
-        ),
-        (
-            "start a.y",
-            Some(b"%% S: x;".as_slice()),
-            1,
-            "",
-            "lrt: unknown symbol x\n",
-        ),
-        (
-            "start a.y",
-            Some(b"%left '+' '+' %% S: ;".as_slice()),
-            1,
-            "",
+            "%left '+' '+' %% S: ;",
             "lrt: token + has two precedences\n",
         ),
-        (
+        ("%%", "lrt: no start rule\n"),
+    ] {
+        answers(
+            &rt,
+            rt.alloc(),
             "start a.y",
-            Some(b"%%".as_slice()),
+            Some(text.as_bytes()),
             1,
             "",
-            "lrt: no start rule\n",
-        ),
-    ] {
-        let alloc = rt.alloc();
-        let args = words(alloc, line)?;
-        let (found, wrote, told) = command(
-            alloc,
-            args.as_slice(),
-            file,
-            io::empty(),
-            Vec::new(alloc),
-            Vec::new(alloc),
-        );
-        assert_eq!(rt; found, status, "{line}");
-        assert_eq!(rt; wrote.as_slice(), out.as_bytes(), "{line}");
-        assert_eq!(rt; told.as_slice(), faults.as_bytes(), "{line}");
+            faults,
+        )?;
     }
     Ok(())
 }

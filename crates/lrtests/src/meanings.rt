@@ -5,22 +5,34 @@ use lrgrammar::idx::{IndexStorage, PIdx, TIdx};
 use std::alloc::{AllocError, Global};
 use std::test::Fail;
 
-/// The names of the tokens with their precedences, and then the productions: `a b+0L $; S: "a" "b"`, where a level is
-/// followed by the first letter of its kind.
-fn meaning<T: IndexStorage>(alloc: Global, grm: &YaccGrammar<T>) -> Result<String, AllocError> {
-    let mut text = String::new(alloc);
+/// Adds the names of the tokens with their precedences.
+fn push_tokens<T: IndexStorage>(text: &mut String, grm: &YaccGrammar<T>) -> Result<(), AllocError> {
     for token in 0..usize::from(grm.tokens_len()) {
         let tidx = TIdx(T::from_usize(token).unwrap());
         text.push_str(grm.token_name(tidx).unwrap_or("$"))?;
-        push_precedence(&mut text, grm.token_precedence(tidx))?;
+        push_precedence(text, grm.token_precedence(tidx))?;
         text.push(' ')?;
     }
+    Ok(())
+}
+
+/// Adds the texts of the productions with their precedences.
+fn push_prods<T: IndexStorage>(text: &mut String, grm: &YaccGrammar<T>) -> Result<(), AllocError> {
     for prod in 0..usize::from(grm.prods_len()) {
         let pidx = PIdx(T::from_usize(prod).unwrap());
         text.push_str("; ")?;
         text.push_str(grm.pp_prod(pidx)?.as_str())?;
-        push_precedence(&mut text, grm.prod_precedence(pidx))?;
+        push_precedence(text, grm.prod_precedence(pidx))?;
     }
+    Ok(())
+}
+
+/// The names of the tokens with their precedences, and then the productions: `a b+0L $; S: "a" "b"`, where a level is
+/// followed by the first letter of its kind.
+fn meaning<T: IndexStorage>(alloc: Global, grm: &YaccGrammar<T>) -> Result<String, AllocError> {
+    let mut text = String::new(alloc);
+    push_tokens(&mut text, grm)?;
+    push_prods(&mut text, grm)?;
     Ok(text)
 }
 

@@ -26,14 +26,20 @@ fn production(alloc: Global, rule: char, body: &str) -> Result<PartProd, AllocEr
     Ok(PartProd { rule, symbols })
 }
 
-/// `S: S 'b' | 'b' A 'a' | 'a'; A: 'a' S 'c' | 'a' | 'a' S 'b'; B: A S; C: D A; D: 'd' | ; F: C D 'f';` over the tokens
-/// `a b c d f`.
-pub fn closure_through_nullables(alloc: Global) -> Result<GrammarParts, AllocError> {
+/// The tokens `a b c d f`.
+fn tokens(alloc: Global) -> Result<Vec<PartToken>, AllocError> {
     let mut tokens = Vec::new(alloc);
     for name in strings(alloc, &["a", "b", "c", "d", "f"])? {
         let precedence = None;
         tokens.push(PartToken { name, precedence })?;
     }
+    Ok(tokens)
+}
+
+/// `S: S 'b' | 'b' A 'a' | 'a'; A: 'a' S 'c' | 'a' | 'a' S 'b'; B: A S; C: D A; D: 'd' | ; F: C D 'f';` over the tokens
+/// `a b c d f`.
+pub fn closure_through_nullables(alloc: Global) -> Result<GrammarParts, AllocError> {
+    let tokens = tokens(alloc)?;
     let mut prods = Vec::new(alloc);
     for (rule, body) in [
         ('S', "Sb"),

@@ -50,13 +50,19 @@ fn refusal(alloc: Global, parts: &GrammarParts) -> Option<GrammarError> {
 }
 
 #[test]
-fn parts_with_too_much(rt: HostRuntime) -> Result<(), Fail> {
+fn parts_with_too_many_rules(rt: HostRuntime) -> Result<(), Fail> {
     let alloc = rt.alloc();
     assert_eq!(rt; refusal(alloc, &plain(alloc, 254)?), None);
     assert_eq!(rt;
         refusal(alloc, &plain(alloc, 255)?),
         Some(GrammarError::TooManyRules)
     );
+    Ok(())
+}
+
+#[test]
+fn parts_with_too_many_tokens(rt: HostRuntime) -> Result<(), Fail> {
+    let alloc = rt.alloc();
     let mut tokens = plain(alloc, 1)?;
     for n in 0..254 {
         tokens
@@ -66,6 +72,12 @@ fn parts_with_too_much(rt: HostRuntime) -> Result<(), Fail> {
     assert_eq!(rt; refusal(alloc, &tokens), None);
     tokens.tokens.push(token(alloc, "last")?)?;
     assert_eq!(rt; refusal(alloc, &tokens), Some(GrammarError::TooManyTokens));
+    Ok(())
+}
+
+#[test]
+fn parts_with_too_many_productions(rt: HostRuntime) -> Result<(), Fail> {
+    let alloc = rt.alloc();
     let mut prods = plain(alloc, 1)?;
     for _ in 1..254 {
         prods

@@ -63,7 +63,7 @@ fn beginnings_of_a_text(rt: HostRuntime) {
 }
 
 #[test]
-fn unknown_and_doubled_names(rt: HostRuntime) -> Result<(), Fail> {
+fn unknown_names(rt: HostRuntime) -> Result<(), Fail> {
     let alloc = rt.alloc();
     for (text, name) in [
         ("%% S: x;", "x"),
@@ -77,6 +77,12 @@ fn unknown_and_doubled_names(rt: HostRuntime) -> Result<(), Fail> {
             "{text}"
         );
     }
+    Ok(())
+}
+
+#[test]
+fn names_with_two_precedences(rt: HostRuntime) -> Result<(), Fail> {
+    let alloc = rt.alloc();
     for (text, name) in [
         ("%left '+' %right '+' %% S: '+';", "+"),
         ("%left '+' '+' %% S: '+';", "+"),
