@@ -1,17 +1,27 @@
-pub mod BitFacts
-pub mod PlaceFacts
-pub mod UnionFacts
-pub mod JoinFacts
-pub mod NullableFacts
-pub mod FirstFacts
-pub mod StepFacts
-pub mod WalkFacts
-pub mod PassFacts
-pub mod MappedFacts
-pub mod SeenFacts
-pub mod UsedFacts
-pub mod KindsFacts
-pub mod ListFacts
-pub mod MadeFacts
-pub mod LastFacts
-pub mod TextFacts
+-- The lemmas of this crate's proofs.
+-- lists and tests
+pub mod Images
+pub mod TruthTests
+pub mod Ranges
+-- bit vectors
+pub mod EqualBits
+pub mod Unions
+pub mod UnionLoop
+pub mod UnsetBits
+pub mod SetPlaces
+-- grammars
+pub mod ProductionLists
+pub mod NameLookUps
+pub mod LastTokens
+pub mod GrammarOfParts
+-- refusals
+pub mod UsedRules
+pub mod KindLookUps
+pub mod TextRefusals
+-- nullable rules and FIRST sets
+pub mod NullableRules
+pub mod JoinedRows
+pub mod AddedSymbols
+pub mod BodyWalks
+pub mod RowPasses
+pub mod DoneRows

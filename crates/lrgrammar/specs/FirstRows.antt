@@ -1,8 +1,9 @@
+-- The rows of FIRST sets while they grow, one row a rule: what is known, and what is done.
 use Rattle.std.specs.Prelude.{◌≡◌, ℕ, ◌+◌, ◌<◌, Bool, true, false, ◌==◌, ◌&&◌, ◌||◌, IsTrue, List, [], ◌∷◌, length, slice_index_or, ◌⊎◌}
-use Rattle.lrspec.specs.Grammar.{Symbol, Rule, Token, Grammar, token_count, body_of, IsProductionOf}
+use Rattle.lrspec.specs.grammars.Grammar.{Symbol, Rule, Token, Grammar, token_count, body_of, IsProductionOf}
 use Rattle.lrgrammar.specs.Bits.{bit}
 use Rattle.lrgrammar.specs.Firsts.{BeginsRule}
-use Rattle.lrgrammar.specs.NullableBits.{unset}
+use Rattle.lrgrammar.specs.Bits.{unset}
 
 -- the row of the rule `r`
 abbrev pub row : List (List Bool) → ℕ → List Bool
@@ -59,6 +60,10 @@ HoldBegins g x = (r t : ℕ) → IsTrue (bit (row x r) t) → BeginsRule g r t
 -- what begins the body of `p` is set in the row of the rule `r`
 abbrev pub IsDone : Grammar → List Bool → List (List Bool) → ℕ → ℕ → Type 0
 IsDone g v x p r = (t : ℕ) → IsTrue (starts v x (body_of g p) t) → IsTrue (bit (row x r) t)
+
+-- so it is for the rule of the production `p`
+abbrev pub IsProductionDone : Grammar → List Bool → List (List Bool) → ℕ → Type 0
+IsProductionDone g v x p = (r : ℕ) → IsProductionOf g p r → IsDone g v x p r
 
 -- so it is for the productions below `n`
 abbrev pub AreDoneBelow : Grammar → List Bool → List (List Bool) → ℕ → Type 0

@@ -1,6 +1,7 @@
+-- The nullable rules and the FIRST sets of a grammar.
 use Rattle.std.specs.Prelude.{◌≡◌, ℕ, ◌<◌, Bool, IsTrue, List, [], length, slice_index_or, ◌↔◌}
-use Rattle.lrspec.specs.Grammar.{Grammar, IsGrammar, token_count, body_of, IsProductionOf}
-use Rattle.lrspec.specs.First.{Nullable, Begins}
+use Rattle.lrspec.specs.grammars.Grammar.{Grammar, IsGrammar, token_count, body_of, IsProductionOf}
+use Rattle.lrspec.specs.grammars.First.{Nullable, Begins}
 use Rattle.lrgrammar.specs.Bits.{bit}
 
 -- for each rule whether it is nullable, and one bit a token

@@ -1,3 +1,4 @@
+-- What a hasher is fed of a number tells that number.
 use Rattle.std.specs.Prelude.{◌≡◌, ℕ, ◌<◌, ◌^◌, ◌↔◌, [], slice_index_or}
 use Rattle.std.specs.Hash as fed
 use Rattle.std.specs.Hash.{HashWrites, le_bytes}

@@ -1,15 +1,23 @@
+-- What the contracts of this crate cite.
+-- the parts, from the crate that reads texts
 pub use Rattle.lrtext.specs.StoredParts
-pub mod Bits
+-- indices
 pub mod HashLaws
 pub mod SymbolLaws
 pub mod Symbols
-pub mod Sizes
-pub mod Stored
+-- bit vectors
+pub mod Bits
+-- grammars
+pub mod GrammarSizes
+pub mod LookUps
+pub mod StoredGrammar
+pub mod PartNumbers
+-- refusals
+pub mod Refusals
+pub mod UsedRules
+pub mod TextErrors
+-- nullable rules and FIRST sets
 pub mod Firsts
 pub mod StoredFirsts
 pub mod NullableBits
 pub mod FirstRows
-pub mod Refusals
-pub mod Places
-pub mod Numbers
-pub mod TextErrors

@@ -1,6 +1,7 @@
-use Rattle.std.specs.Prelude.{ℕ, ◌+◌, ◌<◌, Bool, true, false, cond, ◌&&◌, IsTrue, List, [], ◌∷◌}
-use Rattle.lrspec.specs.Grammar.{Symbol, Rule, Token, Grammar, body_of, IsProductionOf}
-use Rattle.lrspec.specs.First.{Nullable}
+-- The bits of nullable rules while they grow.
+use Rattle.std.specs.Prelude.{ℕ, ◌<◌, Bool, true, false, ◌&&◌, IsTrue, List, [], ◌∷◌}
+use Rattle.lrspec.specs.grammars.Grammar.{Symbol, Rule, Token, Grammar, body_of, IsProductionOf}
+use Rattle.lrspec.specs.grammars.First.{Nullable}
 use Rattle.lrgrammar.specs.Bits.{bit}
 
 -- each symbol is a rule whose bit is set
@@ -20,8 +21,3 @@ IsClosedBelow g v n = (p r : ℕ) → p < n → IsProductionOf g p r → IsTrue 
 -- the same for all productions
 abbrev pub IsClosed : Grammar → List Bool → Type 0
 IsClosed g v = (p r : ℕ) → IsProductionOf g p r → IsTrue (all_set v (body_of g p)) → IsTrue (bit v r)
-
--- how many bits are not set
-abbrev pub unset : List Bool → ℕ
-unset [] = 0
-unset (b ∷ v) = cond b 0 1 + unset v

@@ -1,3 +1,4 @@
+-- Stored FIRST sets as plain lists.
 use Rattle.lrgrammar.specs.declared.firsts.YaccFirsts.TheInside.{Inside}
 use Rattle.lrgrammar.specs.Firsts.{Firsts}
 

@@ -1,3 +1,4 @@
+-- The order and the hash of symbols.
 use Rattle.std.specs.Prelude.{ℕ, pos, ◌++◌}
 use Rattle.std.specs.Hash as fed
 use Rattle.std.specs.Hash.{HashWrites}

@@ -1,3 +1,4 @@
+-- Which error tells why a text gives no grammar.
 use Rattle.std.specs.Prelude.{◌≡◌, ◌≢◌, ℕ, List}
 use Rattle.std.specs.String.{string_bytes}
 use Rattle.lrgrammar.specs.declared.grammar.errors.GrammarError.{GrammarError}
@@ -6,10 +7,10 @@ use Rattle.lrgrammar.specs.declared.grammar.errors.TextError.{TextError}
 use Rattle.lrgrammar.specs.declared.grammar.errors.TextError.TheVariants as text_error
 use Rattle.lrtext.specs.declared.reader.ReadError.{ReadError}
 use Rattle.lrtext.specs.declared.reader.ReadError.TheVariants as read_error
-use Rattle.lrspec.specs.Grammar.{Grammar}
-use Rattle.lrspec.specs.Parts.{Parts, grammar_of_parts, NoCause}
-use Rattle.lrspec.specs.Meaning as meaning
-use Rattle.lrspec.specs.Meaning.{IsRefused, Means}
+use Rattle.lrspec.specs.grammars.Grammar.{Grammar}
+use Rattle.lrspec.specs.texts.Parts.{Parts, grammar_of_parts, NoCause}
+use Rattle.lrspec.specs.texts.Meaning as meaning
+use Rattle.lrspec.specs.texts.Meaning.{IsRefused, Means}
 use Rattle.lrgrammar.specs.Refusals.{IsRefusedBy}
 
 -- the same error of a text
@@ -19,7 +20,7 @@ read_refusal_of (read_error.UnknownSymbol w) = text_error.UnknownSymbol w
 read_refusal_of (read_error.DuplicatePrecedence w) = text_error.DuplicatePrecedence w
 read_refusal_of read_error.Memory = text_error.Memory
 
--- the same error of a text; want of memory has one of its own
+-- the same error of a text; that memory was refused has one of its own
 abbrev pub text_error_of : GrammarError → TextError
 text_error_of error.Memory = text_error.Memory
 text_error_of e = text_error.Grammar e
@@ -31,7 +32,7 @@ pub record IsGrammarOf (most : ℕ) (text : List ℕ) (g : Grammar) : Type 0 whe
   pub free : NoCause most parts
   pub grammar : g ≡ grammar_of_parts parts
 
--- the text means parts that are refused so, and not for want of memory
+-- the text means parts that are refused so, and not since memory was refused
 pub record IsGrammarRefusal (most : ℕ) (text : List ℕ) (e : GrammarError) : Type 0 where
   pub parts : Parts
   pub means : Means text parts

@@ -52,7 +52,8 @@ impl<T: IndexStorage> YaccFirsts<T> {
 }
 
 impl<T: IndexStorage> YaccGrammar<T> {
-    /// The nullable rules and the FIRST sets of the grammar. The error says that memory was refused.
+    /// The nullable rules and the FIRST sets of the grammar. The error says that memory was
+    /// refused.
     pub fn firsts(&self) -> Result<YaccFirsts<T>, AllocError>
         ensures { IfOk result (AreFirstsOf self.now) }
     {

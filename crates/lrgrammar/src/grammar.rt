@@ -1,11 +1,11 @@
 //! Grammars.
 
-ghost use Rattle.std.specs.Prelude.{◌≡◌, ℕ, ◌+◌, ◌<◌, ◌≤◌, Bool, List, length, map, slice_get, option_map, Some, Contains, MatchOption};
+ghost use Rattle.std.specs.Prelude.{◌≡◌, ℕ, ◌+◌, ◌<◌, ◌≤◌, Bool, List, length, map, slice_get, option_map, Some, Contains, IfSome, IfNone};
 ghost use Rattle.std.specs.List.{range_with_len};
-ghost use Rattle.lrspec.specs.Parts.{HasDouble};
-ghost use Rattle.lrspec.specs.Grammar as math;
+ghost use Rattle.lrspec.specs.texts.Parts.{HasDouble};
+ghost use Rattle.lrspec.specs.grammars.Grammar as math;
 ghost use Rattle.lrgrammar.specs.Symbols.{symbol_of};
-ghost use Rattle.lrgrammar.specs.Sizes.{IsWithin};
+ghost use Rattle.lrgrammar.specs.GrammarSizes.{IsWithin};
 
 mod causes;
 mod doubles;
@@ -31,7 +31,8 @@ struct Production<T> {
     body: Vec<Symbol<T>>,
 }
 
-/// A grammar.
+/// A grammar. Rule 0 is `^`, whose one production comes last and has the start rule as its body;
+/// the end token comes last of the tokens.
 #[derive(Drop)]
 pub struct YaccGrammar<T: IndexStorage> {
     rule_names: Vec<String>,
@@ -46,11 +47,11 @@ pub struct YaccGrammar<T: IndexStorage> {
 
 impl<T: IndexStorage> Model for YaccGrammar<T> {
     ghost use Rattle.std.specs.Prelude.{◌≡◌};
-    ghost use Rattle.lrspec.specs.Grammar.{Grammar};
+    ghost use Rattle.lrspec.specs.grammars.Grammar.{Grammar};
 
     ghost Value = { Grammar };
 
-    ghost use Rattle.lrgrammar.specs.Stored.{grammar_of, IsStored};
+    ghost use Rattle.lrgrammar.specs.StoredGrammar.{grammar_of, IsStored};
 
     ghost view = { grammar_of T.number };
 
@@ -93,7 +94,8 @@ impl<T: IndexStorage> YaccGrammar<T> {
     /// The body of a production.
     pub fn prod(&self, pidx: PIdx<T>) -> &[Symbol<T>]
         requires { T.number pidx.0 < length self.now.productions }
-        ensures body { map (symbol_of T.number) result.now ≡ math.body_of self.now (T.number pidx.0) }
+        ensures body { map (symbol_of T.number) result.now
+            ≡ math.body_of self.now (T.number pidx.0) }
         ensures shape { math.IsGrammar self.now }
         ensures sizes { IsWithin T.MAX self.now }
     {
@@ -120,7 +122,8 @@ impl<T: IndexStorage> YaccGrammar<T> {
     /// The productions of a rule, upwards; of rule 0 the start production alone.
     pub fn rule_to_prods(&self, ridx: RIdx<T>) -> &[PIdx<T>]
         requires { T.number ridx.0 < length self.now.rule_names }
-        ensures prods { map (λ p. T.number p.0) result.now ≡ math.productions_of self.now (T.number ridx.0) }
+        ensures prods { map (λ p. T.number p.0) result.now
+            ≡ math.productions_of self.now (T.number ridx.0) }
         ensures shape { math.IsGrammar self.now }
         ensures sizes { IsWithin T.MAX self.now }
     {
@@ -152,7 +155,8 @@ impl<T: IndexStorage> YaccGrammar<T> {
     /// The name of a token; None for the end token.
     pub fn token_name(&self, tidx: TIdx<T>) -> Option<&str>
         requires { T.number tidx.0 < math.token_count self.now }
-        ensures { option_map (λ s. s.now) result ≡ slice_get self.now.token_names (T.number tidx.0) }
+        ensures { option_map (λ s. s.now) result
+            ≡ slice_get self.now.token_names (T.number tidx.0) }
     {
         match self.token_names.get(tidx.0.to_usize()) {
             Some(name) => Some(name.as_str()),
@@ -162,7 +166,9 @@ impl<T: IndexStorage> YaccGrammar<T> {
 
     /// The rule of a name; None where there is none.
     pub fn rule_idx(&self, name: &str) -> Option<RIdx<T>>
-        ensures place { MatchOption result (¬ (Contains self.now.rule_names name.now)) (λ r. slice_get self.now.rule_names (T.number r.0) ≡ Some name.now) }
+        ensures place { IfSome result
+            (λ r. slice_get self.now.rule_names (T.number r.0) ≡ Some name.now) }
+        ensures missing { IfNone result (¬ (Contains self.now.rule_names name.now)) }
         ensures apart { ¬ (HasDouble self.now.rule_names) }
     {
         match self.rule_places.get(name) {
@@ -173,7 +179,9 @@ impl<T: IndexStorage> YaccGrammar<T> {
 
     /// The token of a name; None where there is none. A rule and a token may share a name.
     pub fn token_idx(&self, name: &str) -> Option<TIdx<T>>
-        ensures place { MatchOption result (¬ (Contains self.now.token_names name.now)) (λ t. slice_get self.now.token_names (T.number t.0) ≡ Some name.now) }
+        ensures place { IfSome result
+            (λ t. slice_get self.now.token_names (T.number t.0) ≡ Some name.now) }
+        ensures missing { IfNone result (¬ (Contains self.now.token_names name.now)) }
         ensures apart { ¬ (HasDouble self.now.token_names) }
     {
         match self.token_places.get(name) {

@@ -49,7 +49,8 @@ pub trait IndexStorage: Copy + Ord + Hash {
     ghost bounded: { (x : Self) → IsIndex x ↔ (number x ≤ MAX) };
 
     // A hasher is fed alike exactly where the numbers are equal.
-    ghost hashed: { (x y : Self) → IsIndex x → IsIndex y → (Self.hash_input x ≡ Self.hash_input y) ↔ (number x ≡ number y) };
+    ghost hashed: { (x y : Self) → IsIndex x → IsIndex y →
+        (Self.hash_input x ≡ Self.hash_input y) ↔ (number x ≡ number y) };
 }
 
 /// A rule, by its number.

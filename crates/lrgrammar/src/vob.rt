@@ -66,7 +66,8 @@ impl Vob {
         self.bits.as_mut_slice().fill(value);
     }
 
-    /// Sets each bit that is set in `other` too; answers whether that changed anything. Both have one length.
+    /// Sets each bit that is set in `other` too; answers whether that changed anything. Both have
+    /// one length.
     pub fn or(&mut self, other: &Vob) -> bool
         requires { length other.now ≡ length self.old }
         ensures after { self.new ≡ union self.old other.now }
@@ -91,12 +92,13 @@ impl Vob {
     }
 
     /// The set places of a range, upwards.
-    #[tactic(auto, using(crate::proofs::PlaceFacts::set_places_upwards))]
+    #[tactic(auto, using(crate::proofs::SetPlaces::set_places_upwards))]
     pub fn iter_set_bits(&self, range: Range<usize>) -> IterSetBits<'_>
         requires order { range.start ≤ range.end }
         requires within { range.end ≤ length self.now }
         ensures places { result ≡ set_places self.now range.start range.end }
-        ensures members { (i : ℕ) → Contains result i ↔ ((range.start ≤ i) × (i < range.end) × IsTrue (bit self.now i)) }
+        ensures members { (i : ℕ) → Contains result i
+            ↔ ((range.start ≤ i) × (i < range.end) × IsTrue (bit self.now i)) }
         ensures upwards { IsStrictlyIncreasing result }
     {
         IterSetBits {
@@ -121,7 +123,7 @@ impl PartialEq for Vob {
 
     ghost laws = { Prim.search (comparing, rules) };
 
-    #[tactic(auto, using(crate::proofs::BitFacts::same_bits))]
+    #[tactic(auto, using(crate::proofs::EqualBits::same_bits))]
     fn eq(&self, other: &Vob) -> bool
         ensures answer { result ≡ pointwise ⟦<bool as PartialEq>⟧.eq self.now other.now }
         ensures same { IsTrue result ↔ (self.now ≡ other.now) }

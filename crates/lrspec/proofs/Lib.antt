@@ -1,63 +1,12 @@
-pub mod Bodies
-pub mod Standing
-pub mod Closing
-pub mod Origins
-pub mod Canonical
-pub mod Rooted
-pub mod Holding
-pub mod Members
-pub mod Sharing
-pub mod Cells
-pub mod Uncrowded
-pub mod Listed
-pub mod Conflicts
-pub mod Trees
-pub mod Uniqueness
-pub mod Stacks
-pub mod Running
-pub mod Soundness
-pub mod Viable
-pub mod Following
-pub mod Moves
-pub mod Completeness
-pub mod Machine
-pub mod Headline
-pub mod GrammarTest
-pub mod Examples
-pub mod Entries
-pub mod Enumerated
-pub mod ContestTest
-pub mod ExampleSets
-pub mod ExamplesHidden
-pub mod ExamplesShort
-pub mod ExamplesTrees
-pub mod ExamplesCells
-pub mod ItemsListed
-pub mod ExamplesMerged
-pub mod ExamplesSmallest
-pub mod ExamplesGraph
-pub mod ExamplesTable
-pub mod Splits
-pub mod FrontFacts
-pub mod FrontSound
-pub mod TextItemFacts
-pub mod DocumentRests
-pub mod DocumentStates
-pub mod SyntaxErrors
-pub mod DocumentUnique
-pub mod RepeatFacts
-pub mod Outcomes
-pub mod NameFacts
-pub mod MeaningFacts
-pub mod TextExamples
-pub mod ReadingFacts
-pub mod ReadingEnds
-pub mod Cuts
-pub mod NextItems
-pub mod ReadItems
-pub mod ReadingLaws
-pub mod ReadingSteps
-pub mod MeaningExamples
-pub mod PartsFacts
-pub mod Refusals
-pub mod Results
+-- the theorems, by subject, in the folders of the definitions
+
+-- ---- grammars, their trees, canonical items and item sets
+pub mod grammars
+-- ---- merging item sets, and graphs
+pub mod merging
+-- ---- tables and the machine
+pub mod tables
+-- ---- grammar texts
+pub mod texts
+-- ---- examples
+pub mod examples

@@ -1,24 +1,12 @@
-pub mod Grammar
-pub mod Trees
-pub mod First
-pub mod Items
-pub mod ItemSets
-pub mod Candidates
-pub mod Merging
-pub mod Graph
-pub mod Table
-pub mod Machine
-pub mod Theorems
-pub mod Headline
-pub mod Examples
-pub mod Names
-pub mod Parts
-pub mod TextItems
-pub mod Documents
-pub mod ReadingStates
-pub mod Meaning
-pub mod Gaps
-pub mod Texts
-pub mod Splits
-pub mod Fronts
-pub mod Readings
+-- the definitions, by subject
+
+-- ---- grammars, their trees, canonical items and item sets
+pub mod grammars
+-- ---- merging item sets, and graphs
+pub mod merging
+-- ---- tables and the machine
+pub mod tables
+-- ---- grammar texts
+pub mod texts
+-- ---- examples
+pub mod examples

@@ -1,3 +1,4 @@
+-- what a loop makes of the names in bodies, as it goes along them
 use Rattle.std.proofs.Common.{◌≡◌, ℕ, suc, ◌+◌, ◌<◌, List, [], ◌∷◌, ◌++◌, length, get_or, take, drop, map, Option, None, Some, refl, sym, ap, ◌∙◌, append-nil}
 use Rattle.std.specs.Prelude.{filter_map, flat_map, slice_get}
 use Rattle.std.proofs.lemmas.Grind.{take_at_read, flat_map-append}

@@ -1,18 +1,20 @@
+-- the levels of names, as a loop goes along the precedence lines, and by the numbers of the names
 use Rattle.std.proofs.Common.{◌≡◌, ℕ, ◌+◌, ◌<◌, ◌≤◌, true, false, List, [], ◌∷◌, ◌++◌, length, get_or, take, drop, suc, map, Some, None, sym, ap, ◌∙◌, arith}
 use Rattle.std.specs.Prelude.{IsTrue, flat_map}
 use Rattle.std.specs.List.{slice_get, enumerate_from}
 use Rattle.std.specs.Option.{option_map}
 use Rattle.std.proofs.lemmas.Option.{slice_get-map, slice_get-get_or, slice_get_past}
 use Rattle.std.proofs.lemmas.Simd.{map-map}
-use Rattle.lrtext.specs.declared.precedences.Leveled.{Leveled}
+use Rattle.lrtext.specs.declared.meaning.precedences.Leveled.{Leveled}
 use Rattle.lrtext.specs.StoredParts.{precedence_of}
 use Rattle.lrtext.specs.StoredLevels.{leveled_of, leveled_names}
 use Rattle.lrtext.proofs.ListSteps.{mapped_more, mapped_length, mapped_around}
-use Rattle.lrspec.specs.Grammar.{Kind, Precedence}
-use Rattle.lrspec.specs.Names.{has_name, has_no_repeats, place_of, with_name}
-use Rattle.lrspec.specs.Meaning.{names_at_level, precedence_in, IsFirstRepeat}
-use Rattle.lrspec.proofs.NameFacts.{no_repeats_push}
-use Rattle.lrspec.proofs.MeaningFacts.{precedences_push, precedence_at_place}
+use Rattle.lrspec.specs.grammars.Grammar.{Kind, Precedence}
+use Rattle.lrspec.specs.texts.Names.{has_name, has_no_repeats, place_of}
+use Rattle.lrtext.specs.NumberedNames.{with_name}
+use Rattle.lrspec.specs.texts.Meaning.{names_at_level, precedence_in, IsFirstRepeat}
+use Rattle.lrtext.proofs.NumberedNames.{no_repeats_push}
+use Rattle.lrtext.proofs.MeaningFacts.{precedences_push, precedence_at_place}
 
 -- one more line gives its names the next level
 pub one_more_line : {X : Type 0} (f : X → Kind × List (List ℕ)) (xs : List X) (i : ℕ) (x : X) (old new : List (List ℕ × Precedence)) → i < length xs → x ≡ get_or xs i x → old ≡ flat_map names_at_level (enumerate_from 0 (map f (take i xs))) → new ≡ old ++ names_at_level (i, f x) → new ≡ flat_map names_at_level (enumerate_from 0 (map f (take (i + 1) xs)))

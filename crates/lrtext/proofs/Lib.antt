@@ -1,9 +1,22 @@
-pub mod NumberedFacts
+-- lists, as a loop goes along them
 pub mod ListSteps
-pub mod LevelFacts
 pub mod BodySteps
-pub mod ReaderFacts
-pub mod SightFacts
-pub mod TakenFacts
+-- runs of bytes, and what comes next in a text
+pub mod FirstClose
 pub mod RunFacts
-pub mod CauseFacts
+pub mod FrontFacts
+pub mod NextLexemes
+pub mod ReadLexemes
+-- reading
+pub mod ReadingDeclarations
+pub mod ReadingDocuments
+pub mod ReadingOutcomes
+pub mod ReadingTexts
+pub mod TakenLexemes
+-- what is meant
+pub mod NumberedNames
+pub mod NamesInMaps
+pub mod MeaningFacts
+pub mod LevelFacts
+pub mod NumberedContents
+pub mod TextCauses

@@ -1,12 +1,12 @@
-use Rattle.std.proofs.Common.{◌≡◌, ℕ, zero, suc, ◌<◌, ◌≤◌, true, false, List, [], ◌∷◌, Some, length, take, drop, get_or, ◌∙◌, subst, IsUtf8, arith, add-one}
-use Rattle.std.specs.List.{slice_get}
+-- runs of bytes: where they end a text may be cut
+use Rattle.std.proofs.Common.{◌≡◌, ℕ, zero, suc, ◌<◌, ◌≤◌, Bool, true, false, List, [], ◌∷◌, Some, length, take, get_or, subst, IsUtf8, IsTrue, refl, arith, add-one}
+use Rattle.std.specs.List.{slice_get, list_all}
 use Rattle.std.specs.Str.{IsCharBoundary}
 use Rattle.std.specs.Char.{is_ascii_alphabetic}
+use Rattle.std.proofs.lemmas.Bool.{and_from}
 use Rattle.std.proofs.lemmas.Bool.Decides.{nat_tests}
 use Rattle.std.proofs.lemmas.Str.{IsCharBoundary-start, IsCharBoundary-after_ascii}
-use Rattle.lrspec.specs.TextItems.{is_no_line_feed, is_name_byte, may_be_quoted}
-use Rattle.lrspec.proofs.Cuts.{cut_splits}
-use Rattle.lrspec.specs.Splits.{split_while}
+use Rattle.lrspec.specs.texts.Lexemes.{is_no_line_feed, is_name_byte, may_be_quoted}
 use Rattle.lrtext.specs.declared.runs.Run.{Run}
 use Rattle.lrtext.specs.declared.runs.Run.TheVariants as run
 use Rattle.lrtext.specs.Runs.{passes, EndsByAscii}
@@ -48,8 +48,8 @@ run_boundary run.Word bs n e utf8 within all stops = behind_boundary bs n utf8 w
 run_boundary run.Line bs n e utf8 within all stops = before_boundary bs n within (λ h. line_feed_ascii _ (stops h))
 run_boundary (run.Quoted q) bs n e utf8 within all stops = before_boundary bs n within (λ h. unquoted_ascii q _ e (stops h))
 
--- a run that is cut off is the longest of its bytes
-pub run_splits : (r : Run) (bs text w rest : List ℕ) (n : ℕ) → bs ≡ text → w ≡ take n text → rest ≡ drop n text → n ≤ length bs → ((k : ℕ) → k < n → passes r (get_or bs k 0) ≡ true) → (n < length bs → passes r (get_or bs n 0) ≡ false) → (w, rest) ≡ split_while (passes r) text
-run_splits r bs text w rest n same front back within all stops =
-    let cut : (take n bs, drop n bs) ≡ split_while (passes r) bs = cut_splits (passes r) bs n within all stops in
-    (λ i. (front i, back i)) ∙ subst (λ l. (take n l, drop n l) ≡ split_while (passes r) l) same cut
+-- the bytes of a run are all of it
+pub run_passes : (p : ℕ → Bool) (bs : List ℕ) (n : ℕ) → n ≤ length bs → ((k : ℕ) → k < n → p (get_or bs k 0) ≡ true) → IsTrue (list_all p (take n bs))
+run_passes p bs zero within all = refl
+run_passes p [] (suc n) within all = absurd (omega arith)
+run_passes p (b ∷ bs) (suc n) within all = and_from (p b) (list_all p (take n bs)) (all 0 (omega arith)) (run_passes p bs n (omega arith) (λ k h. all (suc k) (omega arith)))

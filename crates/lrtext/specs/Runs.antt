@@ -1,8 +1,9 @@
+-- runs of bytes: which bytes are of a run, and where a text may be cut behind it
 use Rattle.std.specs.Prelude.{ℕ, ◌<◌, ◌==◌, Bool}
 use Rattle.std.specs.Char.{is_ascii_alphabetic}
 use Rattle.lrtext.specs.declared.runs.Run.TheVariants as run
 use Rattle.lrtext.specs.declared.runs.Run.{Run}
-use Rattle.lrspec.specs.TextItems.{is_no_line_feed, is_name_byte, may_be_quoted}
+use Rattle.lrspec.specs.texts.Lexemes.{is_no_line_feed, is_name_byte, may_be_quoted}
 
 -- which bytes are of a run
 abbrev pub passes : Run → ℕ → Bool

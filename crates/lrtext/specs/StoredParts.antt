@@ -1,3 +1,4 @@
+-- the parts of a grammar, as the code stores them, by plain lists
 use Rattle.std.specs.Prelude.{map}
 use Rattle.std.specs.Option.{option_map}
 use Rattle.std.specs.String.{string_bytes}
@@ -9,8 +10,8 @@ use Rattle.lrtext.specs.declared.parts.PartSymbol.TheVariants as symbol
 use Rattle.lrtext.specs.declared.parts.Precedence as precedence
 use Rattle.lrtext.specs.declared.parts.AssocKind.{AssocKind}
 use Rattle.lrtext.specs.declared.parts.AssocKind.TheVariants as kind
-use Rattle.lrspec.specs.Grammar as math
-use Rattle.lrspec.specs.Parts.{Parts, PartToken}
+use Rattle.lrspec.specs.grammars.Grammar as math
+use Rattle.lrspec.specs.texts.Parts.{Parts, PartToken}
 
 abbrev pub kind_of : AssocKind → math.Kind
 kind_of kind.Left = math.Kind.Left
@@ -22,7 +23,8 @@ abbrev pub precedence_of : precedence.Precedence → math.Precedence
 precedence_of p = record { level = p.level; kind = kind_of p.kind }
 
 abbrev pub token_of : token.PartToken → PartToken
-token_of t = record { name = string_bytes t.name; precedence = option_map precedence_of t.precedence }
+token_of t =
+    record { name = string_bytes t.name; precedence = option_map precedence_of t.precedence }
 
 abbrev pub part_symbol_of : PartSymbol → math.Symbol
 part_symbol_of (symbol.Rule r) = math.Symbol.Rule r

@@ -1,20 +1,25 @@
 //! From what a document says to the parts of its grammar.
 
 ghost use Rattle.std.specs.Prelude.{◌≡◌, map, string_bytes, IfOk, IfErr};
-ghost use Rattle.lrspec.specs.Meaning.{token_in, symbol_in, production_in, start_in};
-ghost use Rattle.lrtext.specs.Numbered.{names_of};
+ghost use Rattle.lrspec.specs.texts.Meaning.{token_in, symbol_in, production_in, start_in};
+ghost use Rattle.lrtext.specs.NumberedNames.{names_of};
 ghost use Rattle.lrtext.specs.StoredParts.{token_of, part_symbol_of, part_production_of, parts_of};
-ghost use Rattle.lrtext.specs.StoredSaid.{name_text_of, alternative_of, starts_of, said_of};
+ghost use Rattle.lrtext.specs.StoredContents.{name_text_of, alternative_of, starts_of, plain_contents};
 ghost use Rattle.lrtext.specs.StoredLevels.{leveled_of, leveled_names};
-ghost use Rattle.lrtext.specs.ReaderParts.{AreMeant, IsCauseIn};
+ghost use Rattle.lrtext.specs.MeantParts.{AreMeant, IsCauseIn};
 
-use crate::document::{Alternative, Document, NameText};
-use crate::numbering::{declared, rules, tokens};
-use crate::numbers::Numbers;
+mod numbering;
+mod numbers;
+mod precedences;
+mod unknown;
+
+use crate::contents::{Alternative, Contents, NameText};
+use crate::meaning::numbering::{declared, rules, tokens};
+use crate::meaning::numbers::Numbers;
+use crate::meaning::precedences::{Leveled, distinct, find_precedence, levels};
+use crate::meaning::unknown::first_unknown;
 use crate::parts::{GrammarParts, PartProd, PartSymbol, PartToken};
-use crate::precedences::{Leveled, distinct, find_precedence, levels};
 use crate::reader::ReadError;
-use crate::unknown::first_unknown;
 use std::alloc::{AllocError, Global};
 
 /// The names as text of their own.
@@ -36,7 +41,8 @@ fn part_tokens<'a>(
     leveled: &[Leveled<'a>],
 ) -> Result<Vec<PartToken>, AllocError>
     requires { numbers.now ≡ leveled_names leveled.now }
-    ensures { IfOk result (λ v. map token_of v.items ≡ map (token_in (map leveled_of leveled.now)) (names_of names.now)) }
+    ensures { let meant = map (token_in (map leveled_of leveled.now)) (names_of names.now) in
+        IfOk result (λ v. map token_of v.items ≡ meant) }
 {
     let mut tokens = Vec::with_capacity(alloc, names.len())?;
     for token in names {
@@ -67,7 +73,8 @@ fn symbols<'a>(
     tokens: &Numbers<'a>,
     body: &[NameText<'a>],
 ) -> Result<Vec<PartSymbol>, AllocError>
-    ensures { IfOk result (λ v. map part_symbol_of v.items ≡ map (symbol_in rules.now tokens.now) (map name_text_of body.now)) }
+    ensures { let meant = map (symbol_in rules.now tokens.now) (map name_text_of body.now) in
+        IfOk result (λ v. map part_symbol_of v.items ≡ meant) }
 {
     let mut symbols = Vec::with_capacity(alloc, body.len())?;
     for name in body {
@@ -83,7 +90,9 @@ fn prods<'a>(
     tokens: &Numbers<'a>,
     alternatives: &[Alternative<'a>],
 ) -> Result<Vec<PartProd>, AllocError>
-    ensures { IfOk result (λ v. map part_production_of v.items ≡ map (production_in rules.now tokens.now) (map alternative_of alternatives.now)) }
+    ensures { let said = map alternative_of alternatives.now in
+        let meant = map (production_in rules.now tokens.now) said in
+        IfOk result (λ v. map part_production_of v.items ≡ meant) }
 {
     let mut prods = Vec::with_capacity(alloc, alternatives.len())?;
     for alternative in alternatives {
@@ -106,23 +115,26 @@ fn start<'a>(rules: &Numbers<'a>, name: Option<&'a str>) -> usize
 
 /// The parts of the grammar that a document means. The error is `UnknownSymbol` of the first name
 /// that nothing defines; or else `DuplicatePrecedence` of the first name that comes again in
-/// precedence lines; or `Memory`.
-pub(crate) fn parts_of(alloc: Global, document: &Document<'_>) -> Result<GrammarParts, ReadError>
-    ensures ok { IfOk result (λ p. AreMeant (said_of document.now) (parts_of p)) }
-    ensures err { IfErr result (IsCauseIn (said_of document.now)) }
+/// precedence lines; or `Memory` where memory was refused.
+pub(crate) fn grammar_parts(
+    alloc: Global,
+    contents: &Contents<'_>,
+) -> Result<GrammarParts, ReadError>
+    ensures ok { IfOk result (λ p. AreMeant (plain_contents contents.now) (parts_of p)) }
+    ensures err { IfErr result (IsCauseIn (plain_contents contents.now)) }
 {
-    let rules = rules(alloc, document)?;
-    let declared = declared(alloc, document)?;
-    if let Some(name) = first_unknown(&rules, &declared, document) {
+    let rules = rules(alloc, contents)?;
+    let declared = declared(alloc, contents)?;
+    if let Some(name) = first_unknown(&rules, &declared, contents) {
         return Err(ReadError::UnknownSymbol(String::from_str(alloc, name)?));
     }
-    let leveled = levels(alloc, document)?;
+    let leveled = levels(alloc, contents)?;
     let numbers = distinct(alloc, leveled.as_slice())?;
-    let tokens = tokens(alloc, document, &rules)?;
+    let tokens = tokens(alloc, contents, &rules)?;
     Ok(GrammarParts {
         rules: own_names(alloc, rules.names())?,
         tokens: part_tokens(alloc, tokens.names(), &numbers, leveled.as_slice())?,
-        prods: prods(alloc, &rules, &tokens, document.alternatives.as_slice())?,
-        start: start(&rules, document.start),
+        prods: prods(alloc, &rules, &tokens, contents.alternatives.as_slice())?,
+        start: start(&rules, contents.start),
     })
 }

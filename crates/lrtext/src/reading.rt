@@ -1,25 +1,24 @@
-//! What was read of a document, item by item.
+//! What was read of a document, lexeme by lexeme.
 
 ghost use Rattle.std.specs.Prelude.{◌≡◌, ◌↔◌, IsTrue, IfOk, OnOk};
-ghost use Rattle.lrspec.specs.ReadingStates.{may_end, Behind};
-ghost use Rattle.lrspec.specs.Readings.{first_reading, named, line_ended, declaring, alternative_ended, in_body, added, take_item};
-ghost use Rattle.lrspec.specs.Readings.{said_in};
-ghost use Rattle.lrtext.specs.NextItems.{item_of};
+ghost use Rattle.lrspec.specs.texts.ReadingStates.{may_end, Behind};
+ghost use Rattle.lrtext.specs.Readings.{first_reading, named, line_ended, declaring, alternative_ended, in_body, added, take_lexeme, contents_in};
+ghost use Rattle.lrtext.specs.NextLexemes.{lexeme_of};
 ghost use Rattle.lrtext.specs.StoredReading.{reading_of, IsTaken};
-ghost use Rattle.lrtext.specs.StoredSaid.{said_of};
+ghost use Rattle.lrtext.specs.StoredContents.{plain_contents};
 
-use crate::document::{Alternative, Document, KindLine, NameText};
-use crate::items::Item;
+use crate::contents::{Alternative, Contents, KindLine, NameText};
+use crate::lexemes::Lexeme;
 use crate::parts::AssocKind;
-use crate::places::{Place, next_place};
+use crate::reading_state::{ReadingState, next_state};
 use std::alloc::{AllocError, Global};
 
-/// What was read of a document up to a place.
+/// What was read of a document so far.
 #[derive(Drop)]
 pub(crate) struct Reading<'a> {
-    place: Place,
+    state: ReadingState,
     /// What is whole so far.
-    document: Document<'a>,
+    contents: Contents<'a>,
     /// The kind and the names of the precedence line in hand.
     line: Option<AssocKind>,
     names: Vec<&'a str>,
@@ -34,10 +33,10 @@ impl<'a> Reading<'a> {
         ensures { reading_of result ≡ first_reading }
     {
         Reading {
-            place: Place::AtDeclaration(false),
-            document: Document {
+            state: ReadingState::AtDeclaration(false),
+            contents: Contents {
                 start: None,
-                tokens: Vec::new(alloc),
+                declared: Vec::new(alloc),
                 kind_lines: Vec::new(alloc),
                 alternatives: Vec::new(alloc),
             },
@@ -50,10 +49,11 @@ impl<'a> Reading<'a> {
 
     /// Adds a name to the line in hand, which is a `%token` line where it has no kind.
     fn add_name(&mut self, name: &'a str) -> Result<(), AllocError>
-        ensures { OnOk result (reading_of self.new ≡ named (reading_of self.old).line name.now (reading_of self.old)) }
+        ensures { let before = reading_of self.old in
+            OnOk result (reading_of self.new ≡ named before.line name.now before) }
     {
         match self.line {
-            None => self.document.tokens.push(name)?,
+            None => self.contents.declared.push(name)?,
             Some(_) => self.names.push(name)?,
         }
         Ok(())
@@ -61,25 +61,27 @@ impl<'a> Reading<'a> {
 
     /// Ends the line in hand.
     fn end_line(&mut self) -> Result<(), AllocError>
-        ensures { OnOk result (reading_of self.new ≡ line_ended (reading_of self.old).line (reading_of self.old)) }
+        ensures { let before = reading_of self.old in
+            OnOk result (reading_of self.new ≡ line_ended before.line before) }
     {
         let Some(kind) = self.line else {
             return Ok(());
         };
         let empty = Vec::new(*self.names.allocator());
         let names = std::mem::replace(&mut self.names, empty);
-        self.document.kind_lines.push(KindLine { kind, names })?;
+        self.contents.kind_lines.push(KindLine { kind, names })?;
         self.line = None;
         Ok(())
     }
 
-    /// Adds an item of the declarations.
-    fn add_declaring(&mut self, item: Item<'a>) -> Result<(), AllocError>
-        ensures { OnOk result (reading_of self.new ≡ declaring (item_of item.entry) (reading_of self.old)) }
+    /// Adds a lexeme of the declarations.
+    fn add_declaring(&mut self, lexeme: Lexeme<'a>) -> Result<(), AllocError>
+        ensures { let before = reading_of self.old in
+            OnOk result (reading_of self.new ≡ declaring (lexeme_of lexeme.entry) before) }
     {
-        match item {
-            Item::Name(name) | Item::Quoted(name) => self.add_name(name),
-            Item::KindWord(kind) => {
+        match lexeme {
+            Lexeme::Name(name) | Lexeme::Quoted(name) => self.add_name(name),
+            Lexeme::KindWord(kind) => {
                 self.end_line()?;
                 self.line = Some(kind);
                 Ok(())
@@ -95,57 +97,59 @@ impl<'a> Reading<'a> {
         let empty = Vec::new(*self.body.allocator());
         let body = std::mem::replace(&mut self.body, empty);
         let rule = self.rule;
-        self.document.alternatives.push(Alternative { rule, body })?;
+        self.contents.alternatives.push(Alternative { rule, body })?;
         Ok(())
     }
 
-    /// Adds an item of the bodies of a rule.
-    fn add_in_body(&mut self, item: Item<'a>) -> Result<(), AllocError>
-        ensures { OnOk result (reading_of self.new ≡ in_body (item_of item.entry) (reading_of self.old)) }
+    /// Adds a lexeme of the bodies of a rule.
+    fn add_in_body(&mut self, lexeme: Lexeme<'a>) -> Result<(), AllocError>
+        ensures { let before = reading_of self.old in
+            OnOk result (reading_of self.new ≡ in_body (lexeme_of lexeme.entry) before) }
     {
-        match item {
-            Item::Name(name) => self.body.push(NameText::Plain(name))?,
-            Item::Quoted(name) => self.body.push(NameText::InQuotes(name))?,
-            Item::Bar | Item::Semicolon => self.end_alternative()?,
+        match lexeme {
+            Lexeme::Name(name) => self.body.push(NameText::Plain(name))?,
+            Lexeme::Quoted(name) => self.body.push(NameText::InQuotes(name))?,
+            Lexeme::Bar | Lexeme::Semicolon => self.end_alternative()?,
             _ => {}
         }
         Ok(())
     }
 
-    /// Adds what the item says at its place.
-    fn add(&mut self, item: Item<'a>) -> Result<(), AllocError>
-        ensures { OnOk result (reading_of self.new ≡ added (reading_of self.old).state (item_of item.entry) (reading_of self.old)) }
+    /// Adds what the lexeme says in this state.
+    fn add(&mut self, lexeme: Lexeme<'a>) -> Result<(), AllocError>
+        ensures { let before = reading_of self.old in
+            OnOk result (reading_of self.new ≡ added before.state (lexeme_of lexeme.entry) before) }
     {
-        match self.place {
-            Place::AtDeclaration(_) | Place::WantsName(_) | Place::InLine(_) => {
-                self.add_declaring(item)
-            }
-            Place::WantsStart => {
-                if let Item::Name(name) = item {
-                    self.document.start = Some(name);
+        match self.state {
+            ReadingState::AtDeclaration(_) | ReadingState::WantsName(_) | ReadingState::InLine(_) =>
+                self.add_declaring(lexeme),
+            ReadingState::WantsStart => {
+                if let Lexeme::Name(name) = lexeme {
+                    self.contents.start = Some(name);
                 }
                 Ok(())
             }
-            Place::AtRule => {
-                if let Item::Name(name) = item {
+            ReadingState::AtRule => {
+                if let Lexeme::Name(name) = lexeme {
                     self.rule = name;
                 }
                 Ok(())
             }
-            Place::InBody => self.add_in_body(item),
-            Place::WantsColon | Place::Behind => Ok(()),
+            ReadingState::InBody => self.add_in_body(lexeme),
+            ReadingState::WantsColon | ReadingState::Behind => Ok(()),
         }
     }
 
-    /// Takes the next item; false where no document goes on with it.
-    pub(crate) fn take(&mut self, item: Item<'a>) -> Result<bool, AllocError>
-        ensures { IfOk result (λ taken. IsTaken taken (take_item (reading_of self.old) (item_of item.entry)) (reading_of self.new)) }
+    /// Takes the next lexeme; false where no document goes on with it.
+    pub(crate) fn take(&mut self, lexeme: Lexeme<'a>) -> Result<bool, AllocError>
+        ensures { let behind = take_lexeme (reading_of self.old) (lexeme_of lexeme.entry) in
+            IfOk result (λ taken. IsTaken taken behind (reading_of self.new)) }
     {
-        let Some(place) = next_place(self.place, item) else {
+        let Some(state) = next_state(self.state, lexeme) else {
             return Ok(false);
         };
-        self.add(item)?;
-        self.place = place;
+        self.add(lexeme)?;
+        self.state = state;
         Ok(true)
     }
 
@@ -153,20 +157,20 @@ impl<'a> Reading<'a> {
     pub(crate) fn may_end(&self) -> bool
         ensures { result ≡ may_end (reading_of self.now).state }
     {
-        matches!(self.place, Place::AtRule | Place::Behind)
+        matches!(self.state, ReadingState::AtRule | ReadingState::Behind)
     }
 
     /// Whether the second `%%` was read.
     pub(crate) fn is_behind(&self) -> bool
         ensures { IsTrue result ↔ (reading_of self.now).state ≡ Behind }
     {
-        matches!(self.place, Place::Behind)
+        matches!(self.state, ReadingState::Behind)
     }
 
-    /// The document that was read.
-    pub(crate) fn into_document(self) -> Document<'a>
-        ensures { said_of result ≡ said_in (reading_of self.entry) }
+    /// The contents of the document that was read.
+    pub(crate) fn into_contents(self) -> Contents<'a>
+        ensures { plain_contents result ≡ contents_in (reading_of self.entry) }
     {
-        self.document
+        self.contents
     }
 }

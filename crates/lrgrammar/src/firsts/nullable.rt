@@ -1,10 +1,11 @@
 //! Nullable rules, by passes over the productions until nothing changes.
 
 ghost use Rattle.std.specs.Prelude.{◌≡◌, ℕ, ◌<◌, false, length, IfOk, IsTrue, ◌↔◌};
-ghost use Rattle.lrspec.specs.Grammar as math;
-ghost use Rattle.lrspec.specs.First.{Nullable};
+ghost use Rattle.lrspec.specs.grammars.Grammar as math;
+ghost use Rattle.lrspec.specs.grammars.First.{Nullable};
 ghost use Rattle.lrgrammar.specs.Bits.{bit};
-ghost use Rattle.lrgrammar.specs.NullableBits.{all_set, HoldsNullable, IsClosed, unset};
+ghost use Rattle.lrgrammar.specs.NullableBits.{all_set, HoldsNullable, IsClosed};
+ghost use Rattle.lrgrammar.specs.Bits.{unset};
 
 use crate::grammar::YaccGrammar;
 use crate::idx::{IndexStorage, PIdx, Symbol};

@@ -1,13 +1,13 @@
 //! FIRST sets, by passes over the productions until nothing changes.
 
 ghost use Rattle.std.specs.Prelude.{◌≡◌, ◌≢◌, ℕ, ◌<◌, false, length, replicate, slice_set, IfOk, IsTrue, ◌↔◌};
-ghost use Rattle.lrspec.specs.Grammar as math;
-ghost use Rattle.lrspec.specs.First.{Nullable};
+ghost use Rattle.lrspec.specs.grammars.Grammar as math;
+ghost use Rattle.lrspec.specs.grammars.First.{Nullable};
 ghost use Rattle.lrgrammar.specs.Bits.{bit, union};
 ghost use Rattle.lrgrammar.specs.Symbols.{symbol_of};
 ghost use Rattle.lrgrammar.specs.Firsts.{BeginsRule};
 ghost use Rattle.lrgrammar.specs.NullableBits.{HoldsNullable};
-ghost use Rattle.lrgrammar.specs.FirstRows.{row, vanishes, FitsRow, IsRuleBelow, Adds, AreRows, HoldBegins, IsDone, AreDone, unset_rows};
+ghost use Rattle.lrgrammar.specs.FirstRows.{row, vanishes, FitsRow, IsRuleBelow, Adds, AreRows, HoldBegins, IsProductionDone, AreDone, unset_rows};
 
 use crate::grammar::YaccGrammar;
 use crate::idx::{IndexStorage, PIdx, Symbol};
@@ -22,7 +22,8 @@ pub(super) fn first_rows<T: IndexStorage>(
     requires rules { length nullable.now ≡ length grm.now.rule_names }
     requires nullable { (r : ℕ) → IsTrue (bit nullable.now r) ↔ Nullable grm.now r }
     ensures shape { IfOk result (λ x. AreRows grm.now x.items) }
-    ensures begins { IfOk result (λ x. (r t : ℕ) → IsTrue (bit (row x.items r) t) ↔ BeginsRule grm.now r t) }
+    ensures begins { IfOk result
+        (λ x. (r t : ℕ) → IsTrue (bit (row x.items r) t) ↔ BeginsRule grm.now r t) }
 {
     let mut rows = empty_rows(
         grm.allocator(),
@@ -44,8 +45,11 @@ fn empty_rows(alloc: Global, rules: usize, tokens: usize) -> Result<Vec<Vob>, Al
     Ok(rows)
 }
 
-/// Sets in each rule's row what begins its bodies by what is known, over the productions upwards and then
-/// downwards; says whether a bit was set.
+/// Sets in each rule's row what begins its bodies by what is known; says whether a bit was set.
+///
+/// It goes over the productions upwards and then downwards: what a row gains then reaches both the
+/// rules that come later and those that came before in one pass, where a chain of rules against
+/// the one direction would take a pass for each rule.
 fn grow_rows<T: IndexStorage>(grm: &YaccGrammar<T>, nullable: &Vob, rows: &mut [Vob]) -> bool
     requires rules { length nullable.now ≡ length grm.now.rule_names }
     requires nullable { HoldsNullable grm.now nullable.now }
@@ -64,7 +68,8 @@ fn grow_rows<T: IndexStorage>(grm: &YaccGrammar<T>, nullable: &Vob, rows: &mut [
     grown
 }
 
-/// Sets in the row of the production's rule what begins its body by what is known; says whether a bit was set.
+/// Sets in the row of the production's rule what begins its body by what is known; says whether a
+/// bit was set.
 fn grow_row<T: IndexStorage>(
     grm: &YaccGrammar<T>,
     nullable: &Vob,
@@ -79,7 +84,8 @@ fn grow_row<T: IndexStorage>(
     ensures sound { HoldBegins grm.now rows.old → HoldBegins grm.now rows.new }
     ensures grown { IsTrue result → unset_rows rows.new < unset_rows rows.old }
     ensures same { result ≡ false → rows.new ≡ rows.old }
-    ensures done { result ≡ false → (r : ℕ) → math.IsProductionOf grm.now (T.number pidx.0) r → IsDone grm.now nullable.now rows.new (T.number pidx.0) r }
+    ensures done { result ≡ false
+        → IsProductionDone grm.now nullable.now rows.new (T.number pidx.0) }
 {
     let rule = grm.prod_to_rule(pidx).0.to_usize();
     let mut grown = false;

@@ -1,9 +1,11 @@
 //! The causes of refusal, one test each.
 
-ghost use Rattle.std.specs.Prelude.{◌≡◌, ℕ, false, IsTrue, ◌↔◌, IfOk, MatchResult, Any, map};
-ghost use Rattle.lrspec.specs.Parts as part;
+ghost use Rattle.std.specs.Prelude.{◌≡◌, ◌≢◌, ℕ, false, IsTrue, ◌↔◌, Err, IfOk, OnOk, IfErr, Any, map};
+ghost use Rattle.lrspec.specs.texts.Parts as part;
 ghost use Rattle.lrtext.specs.StoredParts.{parts_of, part_production_of};
-ghost use Rattle.lrgrammar.specs.Refusals.{AreUsed, IsRefusedBy};
+ghost use Rattle.lrgrammar.specs.UsedRules.{AreUsed};
+ghost use Rattle.lrgrammar.specs.Refusals.{IsRefusedBy, NoEarlyCause};
+ghost use Rattle.lrgrammar.specs.declared.grammar.errors.GrammarError.TheVariants.{Memory};
 
 use crate::grammar::doubles::{duplicate_name, mixed_level};
 use crate::grammar::{GrammarError, GrammarParts, PartProd, PartSymbol};
@@ -117,12 +119,11 @@ fn no_start(parts: &GrammarParts) -> bool
     parts.start >= parts.rules.len()
 }
 
-/// Answers the first cause of refusal that holds, if one does.
-pub(super) fn refuse<T: IndexStorage>(
-    alloc: Global,
-    parts: &GrammarParts,
-) -> Result<(), GrammarError>
-    ensures { MatchResult result (λ _. part.NoCause T.MAX (parts_of parts.now)) (IsRefusedBy T.MAX (parts_of parts.now)) }
+/// Answers the first of the causes that are found without memory, if one of them holds.
+fn refuse_before_memory<T: IndexStorage>(parts: &GrammarParts) -> Result<(), GrammarError>
+    ensures free { OnOk result (NoEarlyCause T.MAX (parts_of parts.now)) }
+    ensures refused { IfErr result (IsRefusedBy T.MAX (parts_of parts.now)) }
+    ensures no_memory { result ≢ Err Memory }
 {
     if too_many_rules::<T>(parts) {
         return Err(GrammarError::TooManyRules);
@@ -139,6 +140,19 @@ pub(super) fn refuse<T: IndexStorage>(
     if symbol_out_of_range(parts) {
         return Err(GrammarError::SymbolOutOfRange);
     }
+    Ok(())
+}
+
+/// Answers the first cause of refusal that holds, if one does.
+pub(super) fn refuse<T: IndexStorage>(
+    alloc: Global,
+    parts: &GrammarParts,
+) -> Result<(), GrammarError>
+    ensures free { OnOk result (part.NoCause T.MAX (parts_of parts.now)) }
+    ensures refused { IfErr result (IsRefusedBy T.MAX (parts_of parts.now)) }
+    ensures memory { result ≡ Err Memory → NoEarlyCause T.MAX (parts_of parts.now) }
+{
+    refuse_before_memory::<T>(parts)?;
     let is_empty = empty_rule(alloc, parts)?;
     if is_empty {
         return Err(GrammarError::EmptyRule);

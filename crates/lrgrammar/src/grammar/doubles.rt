@@ -1,8 +1,8 @@
 //! Names that are there twice, and levels with two kinds.
 
 ghost use Rattle.std.specs.Prelude.{◌≡◌, ℕ, false, IsTrue, ◌↔◌, IfOk, map};
-ghost use Rattle.lrspec.specs.Parts as part;
-ghost use Rattle.lrgrammar.specs.Refusals.{IsOtherKind, IsSameKind};
+ghost use Rattle.lrspec.specs.texts.Parts as part;
+ghost use Rattle.lrgrammar.specs.LookUps.{IsOtherKind, IsSameKind};
 ghost use Rattle.lrtext.specs.StoredParts.{parts_of};
 
 use crate::grammar::{AssocKind, GrammarParts};
@@ -35,7 +35,8 @@ fn rule_names<'a>(alloc: Global, parts: &'a GrammarParts) -> Result<Vec<&'a str>
 
 /// The names of the tokens, without the end token.
 fn token_names<'a>(alloc: Global, parts: &'a GrammarParts) -> Result<Vec<&'a str>, AllocError>
-    ensures { IfOk result (λ v. map (λ n. n.now) v.items ≡ part.names_of (parts_of parts.now).tokens) }
+    ensures { IfOk result
+        (λ v. map (λ n. n.now) v.items ≡ part.names_of (parts_of parts.now).tokens) }
 {
     let mut names = Vec::new(alloc);
     for token in &parts.tokens {

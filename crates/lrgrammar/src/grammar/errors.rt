@@ -40,7 +40,7 @@ pub enum GrammarError {
     /// The start rule is in no list.
     #[error("no start rule")]
     NoStart,
-    /// A growth was refused.
+    /// Memory was refused.
     #[error("out of memory")]
     Memory,
 }
@@ -53,12 +53,12 @@ impl From<AllocError> for GrammarError {
     }
 }
 
-/// Why there is no grammar of a text. Of several causes the first in this order is told, and of several of one kind the
-/// first in the text.
+/// Why there is no grammar of a text. Of several causes the first in this order is told, and of
+/// several of one kind the first in the text.
 #[derive(PartialEq, Debug, Drop, Error)]
 pub enum TextError {
-    /// The text is no document: the place, in bytes from 0, of the first item that may not come, or the text's length
-    /// where it ends too early.
+    /// The text is no document: the place, in bytes from 0, of the first lexeme that may not come,
+    /// or the text's length where it ends too early.
     #[error("syntax error at byte {0}")]
     Syntax(usize),
     /// Nothing defines the name.
@@ -67,10 +67,10 @@ pub enum TextError {
     /// The token is named twice in precedence lines.
     #[error("token {0} has two precedences")]
     DuplicatePrecedence(String),
-    /// The parts of the grammar are refused; never for want of memory.
+    /// The parts of the grammar are refused. Not `GrammarError::Memory`, which is `Memory` here.
     #[error(transparent)]
     Grammar(GrammarError),
-    /// A growth was refused.
+    /// Memory was refused.
     #[error("out of memory")]
     Memory,
 }

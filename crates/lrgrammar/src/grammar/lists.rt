@@ -3,12 +3,9 @@
 ghost use Rattle.std.specs.Prelude.{◌≡◌, ◌≢◌, ℕ, ◌+◌, ◌<◌, ◌≤◌, ◌∷◌, [], ◌++◌, IfOk, OnOk, map, length, All, slice_index_or};
 ghost use Rattle.std.specs.String.{string_bytes};
 ghost use Rattle.std.specs.BTreeMap.{get_by_text};
-ghost use Rattle.std.specs.declared.vec.Vec.{Vec as VecOf};
-ghost use Rattle.std.specs.declared.alloc.Global.{Global as GlobalOf};
-ghost use Rattle.lrspec.specs.Parts.{HasDouble};
-ghost use Rattle.lrgrammar.specs.Places.{Seen};
-ghost use Rattle.lrgrammar.specs.Stored.{production_of, numbers_of, AreListsOf};
-ghost use Rattle.lrgrammar.specs.declared.idx.PIdx.{PIdx as PIdxOf};
+ghost use Rattle.lrspec.specs.texts.Parts.{HasDouble};
+ghost use Rattle.lrgrammar.specs.LookUps.{FindsNames};
+ghost use Rattle.lrgrammar.specs.StoredGrammar.{production_of, AreListsOf, HasOneMore, KeepsOthers};
 
 use crate::grammar::Production;
 use crate::idx::{IndexStorage, PIdx};
@@ -23,8 +20,8 @@ fn add_to<T: IndexStorage>(
 ) -> Result<(), AllocError>
     requires { rule < length lists.old.items }
     ensures count { length lists.new.items ≡ length lists.old.items }
-    ensures added { OnOk result ((d : VecOf (PIdxOf T) GlobalOf) → (slice_index_or lists.new.items rule d).items ≡ (slice_index_or lists.old.items rule d).items ++ pidx ∷ []) }
-    ensures others { (k : ℕ) (d : VecOf (PIdxOf T) GlobalOf) → k ≢ rule → slice_index_or lists.new.items k d ≡ slice_index_or lists.old.items k d }
+    ensures added { OnOk result (HasOneMore lists.old.items lists.new.items rule pidx) }
+    ensures others { KeepsOthers lists.old.items lists.new.items rule }
 {
     lists[rule].push(pidx)?;
     Ok(())
@@ -53,7 +50,8 @@ pub(super) fn production_lists<T: IndexStorage>(
 ) -> Result<Vec<Vec<PIdx<T>>>, AllocError>
     requires few { length prods.now ≤ T.MAX }
     requires within { All (λ p. T.number p.rule.0 < rules) prods.now }
-    ensures { IfOk result (λ v. AreListsOf T.number (map (production_of T.number) prods.now) rules v.items) }
+    ensures { IfOk result
+        (λ v. AreListsOf T.number (map (production_of T.number) prods.now) rules v.items) }
 {
     let mut lists = empty_lists(alloc, rules)?;
     for i in 0..prods.len() {
@@ -66,7 +64,8 @@ pub(super) fn production_lists<T: IndexStorage>(
 /// The place of each name.
 pub(super) fn places(alloc: Global, names: &[String]) -> Result<BTreeMap<String, usize>, AllocError>
     requires { HasDouble (map string_bytes names.now) → ⊥ }
-    ensures { IfOk result (λ m. Seen (get_by_text m) (map string_bytes names.now) (length names.now)) }
+    ensures { IfOk result
+        (λ m. FindsNames (get_by_text m) (map string_bytes names.now) (length names.now)) }
 {
     let mut places = BTreeMap::new(alloc);
     for i in 0..names.len() {

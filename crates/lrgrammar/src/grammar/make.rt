@@ -1,14 +1,15 @@
 //! A grammar from its parts or from a text.
 
-ghost use Rattle.std.specs.Prelude.{◌≡◌, ℕ, ◌+◌, ◌<◌, ◌≤◌, ◌∷◌, IfOk, OnOk, IfErr, map, codes, All};
+ghost use Rattle.std.specs.Prelude.{◌≡◌, ℕ, ◌+◌, ◌<◌, ◌≤◌, ◌∷◌, Err, IfOk, OnOk, IfErr, map, codes, All};
 ghost use Rattle.std.specs.String.{string_bytes};
 ghost use Rattle.std.specs.Option.{option_map};
-ghost use Rattle.lrspec.specs.Parts as part;
+ghost use Rattle.lrspec.specs.texts.Parts as part;
 ghost use Rattle.lrtext.specs.StoredParts.{parts_of, part_symbol_of, precedence_of};
-ghost use Rattle.lrgrammar.specs.Refusals.{IsRefusedBy};
-ghost use Rattle.lrgrammar.specs.Numbers.{part_number, AreSmall};
+ghost use Rattle.lrgrammar.specs.Refusals.{IsRefusedBy, NoEarlyCause};
+ghost use Rattle.lrgrammar.specs.declared.grammar.errors.GrammarError.TheVariants.{Memory};
+ghost use Rattle.lrgrammar.specs.PartNumbers.{part_number, AreSmall};
 ghost use Rattle.lrgrammar.specs.Symbols.{symbol_of};
-ghost use Rattle.lrgrammar.specs.Stored.{production_of};
+ghost use Rattle.lrgrammar.specs.StoredGrammar.{production_of};
 ghost use Rattle.lrgrammar.specs.TextErrors.{IsGrammarOf, IsTextError};
 
 use crate::grammar::causes::refuse;
@@ -23,7 +24,8 @@ use std::alloc::{AllocError, Global};
 
 /// The names of the rules, `^` first.
 fn rule_names(alloc: Global, parts: &GrammarParts) -> Result<Vec<String>, AllocError>
-    ensures { IfOk result (λ v. map string_bytes v.items ≡ codes "^" ∷ (parts_of parts.now).rules) }
+    ensures { IfOk result
+        (λ v. map string_bytes v.items ≡ codes "^" ∷ (parts_of parts.now).rules) }
 {
     let mut names = Vec::new(alloc);
     names.push(String::from_str(alloc, "^")?)?;
@@ -35,7 +37,8 @@ fn rule_names(alloc: Global, parts: &GrammarParts) -> Result<Vec<String>, AllocE
 
 /// The names of the tokens.
 fn token_names(alloc: Global, parts: &GrammarParts) -> Result<Vec<String>, AllocError>
-    ensures { IfOk result (λ v. map string_bytes v.items ≡ part.names_of (parts_of parts.now).tokens) }
+    ensures { IfOk result
+        (λ v. map string_bytes v.items ≡ part.names_of (parts_of parts.now).tokens) }
 {
     let mut names = Vec::new(alloc);
     for token in &parts.tokens {
@@ -49,7 +52,8 @@ fn token_precedences(
     alloc: Global,
     parts: &GrammarParts,
 ) -> Result<Vec<Option<Precedence>>, AllocError>
-    ensures { IfOk result (λ v. map (option_map precedence_of) v.items ≡ part.precedences_of (parts_of parts.now).tokens) }
+    ensures { IfOk result (λ v. map (option_map precedence_of) v.items
+        ≡ part.precedences_of (parts_of parts.now).tokens) }
 {
     let mut precedences = Vec::new(alloc);
     for token in &parts.tokens {
@@ -72,7 +76,8 @@ fn numbered<T: IndexStorage>(symbol: &PartSymbol) -> Symbol<T>
 /// The body of a production.
 fn body<T: IndexStorage>(alloc: Global, prod: &PartProd) -> Result<Vec<Symbol<T>>, AllocError>
     requires { All (λ s. part_number s ≤ T.MAX) prod.now.symbols.items }
-    ensures { IfOk result (λ v. map (symbol_of T.number) v.items ≡ map part.shifted (map part_symbol_of prod.now.symbols.items)) }
+    ensures { IfOk result (λ v. map (symbol_of T.number) v.items
+        ≡ map part.shifted (map part_symbol_of prod.now.symbols.items)) }
 {
     let mut symbols = Vec::new(alloc);
     for symbol in &prod.symbols {
@@ -87,7 +92,8 @@ fn start_production<T: IndexStorage>(
     parts: &GrammarParts,
 ) -> Result<Production<T>, AllocError>
     requires { parts.now.start + 1 ≤ T.MAX }
-    ensures { IfOk result (λ p. production_of T.number p ≡ part.start_production_of (parts_of parts.now)) }
+    ensures { IfOk result
+        (λ p. production_of T.number p ≡ part.start_production_of (parts_of parts.now)) }
 {
     let rule = RIdx(T::from_usize(0).unwrap());
     let mut body = Vec::new(alloc);
@@ -101,7 +107,8 @@ fn productions<T: IndexStorage>(
     parts: &GrammarParts,
 ) -> Result<Vec<Production<T>>, AllocError>
     requires { AreSmall T.MAX parts.now }
-    ensures { IfOk result (λ v. map (production_of T.number) v.items ≡ (part.grammar_of_parts (parts_of parts.now)).productions) }
+    ensures { IfOk result (λ v. map (production_of T.number) v.items
+        ≡ (part.grammar_of_parts (parts_of parts.now)).productions) }
 {
     let mut prods = Vec::new(alloc);
     for prod in &parts.prods {
@@ -142,13 +149,16 @@ fn grammar_from<T: IndexStorage>(
 }
 
 impl<T: IndexStorage> YaccGrammar<T> {
-    /// The grammar of the parts: rule 0 is `^`, rule `k + 1` is place `k` of the rules, tokens and productions have the
-    /// numbers of their places, and the end token and the start production come last. Where a cause of refusal holds,
-    /// the first one is answered; want of memory may come in place of any.
+    /// The grammar of the parts: rule 0 is `^`, rule `k + 1` is place `k` of the rules, tokens and
+    /// productions have the numbers of their places, and the end token and the start production
+    /// come last. Where a cause of refusal holds, the first one is answered. `Memory` says that
+    /// memory was refused, and may come in place of any answer but the first five causes, which
+    /// are found before memory is asked for.
     pub fn from_parts(alloc: Global, parts: &GrammarParts) -> Result<YaccGrammar<T>, GrammarError>
         ensures made { IfOk result (λ g. g ≡ part.grammar_of_parts (parts_of parts.now)) }
         ensures free { OnOk result (part.NoCause T.MAX (parts_of parts.now)) }
         ensures refused { IfErr result (IsRefusedBy T.MAX (parts_of parts.now)) }
+        ensures memory { result ≡ Err Memory → NoEarlyCause T.MAX (parts_of parts.now) }
     {
         refuse::<T>(alloc, parts)?;
         let grammar = grammar_from(alloc, parts)?;
@@ -156,11 +166,11 @@ impl<T: IndexStorage> YaccGrammar<T> {
     }
 
     /// The grammar of a text. The error is `Syntax` where the text is no document, with the place
-    /// of its first item that may not come, in bytes from 0, or else its length where it ends too
+    /// of its first lexeme that may not come, in bytes from 0, or else its length where it ends too
     /// early; or else `UnknownSymbol` of the first name that nothing defines; or else
     /// `DuplicatePrecedence` of the first name that comes again in precedence lines; or else
-    /// `Grammar` with the first cause for which `from_parts` refuses the parts; or `Memory` where a
-    /// growth was refused, which may come in place of any.
+    /// `Grammar` with the first cause for which `from_parts` refuses the parts; or `Memory` where
+    /// memory was refused, which may come in place of any.
     pub fn from_text(alloc: Global, text: &str) -> Result<YaccGrammar<T>, TextError>
         ensures ok { IfOk result (IsGrammarOf T.MAX text.now) }
         ensures err { IfErr result (IsTextError T.MAX text.now) }

@@ -2,7 +2,7 @@
 
 ghost use Rattle.std.specs.Prelude.{◌≡◌, ℕ, ◌<◌, IsTrue, ◌↔◌, IsSome, None, Any, length, map};
 ghost use Rattle.std.specs.Option.{option_map};
-ghost use Rattle.lrspec.specs.Grammar as math;
+ghost use Rattle.lrspec.specs.grammars.Grammar as math;
 ghost use Rattle.lrtext.specs.StoredParts.{precedence_of};
 ghost use Rattle.lrgrammar.specs.Symbols.{symbol_of};
 
@@ -11,7 +11,8 @@ use crate::idx::{IndexStorage, PIdx, Symbol, TIdx};
 
 /// The last token of a body.
 fn last_token<T: IndexStorage>(body: &[Symbol<T>]) -> Option<TIdx<T>>
-    ensures { option_map (λ t. T.number t.0) result ≡ math.last_token_or None (map (symbol_of T.number) body.now) }
+    ensures { option_map (λ t. T.number t.0) result
+        ≡ math.last_token_or None (map (symbol_of T.number) body.now) }
 {
     let mut last = None;
     for symbol in body {
@@ -37,16 +38,18 @@ impl<T: IndexStorage> YaccGrammar<T> {
     /// The precedence of a token, if it has one. The end token has none.
     pub fn token_precedence(&self, tidx: TIdx<T>) -> Option<Precedence>
         requires { T.number tidx.0 < math.token_count self.now }
-        ensures { option_map precedence_of result ≡ math.token_precedence self.now (T.number tidx.0) }
+        ensures { option_map precedence_of result
+            ≡ math.token_precedence self.now (T.number tidx.0) }
     {
         self.precedence_at(tidx.0.to_usize())
     }
 
-    /// The precedence of a production, which is that of the last token in its body. It has none where its body has no
-    /// token or that token has none.
+    /// The precedence of a production, which is that of the last token in its body. It has none
+    /// where its body has no token or that token has none.
     pub fn prod_precedence(&self, pidx: PIdx<T>) -> Option<Precedence>
         requires { T.number pidx.0 < length self.now.productions }
-        ensures { option_map precedence_of result ≡ math.production_precedence self.now (T.number pidx.0) }
+        ensures { option_map precedence_of result
+            ≡ math.production_precedence self.now (T.number pidx.0) }
     {
         match last_token(self.prod(pidx)) {
             Some(last) => self.precedence_at(last.0.to_usize()),

@@ -3,7 +3,7 @@
 ghost use Rattle.std.specs.Prelude.{◌≡◌, ℕ, ◌<◌, ◌++◌, IfOk, length, map, codes};
 ghost use Rattle.std.specs.String.{string_bytes};
 ghost use Rattle.std.specs.List.{flat_map};
-ghost use Rattle.lrspec.specs.Texts.{symbol_name, quoted, production_text};
+ghost use Rattle.lrspec.specs.texts.PrintedTexts.{symbol_name, quoted, production_text};
 ghost use Rattle.lrgrammar.specs.Symbols.{symbol_of};
 
 use crate::grammar::YaccGrammar;
@@ -25,8 +25,8 @@ impl<T: IndexStorage> YaccGrammar<T> {
         }
     }
 
-    /// The text of a production: its rule's name, a colon, and for each symbol a space and its name in double quotes,
-    /// as `B: "a"`. The error says that memory was refused.
+    /// The text of a production: its rule's name, a colon, and for each symbol a space and its name
+    /// in double quotes, as `B: "a"`. The error says that memory was refused.
     pub fn pp_prod(&self, pidx: PIdx<T>) -> Result<String, AllocError>
         requires { T.number pidx.0 < length self.now.productions }
         ensures { IfOk result (λ s. string_bytes s ≡ production_text self.now (T.number pidx.0)) }

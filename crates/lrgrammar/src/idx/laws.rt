@@ -28,7 +28,8 @@ fn symbol_hash<T: IndexStorage, H: Hasher>(a: Symbol<T>, state: &mut H)
 }
 
 fn item_order<T: IndexStorage>(a: (PIdx<T>, SIdx<T>), b: (PIdx<T>, SIdx<T>)) -> Ordering
-    ensures { result ≡ ordering_then (nat_cmp (T.number a.0.0) (T.number b.0.0)) (nat_cmp (T.number a.1.0) (T.number b.1.0)) }
+    ensures { result ≡ ordering_then
+        (nat_cmp (T.number a.0.0) (T.number b.0.0)) (nat_cmp (T.number a.1.0) (T.number b.1.0)) }
 {
     a.cmp(&b)
 }
@@ -40,7 +41,8 @@ fn item_hash<T: IndexStorage, H: Hasher>(a: (PIdx<T>, SIdx<T>), state: &mut H)
 }
 
 fn item_equality<T: IndexStorage>(a: (PIdx<T>, SIdx<T>), b: (PIdx<T>, SIdx<T>)) -> bool
-    ensures { IsTrue result ↔ ((T.number a.0.0 ≡ T.number b.0.0) × (T.number a.1.0 ≡ T.number b.1.0)) }
+    ensures { IsTrue result
+        ↔ ((T.number a.0.0 ≡ T.number b.0.0) × (T.number a.1.0 ≡ T.number b.1.0)) }
 {
     a == b
 }

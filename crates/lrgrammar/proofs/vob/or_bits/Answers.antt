@@ -1,5 +1,6 @@
 use Rattle.std.proofs.Common.{arith, sym, ◌∙◌}
-use Rattle.lrgrammar.proofs.BitFacts.{turn_set, turn_same, turn_already, turn_more, end_all, bit_of_union}
+use Rattle.lrgrammar.proofs.UnionLoop.{turn_set, turn_same, turn_already, turn_more, end_all}
+use Rattle.lrgrammar.proofs.Unions.{bit_of_union}
 use Rattle.lrgrammar.proofs.vob.or_bits.Goals as goal
 use Rattle.lrgrammar.proofs.vob.or_bits.Goals.{then-other-i+then-not-bits-i, else-other-i, else-other-i-via-then-other-i+else-not-bits-i, else-other-i-via-else-other-i}
 

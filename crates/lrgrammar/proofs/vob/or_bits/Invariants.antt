@@ -1,5 +1,5 @@
 use Rattle.std.proofs.Common.{◌≡◌, ℕ, true, false, get_or}
-use Rattle.lrgrammar.proofs.BitFacts.{merge}
+use Rattle.lrgrammar.proofs.UnionLoop.{merge}
 use Rattle.lrgrammar.proofs.vob.or_bits.Given as goal
 
 abbrev pub invariant-loop-i : goal.invariant-loop-i

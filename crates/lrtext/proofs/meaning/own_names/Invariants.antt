@@ -1,5 +1,5 @@
 use Rattle.std.proofs.Common.{◌≡◌, map, take, string_bytes}
-use Rattle.lrtext.specs.Numbered.{names_of}
+use Rattle.lrtext.specs.NumberedNames.{names_of}
 use Rattle.lrtext.proofs.meaning.own_names.Given as goal
 
 abbrev pub invariant-loop-name : goal.invariant-loop-name

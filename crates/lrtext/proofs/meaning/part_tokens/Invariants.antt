@@ -1,6 +1,6 @@
 use Rattle.std.proofs.Common.{◌≡◌, map, take}
-use Rattle.lrspec.specs.Meaning.{token_in}
-use Rattle.lrtext.specs.Numbered.{names_of}
+use Rattle.lrspec.specs.texts.Meaning.{token_in}
+use Rattle.lrtext.specs.NumberedNames.{names_of}
 use Rattle.lrtext.specs.StoredParts.{token_of}
 use Rattle.lrtext.specs.StoredLevels.{leveled_of}
 use Rattle.lrtext.proofs.meaning.part_tokens.Given as goal

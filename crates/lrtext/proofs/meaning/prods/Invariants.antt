@@ -1,7 +1,7 @@
 use Rattle.std.proofs.Common.{◌≡◌, map, take}
-use Rattle.lrspec.specs.Meaning.{production_in}
+use Rattle.lrspec.specs.texts.Meaning.{production_in}
 use Rattle.lrtext.specs.StoredParts.{part_production_of}
-use Rattle.lrtext.specs.StoredSaid.{alternative_of}
+use Rattle.lrtext.specs.StoredContents.{alternative_of}
 use Rattle.lrtext.proofs.meaning.prods.Given as goal
 
 abbrev pub invariant-loop-alternative : goal.invariant-loop-alternative

@@ -1,7 +1,7 @@
 use Rattle.std.proofs.Common.{◌≡◌, map, take}
-use Rattle.lrspec.specs.Meaning.{symbol_in}
+use Rattle.lrspec.specs.texts.Meaning.{symbol_in}
 use Rattle.lrtext.specs.StoredParts.{part_symbol_of}
-use Rattle.lrtext.specs.StoredSaid.{name_text_of}
+use Rattle.lrtext.specs.StoredContents.{name_text_of}
 use Rattle.lrtext.proofs.meaning.symbols.Given as goal
 
 abbrev pub invariant-loop-name : goal.invariant-loop-name

@@ -1,10 +1,10 @@
 use Rattle.std.proofs.Common.{◌≢◌, refl, sym, subst, arith, rules}
-use Rattle.lrspec.specs.ReadingStates.{Behind}
-use Rattle.lrspec.specs.Readings.{Reading}
-use Rattle.lrspec.specs.Meaning.{IsSaidIn}
-use Rattle.lrspec.proofs.ReadingSteps.{IsReadTo, read_none, read_more, read_behind, read_refused, read_misfit, read_all, read_early}
+use Rattle.lrspec.specs.texts.ReadingStates.{Behind}
+use Rattle.lrtext.specs.Readings.{Reading}
+use Rattle.lrtext.specs.ReadErrors.{HasContents}
+use Rattle.lrtext.proofs.ReadingTexts.{IsReadTo, read_none, read_more, read_behind, read_refused, read_misfit, read_all, read_early}
 use Rattle.lrtext.specs.StoredReading.{reading_of}
-use Rattle.lrtext.proofs.TakenFacts.{was_taken, was_refused}
+use Rattle.lrtext.proofs.TakenLexemes.{was_taken, was_refused}
 use Rattle.lrtext.proofs.reader.read.Goals as goal
 
 -- at first nothing was read
@@ -19,27 +19,27 @@ returns-then-not-may_end-clause-err c = read_early c.loop-reading.invariant.1 c.
 -- the text ends where a document may end
 pub returns-in-End-clause-ok : goal.returns-in-End-clause-ok
 returns-in-End-clause-ok c =
-    subst (IsSaidIn c.args.text.now) (sym c.into_document.ensures) (read_all c.loop-reading.invariant.1 c.in-End.ensures (sym c.if-not-may_end.ensures))
+    subst (HasContents c.args.text.now) (sym c.into_contents.ensures) (read_all c.loop-reading.invariant.1 c.in-End.ensures (sym c.if-not-may_end.ensures))
 
--- no item begins there
+-- no lexeme begins there
 pub returns-in-Misfit-clause-err : goal.returns-in-Misfit-clause-err
 returns-in-Misfit-clause-err c =
     read_misfit _ c.loop-reading.invariant.1 c.in-Misfit.ensures (omega (arith, c.in-Misfit.ensures.within, c.loop-reading.invariant.1.has.within))
 
--- the item may not come
+-- the lexeme may not come
 pub returns-then-not-branch-clause-err : goal.returns-then-not-branch-clause-err
 returns-then-not-branch-clause-err c =
-    read_refused _ c.loop-reading.invariant.1 c.in-Item.ensures (was_refused _ c.in_ok-take-in-Item.field-0 c.if-not-branch.true c.in_ok-take-in-Item.ensures)
-    (omega (arith, c.in-Item.ensures.within, c.loop-reading.invariant.1.has.within))
+    read_refused _ c.loop-reading.invariant.1 c.in-Lexeme.ensures (was_refused _ c.in_ok-take-in-Lexeme.field-0 c.if-not-branch.true c.in_ok-take-in-Lexeme.ensures)
+    (omega (arith, c.in-Lexeme.ensures.within, c.loop-reading.invariant.1.has.within))
 
--- the item is the second `%%`
+-- the lexeme is the second `%%`
 pub returns-then-is_behind-clause-ok : goal.returns-then-is_behind-clause-ok
 returns-then-is_behind-clause-ok c =
-    subst (IsSaidIn c.args.text.now) (sym c.into_document-then-is_behind.ensures)
-    (read_behind c.loop-reading.invariant.1 c.in-Item.ensures (was_taken c.in_ok-take-in-Item.field-0 c.if-not-branch.false c.in_ok-take-in-Item.ensures) (c.if-is_behind.ensures.0 refl))
+    subst (HasContents c.args.text.now) (sym c.into_contents-then-is_behind.ensures)
+    (read_behind c.loop-reading.invariant.1 c.in-Lexeme.ensures (was_taken c.in_ok-take-in-Lexeme.field-0 c.if-not-branch.false c.in_ok-take-in-Lexeme.ensures) (c.if-is_behind.ensures.0 refl))
 
--- the item was taken, and the text goes on
+-- the lexeme was taken, and the text goes on
 pub loop-reading-preserved : goal.loop-reading-preserved
 loop-reading-preserved c =
     let ahead : (reading_of c.take.new.self).state ≢ Behind = λ e. let h = c.if-is_behind.ensures.1 e in (cc) in
-    (search rules, read_more c.loop-reading.invariant.1 c.in-Item.ensures (was_taken c.in_ok-take-in-Item.field-0 c.if-not-branch.false c.in_ok-take-in-Item.ensures) ahead)
+    (search rules, read_more c.loop-reading.invariant.1 c.in-Lexeme.ensures (was_taken c.in_ok-take-in-Lexeme.field-0 c.if-not-branch.false c.in_ok-take-in-Lexeme.ensures) ahead)

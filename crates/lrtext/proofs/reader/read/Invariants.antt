@@ -1,7 +1,7 @@
 use Rattle.std.proofs.Common.{length}
 use denote.Text.{Utf8}
 use denote.Shadow.{shadow}
-use Rattle.lrspec.proofs.ReadingSteps.{IsReadTo}
+use Rattle.lrtext.proofs.ReadingTexts.{IsReadTo}
 use Rattle.lrtext.specs.StoredReading.{reading_of}
 use Rattle.lrtext.proofs.reader.read.Given as goal
 

@@ -1,5 +1,5 @@
 use Rattle.std.proofs.Common.{◌≡◌, map, drop}
-use Rattle.lrspec.specs.Grammar as math
+use Rattle.lrspec.specs.grammars.Grammar as math
 use Rattle.lrgrammar.specs.Symbols.{symbol_of}
 use Rattle.lrgrammar.specs.NullableBits.{all_set}
 use Rattle.lrgrammar.proofs.firsts.nullable.all_nullable.Given as goal

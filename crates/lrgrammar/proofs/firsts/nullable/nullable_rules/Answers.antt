@@ -1,4 +1,4 @@
-use Rattle.lrgrammar.proofs.NullableFacts.{nullable_bits}
+use Rattle.lrgrammar.proofs.NullableRules.{nullable_bits}
 use Rattle.lrgrammar.proofs.firsts.nullable.nullable_rules.Goals as goal
 
 pub returns-clause-nullable : goal.returns-clause-nullable

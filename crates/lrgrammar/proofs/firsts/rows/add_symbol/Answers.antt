@@ -1,7 +1,7 @@
 use Rattle.std.proofs.Common.{◌≡◌, [], get_or, set, ap, arith}
 use Rattle.std.proofs.lemmas.List.{get_or_default}
 use Rattle.lrgrammar.specs.FirstRows.{row}
-use Rattle.lrgrammar.proofs.StepFacts.{adds_from_join, adds_from_set}
+use Rattle.lrgrammar.proofs.AddedSymbols.{adds_from_join, adds_from_set}
 use Rattle.lrgrammar.proofs.firsts.rows.add_symbol.Goals as goal
 
 pub join-requires-clause-from : goal.join-requires-clause-from

@@ -1,7 +1,7 @@
 use Rattle.std.proofs.Common.{◌≡◌, false, ◌++◌, List, Bool, ℕ, length, take, drop, replicate, ◌∙◌, sym, ap}
 use Rattle.std.proofs.Math.Seq.{take-append_seam}
-use Rattle.lrgrammar.proofs.FirstFacts.{row_bits}
-use Rattle.lrgrammar.proofs.PassFacts.{rows_from_replicate, sound_from_replicate}
+use Rattle.lrgrammar.proofs.DoneRows.{row_bits}
+use Rattle.lrgrammar.proofs.RowPasses.{rows_from_replicate, sound_from_replicate}
 use Rattle.lrgrammar.proofs.firsts.rows.first_rows.Goals as goal
 
 pub loop-init : goal.loop-init

@@ -1,8 +1,8 @@
 use Rattle.std.proofs.Common.{◌≡◌, ℕ, ◌+◌, ◌<◌, ◌||◌, List, ◌∷◌, map, drop, length, get_or, ap, sym, ◌∙◌, arith}
 use Rattle.std.proofs.lemmas.List.{at_drop_more, drop_all}
-use Rattle.lrspec.specs.Grammar as math
+use Rattle.lrspec.specs.grammars.Grammar as math
 use Rattle.lrgrammar.specs.Symbols.{symbol_of}
-use Rattle.lrgrammar.proofs.WalkFacts.{fits_from_body, below_from_body, walked_none, walked_more, walked_stop, walked_all}
+use Rattle.lrgrammar.proofs.BodyWalks.{fits_from_body, below_from_body, walked_none, walked_more, walked_stop, walked_all}
 use Rattle.lrgrammar.proofs.firsts.rows.grow_row.Goals as goal
 
 -- the list from the place `i` on is its element there and the rest

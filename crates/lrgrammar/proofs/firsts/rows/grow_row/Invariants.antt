@@ -1,6 +1,6 @@
 use Rattle.std.proofs.Common.{map, drop}
 use Rattle.lrgrammar.specs.Symbols.{symbol_of}
-use Rattle.lrgrammar.proofs.WalkFacts.{Walked}
+use Rattle.lrgrammar.proofs.BodyWalks.{Walked}
 use Rattle.lrgrammar.proofs.firsts.rows.grow_row.Given as goal
 
 abbrev pub invariant-loop-symbol : goal.invariant-loop-symbol

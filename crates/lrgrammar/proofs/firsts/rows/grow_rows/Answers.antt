@@ -1,6 +1,6 @@
 use Rattle.std.proofs.Common.{◌≡◌, ◌≤◌, ◌⊎◌, inl, inr, length, arith, ◌∙◌}
-use Rattle.lrgrammar.proofs.FirstFacts.{done_from_below}
-use Rattle.lrgrammar.proofs.PassFacts.{passed_more}
+use Rattle.lrgrammar.proofs.DoneRows.{done_from_below}
+use Rattle.lrgrammar.proofs.RowPasses.{passed_more}
 use Rattle.lrgrammar.proofs.firsts.rows.grow_rows.Goals as goal
 use Rattle.lrgrammar.proofs.firsts.rows.grow_rows.Goals.{then-i-count, else-i-count}
 

@@ -1,4 +1,4 @@
-use Rattle.lrgrammar.proofs.PassFacts.{Passed}
+use Rattle.lrgrammar.proofs.RowPasses.{Passed}
 use Rattle.lrgrammar.proofs.firsts.rows.grow_rows.Given as goal
 
 abbrev pub invariant-loop-i : goal.invariant-loop-i

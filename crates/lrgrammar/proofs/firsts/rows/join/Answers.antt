@@ -1,5 +1,5 @@
 use Rattle.std.proofs.Common.{arith}
-use Rattle.lrgrammar.proofs.JoinFacts.{join_low, join_high, join_self}
+use Rattle.lrgrammar.proofs.JoinedRows.{join_low, join_high, join_self}
 use Rattle.lrgrammar.proofs.firsts.rows.join.Goals as goal
 
 pub returns-then-to-from-clause-after : goal.returns-then-to-from-clause-after

@@ -2,8 +2,8 @@ use Rattle.std.proofs.Common.{◌≡◌, ◌++◌, map, take}
 use Rattle.std.specs.Prelude.{codes}
 use Rattle.std.specs.List.{flat_map}
 use Rattle.std.specs.String.{string_bytes}
-use Rattle.lrspec.specs.Grammar.{rule_of}
-use Rattle.lrspec.specs.Texts.{rule_name, quoted}
+use Rattle.lrspec.specs.grammars.Grammar.{rule_of}
+use Rattle.lrspec.specs.texts.PrintedTexts.{rule_name, quoted}
 use Rattle.lrgrammar.specs.Symbols.{symbol_of}
 use Rattle.lrgrammar.proofs.grammar.YaccGrammar.pp_prod.Given as goal
 

@@ -1,7 +1,8 @@
 use Rattle.std.proofs.Common.{◌<◌, length, arith}
 use Rattle.std.proofs.lemmas.List.{length-map}
 use Rattle.lrtext.specs.StoredParts.{part_production_of, part_symbol_of}
-use Rattle.lrgrammar.proofs.MappedFacts.{any_image, no_image, true_if, false_if}
+use Rattle.lrgrammar.proofs.Images.{any_image, no_image}
+use Rattle.lrgrammar.proofs.TruthTests.{true_if, false_if}
 use Rattle.lrgrammar.proofs.grammar.causes.body_too_long.Goals as goal
 
 pub returns-then-len-MAX : goal.returns-then-len-MAX

@@ -1,6 +1,6 @@
 use Rattle.std.proofs.Common.{length, ap, arith}
-use Rattle.lrgrammar.proofs.MappedFacts.{true_if, false_if}
-use Rattle.lrgrammar.proofs.UsedFacts.{empty_from_unused, none_empty}
+use Rattle.lrgrammar.proofs.TruthTests.{true_if, false_if}
+use Rattle.lrgrammar.proofs.UsedRules.{empty_from_unused, none_empty}
 use Rattle.lrgrammar.proofs.grammar.causes.empty_rule.Goals as goal
 
 pub returns-then-not-is_used : goal.returns-then-not-is_used

@@ -1,6 +1,7 @@
-use Rattle.lrspec.specs.Parts.{IsOutOfRange}
+use Rattle.lrspec.specs.texts.Parts.{IsOutOfRange}
 use Rattle.lrtext.specs.StoredParts.{parts_of, part_symbol_of}
-use Rattle.lrgrammar.proofs.MappedFacts.{no_image, false_if}
+use Rattle.lrgrammar.proofs.Images.{no_image}
+use Rattle.lrgrammar.proofs.TruthTests.{false_if}
 use Rattle.lrgrammar.proofs.grammar.causes.has_symbol_out_of_range.Goals as goal
 
 pub returns : goal.returns

@@ -1,6 +1,6 @@
 use Rattle.std.proofs.Common.{◌<◌, ℕ, get_or}
 use Rattle.lrtext.specs.declared.parts.PartSymbol.{PartSymbol}
-use Rattle.lrspec.specs.Parts.{IsOutOfRange}
+use Rattle.lrspec.specs.texts.Parts.{IsOutOfRange}
 use Rattle.lrtext.specs.StoredParts.{parts_of, part_symbol_of}
 use Rattle.lrgrammar.proofs.grammar.causes.has_symbol_out_of_range.Given as goal
 

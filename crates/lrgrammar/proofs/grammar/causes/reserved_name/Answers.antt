@@ -1,7 +1,8 @@
 use Rattle.std.proofs.Common.{◌≡◌, rules}
 use Rattle.std.specs.Prelude.{codes}
 use Rattle.std.specs.String.{string_bytes}
-use Rattle.lrgrammar.proofs.MappedFacts.{any_image, no_image, true_if, false_if, Contains-from_any, any_from_Contains}
+use Rattle.lrgrammar.proofs.Images.{any_image, no_image, Contains-from_any, any_from_Contains}
+use Rattle.lrgrammar.proofs.TruthTests.{true_if, false_if}
 use Rattle.lrgrammar.proofs.grammar.causes.reserved_name.Goals as goal
 
 pub returns-then-eq : goal.returns-then-eq

@@ -1,8 +1,9 @@
 use Rattle.std.proofs.Common.{◌≤◌, ◌⊎◌, length, inl, inr, arith}
 use Rattle.std.specs.Prelude.{Any}
-use Rattle.lrspec.specs.Parts.{IsOutOfRange}
+use Rattle.lrspec.specs.texts.Parts.{IsOutOfRange}
 use Rattle.lrtext.specs.StoredParts.{parts_of, part_production_of}
-use Rattle.lrgrammar.proofs.MappedFacts.{any_image, no_image, true_if, false_if}
+use Rattle.lrgrammar.proofs.Images.{any_image, no_image}
+use Rattle.lrgrammar.proofs.TruthTests.{true_if, false_if}
 use Rattle.lrgrammar.proofs.grammar.causes.symbol_out_of_range.Goals as goal
 use Rattle.lrgrammar.proofs.grammar.causes.symbol_out_of_range.Goals.{then-prod-len-via-then-prod-len, then-prod-len-via-else-prod-len+then-has_symbol_out_of_range}
 use Rattle.std.proofs.lemmas.List.{length-map}

@@ -1,7 +1,7 @@
 use Rattle.std.proofs.Common.{◌<◌, ◌≤◌, ◌⊎◌, ℕ, get_or, length}
 use Rattle.std.specs.Prelude.{Any}
 use Rattle.lrtext.specs.declared.parts.PartProd.{PartProd}
-use Rattle.lrspec.specs.Parts.{IsOutOfRange}
+use Rattle.lrspec.specs.texts.Parts.{IsOutOfRange}
 use Rattle.lrtext.specs.StoredParts.{parts_of, part_production_of}
 use Rattle.lrgrammar.proofs.grammar.causes.symbol_out_of_range.Given as goal
 

@@ -1,7 +1,7 @@
 use Rattle.std.proofs.Common.{map, ap, ◌∙◌, inl, inr, ⊎_elim}
-use Rattle.lrspec.specs.Parts.{HasDouble, names_of}
+use Rattle.lrspec.specs.texts.Parts.{HasDouble, names_of}
 use Rattle.lrtext.specs.StoredParts.{parts_of}
-use Rattle.lrgrammar.proofs.MappedFacts.{true_if, holds_if, fails_if, same_test, test_along}
+use Rattle.lrgrammar.proofs.TruthTests.{true_if, holds_if, fails_if, same_test, test_along}
 use Rattle.lrgrammar.proofs.grammar.doubles.duplicate_name.Goals as goal
 
 pub returns-then-in_rules : goal.returns-then-in_rules

@@ -1,8 +1,8 @@
 use Rattle.std.proofs.Common.{length, cond, Some, ap, ◌∙◌, arith, rules}
 use Rattle.std.specs.Ordering.{nat_cmp}
 use Rattle.std.specs.BTreeMap.{get}
-use Rattle.lrgrammar.proofs.MappedFacts.{true_if, false_if}
-use Rattle.lrgrammar.proofs.KindsFacts.{kinds_after, kinds_past, mixed_from_other, none_mixed, at_turn}
+use Rattle.lrgrammar.proofs.TruthTests.{true_if, false_if}
+use Rattle.lrgrammar.proofs.KindLookUps.{kinds_after, kinds_past, mixed_from_other, none_mixed, at_turn}
 use Rattle.lrgrammar.proofs.grammar.doubles.mixed_level.Goals as goal
 use Rattle.lrgrammar.proofs.grammar.doubles.mixed_level.Goals.{in-Some+in_ok-old+else-is_other, in_default}
 

@@ -1,5 +1,5 @@
 use Rattle.std.proofs.Common.{◌≡◌, map, take}
-use Rattle.lrspec.specs.Parts.{names_of}
+use Rattle.lrspec.specs.texts.Parts.{names_of}
 use Rattle.lrtext.specs.StoredParts.{token_of}
 use Rattle.lrgrammar.proofs.grammar.doubles.token_names.Given as goal
 

@@ -1,6 +1,6 @@
 use Rattle.std.proofs.Common.{map, ap, sym, ◌∙◌, arith, rules}
-use Rattle.lrgrammar.specs.Stored.{production_of}
-use Rattle.lrgrammar.proofs.ListFacts.{lists_none, lists_more, lists_all, production_at}
+use Rattle.lrgrammar.specs.StoredGrammar.{production_of}
+use Rattle.lrgrammar.proofs.ProductionLists.{lists_none, lists_more, lists_all, production_at}
 use Rattle.std.proofs.lemmas.List.{length-map}
 use Rattle.lrgrammar.proofs.grammar.lists.production_lists.Goals as goal
 

@@ -1,6 +1,6 @@
 use Rattle.std.proofs.Common.{map}
-use Rattle.lrgrammar.specs.Stored.{production_of}
-use Rattle.lrgrammar.proofs.ListFacts.{AreListsTo}
+use Rattle.lrgrammar.specs.StoredGrammar.{production_of}
+use Rattle.lrgrammar.proofs.ProductionLists.{AreListsTo}
 use Rattle.lrgrammar.proofs.grammar.lists.production_lists.Given as goal
 
 abbrev pub invariant-loop-i : goal.invariant-loop-i

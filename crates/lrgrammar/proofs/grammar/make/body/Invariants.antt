@@ -1,5 +1,5 @@
 use Rattle.std.proofs.Common.{◌≡◌, map, take}
-use Rattle.lrspec.specs.Parts.{shifted}
+use Rattle.lrspec.specs.texts.Parts.{shifted}
 use Rattle.lrtext.specs.StoredParts.{part_symbol_of}
 use Rattle.lrgrammar.specs.Symbols.{symbol_of}
 use Rattle.lrgrammar.proofs.grammar.make.body.Given as goal

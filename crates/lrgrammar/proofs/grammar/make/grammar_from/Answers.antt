@@ -2,15 +2,15 @@ use Rattle.std.proofs.Common.{◌≡◌, ◌≤◌, ◌+◌, length, map, sym, a
 use Rattle.std.specs.BTreeMap.{get_by_text}
 use Rattle.std.specs.String.{string_bytes}
 use Rattle.std.proofs.lemmas.List.{length-map}
-use Rattle.lrspec.specs.Grammar.{IsGrammar}
-use Rattle.lrspec.specs.Parts.{HasDouble, grammar_of_parts}
-use Rattle.lrspec.proofs.PartsFacts.{grammar_from_parts, length-productions}
-use Rattle.lrgrammar.specs.Places.{Seen}
-use Rattle.lrgrammar.specs.Sizes.{IsWithin}
+use Rattle.lrspec.specs.grammars.Grammar.{IsGrammar}
+use Rattle.lrspec.specs.texts.Parts.{HasDouble, grammar_of_parts}
+use Rattle.lrspec.proofs.texts.GrammarOfParts.{grammar_from_parts, length-productions}
+use Rattle.lrgrammar.specs.LookUps.{FindsNames}
+use Rattle.lrgrammar.specs.GrammarSizes.{IsWithin}
 use Rattle.lrtext.specs.StoredParts.{parts_of, part_production_of}
-use Rattle.lrgrammar.specs.Stored.{production_of}
-use Rattle.lrgrammar.proofs.MadeFacts.{small_from_no_cause, no_double_rule, no_double_token, sizes_from_no_cause, rules_within, same_grammar, room}
-use Rattle.lrgrammar.proofs.ListFacts.{lists_along}
+use Rattle.lrgrammar.specs.StoredGrammar.{production_of}
+use Rattle.lrgrammar.proofs.GrammarOfParts.{small_from_no_cause, no_double_rule, no_double_token, sizes_from_no_cause, rules_within, same_grammar, room}
+use Rattle.lrgrammar.proofs.ProductionLists.{lists_along}
 use Rattle.lrgrammar.proofs.grammar.make.grammar_from.Goals as goal
 
 pub productions-requires : goal.productions-requires
@@ -49,6 +49,6 @@ invariant_of-result g c =
       shape = subst IsGrammar (sym same) (grammar_from_parts g.T.IndexStorage.MAX ps c.requires);
       sizes = subst (IsWithin g.T.IndexStorage.MAX) (sym same) (sizes_from_no_cause g.T.IndexStorage.MAX ps (omega (arith, g.met.T.IndexStorage.least)) c.requires);
       lists = lists_along g.T.IndexStorage.number (production_of g.T.IndexStorage.number) c.in_ok-prods.prods.items c.deref.result.now c.len-2.result (length c.in_ok-rule_names.rule_names.items) c.in_ok-rule_prods.rule_prods.items c.deref.ensures.value (c.len-2.ensures ∙ c.in_ok-rule_names.rule_names.ok.0) c.in_ok-rule_prods.ensures;
-      rules = subst (λ xs. Seen (get_by_text c.in_ok-rule_places.rule_places) (map string_bytes xs) (length xs)) c.deref-2.ensures.value c.in_ok-rule_places.ensures;
-      tokens = subst (λ xs. Seen (get_by_text c.in_ok-token_places.token_places) (map string_bytes xs) (length xs)) c.deref-3.ensures.value c.in_ok-token_places.ensures;
+      rules = subst (λ xs. FindsNames (get_by_text c.in_ok-rule_places.rule_places) (map string_bytes xs) (length xs)) c.deref-2.ensures.value c.in_ok-rule_places.ensures;
+      tokens = subst (λ xs. FindsNames (get_by_text c.in_ok-token_places.token_places) (map string_bytes xs) (length xs)) c.deref-3.ensures.value c.in_ok-token_places.ensures;
     }

@@ -1,7 +1,7 @@
 use Rattle.std.proofs.Common.{◌≡◌, map, take}
-use Rattle.lrspec.specs.Parts.{shifted_production}
+use Rattle.lrspec.specs.texts.Parts.{shifted_production}
 use Rattle.lrtext.specs.StoredParts.{part_production_of}
-use Rattle.lrgrammar.specs.Stored.{production_of}
+use Rattle.lrgrammar.specs.StoredGrammar.{production_of}
 use Rattle.lrgrammar.proofs.grammar.make.productions.Given as goal
 
 abbrev pub invariant-loop-prod : goal.invariant-loop-prod

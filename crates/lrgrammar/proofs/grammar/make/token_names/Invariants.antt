@@ -1,6 +1,6 @@
 use Rattle.std.proofs.Common.{◌≡◌, map, take}
 use Rattle.std.specs.String.{string_bytes}
-use Rattle.lrspec.specs.Parts.{names_of}
+use Rattle.lrspec.specs.texts.Parts.{names_of}
 use Rattle.lrtext.specs.StoredParts.{token_of}
 use Rattle.lrgrammar.proofs.grammar.make.token_names.Given as goal
 

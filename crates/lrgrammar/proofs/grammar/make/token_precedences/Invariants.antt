@@ -1,6 +1,6 @@
 use Rattle.std.proofs.Common.{◌≡◌, map, take}
 use Rattle.std.specs.Option.{option_map}
-use Rattle.lrspec.specs.Parts.{precedences_of}
+use Rattle.lrspec.specs.texts.Parts.{precedences_of}
 use Rattle.lrtext.specs.StoredParts.{token_of, precedence_of}
 use Rattle.lrgrammar.proofs.grammar.make.token_precedences.Given as goal
 

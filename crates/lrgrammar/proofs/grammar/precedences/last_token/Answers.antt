@@ -1,4 +1,4 @@
-use Rattle.lrgrammar.proofs.LastFacts.{last_at_token, last_at_rule}
+use Rattle.lrgrammar.proofs.LastTokens.{last_at_token, last_at_rule}
 use Rattle.lrgrammar.proofs.grammar.precedences.last_token.Goals as goal
 use Rattle.lrgrammar.proofs.grammar.precedences.last_token.Goals.{in-Rule, in-Token}
 

@@ -1,6 +1,6 @@
 use Rattle.std.proofs.Common.{◌≡◌, None, map, take}
 use Rattle.std.specs.Option.{option_map}
-use Rattle.lrspec.specs.Grammar.{last_token_or}
+use Rattle.lrspec.specs.grammars.Grammar.{last_token_or}
 use Rattle.lrgrammar.specs.Symbols.{symbol_of}
 use Rattle.lrgrammar.proofs.grammar.precedences.last_token.Given as goal
 

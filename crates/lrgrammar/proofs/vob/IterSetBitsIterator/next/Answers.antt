@@ -1,5 +1,5 @@
 use Rattle.std.proofs.Common.{◌∙◌, arith}
-use Rattle.lrgrammar.proofs.BitFacts.{places-skip}
+use Rattle.lrgrammar.proofs.SetPlaces.{places-skip}
 use Rattle.lrgrammar.proofs.vob.IterSetBitsIterator.next.Goals as goal
 
 pub loop-self-preserved : goal.loop-self-preserved

@@ -1,4 +1,4 @@
-use Rattle.lrgrammar.proofs.PlaceFacts.{set_places_members}
+use Rattle.lrgrammar.proofs.SetPlaces.{set_places_members}
 use Rattle.lrgrammar.proofs.vob.Vob.iter_set_bits.Goals as goal
 
 pub returns-clause-members : goal.returns-clause-members

@@ -1,0 +1,2 @@
+-- small grammars, on which the proofs have examples
+pub mod ExampleGrammars

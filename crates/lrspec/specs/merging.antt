@@ -1,0 +1,6 @@
+-- merging item sets, and graphs of them
+pub mod Cores
+pub mod WeakCompatibility
+pub mod Sharing
+pub mod Chains
+pub mod Graph

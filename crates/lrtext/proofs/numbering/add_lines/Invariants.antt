@@ -1,7 +1,0 @@
-use Rattle.std.proofs.Common.{◌≡◌, flat_map, take}
-use Rattle.lrspec.specs.Names.{with_names}
-use Rattle.lrtext.specs.StoredSaid.{line_names_of}
-use Rattle.lrtext.proofs.numbering.add_lines.Given as goal
-
-abbrev pub invariant-loop-line : goal.invariant-loop-line
-invariant-loop-line l = l.numbers ≡ with_names l.initial.numbers (flat_map line_names_of (take l.line-index l.lines))

@@ -1,7 +1,0 @@
-use Rattle.std.proofs.Common.{◌≡◌, [], map, take}
-use Rattle.lrspec.specs.Names.{with_names}
-use Rattle.lrtext.specs.StoredSaid.{rule_name_of}
-use Rattle.lrtext.proofs.numbering.rules.Given as goal
-
-abbrev pub invariant-loop-alternative : goal.invariant-loop-alternative
-invariant-loop-alternative l = l.rules ≡ with_names [] (map rule_name_of (take l.alternative-index l.document.alternatives.items))

@@ -1,8 +1,0 @@
-use Rattle.std.proofs.Common.{◌≡◌, [], map, take}
-use Rattle.std.specs.Prelude.{filter_map}
-use Rattle.lrspec.specs.Meaning.{unknown_in_body}
-use Rattle.lrtext.specs.StoredSaid.{name_text_of}
-use Rattle.lrtext.proofs.unknown.first_in_body.Given as goal
-
-abbrev pub invariant-loop-name : goal.invariant-loop-name
-invariant-loop-name l = filter_map (unknown_in_body l.rules l.declared) (map name_text_of (take l.name-index l.body)) ≡ []
