@@ -1,0 +1,141 @@
+-- where gotos stand in a list
+use Rattle.std.proofs.Common.{◌≡◌, ℕ, zero, suc, Bool, true, false, List, [], ◌∷◌, ◌++◌, Option, None, Some, ◌<◌, get_or, length, refl, sym, ap, ◌∙◌, ◌⊎◌, inl, inr, ⊎_elim}
+use Rattle.std.specs.Prelude.{slice_get, slice_set}
+use Rattle.std.specs.Option.{MatchOption}
+use Rattle.lrspec.specs.grammars.Grammar.{Symbol}
+use Rattle.lrspec.specs.grammars.ItemSets.{Items, item_at}
+use Rattle.lrspec.specs.merging.WeakCompatibility.{Apart}
+use Rattle.lrspec.specs.merging.Graph.{edge_at, same_symbol}
+use Rattle.std.proofs.lemmas.List.{map-append, map-set, length-map}
+use Rattle.std.proofs.lemmas.Option.{slice_get-map, slice_get-get_or, slice_get_within}
+use Rattle.lrgrammar.specs.declared.idx.Symbol as code
+use Rattle.lrgrammar.specs.Symbols.{symbol_of}
+use Rattle.lritems.specs.declared.itemset.Itemset.{Itemset}
+use Rattle.lritems.specs.ItemsOf.{set_of}
+use Rattle.lritems.specs.Gotos.{gotos_of, HasGotoOn, HasGotoAt, ArePlacesOf, IsPutAt}
+use Rattle.lritems.proofs.SymbolKeys.{symbol_from_test, test_itself}
+
+-- a goto that stands somewhere is in the list
+pub on_from_at : (gs : List (Symbol × Items)) (k : ℕ) (x : Symbol) → HasGotoAt gs k x → HasGotoOn gs x
+on_from_at [] k x h = cc
+on_from_at (e ∷ gs) zero x h = let s : Some e ≡ Some (x, h.0) = h.1 in let t : e ≡ (x, h.0) = cc in inl (ap (λ f. f.0) (sym t))
+on_from_at (e ∷ gs) (suc k) x h = inr (on_from_at gs k x h)
+
+-- what stands somewhere stands there in a longer list too
+pub at_longer : (gs hs : List (Symbol × Items)) (k : ℕ) (x : Symbol) → HasGotoAt gs k x → HasGotoAt (gs ++ hs) k x
+at_longer [] hs k x h = cc
+at_longer (e ∷ gs) hs zero x h = h
+at_longer (e ∷ gs) hs (suc k) x h = at_longer gs hs k x h
+
+-- what is put at the end stands there
+pub at_end : (gs : List (Symbol × Items)) (x : Symbol) (a : Items) → HasGotoAt (gs ++ (x, a) ∷ []) (length gs) x
+at_end [] x a = (a, refl)
+at_end (e ∷ gs) x a = at_end gs x a
+
+-- one on the symbol in a longer list is in the shorter, or is the one at the end
+pub on_longer : (gs : List (Symbol × Items)) (x : Symbol) (a : Items) (y : Symbol) → HasGotoOn (gs ++ (x, a) ∷ []) y → HasGotoOn gs y ⊎ (y ≡ x)
+on_longer [] x a y (inl h) = inr h
+on_longer [] x a y (inr h) = absurd h
+on_longer (e ∷ gs) x a y (inl h) = inl (inl h)
+on_longer (e ∷ gs) x a y (inr h) = elim (on_longer gs x a y h) [ inl k ↦ inl (inr k) | inr k ↦ inr k ]
+
+one_symbol : (o : Option (Symbol × Items)) (e f : Symbol × Items) → o ≡ Some e → o ≡ Some f → f.0 ≡ e.0
+one_symbol o e f h k = let s : Some e ≡ Some f = sym h ∙ k in let is : e ≡ f = cc in ap (λ z. z.0) (sym is)
+
+-- another goto on the same symbol at a place: the list has the symbols that it had
+pub set_on :
+    (gs : List (Symbol × Items)) (k : ℕ) (y x : Symbol) (a b : Items) → slice_get gs k ≡ Some (x, a) → HasGotoOn gs y → HasGotoOn (slice_set gs k (x, b)) y
+set_on [] k y x a b e h = h
+set_on (e ∷ gs) zero y x a b t (inl h) = let same : Some e ≡ Some (x, a) = t in let is : e ≡ (x, a) = cc in inl (h ∙ ap (λ f. f.0) is)
+set_on (e ∷ gs) zero y x a b t (inr h) = inr h
+set_on (e ∷ gs) (suc k) y x a b t (inl h) = inl h
+set_on (e ∷ gs) (suc k) y x a b t (inr h) = inr (set_on gs k y x a b t h)
+
+pub on_set :
+    (gs : List (Symbol × Items)) (k : ℕ) (y x : Symbol) (a b : Items) → slice_get gs k ≡ Some (x, a) → HasGotoOn (slice_set gs k (x, b)) y → HasGotoOn gs y
+on_set [] k y x a b e h = h
+on_set (e ∷ gs) zero y x a b t (inl h) = let same : Some e ≡ Some (x, a) = t in let is : e ≡ (x, a) = cc in inl (h ∙ ap (λ f. f.0) (sym is))
+on_set (e ∷ gs) zero y x a b t (inr h) = inr h
+on_set (e ∷ gs) (suc k) y x a b t (inl h) = inl h
+on_set (e ∷ gs) (suc k) y x a b t (inr h) = inr (on_set gs k y x a b t h)
+
+-- and at each place the symbol that it had
+pub at_set :
+    (gs : List (Symbol × Items)) (k j : ℕ) (y x : Symbol) (a b : Items) → slice_get gs k ≡ Some (x, a) → HasGotoAt gs j y → HasGotoAt (slice_set gs k (x, b)) j y
+at_set [] k j y x a b e h = cc
+at_set (e ∷ gs) zero zero y x a b t h = (b, ap (λ z. Some (z, b)) (one_symbol (Some e) (y, h.0) (x, a) h.1 t))
+at_set (e ∷ gs) zero (suc j) y x a b t h = h
+at_set (e ∷ gs) (suc k) zero y x a b t h = h
+at_set (e ∷ gs) (suc k) (suc j) y x a b t h = at_set gs k j y x a b t h
+
+-- the places of a list with one goto more
+pub places_longer :
+    (gs : List (Symbol × Items)) (ps qs : List (Symbol × ℕ)) (x : Symbol) (a : Items) → ArePlacesOf gs ps → edge_at qs x ≡ Some (length gs)
+    → ((y : Symbol) → (y ≡ x → ⊥) → edge_at qs y ≡ edge_at ps y) → ArePlacesOf (gs ++ (x, a) ∷ []) qs
+places_longer gs ps qs x a h here others y = go (same_symbol y x) refl
+  where
+    other : (y ≡ x → ⊥) → (o : Option ℕ) → MatchOption o (HasGotoOn gs y → ⊥) (λ k. HasGotoAt gs k y)
+        → MatchOption o (HasGotoOn (gs ++ (x, a) ∷ []) y → ⊥) (λ k. HasGotoAt (gs ++ (x, a) ∷ []) k y)
+    other n None m = λ k. ⊎_elim m n (on_longer gs x a y k)
+    other n (Some k) m = at_longer gs ((x, a) ∷ []) k y m
+
+    go : (b : Bool) → same_symbol y x ≡ b → MatchOption (edge_at qs y) (HasGotoOn (gs ++ (x, a) ∷ []) y → ⊥) (λ k. HasGotoAt (gs ++ (x, a) ∷ []) k y)
+    go true e = let s = symbol_from_test y x e in rw (s, here) (at_end gs x a)
+    go false e =
+        let n : y ≡ x → ⊥ = λ s. let t : same_symbol y x ≡ true = rw s (test_itself x) in cc in
+        rw (others y n) (other n (edge_at ps y) (h y))
+
+-- a symbol that isn't found has no goto
+pub absent_from_places : (gs : List (Symbol × Items)) (ps : List (Symbol × ℕ)) (x : Symbol) → ArePlacesOf gs ps → edge_at ps x ≡ None → HasGotoOn gs x → ⊥
+absent_from_places gs ps x h e = rw e at (h x)
+
+-- one that is found has
+pub at_from_places : (gs : List (Symbol × Items)) (ps : List (Symbol × ℕ)) (x : Symbol) (k : ℕ) → ArePlacesOf gs ps → edge_at ps x ≡ Some k → HasGotoAt gs k x
+at_from_places gs ps x k h e = rw e at (h x)
+
+-- an empty goto put at the end
+pub pushed_gotos :
+    {T : Type 0} (number : T → ℕ) (gs hs : List (code.Symbol T × Itemset T)) (x : code.Symbol T) (s : Itemset T) → hs ≡ gs ++ (x, s) ∷ [] → set_of number s ≡ []
+    → gotos_of number hs ≡ gotos_of number gs ++ (symbol_of number x, []) ∷ []
+pushed_gotos number gs hs x s e f = rw e (map-append _ gs ((x, s) ∷ []) ∙ rw f refl)
+
+-- bits put at one item of the goto at a place
+pub put_in_goto :
+    {T : Type 0} (number : T → ℕ) (gs : List (code.Symbol T × Itemset T)) (k : ℕ) (e : code.Symbol T × Itemset T) (s : Itemset T) (p d : ℕ) (ctx : List Bool) → k < length gs
+    → e ≡ get_or gs k e → item_at (set_of number s) p d ≡ Some ctx
+    → ((i j : ℕ) → Apart p d i j → item_at (set_of number s) i j ≡ item_at (set_of number e.1) i j)
+    → IsPutAt k p d ctx (gotos_of number gs) (gotos_of number (slice_set gs k (e.0, s)))
+put_in_goto number gs k e s p d ctx below at here others = record {
+  symbol = symbol_of number e.0;
+  before = set_of number e.1;
+  after = set_of number s;
+  was = slice_get-map (λ f. (symbol_of number f.0, set_of number f.1)) gs k ∙ (rw (slice_get-get_or gs k e below, ← at) refl);
+  is = map-set (λ f. (symbol_of number f.0, set_of number f.1)) gs k (e.0, s);
+  here = here;
+  others = others;
+}
+
+-- one goto alone stands at a place
+pub symbol_at : (gs : List (Symbol × Items)) (k : ℕ) (x y : Symbol) (a : Items) → HasGotoAt gs k x → slice_get gs k ≡ Some (y, a) → y ≡ x
+symbol_at gs k x y a h e = one_symbol (slice_get gs k) (x, h.0) (y, a) h.1 e
+
+pub same_at : (gs : List (Symbol × Items)) (k : ℕ) (x y : Symbol) (a : Items) → HasGotoAt gs k x → slice_get gs k ≡ Some (y, a) → slice_get gs k ≡ Some (x, a)
+same_at gs k x y a h e = e ∙ ap (λ z. Some (z, a)) (symbol_at gs k x y a h e)
+
+-- the place of a goto is below the length
+pub below_of_at :
+    {T : Type 0} (number : T → ℕ) (gs : List (code.Symbol T × Itemset T)) (k : ℕ) (x : Symbol) → HasGotoAt (gotos_of number gs) k x → k < length gs
+below_of_at number gs k x h =
+    let below : k < length (gotos_of number gs) = slice_get_within (gotos_of number gs) k (x, h.0) h.1 in
+    rw length-map at below
+
+-- the places stay where bits are put into a goto
+pub places_put :
+    (gs hs : List (Symbol × Items)) (ps : List (Symbol × ℕ)) (k p d : ℕ) (ctx : List Bool) → ArePlacesOf gs ps → IsPutAt k p d ctx gs hs → ArePlacesOf hs ps
+places_put gs hs ps k p d ctx h put x = rw put.is (go (edge_at ps x) (h x))
+  where
+    go :
+        (o : Option ℕ) → MatchOption o (HasGotoOn gs x → ⊥) (λ j. HasGotoAt gs j x)
+        → MatchOption o (HasGotoOn (slice_set gs k (put.symbol, put.after)) x → ⊥) (λ j. HasGotoAt (slice_set gs k (put.symbol, put.after)) j x)
+    go None n = λ j. n (on_set gs k x put.symbol put.before put.after put.was j)
+    go (Some j) a = at_set gs k j x put.symbol put.before put.after put.was a

@@ -1,0 +1,172 @@
+-- the tokens that an item passes on, as a walk over the symbols finds them
+use Rattle.std.proofs.Common.{◌≡◌, ℕ, zero, suc, ◌<◌, Bool, true, false, cond, List, [], ◌∷◌, length, replicate, set, length-set, refl, sym, ap, ◌∙◌, arith, ◌⊎◌, inl, inr}
+use Rattle.std.specs.Prelude.{IsTrue}
+use Rattle.std.proofs.lemmas.List.{length-replicate}
+use Rattle.lrspec.specs.grammars.Grammar.{Symbol, Rule, Token, Grammar, token_count, AreBodySymbols}
+use Rattle.lrspec.specs.grammars.First as first
+use Rattle.lrspec.specs.grammars.First.{AllNullable, Begins}
+use Rattle.lrgrammar.specs.Bits.{bit, union}
+use Rattle.lrgrammar.specs.Firsts.{Firsts, firsts_of, AreFirstsOf}
+use Rattle.lritems.specs.Expansion.{ArePassedOn}
+use Rattle.lrgrammar.proofs.Unions.{length-union}
+use Rattle.lrgrammar.proofs.Unions.{bit_of_union}
+use Rattle.lritems.proofs.JoinedLookaheads.{or_cases, or_left, or_right}
+
+-- what a walk over the symbols `y` makes of the bits `acc`
+abbrev pub passed : Firsts → List Bool → List Symbol → List Bool → List Bool
+passed f ctx [] acc = union acc ctx
+passed f ctx (Token t ∷ y) acc = set acc t true
+passed f ctx (Rule r ∷ y) acc = cond (bit f.nullable r) (passed f ctx y (union acc (firsts_of f r))) (union acc (firsts_of f r))
+
+-- a bit that is set stays set
+set_keeps : (v : List Bool) (i t : ℕ) → IsTrue (bit v t) → IsTrue (bit (set v i true) t)
+set_keeps [] i t h = h
+set_keeps (b ∷ v) zero zero h = refl
+set_keeps (b ∷ v) zero (suc t) h = h
+set_keeps (b ∷ v) (suc i) zero h = h
+set_keeps (b ∷ v) (suc i) (suc t) h = set_keeps v i t h
+
+set_here : (v : List Bool) (i : ℕ) → i < length v → IsTrue (bit (set v i true) i)
+set_here [] i h = absurd (omega arith)
+set_here (b ∷ v) zero h = refl
+set_here (b ∷ v) (suc i) h = set_here v i (omega arith)
+
+set_from : (v : List Bool) (i t : ℕ) → IsTrue (bit (set v i true) t) → (t ≡ i) ⊎ IsTrue (bit v t)
+set_from [] i t h = inr h
+set_from (b ∷ v) zero zero h = inl refl
+set_from (b ∷ v) zero (suc t) h = inr h
+set_from (b ∷ v) (suc i) zero h = inr h
+set_from (b ∷ v) (suc i) (suc t) h = elim (set_from v i t h) [ inl e ↦ inl (ap suc e) | inr k ↦ inr k ]
+
+union_left : (v w : List Bool) (t : ℕ) → length w ≡ length v → IsTrue (bit v t) → IsTrue (bit (union v w) t)
+union_left v w t e h = rw (bit_of_union v w e t) (or_left (bit v t) (bit w t) h)
+
+union_right : (v w : List Bool) (t : ℕ) → length w ≡ length v → IsTrue (bit w t) → IsTrue (bit (union v w) t)
+union_right v w t e h = rw (bit_of_union v w e t) (or_right (bit v t) (bit w t) h)
+
+union_from : (v w : List Bool) (t : ℕ) → length w ≡ length v → IsTrue (bit (union v w) t) → IsTrue (bit v t) ⊎ IsTrue (bit w t)
+union_from v w t e h = or_cases (bit v t) (bit w t) (rw (bit_of_union v w e t) at h)
+
+cond_both : (b : Bool) (v w : List Bool) (t : ℕ) → IsTrue (bit v t) → IsTrue (bit w t) → IsTrue (bit (cond b v w) t)
+cond_both true v w t h k = h
+cond_both false v w t h k = k
+
+cond_cases : (b : Bool) (v w : List Bool) (t : ℕ) → IsTrue (bit (cond b v w) t) → ((b ≡ true) × IsTrue (bit v t)) ⊎ IsTrue (bit w t)
+cond_cases true v w t h = inl (refl, h)
+cond_cases false v w t h = inr h
+
+length_cond : (b : Bool) (v w : List Bool) (n : ℕ) → length v ≡ n → length w ≡ n → length (cond b v w) ≡ n
+length_cond true v w n h k = h
+length_cond false v w n h k = k
+
+length_passed : (f : Firsts) (ctx : List Bool) (y : List Symbol) (acc : List Bool) → length (passed f ctx y acc) ≡ length acc
+length_passed f ctx [] acc = length-union acc ctx
+length_passed f ctx (Token t ∷ y) acc = length-set acc t true
+length_passed f ctx (Rule r ∷ y) acc =
+    length_cond (bit f.nullable r) (passed f ctx y (union acc (firsts_of f r))) (union acc (firsts_of f r)) (length acc)
+    (length_passed f ctx y (union acc (firsts_of f r)) ∙ length-union acc (firsts_of f r)) (length-union acc (firsts_of f r))
+
+module _ (g : Grammar) (f : Firsts) (ctx : List Bool) (of : AreFirstsOf g f) (len : length ctx ≡ token_count g) where
+  row : (r : ℕ) (acc : List Bool) → r < length g.rule_names → length acc ≡ token_count g → length (firsts_of f r) ≡ length acc
+  row r acc h e = of.bits r h ∙ sym e
+
+  row_union : (r : ℕ) (acc : List Bool) → length acc ≡ token_count g → length (union acc (firsts_of f r)) ≡ token_count g
+  row_union r acc e = length-union acc (firsts_of f r) ∙ e
+
+  -- bits that are set stay set
+  passed_keeps :
+      (y : List Symbol) (acc : List Bool) (t : ℕ) → AreBodySymbols g y → length acc ≡ token_count g → IsTrue (bit acc t) → IsTrue (bit (passed f ctx y acc) t)
+  passed_keeps [] acc t s e h = union_left acc ctx t (len ∙ sym e) h
+  passed_keeps (Token u ∷ y) acc t s e h = set_keeps acc u t h
+  passed_keeps (Rule r ∷ y) acc t s e h =
+      let more : IsTrue (bit (union acc (firsts_of f r)) t) = union_left acc (firsts_of f r) t (row r acc s.0.1 e) h in
+      cond_both (bit f.nullable r) (passed f ctx y (union acc (firsts_of f r))) (union acc (firsts_of f r)) t
+      (passed_keeps y (union acc (firsts_of f r)) t s.1 (row_union r acc e) more) more
+
+  -- the bits of what begins the symbols are set
+  passed_begins :
+      {y : List Symbol} {t : ℕ} (acc : List Bool) → AreBodySymbols g y → length acc ≡ token_count g → Begins g y t → IsTrue (bit (passed f ctx y acc) t)
+  passed_begins acc s e (first.Begins.here {t = t} {y = y}) = set_here acc t (omega (arith, e, s.0))
+  passed_begins acc s e (first.Begins.inside {r = r} {t = t} {y = y} p h b) =
+      let more : IsTrue (bit (union acc (firsts_of f r)) t) = union_right acc (firsts_of f r) t (row r acc s.0.1 e) ((of.begins r t).1 (p, h, b)) in
+      cond_both (bit f.nullable r) (passed f ctx y (union acc (firsts_of f r))) (union acc (firsts_of f r)) t
+      (passed_keeps y (union acc (firsts_of f r)) t s.1 (row_union r acc e) more) more
+  passed_begins acc s e (first.Begins.past {r = r} {t = t} {y = y} n b) =
+      let null : bit f.nullable r ≡ true = (of.is_nullable r).1 n in
+      rw null (passed_begins (union acc (firsts_of f r)) s.1 (row_union r acc e) b)
+
+  -- and those of the item where the symbols are nullable
+  passed_inherit :
+      {y : List Symbol} (t : ℕ) (acc : List Bool) → AreBodySymbols g y → length acc ≡ token_count g → AllNullable g y → IsTrue (bit ctx t)
+      → IsTrue (bit (passed f ctx y acc) t)
+  passed_inherit t acc s e first.AllNullable.none h = union_right acc ctx t (len ∙ sym e) h
+  passed_inherit t acc s e (first.AllNullable.more {r = r} {y = y} n a) h =
+      let null : bit f.nullable r ≡ true = (of.is_nullable r).1 n in
+      rw null (passed_inherit t (union acc (firsts_of f r)) s.1 (row_union r acc e) a h)
+
+  row_begins : (r t : ℕ) (y : List Symbol) → IsTrue (bit (firsts_of f r) t) → Begins g (Rule r ∷ y) t
+  row_begins r t y h = let b = (of.begins r t).0 h in first.Begins.inside b.0 b.1 b.2
+
+  passed_past :
+      (r : ℕ) (y : List Symbol) (acc : List Bool) (t : ℕ) → length (firsts_of f r) ≡ length acc → bit f.nullable r ≡ true
+      → IsTrue (bit (union acc (firsts_of f r)) t) ⊎ Begins g y t ⊎ (AllNullable g y × IsTrue (bit ctx t))
+      → IsTrue (bit acc t) ⊎ Begins g (Rule r ∷ y) t ⊎ (AllNullable g (Rule r ∷ y) × IsTrue (bit ctx t))
+  passed_past r y acc t l n (inl h) = elim (union_from acc (firsts_of f r) t l h) [ inl j ↦ inl j | inr j ↦ inr (inl (row_begins r t y j)) ]
+  passed_past r y acc t l n (inr (inl h)) = inr (inl (first.Begins.past ((of.is_nullable r).0 n) h))
+  passed_past r y acc t l n (inr (inr h)) = inr (inr (first.AllNullable.more ((of.is_nullable r).0 n) h.0, h.1))
+
+  -- and no others
+  passed_from :
+      (y : List Symbol) (acc : List Bool) (t : ℕ) → AreBodySymbols g y → length acc ≡ token_count g → IsTrue (bit (passed f ctx y acc) t)
+      → IsTrue (bit acc t) ⊎ Begins g y t ⊎ (AllNullable g y × IsTrue (bit ctx t))
+  passed_from [] acc t s e h = elim (union_from acc ctx t (len ∙ sym e) h) [ inl k ↦ inl k | inr k ↦ inr (inr (first.AllNullable.none, k)) ]
+  passed_from (Token u ∷ y) acc t s e h = elim (set_from acc u t h) [ inl k ↦ inr (inl (rw k first.Begins.here)) | inr k ↦ inl k ]
+  passed_from (Rule r ∷ y) acc t s e h =
+      elim (cond_cases (bit f.nullable r) (passed f ctx y (union acc (firsts_of f r))) (union acc (firsts_of f r)) t h) [
+        | inl k ↦ passed_past r y acc t (row r acc s.0.1 e) k.0 (passed_from y (union acc (firsts_of f r)) t s.1 (row_union r acc e) k.1)
+        | inr k ↦ elim (union_from acc (firsts_of f r) t (row r acc s.0.1 e) k) [ inl j ↦ inl j | inr j ↦ inr (inl (row_begins r t y j)) ]
+      ]
+
+  -- the walk begins with no bit set
+  pub are_passed_on : (y : List Symbol) (acc : List Bool) → AreBodySymbols g y → length acc ≡ length ctx → ((t : ℕ) → bit acc t ≡ false) → ArePassedOn g y ctx (passed f ctx y acc)
+  are_passed_on y acc s e clear = record {
+    len = length_passed f ctx y acc ∙ e;
+    begins = λ t b. passed_begins acc s (e ∙ len) b;
+    inherit = λ t a h. passed_inherit t acc s (e ∙ len) a h;
+    from = λ t h. elim (passed_from y acc t s (e ∙ len) h) [ inl k ↦ let c = clear t in absurd cc | inr k ↦ k ];
+  }
+
+-- bits of which none is set
+pub none_set : (n m : ℕ) (v : List Bool) → v ≡ replicate n false → n ≡ m → (length v ≡ m) × ((t : ℕ) → bit v t ≡ false)
+none_set n m v e s = rw (e, s) (length-replicate m false, clear m)
+  where
+    clear : (k t : ℕ) → bit (replicate k false) t ≡ false
+    clear zero t = refl
+    clear (suc k) zero = refl
+    clear (suc k) (suc t) = clear k t
+
+-- turns of the walk
+pub turn_past :
+    (f : Firsts) (ctx acc new total : List Bool) (left more : List Symbol) (r : ℕ) → passed f ctx left acc ≡ total → left ≡ Rule r ∷ more
+    → bit f.nullable r ≡ true → new ≡ union acc (firsts_of f r) → passed f ctx more new ≡ total
+turn_past f ctx acc new total left more r h e n m = rw m ((rw n refl) ∙ ap (λ z. passed f ctx z acc) (sym e) ∙ h)
+
+pub turn_stop :
+    (f : Firsts) (ctx acc new total : List Bool) (left more : List Symbol) (r : ℕ) → passed f ctx left acc ≡ total → left ≡ Rule r ∷ more
+    → bit f.nullable r ≡ false → new ≡ union acc (firsts_of f r) → new ≡ total
+turn_stop f ctx acc new total left more r h e n m = m ∙ (rw n refl) ∙ ap (λ z. passed f ctx z acc) (sym e) ∙ h
+
+pub turn_token :
+    (f : Firsts) (ctx acc new total : List Bool) (left more : List Symbol) (t : ℕ) → passed f ctx left acc ≡ total → left ≡ Token t ∷ more
+    → new ≡ set acc t true → new ≡ total
+turn_token f ctx acc new total left more t h e m = m ∙ ap (λ z. passed f ctx z acc) (sym e) ∙ h
+
+pub turn_end :
+    (f : Firsts) (ctx acc new total : List Bool) (left : List Symbol) → passed f ctx left acc ≡ total → left ≡ [] → new ≡ union acc ctx → new ≡ total
+turn_end f ctx acc new total left h e m = m ∙ ap (λ z. passed f ctx z acc) (sym e) ∙ h
+
+-- what the walk ends with is what is passed on
+pub made_passed_on :
+    (g : Grammar) (f : Firsts) (ctx : List Bool) → AreFirstsOf g f → length ctx ≡ token_count g → (y : List Symbol) (acc ahead : List Bool) → AreBodySymbols g y
+    → length acc ≡ length ctx → ((t : ℕ) → bit acc t ≡ false) → ahead ≡ passed f ctx y acc → ArePassedOn g y ctx ahead
+made_passed_on g f ctx of len y acc ahead s e clear h = rw h (are_passed_on g f ctx of len y acc s e clear)

@@ -1,0 +1,115 @@
+-- lookaheads that are put in at each production of a rule
+use Rattle.std.proofs.Common.{◌≡◌, ◌≢◌, ℕ, zero, suc, ◌+◌, ◌<◌, ◌≤◌, Bool, true, false, cond, List, ◌∷◌, length, map, get_or, refl, sym, ap, ◌∙◌, arith, inl, inr, ⊎_elim, Option, None, Some}
+use Rattle.std.specs.Prelude.{filter, slice_get}
+use Rattle.std.specs.List.{range_with_len}
+use Rattle.std.proofs.lemmas.Bool.{cases_eq, eqb-true, eq-eqb}
+use Rattle.std.proofs.lemmas.List.{get_or-map, length-map}
+use Rattle.lrspec.specs.grammars.Grammar.{Grammar, Production, IsOfRule, IsProductionOf, is_of_rule, productions_of}
+use Rattle.lrspec.specs.grammars.ItemSets.{Items}
+use Rattle.lrspec.proofs.grammars.BodyFacts.{below_of_production}
+use Rattle.lritems.specs.Expansion.{ArePut, Keeps}
+use Rattle.lritems.proofs.PutLookaheads.{put_none, put_next}
+
+-- `q` is one of the first `n` of a list of productions
+abbrev pub IsAmongFirst : ℕ → List ℕ → ℕ → Type 0
+IsAmongFirst n ps q = (k : ℕ) × (k < n) × (k < length ps) × (get_or ps k 0 ≡ q)
+
+-- one production more
+pub put_this :
+    (ps : List ℕ) (i p : ℕ) (ahead : List Bool) (old mid new before todo : Items) → ArePut (IsAmongFirst i ps) ahead old mid before
+    → ArePut (λ q. q ≡ p) ahead mid new todo → Keeps before todo → i < length ps → get_or ps i 0 ≡ p → ArePut (IsAmongFirst (i + 1) ps) ahead old new todo
+put_this ps i p ahead old mid new before todo a b k l e =
+    put_next (IsAmongFirst i ps) (λ q. q ≡ p) (IsAmongFirst (i + 1) ps) ahead old mid new before todo a b k
+    (λ q s.
+    ⊎_elim (λ (x : s.0 ≡ i). inr (sym s.3 ∙ rw x e)) (λ (n : s.0 ≢ i). let lt : s.0 < i = omega (arith, s.1, n) in inl (s.0, lt, s.2, s.3)) (cases_eq s.0 i))
+    (λ q s. let lt : s.0 < i + 1 = omega (arith, s.1) in (s.0, lt, s.2, s.3))
+    (λ q x. let lt : i < i + 1 = omega arith in (i, lt, l, e ∙ sym x))
+
+-- no production at first
+pub put_no_more : (ps : List ℕ) (ahead : List Bool) (old todo : Items) → ArePut (IsAmongFirst 0 ps) ahead old old todo
+put_no_more ps ahead old todo = put_none (IsAmongFirst 0 ps) ahead old todo (λ q s. let n : s.0 < 0 = s.1 in absurd (omega (arith, n)))
+
+of_rule_from_test : (o : Option Production) (r : ℕ) → is_of_rule o r ≡ true → IsOfRule o r
+of_rule_from_test None r h = cc
+of_rule_from_test (Some p) r h = eqb-true p.rule r h
+
+test_from_of_rule : (o : Option Production) (r : ℕ) → IsOfRule o r → is_of_rule o r ≡ true
+test_from_of_rule None r h = absurd h
+test_from_of_rule (Some p) r h = eq-eqb p.rule r h
+
+-- what is in a filtered range passes the test
+range_passes : (f : ℕ → Bool) (a n k : ℕ) → k < length (filter f (range_with_len a n)) → f (get_or (filter f (range_with_len a n)) k 0) ≡ true
+range_passes f a zero k h = absurd (omega arith)
+range_passes f a (suc n) k h = go (f a) refl (range_passes f (a + 1) n) k h
+  where
+    go :
+        (b : Bool) → f a ≡ b → ((j : ℕ) → j < length (filter f (range_with_len (a + 1) n)) → f (get_or (filter f (range_with_len (a + 1) n)) j 0) ≡ true) → (k : ℕ)
+        → k < length (cond b (a ∷ filter f (range_with_len (a + 1) n)) (filter f (range_with_len (a + 1) n)))
+        → f (get_or (cond b (a ∷ filter f (range_with_len (a + 1) n)) (filter f (range_with_len (a + 1) n))) k 0) ≡ true
+    go true e r zero l = e
+    go true e r (suc k) l = r k (omega arith)
+    go false e r k l = r k l
+
+-- a number of a range that passes the test has a place
+range_place :
+    (f : ℕ → Bool) (a n q : ℕ) → a ≤ q → q < a + n → f q ≡ true
+    → (k : ℕ) × (k < length (filter f (range_with_len a n))) × (get_or (filter f (range_with_len a n)) k 0 ≡ q)
+range_place f a zero q h l t = absurd (omega arith)
+range_place f a (suc n) q h l t =
+    ⊎_elim
+    (λ (e : q ≡ a). let passes : f a ≡ true = rw e at t in place_here passes (sym e))
+    (λ (d : q ≢ a). place_later (f a) (range_place f (a + 1) n q (omega (arith, d)) (omega arith) t))
+    (cases_eq q a)
+  where
+    rest : List ℕ
+    rest = filter f (range_with_len (a + 1) n)
+
+    place_here : f a ≡ true → a ≡ q → (k : ℕ) × (k < length (cond (f a) (a ∷ rest) rest)) × (get_or (cond (f a) (a ∷ rest) rest) k 0 ≡ q)
+    place_here p e = rw p (0, omega arith, e)
+
+    place_later :
+        (b : Bool) → (k : ℕ) × (k < length rest) × (get_or rest k 0 ≡ q) → (k : ℕ) × (k < length (cond b (a ∷ rest) rest)) × (get_or (cond b (a ∷ rest) rest) k 0 ≡ q)
+    place_later true s = (suc s.0, omega (arith, s.1), s.2)
+    place_later false s = s
+
+-- all productions of the rule at last
+pub put_every :
+    (g : Grammar) (ps : List ℕ) (r n : ℕ) (ahead : List Bool) (old mid todo : Items) → ps ≡ productions_of g r → length ps ≤ n → ArePut (IsAmongFirst n ps) ahead old mid todo
+    → ArePut (λ q. IsProductionOf g q r) ahead old mid todo
+put_every g ps r n ahead old mid todo e l a =
+    put_next (IsAmongFirst n ps) (λ q. ⊥) (λ q. IsProductionOf g q r) ahead old mid mid todo todo a
+    (put_none (λ q. ⊥) ahead mid todo (λ q h. h)) (λ p d h. h)
+    (λ q h. inl (place q h))
+    (λ q s. of_rule_from_test (slice_get g.productions q) r (passes q s))
+    (λ q h. absurd h)
+  where
+    place : (q : ℕ) → IsProductionOf g q r → IsAmongFirst n ps q
+    place q h =
+        let s = range_place (λ q. is_of_rule (slice_get g.productions q) r) 0 (length g.productions) q (omega arith) (omega (arith, below_of_production g q r h)) (test_from_of_rule (slice_get g.productions q) r h) in
+        let lt : s.0 < length ps = rw e s.1 in
+        (s.0, omega (arith, lt, l), lt, rw e s.2)
+
+    passes : (q : ℕ) → IsAmongFirst n ps q → is_of_rule (slice_get g.productions q) r ≡ true
+    passes q s =
+        let lt = rw e at s.2 in
+        let here = rw e at s.3 in
+        rw (← here) (range_passes (λ q. is_of_rule (slice_get g.productions q) r) 0 (length g.productions) s.0 lt)
+
+-- a production of the list is one of the grammar
+pub production_below :
+    (g : Grammar) (ps : List ℕ) (r k p : ℕ) → ps ≡ productions_of g r → k < length ps → get_or ps k 0 ≡ p → p < length g.productions
+production_below g ps r k p e l h =
+    let lt : k < length (productions_of g r) = rw e at l in
+    let at : get_or (productions_of g r) k 0 ≡ p = rw e at h in
+    let passes : is_of_rule (slice_get g.productions p) r ≡ true = rw (← at) (range_passes (λ q. is_of_rule (slice_get g.productions q) r) 0 (length g.productions) k lt) in
+    below_of_production g p r (of_rule_from_test (slice_get g.productions p) r passes)
+
+-- the number at a place of a list of numbers
+pub number_at : {X : Type 0} (f : X → ℕ) (xs : List X) (i : ℕ) (x : X) → i < length xs → x ≡ get_or xs i x → get_or (map f xs) i 0 ≡ f x
+number_at f xs i x h e = get_or-map f xs i x 0 h ∙ ap f (sym e)
+
+pub below_mapped : {X : Type 0} (f : X → ℕ) (xs : List X) (i : ℕ) → i < length xs → i < length (map f xs)
+below_mapped f xs i h = rw length-map h
+
+pub end_mapped : {X : Type 0} (f : X → ℕ) (xs : List X) (i : ℕ) → length xs ≤ i → length (map f xs) ≤ i
+end_mapped f xs i h = rw length-map h

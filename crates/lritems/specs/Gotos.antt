@@ -1,0 +1,91 @@
+-- the gotos of an item set on all symbols, and how they are made
+use Rattle.std.specs.Prelude.{◌≡◌, ℕ, Bool, List, [], ◌∷◌, ◌++◌, Some, map, slice_get, slice_set, if◌then◌else◌, ◌⊎◌, MatchOption}
+use Rattle.std.specs.List.{list_any}
+use Rattle.lrgrammar.specs.declared.idx.Symbol.{Symbol}
+use Rattle.lrgrammar.specs.Symbols.{symbol_of}
+use Rattle.lrspec.specs.grammars.Grammar as math
+use Rattle.lrspec.specs.grammars.Grammar.{Grammar}
+use Rattle.lrspec.specs.grammars.ItemSets.{Items, item_at, HasItem, Fits, IsBefore, IsGoto}
+use Rattle.lrspec.specs.merging.WeakCompatibility.{Apart}
+use Rattle.lrspec.specs.merging.Graph.{same_symbol, edge_at}
+use Rattle.lritems.specs.declared.itemset.Itemset.{Itemset}
+use Rattle.lritems.specs.ItemsOf.{set_of}
+
+-- gotos as plain data, each with its symbol
+abbrev pub gotos_of :
+    {T : Type 0} → (T → ℕ) → List (Symbol T × Itemset T) → List (math.Symbol × Items)
+gotos_of number gs = map (λ e. (symbol_of number e.0, set_of number e.1)) gs
+
+-- the item set has an item before the symbol
+abbrev pub HasItemBefore : Grammar → Items → math.Symbol → Type 0
+HasItemBefore g c x = (p : ℕ) × (d : ℕ) × HasItem c p d × IsBefore g p d x
+
+-- a goto on the symbol is in the list
+abbrev pub HasGotoOn : List (math.Symbol × Items) → math.Symbol → Type 0
+HasGotoOn [] x = ⊥
+HasGotoOn (e ∷ es) x = (x ≡ e.0) ⊎ HasGotoOn es x
+
+-- no symbol has two gotos in the list
+abbrev pub AreOnDistinctSymbols : List (math.Symbol × Items) → Type 0
+AreOnDistinctSymbols [] = Unit {0}
+AreOnDistinctSymbols (e ∷ es) = (HasGotoOn es e.0 → ⊥) × AreOnDistinctSymbols es
+
+-- the symbols, with the first of `y` at the end where it is a new one
+abbrev pub with_symbol : List math.Symbol → List math.Symbol → List math.Symbol
+with_symbol xs [] = xs
+with_symbol xs (x ∷ y) = if list_any (same_symbol x) xs then xs else xs ++ x ∷ []
+
+-- the symbols behind dots, in the order in which the items first show them, with `xs` before them
+abbrev pub symbols_shown : Grammar → List math.Symbol → Items → List math.Symbol
+symbols_shown g xs [] = xs
+symbols_shown g xs (e ∷ es) = symbols_shown g (with_symbol xs (math.rest g e.0.0 e.0.1)) es
+
+-- `a` is the goto of `c` on a symbol before which `c` has an item, and fits the grammar
+pub record IsGotoToPlace (g : Grammar) (c : Items) (x : math.Symbol) (a : Items) : Type 0 where
+  pub is_goto : IsGoto g c x a
+  pub fits : Fits g a
+  pub before : HasItemBefore g c x
+
+-- so is each in the list
+abbrev pub AreGotosToPlace : Grammar → Items → List (math.Symbol × Items) → Type 0
+AreGotosToPlace g c [] = Unit {0}
+AreGotosToPlace g c (e ∷ es) = IsGotoToPlace g c e.0 e.1 × AreGotosToPlace g c es
+
+-- the gotos of `c`: one on each symbol before which `c` has an item, in the order in which the
+-- items first show the symbols
+pub record AreGotosOf (g : Grammar) (c : Items) (gs : List (math.Symbol × Items)) : Type 0 where
+  pub each : AreGotosToPlace g c gs
+  pub distinct : AreOnDistinctSymbols gs
+  pub all : (p d : ℕ) (x : math.Symbol) → HasItem c p d → IsBefore g p d x → HasGotoOn gs x
+  pub order : map (λ e. e.0) gs ≡ symbols_shown g [] c
+
+-- ---- making them
+
+-- places by symbol, as plain data
+abbrev pub places_of : {T : Type 0} → (T → ℕ) → List (Symbol T × ℕ) → List (math.Symbol × ℕ)
+places_of number ps = map (λ e. (symbol_of number e.0, e.1)) ps
+
+-- the goto at the place is one on the symbol
+abbrev pub HasGotoAt : List (math.Symbol × Items) → ℕ → math.Symbol → Type 0
+HasGotoAt gs k x = (a : Items) × (slice_get gs k ≡ Some (x, a))
+
+-- for each symbol the place of its goto is listed, if there is one
+abbrev pub ArePlacesOf : List (math.Symbol × Items) → List (math.Symbol × ℕ) → Type 0
+ArePlacesOf gs ps =
+    (x : math.Symbol) → MatchOption (edge_at ps x) (HasGotoOn gs x → ⊥) (λ k. HasGotoAt gs k x)
+
+-- `new` is `old`, or `old` with an empty goto on the symbol, which had none
+abbrev pub IsMadeReady :
+    math.Symbol → List (math.Symbol × Items) → List (math.Symbol × Items) → Type 0
+IsMadeReady x old new = (new ≡ old) ⊎ ((HasGotoOn old x → ⊥) × (new ≡ old ++ (x, []) ∷ []))
+
+-- `new` is `old` with the bits at one item of the goto at the place `k`
+pub record IsPutAt
+    (k p d : ℕ) (ctx : List Bool) (old new : List (math.Symbol × Items)) : Type 0 where
+  pub symbol : math.Symbol
+  pub before : Items
+  pub after : Items
+  pub was : slice_get old k ≡ Some (symbol, before)
+  pub is : new ≡ slice_set old k (symbol, after)
+  pub here : item_at after p d ≡ Some ctx
+  pub others : (i e : ℕ) → Apart p d i e → item_at after i e ≡ item_at before i e

@@ -1,0 +1,33 @@
+-- words for weak compatibility by bits, and for what merging changes
+use Rattle.std.specs.Prelude.{ℕ, Bool, List, ◌⊎◌}
+use Rattle.lrspec.specs.grammars.ItemSets.{Items, HasItem, LooksIn}
+use Rattle.lrspec.specs.merging.WeakCompatibility.{Passes}
+use Rattle.lrgrammar.specs.Bits.{Intersect}
+use Rattle.lritems.specs.ItemsOf.{HaveBits}
+
+-- all items of both item sets have one number of bits
+abbrev pub HaveEquallyManyBits : Items → Items → Type 0
+HaveEquallyManyBits a b = (n : ℕ) × HaveBits n a × HaveBits n b
+
+-- two items pass, by their bits: those of the first and the second in the one item set, and then
+-- in the other
+abbrev pub BitsPass : List Bool → List Bool → List Bool → List Bool → Type 0
+BitsPass ai aj bi bj =
+    ((Intersect ai bj → ⊥) × (Intersect bi aj → ⊥)) ⊎ Intersect ai aj ⊎ Intersect bi bj
+
+-- two items meet one way across, and share no token in either item set, by the same bits
+abbrev pub BitsClash : List Bool → List Bool → List Bool → List Bool → Type 0
+BitsClash ai aj bi bj =
+    (Intersect ai bj ⊎ Intersect bi aj) × (Intersect ai aj → ⊥) × (Intersect bi bj → ⊥)
+
+-- the item passes with each item that both item sets have
+abbrev pub PassesWithAll : Items → Items → ℕ → ℕ → Type 0
+PassesWithAll a b p d = (q e : ℕ) → HasItem a q e → HasItem b q e → Passes a b p d q e
+
+-- `b` looks at a token at which `a` does not
+pub record Gains (a b : Items) : Type 0 where
+  pub p : ℕ
+  pub d : ℕ
+  pub t : ℕ
+  pub now : LooksIn b p d t
+  pub before : LooksIn a p d t → ⊥
