@@ -1,3 +1,11 @@
-pub mod ItemsOf
-pub mod Expansion
-pub mod Start
+pub mod GraphOf
+pub mod Construction
+pub mod Counts
+pub mod Invariant
+pub mod DraftOf
+pub mod CandidatesOf
+pub mod Refusals
+pub mod Closing
+pub mod Chains
+pub mod Collecting
+pub mod ItemSets

@@ -1,15 +1,26 @@
-//! LR(1) item sets over a grammar's index types.
+//! LR(1) state graphs of grammars, merged by Pager's rule.
 #![tactic(auto)]
 
-ghost use Rattle.std.specs.Prelude.{◌≡◌};
+ghost use Rattle.std.specs.Prelude.{◌≡◌, ◌<◌, length, IfOk, IfErr};
+ghost use Rattle.lrspec.specs.merging.Graph.{IsGraphOf, AreShared, InventsNoConflict, CoresCross};
+ghost use Rattle.lrtable.specs.Chains.{HasChainOf};
+ghost use Rattle.lrtable.specs.Refusals.{IsLargeOnly};
 
-mod ahead;
-mod closing;
-mod items;
-pub mod itemset;
+mod errors;
 mod laws;
-mod printing;
+mod pager;
+pub mod stategraph;
+pub mod statetable;
 
+/// Item sets with lookaheads.
+pub mod itemset {
+    pub use lritems::itemset::{Ctx, Itemset};
+}
+
+pub use crate::errors::BuildError;
+pub use crate::stategraph::StateGraph;
+pub use crate::statetable::{StateTableError, StateTableErrorKind};
+use lrgrammar::grammar::YaccGrammar;
 use lrgrammar::idx::IndexStorage;
 
 /// The number of a state.
@@ -39,4 +50,21 @@ impl<T: IndexStorage> From<StIdx<T>> for u32 {
     fn from(s: StIdx<T>) -> u32 {
         s.0.to_usize() as u32
     }
+}
+
+/// The LR(1) state graph of the grammar, with states merged by Pager's rule. `TooLarge` where more than the index type's
+/// `MAX` states would be made, or `MAX` or more are left; never `Table`.
+pub fn pager_stategraph<T: IndexStorage>(
+    grm: &YaccGrammar<T>,
+) -> Result<StateGraph<T>, BuildError<T>>
+    ensures graph { IfOk result (λ h. IsGraphOf grm.now h) }
+    ensures shared { IfOk result (λ h. AreShared grm.now h) }
+    ensures conflicts { IfOk result (λ h. InventsNoConflict grm.now h) }
+    ensures crossing { IfOk result CoresCross }
+    ensures below { IfOk result (λ h. length h < T.MAX) }
+    ensures chain { IfOk result (λ h. HasChainOf grm.now (length h)) }
+    ensures refused { IfErr result (IsLargeOnly (HasChainOf grm.now T.MAX)) }
+{
+    let (graph, _counts) = pager::build(grm)?;
+    Ok(graph)
 }

@@ -1,0 +1,112 @@
+//! State graphs.
+
+ghost use Rattle.std.specs.Prelude.{◌≡◌, ◌<◌, length, option_map, sum_by};
+ghost use Rattle.lrspec.specs.merging.Graph.{core_of, closed_of, edge};
+ghost use Rattle.lrgrammar.specs.Symbols.{symbol_of};
+ghost use Rattle.lrgrammar.specs.SymbolLaws.{symbol_cmp};
+ghost use Rattle.std.specs.BTreeMap.{get};
+ghost use Rattle.lritems.specs.ItemsOf.{set_of};
+
+use crate::StIdx;
+use crate::itemset::Itemset;
+use lrgrammar::idx::{IndexStorage, Symbol};
+use std::collections::BTreeMap;
+use std::marker::Model;
+
+/// A state: its core, its closed state, and where its edges lead.
+#[derive(Drop)]
+pub(crate) struct State<T: IndexStorage> {
+    pub core: Itemset<T>,
+    pub closed: Itemset<T>,
+    pub edges: BTreeMap<Symbol<T>, StIdx<T>>,
+}
+
+/// The LR(1) state graph of a grammar. Its states are numbered from 0, which is the start state; there are fewer than the
+/// index type's `MAX`.
+#[derive(Drop)]
+pub struct StateGraph<T: IndexStorage> {
+    states: Vec<State<T>>,
+    edges_len: usize,
+}
+
+impl<T: IndexStorage> Model for StateGraph<T> {
+    ghost use Rattle.std.specs.Prelude.{List};
+    ghost use Rattle.lrspec.specs.merging.Graph as math;
+
+    ghost Value = { List math.State };
+
+    ghost use Rattle.lrtable.specs.GraphOf.{graph_of, IsStoredGraph};
+
+    ghost view = { λ g. graph_of T.number g.states.items };
+
+    ghost invariant = { λ g. IsStoredGraph T.MAX (graph_of T.number g.states.items) g.edges_len };
+}
+
+impl<T: IndexStorage> StateGraph<T> {
+    ghost use Rattle.lrtable.specs.GraphOf.{graph_of, IsStoredGraph};
+
+    /// The graph of these states, which have so many edges.
+    pub(crate) fn new(states: Vec<State<T>>, edges_len: usize) -> StateGraph<T>
+        requires { IsStoredGraph T.MAX (graph_of T.number states.items) edges_len }
+        ensures { result ≡ graph_of T.number states.items }
+    {
+        StateGraph { states, edges_len }
+    }
+
+    /// The start state, which is state 0.
+    pub fn start_state(&self) -> StIdx<T>
+        ensures { T.number result.0 ≡ 0 }
+    {
+        StIdx(T::from_usize(0).unwrap())
+    }
+
+    /// The number of states.
+    pub fn all_states_len(&self) -> StIdx<T>
+        ensures { T.number result.0 ≡ length self.now }
+    {
+        StIdx(T::from_usize(self.states.len()).unwrap())
+    }
+
+    /// The number of edges.
+    pub fn all_edges_len(&self) -> usize
+        ensures { result ≡ sum_by (λ s. length s.edges) self.now }
+    {
+        self.edges_len
+    }
+
+    /// The closed state of the state, which is one of the graph.
+    pub fn closed_state(&self, stidx: StIdx<T>) -> &Itemset<T>
+        requires { T.number stidx.0 < length self.now }
+        ensures { set_of T.number result.now ≡ closed_of self.now (T.number stidx.0) }
+    {
+        &self.states[usize::from(stidx)].closed
+    }
+
+    /// The core of the state, which is one of the graph.
+    pub fn core_state(&self, stidx: StIdx<T>) -> &Itemset<T>
+        requires { T.number stidx.0 < length self.now }
+        ensures { set_of T.number result.now ≡ core_of self.now (T.number stidx.0) }
+    {
+        &self.states[usize::from(stidx)].core
+    }
+
+    /// The state to which the edge of the state on the symbol leads; None where there is no such edge, or no such state.
+    pub fn edge(&self, stidx: StIdx<T>, sym: Symbol<T>) -> Option<StIdx<T>>
+        ensures { option_map (λ u. T.number u.0) result
+            ≡ edge self.now (T.number stidx.0) (symbol_of T.number sym) }
+    {
+        let state = self.states.get(usize::from(stidx))?;
+        find_edge(&state.edges, sym)
+    }
+}
+
+/// Where the edge on the symbol leads, if there is one.
+fn find_edge<T: IndexStorage>(
+    edges: &BTreeMap<Symbol<T>, StIdx<T>>,
+    sym: Symbol<T>,
+) -> Option<StIdx<T>>
+    ensures found { result ≡ get ⟦<Symbol<T> as Ord>⟧.cmp edges.now sym }
+    ensures order { (a b : Symbol T) → ⟦<Symbol<T> as Ord>⟧.cmp a b ≡ symbol_cmp T.number a b }
+{
+    edges.get(&sym).copied()
+}
