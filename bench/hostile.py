@@ -14,7 +14,7 @@ from concurrent.futures import ThreadPoolExecutor
 from pathlib import Path
 
 TOP = Path(__file__).resolve().parent.parent
-PROGRAM = TOP / "crates/lrt/out/lrt"
+PROGRAM = TOP / "out/lrt"
 FAULT = re.compile(
     rb"lrt: (syntax error at byte \d+|unknown symbol .+|token .+ has two precedences|too many (rules|tokens|productions)"
     rb"|production too long|symbol out of range|rule without production|reserved rule name|duplicate name"
@@ -73,6 +73,7 @@ def seconds(text):
 
 
 def main():
+    subprocess.run([TOP / "lrt", "start", TOP / "examples/assignments.y"], check=True, stdout=subprocess.DEVNULL)
     with ThreadPoolExecutor() as pool:
         for path in sorted((TOP / "examples").glob("*.y")):
             text = path.read_bytes()

@@ -10,7 +10,7 @@ import time
 from pathlib import Path
 
 TOP = Path(__file__).resolve().parent.parent
-PROGRAM = TOP / "crates/lrt/out/lrt"
+PROGRAM = TOP / "out/lrt"
 RUNS = 5
 
 

@@ -1,6 +1,6 @@
 //! The answers to requests, as text.
 
-use crate::requests::Request;
+use crate::requests::{Request, Source};
 use lrgrammar::grammar::{TextError, YaccGrammar};
 use lrgrammar::idx::SIdx;
 use lrgrammar::vob::Vob;
@@ -11,8 +11,8 @@ use std::fmt;
 /// Why a request has no answer; each displays as the rest of its fault line.
 #[derive(Debug, Drop)]
 pub enum Fault<'a> {
-    CannotRead(&'a str),
-    NotUtf8(&'a str),
+    CannotRead(Source<'a>),
+    NotUtf8(Source<'a>),
     Text(TextError),
     Memory,
     CannotWrite,
@@ -21,8 +21,8 @@ pub enum Fault<'a> {
 impl fmt::Display for Fault<'_> {
     fn fmt<W: fmt::Write>(&self, f: &mut fmt::Formatter<W>) -> fmt::Result {
         match self {
-            Fault::CannotRead(file) => write!(f, "cannot read {file}"),
-            Fault::NotUtf8(file) => write!(f, "{file} is not UTF-8"),
+            Fault::CannotRead(source) => write!(f, "cannot read {source}"),
+            Fault::NotUtf8(source) => write!(f, "{source} is not UTF-8"),
             Fault::Text(error) => write!(f, "{error}"),
             Fault::Memory => write!(f, "out of memory"),
             Fault::CannotWrite => write!(f, "cannot write standard output"),
@@ -42,17 +42,19 @@ impl From<TextError> for Fault<'_> {
     }
 }
 
-/// The text that answers a request for the file with these bytes; `file` is None where it could not be read.
+/// The text that answers a request; `file` holds the bytes of its source, and is None where they could not be read.
 pub fn answer<'a>(
     alloc: Global,
     request: &Request<'a>,
     file: Option<&[u8]>,
 ) -> Result<String, Fault<'a>> {
-    let Request::Start(name) = request;
-    let bytes = file.ok_or(Fault::CannotRead(name))?;
-    let text = std::str::from_utf8(bytes).map_err(|_| Fault::NotUtf8(name))?;
+    let source = request.source();
+    let bytes = file.ok_or(Fault::CannotRead(source))?;
+    let text = std::str::from_utf8(bytes).map_err(|_| Fault::NotUtf8(source))?;
     let grm = YaccGrammar::<u32>::from_text(alloc, text)?;
-    Ok(start_text(alloc, &grm)?)
+    match request {
+        Request::Start(_) => Ok(start_text(alloc, &grm)?),
+    }
 }
 
 /// The closed start state, an item a line.

@@ -7,7 +7,7 @@ mod requests;
 mod tests;
 
 use answers::{Fault, answer};
-use requests::{Request, USAGE, requested};
+use requests::{Request, Source, USAGE, requested};
 use std::alloc::{AllocError, Global};
 use std::io::{self, Read, Write};
 use std::process::ExitCode;
@@ -54,17 +54,18 @@ fn print<'a, W: Write>(
     out.flush().map_err(|_| Fault::CannotWrite)
 }
 
-/// The bytes of the file that the second argument names, or of standard input where there are no arguments; None where
-/// they can't be had.
+/// The bytes of the source that the arguments name; None where they can't be had, and where the arguments are wrong usage.
 fn input(rt: &HostRuntime, args: &[String]) -> Result<Option<Vec<u8>>, AllocError> {
+    let Some(request) = requested(args) else {
+        return Ok(None);
+    };
     let mut bytes = Vec::new(rt.alloc());
-    let read = match args.get(1) {
-        Some(name) => match fs::File::open(rt, name.as_str()) {
+    let read = match request.source() {
+        Source::File(name) => match fs::File::open(rt, name) {
             Ok(mut file) => file.read_to_end(&mut bytes),
             Err(error) => Err(error),
         },
-        None if args.is_empty() => rt.stdin().read_to_end(&mut bytes),
-        None => return Ok(None),
+        Source::StandardInput => rt.stdin().read_to_end(&mut bytes),
     };
     match read {
         Ok(_) => Ok(Some(bytes)),

@@ -137,6 +137,26 @@ fn refused_texts(rt: HostRuntime) -> Result<(), Fail> {
     Ok(())
 }
 
+/// That this output cannot be written is the fault told.
+fn cannot_write<W: io::Write + Drop>(rt: &impl Abort, alloc: Global, out: W) -> Result<(), Fail> {
+    let args = words(alloc, "start a.y")?;
+    let text = Some(ASSIGNMENTS.as_bytes());
+    let (status, _, told) = command(
+        alloc,
+        args.as_slice(),
+        text,
+        io::empty(),
+        out,
+        Vec::new(alloc),
+    );
+    assert_eq!(rt; status, 1);
+    assert_eq!(rt;
+        told.as_slice(),
+        b"lrt: cannot write standard output\n".as_slice()
+    );
+    Ok(())
+}
+
 /// Takes no byte.
 #[derive(Drop)]
 struct Stuck;
@@ -151,23 +171,26 @@ impl io::Write for Stuck {
     }
 }
 
+/// Takes all bytes, and loses them when it is flushed.
+#[derive(Drop)]
+struct Unflushed;
+
+impl io::Write for Unflushed {
+    fn write(&mut self, part: &[u8]) -> io::Result<usize> {
+        Ok(part.len())
+    }
+
+    fn flush(&mut self) -> io::Result<()> {
+        Err(io::Error::from(io::ErrorKind::WriteZero))
+    }
+}
+
 #[test]
 fn output_that_takes_nothing(rt: HostRuntime) -> Result<(), Fail> {
-    let alloc = rt.alloc();
-    let args = words(alloc, "start a.y")?;
-    let text = Some(ASSIGNMENTS.as_bytes());
-    let (status, _, told) = command(
-        alloc,
-        args.as_slice(),
-        text,
-        io::empty(),
-        Stuck,
-        Vec::new(alloc),
-    );
-    assert_eq!(rt; status, 1);
-    assert_eq!(rt;
-        told.as_slice(),
-        b"lrt: cannot write standard output\n".as_slice()
-    );
-    Ok(())
+    cannot_write(&rt, rt.alloc(), Stuck)
+}
+
+#[test]
+fn output_whose_flush_fails(rt: HostRuntime) -> Result<(), Fail> {
+    cannot_write(&rt, rt.alloc(), Unflushed)
 }

@@ -1,0 +1,108 @@
+# Builds the program for the scripts at the top, which set `top` to their folder and read this file. The program is kept in
+# out/ at the top, beside the sum of the sources that it was built from, the times that crates took, and the last log of rt.
+
+kept=$top/out
+program=$kept/lrt
+log=$kept/build.log
+
+say() {
+    echo "lrt: $*" >&2
+}
+
+# Prints a sum over the paths and texts of all sources.
+sources() {
+    (cd "$top" && find crates crates.txt -name out -prune -o \
+        \( -name '*.rt' -o -name '*.antt' -o -name crates.txt \) -print0 |
+        LC_ALL=C sort -z | xargs -0 sha256sum | sha256sum)
+}
+
+# Whether the program was built from the sources with this sum.
+is_built() {
+    [ -x "$program" ] && [ "$(cat "$program.sources" 2>/dev/null)" = "$1" ]
+}
+
+# Keeps the program that rt made from the sources with this sum. The sum comes last, so that the next call takes nothing for
+# the program where this is interrupted.
+keep_program() {
+    mkdir -p "$kept" && rm -f "$program.sources" &&
+        cp "$top/crates/lrt/out/lrt" "$program.$$" && mv "$program.$$" "$program" &&
+        echo "$1" >"$program.sources.$$" && mv "$program.sources.$$" "$program.sources"
+}
+
+# Prints the crates that the program is made of, each behind those that it uses.
+needed_crates() {
+    awk '
+        { sub(/#.*/, "") }
+        NF { name = $1; sub(/:$/, "", name); $1 = ""; uses[name] = $0 }
+        function visit(crate,  below, count, k) {
+            if (!(crate in uses) || (crate in visited)) return
+            visited[crate]
+            count = split(uses[crate], below)
+            for (k = 1; k <= count; k++) visit(below[k])
+            print crate
+        }
+        END { visit("lrt") }' "$top/crates.txt"
+}
+
+duration() {
+    if [ "$1" -lt 60 ]; then echo "$1 s"; else echo "$(($1 / 60)) min $(($1 % 60)) s"; fi
+}
+
+# Runs rt in the folder of a crate. It runs beside this script, which so can end it.
+run_rt() {
+    (cd "$top/crates/$1" && exec rt "$2") </dev/null >"$log" 2>&1 &
+    proving=$!
+    wait "$proving"
+}
+
+# Proves a crate, and builds lrt. Of a program rt tells by a stamp that it is built: the status is that of the program, which
+# rt runs once.
+prove() {
+    [ "$1" = lrt ] || { run_rt "$1" lib; return; }
+    rm -f "$top/crates/lrt/out/lrt.stamp"
+    run_rt lrt run
+    [ -e "$top/crates/lrt/out/lrt.stamp" ]
+}
+
+# The same, telling of it; the time is kept where there was something to prove.
+prove_aloud() {
+    crate=$1 number=$2 count=$3
+    last=$(cat "$kept/seconds.$crate" 2>/dev/null) && last=", which took $(duration "$last") here last"
+    say "proving $crate ($number of $count)$last"
+    began=$(date +%s)
+    if ! prove "$crate"; then
+        cat "$log" >&2
+        say "the program could not be built: rt failed at $crate, as it says above"
+        return 1
+    fi
+    [ ! -s "$log" ] || echo $(($(date +%s) - began)) >"$kept/seconds.$crate"
+}
+
+stop_build() {
+    kill "$proving" 2>/dev/null && wait "$proving" 2>/dev/null
+    rm -f "$kept"/*.$$
+    say "interrupted before the program was built"
+    exit 130
+}
+
+# Builds the program unless it is there, and tells of it on standard error.
+build_program() {
+    sum=$(sources)
+    is_built "$sum" && return
+    mkdir -p "$kept" || return
+    proving='' start=$(date +%s) crates=$(needed_crates)
+    trap stop_build HUP INT TERM
+    say "building the program, since $([ -x "$program" ] && echo its sources have changed || echo it is not there yet)"
+    number=0
+    for crate in $crates; do
+        number=$((number + 1))
+        prove_aloud "$crate" "$number" "$(echo "$crates" | wc -l)" || return
+    done
+    if [ "$(sources)" != "$sum" ]; then
+        say "the program could not be built: sources changed meanwhile"
+        return 1
+    fi
+    keep_program "$sum" || return
+    trap - HUP INT TERM
+    say "built in $(duration $(($(date +%s) - start)))"
+}

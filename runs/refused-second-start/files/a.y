@@ -1,0 +1,3 @@
+%start S
+%start S
+%% S: ;

@@ -1,0 +1,1 @@
+%left a b %left b a %% S: ;
