@@ -1,8 +1,6 @@
-//! The texts of refusals.
+//! The texts of errors.
 
 use lrgrammar::grammar::{GrammarError, TextError};
-use std::alloc::Global;
-use std::process::Abort;
 use std::test::Fail;
 
 #[test]
@@ -26,35 +24,22 @@ fn texts_of_refused_parts(rt: HostRuntime) -> Result<(), Fail> {
     Ok(())
 }
 
-/// The refusal of a text is told so.
-fn tells(rt: &impl Abort, alloc: Global, error: TextError, text: &str) -> Result<(), Fail> {
-    let told = format!(in alloc; "{error}")?;
-    assert_eq!(rt; told.as_str(), text);
-    Ok(())
-}
-
 #[test]
 fn texts_of_refused_texts(rt: HostRuntime) -> Result<(), Fail> {
     let alloc = rt.alloc();
-    let name = String::from_str(alloc, "x")?;
-    tells(&rt, alloc, TextError::Syntax(17), "syntax error at byte 17")?;
-    tells(
-        &rt,
-        alloc,
-        TextError::UnknownSymbol(name.clone()?),
-        "unknown symbol x",
-    )?;
-    tells(
-        &rt,
-        alloc,
-        TextError::DuplicatePrecedence(name),
-        "token x has two precedences",
-    )?;
-    tells(
-        &rt,
-        alloc,
-        TextError::Grammar(GrammarError::NoStart),
-        "no start rule",
-    )?;
-    tells(&rt, alloc, TextError::Memory, "out of memory")
+    let x = String::from_str(alloc, "x")?;
+    for (error, text) in [
+        (TextError::Syntax(17), "syntax error at byte 17"),
+        (TextError::UnknownSymbol(x.clone()?), "unknown symbol x"),
+        (
+            TextError::DuplicatePrecedence(x),
+            "token x has two precedences",
+        ),
+        (TextError::Grammar(GrammarError::NoStart), "no start rule"),
+        (TextError::Memory, "out of memory"),
+    ] {
+        let told = format!(in alloc; "{error}")?;
+        assert_eq!(rt; told.as_str(), text);
+    }
+    Ok(())
 }

@@ -1,7 +1,6 @@
-//! Texts that are read and texts that are refused.
+//! Texts that are refused.
 
-use lrgrammar::grammar::{AssocKind, GrammarError, PartSymbol, Precedence, TextError, YaccGrammar};
-use lrtext::reader::{ReadError, read_parts};
+use lrgrammar::grammar::{GrammarError, TextError, YaccGrammar};
 use std::alloc::Global;
 use std::test::Fail;
 
@@ -14,9 +13,14 @@ fn refusal(alloc: Global, text: &str) -> Option<TextError> {
 fn syntax_errors(rt: HostRuntime) {
     for (text, place) in [
         ("", 0),
+        ("%", 0),
+        ("%% S", 4),
         ("%% S 'a';", 5),
-        ("%% S: 'a'", 9),
+        ("%% S:", 5),
+        ("%% S: ", 6),
+        ("%% S: '", 6),
         ("%% S: 'a", 6),
+        ("%% S: 'a'", 9),
         ("%% S: 'a' %prec 'b';", 10),
         ("%% S: '' ;", 6),
         ("%% S: ; /* x", 8),
@@ -41,22 +45,6 @@ fn syntax_errors(rt: HostRuntime) {
 #[test]
 fn beginnings_of_a_text(rt: HostRuntime) {
     let no_start = Some(TextError::Grammar(GrammarError::NoStart));
-    for (text, place) in [
-        ("", 0),
-        ("%", 0),
-        ("%% S", 4),
-        ("%% S:", 5),
-        ("%% S: ", 6),
-        ("%% S: '", 6),
-        ("%% S: 'a", 6),
-        ("%% S: 'a'", 9),
-    ] {
-        assert_eq!(rt;
-            refusal(rt.alloc(), text),
-            Some(TextError::Syntax(place)),
-            "{text}"
-        );
-    }
     assert_eq!(rt; refusal(rt.alloc(), "%%"), no_start);
     assert_eq!(rt; refusal(rt.alloc(), "%% "), no_start);
     assert_eq!(rt; refusal(rt.alloc(), "%% S: 'a';"), None);
@@ -95,41 +83,5 @@ fn names_with_two_precedences(rt: HostRuntime) -> Result<(), Fail> {
             "{text}"
         );
     }
-    Ok(())
-}
-
-#[test]
-fn parts_of_a_text(rt: HostRuntime) -> Result<(), Fail> {
-    let alloc = rt.alloc();
-    let parts = read_parts(alloc, "%nonassoc x %% S: x; x: 'a';")
-        .ok()
-        .ok_or("parts")?;
-    assert_eq!(rt; parts.rules.len(), 2);
-    assert_eq!(rt; parts.rules.first().ok_or("a rule")?.as_str(), "S");
-    assert_eq!(rt; parts.rules.last().ok_or("a rule")?.as_str(), "x");
-    let (Some(a), Some(x), 2) = (
-        parts.tokens.first(),
-        parts.tokens.get(1),
-        parts.tokens.len(),
-    ) else {
-        return Err(Fail::from("two tokens"));
-    };
-    assert_eq!(rt; a.name.as_str(), "a");
-    assert_eq!(rt; a.precedence, None);
-    assert_eq!(rt; x.name.as_str(), "x");
-    let kind = AssocKind::Nonassoc;
-    assert_eq!(rt; x.precedence, Some(Precedence { level: 0, kind }));
-    assert_eq!(rt; parts.prods.len(), 2);
-    let first = parts.prods.first().ok_or("a production")?;
-    assert_eq!(rt; first.rule, 0);
-    assert_eq!(rt; first.symbols.as_slice(), [PartSymbol::Rule(1)].as_slice());
-    let last = parts.prods.last().ok_or("a production")?;
-    assert_eq!(rt; last.rule, 1);
-    assert_eq!(rt; last.symbols.as_slice(), [PartSymbol::Token(0)].as_slice());
-    assert_eq!(rt; parts.start, 0);
-    assert_eq!(rt;
-        read_parts(alloc, "%% S: x").err(),
-        Some(ReadError::Syntax(7))
-    );
     Ok(())
 }

@@ -34,19 +34,23 @@ fn bits_in_a_range(rt: HostRuntime) -> Result<(), AllocError> {
 }
 
 #[test]
-fn all_bits_and_unions(rt: HostRuntime) -> Result<(), AllocError> {
-    for len in [0, 1, 63, 64, 65, 127, 128, 129] {
-        let mut none = Vob::from_elem(rt.alloc(), false, len)?;
+fn unions_with_all_bits(rt: HostRuntime) -> Result<(), AllocError> {
+    for len in [0, 1, 63, 64, 65, 128] {
+        let mut bits = Vob::from_elem(rt.alloc(), false, len)?;
         let all = Vob::from_elem(rt.alloc(), true, len)?;
-        assert_eq!(rt; none.or(&all), len > 0, "{len}");
-        assert!(rt; !none.or(&all), "{len}");
-        none.set_all(false);
-        let places: Vec<usize> = none.iter_set_bits(0..len).collect(rt.alloc())?;
-        assert!(rt; places.is_empty(), "{len}");
-        none.set_all(true);
-        assert!(rt; none == all, "{len}");
-        let places: Vec<usize> = all.iter_set_bits(0..len).collect(rt.alloc())?;
-        assert_eq!(rt; places.len(), len, "{len}");
+        assert_eq!(rt; bits.or(&all), len > 0, "{len}");
+        assert!(rt; bits == all, "{len}");
+    }
+    Ok(())
+}
+
+#[test]
+fn setting_all_bits(rt: HostRuntime) -> Result<(), AllocError> {
+    for len in [0, 1, 63, 64, 65, 128] {
+        let mut bits = Vob::from_elem(rt.alloc(), false, len)?;
+        bits.set_all(true);
+        let places: Vec<usize> = bits.iter_set_bits(0..len).collect(rt.alloc())?;
+        assert_eq!(rt; places.len(), len);
     }
     Ok(())
 }

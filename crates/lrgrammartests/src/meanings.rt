@@ -1,7 +1,8 @@
-//! What texts mean: tokens in their order, productions, precedences.
+//! What texts mean: their parts, and tokens in their order, productions and precedences.
 
 use lrgrammar::grammar::{AssocKind, Precedence, YaccGrammar};
 use lrgrammar::idx::{IndexStorage, PIdx, TIdx};
+use lrtext::reader::read_parts;
 use std::alloc::{AllocError, Global};
 use std::test::Fail;
 
@@ -27,15 +28,6 @@ fn push_prods<T: IndexStorage>(text: &mut String, grm: &YaccGrammar<T>) -> Resul
     Ok(())
 }
 
-/// The names of the tokens with their precedences, and then the productions: `a b+0L $; S: "a" "b"`, where a level is
-/// followed by the first letter of its kind.
-fn meaning<T: IndexStorage>(alloc: Global, grm: &YaccGrammar<T>) -> Result<String, AllocError> {
-    let mut text = String::new(alloc);
-    push_tokens(&mut text, grm)?;
-    push_prods(&mut text, grm)?;
-    Ok(text)
-}
-
 /// Adds a precedence, where there is one.
 fn push_precedence(text: &mut String, precedence: Option<Precedence>) -> Result<(), AllocError> {
     let Some(precedence) = precedence else {
@@ -50,6 +42,20 @@ fn push_precedence(text: &mut String, precedence: Option<Precedence>) -> Result<
     write!(text, "+{level}{kind}")
 }
 
+/// The names of the tokens with their precedences, and then the productions: `a b+0L $; S: "a" "b"`,
+/// where a level is followed by the first letter of its kind. In front stands `!` where some token
+/// has a precedence.
+fn meaning<T: IndexStorage>(alloc: Global, text: &str) -> Result<String, Fail> {
+    let grm = YaccGrammar::<T>::from_text(alloc, text)?;
+    let mut meaning = String::new(alloc);
+    if grm.has_precedences() {
+        meaning.push('!')?;
+    }
+    push_tokens(&mut meaning, &grm)?;
+    push_prods(&mut meaning, &grm)?;
+    Ok(meaning)
+}
+
 #[test]
 fn meanings_of_texts(rt: HostRuntime) -> Result<(), Fail> {
     let alloc = rt.alloc();
@@ -60,11 +66,11 @@ fn meanings_of_texts(rt: HostRuntime) -> Result<(), Fail> {
         ),
         (
             "%left '+' %left '*' %% E: E '+' E | E '*' E | i; i: 'x';",
-            "++0L *+1L x $ ; E: \"E\" \"+\" \"E\"+0L; E: \"E\" \"*\" \"E\"+1L; E: \"i\"; i: \"x\"; ^: \"E\"",
+            "!++0L *+1L x $ ; E: \"E\" \"+\" \"E\"+0L; E: \"E\" \"*\" \"E\"+1L; E: \"i\"; i: \"x\"; ^: \"E\"",
         ),
         (
             "%nonassoc x %% S: x; x: 'a';",
-            "a x+0N $ ; S: \"x\"; x: \"a\"; ^: \"S\"",
+            "!a x+0N $ ; S: \"x\"; x: \"a\"; ^: \"S\"",
         ),
         (
             "%% S: '\u{44d}\u{442}\u{43e}' \"\u{65e5}\u{672c}\";",
@@ -80,10 +86,26 @@ fn meanings_of_texts(rt: HostRuntime) -> Result<(), Fail> {
             "c a b $ ; S: \"A\" \"c\"; A: \"a\"; S:; A: \"b\"; ^: \"S\"",
         ),
     ] {
-        let small = YaccGrammar::<u8>::from_text(alloc, text)?;
-        assert_eq!(rt; meaning(alloc, &small)?.as_str(), wanted, "{text}");
-        let large = YaccGrammar::<u32>::from_text(alloc, text)?;
-        assert_eq!(rt; meaning(alloc, &large)?.as_str(), wanted, "{text}");
+        assert_eq!(rt; meaning::<u8>(alloc, text)?.as_str(), wanted, "{text}");
+        assert_eq!(rt; meaning::<u32>(alloc, text)?.as_str(), wanted, "{text}");
     }
+    Ok(())
+}
+
+#[test]
+fn parts_of_a_text(rt: HostRuntime) -> Result<(), Fail> {
+    let alloc = rt.alloc();
+    let parts = read_parts(alloc, "%nonassoc x %% S: x; x: 'a';")
+        .ok()
+        .ok_or("parts")?;
+    let told = format!(in alloc; "{parts:?}")?;
+    assert_eq!(rt;
+        told.as_str(),
+        "GrammarParts { rules: [\"S\", \"x\"], tokens: [\
+            PartToken { name: \"a\", precedence: None }, PartToken { name: \"x\", \
+            precedence: Some(Precedence { level: 0, kind: Nonassoc }) }], prods: [\
+            PartProd { rule: 0, symbols: [Rule(1)] }, \
+            PartProd { rule: 1, symbols: [Token(0)] }], start: 0 }"
+    );
     Ok(())
 }

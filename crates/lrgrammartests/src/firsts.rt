@@ -3,7 +3,7 @@
 ghost use Rattle.std.specs.Prelude.{◌<◌, length};
 ghost use Rattle.lrgrammar.specs.Firsts.{AreFirstsOf};
 
-use crate::grammars::{
+use crate::fixtures::{
     ASSIGNMENTS, EMPTY_RULE, HIDDEN_LEFT_RECURSION, NO_SENTENCE, RULE_WITHOUT_A_TREE,
 };
 use lrgrammar::firsts::YaccFirsts;

@@ -1,0 +1,80 @@
+//! Grammar texts that tests read, and parts that they make.
+
+use lrgrammar::grammar::{GrammarParts, PartProd, PartSymbol, PartToken, Precedence};
+use std::alloc::{AllocError, Global};
+
+/// One sentence, the empty one.
+pub const EMPTY_RULE: &str = "%% S: ;";
+
+/// Assignments to the left sides of C.
+pub const ASSIGNMENTS: &str = "%% S: L '=' R | R; L: '*' R | 'id'; R: L;";
+
+/// `B` has no tree.
+pub const RULE_WITHOUT_A_TREE: &str = "%% S: A B | 'c'; A: 'a' | 'a'; B: B 'b';";
+
+/// `S: A S 'x'` begins with itself, behind the nullable `A`.
+pub const HIDDEN_LEFT_RECURSION: &str = "%% S: A S 'x' | B 'y'; A: ; B: ;";
+
+/// `S` has no tree.
+pub const NO_SENTENCE: &str = "%% S: S 'a';";
+
+/// The rule `A` in two places, a token of the same name, and a precedence.
+pub const IN_TWO_PLACES: &str =
+    "%left c %% S: A 'c' 'd' | B 'c' 'e'; A: 'a'; B: 'a' | 'b'; A: 'b' 'A';";
+
+/// A token of this name.
+pub fn token(
+    alloc: Global,
+    name: &str,
+    precedence: Option<Precedence>,
+) -> Result<PartToken, AllocError> {
+    let name = String::from_str(alloc, name)?;
+    Ok(PartToken { name, precedence })
+}
+
+/// A production of rule 0 whose body is one symbol, that many times.
+pub fn production(alloc: Global, symbol: PartSymbol, times: usize) -> Result<PartProd, AllocError> {
+    let symbols = vec![in alloc; symbol; times]?;
+    Ok(PartProd { rule: 0, symbols })
+}
+
+/// Rules of these names, each with an empty production; no tokens.
+pub fn rules(alloc: Global, names: &str) -> Result<GrammarParts, AllocError> {
+    let mut rules = Vec::new(alloc);
+    let mut prods = Vec::new(alloc);
+    for (rule, name) in names.split_whitespace().enumerate() {
+        rules.push(String::from_str(alloc, name)?)?;
+        let symbols = Vec::new(alloc);
+        prods.push(PartProd { rule, symbols })?;
+    }
+    let tokens = Vec::new(alloc);
+    let start = 0;
+    Ok(GrammarParts {
+        rules,
+        tokens,
+        prods,
+        start,
+    })
+}
+
+/// The same with tokens of these names, none of which has a precedence.
+pub fn rules_and_tokens(
+    alloc: Global,
+    names: &str,
+    token_names: &str,
+) -> Result<GrammarParts, AllocError> {
+    let mut parts = rules(alloc, names)?;
+    for name in token_names.split_whitespace() {
+        parts.tokens.push(token(alloc, name, None)?)?;
+    }
+    Ok(parts)
+}
+
+/// That many names: `n0 n1 n2`.
+pub fn numbered_names(alloc: Global, count: usize) -> Result<String, AllocError> {
+    let mut names = String::new(alloc);
+    for number in 0..count {
+        write!(names, "n{number} ")?;
+    }
+    Ok(names)
+}

@@ -1,0 +1,40 @@
+//! The worked grammars, as texts.
+
+/// Pager's example, in which lookaheads go round through `X`.
+pub const PAGERS_EXAMPLE: &str =
+    "%start X %% X : 'a' Y 'd' | 'a' Z 'c' | 'a' T | 'b' Y 'e' | 'b' Z 'd' | 'b' T; \
+    Y : 't' W | 'u' X; Z : 't' 'u'; T : 'u' X 'a'; W : 'u' V; V : ;";
+
+/// The states behind `a c` and `b c` have the same items, and may not be merged.
+pub const LR1_AND_NOT_LALR1: &str =
+    "%% S: 'a' A 'd' | 'b' B 'd' | 'a' B 'e' | 'b' A 'e'; A: 'c'; B: 'c';";
+
+/// Behind `a c` both rules look at `x`, so that state takes in the one behind `b c`.
+pub const CONTESTED_ON_X_ALONE: &str =
+    "%% S: 'a' A 'd' | 'a' A 'x' | 'a' B 'e' | 'a' B 'x' | 'b' B 'd' | 'b' A 'e'; \
+    A: 'c'; B: 'c';";
+
+/// The state that is first made behind `k c` is left again: the grown goto joins the state behind `a c`.
+pub const A_COLLECTED_STATE: &str =
+    "%% S: 'a' A 'd' | 'a' B 'e' | 'b' K 'e' | 'f' 'g' K 'd'; K: 'k' A | 'k' B 'd'; \
+    A: 'c' 'u'; B: 'c' 'v';";
+
+/// Differences and products, both from the right.
+pub const TERMS_AND_FACTORS: &str =
+    "%% Expr: Term '-' Expr | Term; Term: Factor '*' Term | Factor; Factor: 'id';";
+
+/// `B` has no tree, so `S: A B` looks on at nothing.
+pub const RULE_WITHOUT_A_TREE: &str = "%% S: A B | 'c'; A: 'a' | 'a'; B: B 'b';";
+
+/// `S: A S 'x'` begins with itself, behind the nullable `A`.
+pub const HIDDEN_LEFT_RECURSION: &str = "%% S: A S 'x' | B 'y'; A: ; B: ;";
+
+/// `S` has no tree.
+pub const NO_SENTENCE: &str = "%% S: S 'a';";
+
+/// A state that leads to itself.
+pub const BRACKETS: &str = "%start A %% A: 'OPEN_BRACKET' A 'CLOSE_BRACKET' | 'a' | 'b';";
+
+/// Pager's nested states.
+pub const NESTED_STATES: &str =
+    "%start S %token a b c d %% S: S 'b' | 'b' A 'a'; A: 'a' S 'c' | 'a' | 'a' S 'b';";

@@ -1,0 +1,66 @@
+//! The most states that an index type can number.
+
+use crate::graphs::grammar_and_graph;
+use lrgrammar::grammar::YaccGrammar;
+use lrgrammar::idx::IndexStorage;
+use lrtable::{BuildError, pager_stategraph};
+use std::alloc::{AllocError, Global};
+use std::process::Abort;
+use std::test::Fail;
+
+/// `S` with one body of so many times `'a'`.
+fn one_long_body(alloc: Global, length: usize) -> Result<String, AllocError> {
+    let mut text = String::from_str(alloc, "%% S:")?;
+    for _ in 0..length {
+        text.push_str(" 'a'")?;
+    }
+    text.push(';')?;
+    Ok(text)
+}
+
+/// Each length gives so many states, all of which but the start state have an edge that leads to them.
+fn has_states<T: IndexStorage>(
+    rt: &impl Abort,
+    alloc: Global,
+    lengths: &[(usize, usize)],
+) -> Result<(), Fail> {
+    for (length, states) in lengths {
+        let text = one_long_body(alloc, *length)?;
+        let (_grm, graph) = grammar_and_graph::<T>(alloc, text.as_str())?;
+        assert_eq!(rt; usize::from(graph.all_states_len()), *states, "{length}");
+        assert_eq!(rt;
+            Some(graph.all_edges_len()),
+            states.checked_sub(1),
+            "{length}"
+        );
+    }
+    Ok(())
+}
+
+/// Each length gives too many states.
+fn is_too_large<T: IndexStorage>(
+    rt: &impl Abort,
+    alloc: Global,
+    lengths: &[usize],
+) -> Result<(), Fail> {
+    for length in lengths {
+        let text = one_long_body(alloc, *length)?;
+        let grm = YaccGrammar::<T>::from_text(alloc, text.as_str())?;
+        let refused = matches!(pager_stategraph(&grm), Err(BuildError::TooLarge));
+        assert!(rt; refused, "{length}");
+    }
+    Ok(())
+}
+
+#[test]
+fn one_long_body_by_bytes(rt: HostRuntime) -> Result<(), Fail> {
+    has_states::<u8>(&rt, rt.alloc(), &[(0, 2), (251, 253), (252, 254)])?;
+    is_too_large::<u8>(&rt, rt.alloc(), &[253, 254])
+}
+
+#[test]
+fn one_long_body_by_words(rt: HostRuntime) -> Result<(), Fail> {
+    has_states::<u16>(&rt, rt.alloc(), &[(254, 256), (65532, 65534)])?;
+    is_too_large::<u16>(&rt, rt.alloc(), &[65533, 65534])?;
+    has_states::<u32>(&rt, rt.alloc(), &[(65534, 65536)])
+}
