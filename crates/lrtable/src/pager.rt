@@ -111,7 +111,8 @@ fn construct<T: IndexStorage>(
     ensures gotos { OnOk result ((k : ℕ) → HasGotos grm.now drafts.new.items k) }
     ensures closed { OnOk result (AreClosed drafts.new.items) }
     ensures made { IfOk result (λ n. length drafts.new.items ≤ n) }
-    ensures closings { IfOk result (λ n. n ≤ length drafts.new.items * (1 + item_count grm.now * token_count grm.now)) }
+    ensures closings { IfOk result (λ n. n
+        ≤ length drafts.new.items * (1 + item_count grm.now * token_count grm.now)) }
     ensures refused { IfErr result (IsLargeOnly (HasChainOf grm.now T.MAX)) }
 {
     let mut closings: u128 = 0;
@@ -162,8 +163,10 @@ pub(crate) fn build<T: IndexStorage>(
     ensures states { IfOk result (λ b. length b.0 ≤ b.1.made) }
     ensures made { IfOk result (λ b. b.1.made ≤ T.MAX) }
     ensures closed { IfOk result (λ b. b.1.made ≤ b.1.closings) }
-    ensures closings { IfOk result (λ b. b.1.closings ≤ b.1.made * (1 + item_count grm.now * token_count grm.now)) }
-    ensures fits { IfOk result (λ _. T.MAX * (1 + item_count grm.now * token_count grm.now) < 2 ^ 128) }
+    ensures closings { IfOk result (λ b. b.1.closings
+        ≤ b.1.made * (1 + item_count grm.now * token_count grm.now)) }
+    ensures fits { IfOk result (λ _.
+        T.MAX * (1 + item_count grm.now * token_count grm.now) < 2 ^ 128) }
     ensures chain { IfOk result (λ b. HasChainOfExactly grm.now b.1.made) }
     ensures refused { IfErr result (IsLargeOnly (HasChainOf grm.now T.MAX)) }
 {

@@ -51,7 +51,8 @@ impl<T: IndexStorage> Candidates<T> {
     pub(crate) fn add(&mut self, first: (PIdx<T>, SIdx<T>), state: usize) -> Result<(), AllocError>
         ensures here { OnOk result (listed_at self.new (T.number first.0.0) (T.number first.1.0)
             ≡ listed_at self.old (T.number first.0.0) (T.number first.1.0) ++ state ∷ []) }
-        ensures others { OnOk result ((p d : ℕ) → Apart (T.number first.0.0) (T.number first.1.0) p d
+        ensures others { OnOk result ((p d : ℕ)
+            → Apart (T.number first.0.0) (T.number first.1.0) p d
             → listed_at self.new p d ≡ listed_at self.old p d) }
     {
         match self.lists.get_mut(&first) {

@@ -91,10 +91,14 @@ fn merge_at<T: IndexStorage>(drafts: &mut Vec<Draft<T>>, k: usize, goto: &Itemse
     requires bits { HaveEquallyManyBits (core_at drafts.old.items k) (set_of T.number goto.now) }
     ensures len { length drafts.new.items ≡ length drafts.old.items }
     ensures others { (j : ℕ) → j ≢ k → slice_get drafts.new.items j ≡ slice_get drafts.old.items j }
-    ensures edges { (y : math.Symbol) → edge_from drafts.new.items k y ≡ edge_from drafts.old.items k y }
-    ensures union { IsUnion (core_at drafts.old.items k) (set_of T.number goto.now) (core_at drafts.new.items k) }
-    ensures fits { (g : Grammar) → Fits g (core_at drafts.old.items k) → Fits g (core_at drafts.new.items k) }
-    ensures closed { (((p d t : ℕ) → LooksIn (core_at drafts.new.items k) p d t → LooksIn (core_at drafts.old.items k) p d t)
+    ensures edges { (y : math.Symbol)
+        → edge_from drafts.new.items k y ≡ edge_from drafts.old.items k y }
+    ensures union { IsUnion (core_at drafts.old.items k) (set_of T.number goto.now)
+        (core_at drafts.new.items k) }
+    ensures fits { (g : Grammar) → Fits g (core_at drafts.old.items k)
+        → Fits g (core_at drafts.new.items k) }
+    ensures closed { (((p d t : ℕ) → LooksIn (core_at drafts.new.items k) p d t
+        → LooksIn (core_at drafts.old.items k) p d t)
         × (closed_at drafts.new.items k ≡ closed_at drafts.old.items k))
         ⊎ ((closed_at drafts.new.items k ≡ None) × Gains (core_at drafts.old.items k) (core_at drafts.new.items k)) }
 {
@@ -113,9 +117,11 @@ fn make<T: IndexStorage>(
     ensures len { OnOk result (length drafts.new.items ≡ length drafts.old.items + 1) }
     ensures others { OnOk result ((j : ℕ) → j ≢ length drafts.old.items
         → slice_get drafts.new.items j ≡ slice_get drafts.old.items j) }
-    ensures core { OnOk result (core_at drafts.new.items (length drafts.old.items) ≡ set_of T.number goto) }
+    ensures core { OnOk result (core_at drafts.new.items (length drafts.old.items)
+        ≡ set_of T.number goto) }
     ensures closed { OnOk result (closed_at drafts.new.items (length drafts.old.items) ≡ None) }
-    ensures edges { OnOk result ((y : math.Symbol) → edge_from drafts.new.items (length drafts.old.items) y ≡ None) }
+    ensures edges { OnOk result ((y : math.Symbol)
+        → edge_from drafts.new.items (length drafts.old.items) y ≡ None) }
 {
     let number = drafts.len();
     if number >= T::MAX {
@@ -177,7 +183,8 @@ pub(crate) fn place_all<T: IndexStorage>(
     requires holds { Holds _grm.now drafts.old.items }
     requires gotos { AllMayBePlaced _grm.now drafts.old.items from (gotos_of T.number gotos.items) }
     requires candidates { AreCandidates drafts.old.items candidates.old }
-    ensures placed { OnOk result (PlacesAll from drafts.old.items (gotos_of T.number gotos.items) drafts.new.items) }
+    ensures placed { OnOk result (PlacesAll from drafts.old.items
+        (gotos_of T.number gotos.items) drafts.new.items) }
     ensures most { OnOk result (length drafts.new.items ≤ T.MAX) }
     ensures candidates { OnOk result (AreCandidates drafts.new.items candidates.new) }
     ensures refused { IfErr result (IsLargeOnly (HasChainOf _grm.now T.MAX)) }
