@@ -60,7 +60,9 @@ impl<T: IndexStorage> Model for YaccGrammar<T> {
 
 impl<T: IndexStorage> YaccGrammar<T> {
     /// The memory in which the grammar lies, for what is made beside it.
-    pub fn allocator(&self) -> Global {
+    pub fn allocator(&self) -> Global
+        ensures shape { math.IsGrammar self.now }
+    {
         *self.prods.allocator()
     }
 

@@ -1,5 +1,16 @@
 //! The worked grammars, as texts.
 
+use std::alloc::{AllocError, Global};
+
+/// One sentence, the empty one.
+pub const EMPTY_RULE: &str = "%% S: ;";
+
+/// One sentence, of one token.
+pub const ONE_TOKEN: &str = "%start S %% S: 'a';";
+
+/// Names of tokens in which stand Greek letters, blanks, quotes and a backslash.
+pub const ODD_NAMES: &str = "%% S: 'λόγος' 'a \"b' \"it's\" '\\';";
+
 /// Pager's example, in which lookaheads go round through `X`.
 pub const PAGERS_EXAMPLE: &str =
     "%start X %% X : 'a' Y 'd' | 'a' Z 'c' | 'a' T | 'b' Y 'e' | 'b' Z 'd' | 'b' T; \
@@ -38,3 +49,13 @@ pub const BRACKETS: &str = "%start A %% A: 'OPEN_BRACKET' A 'CLOSE_BRACKET' | 'a
 /// Pager's nested states.
 pub const NESTED_STATES: &str =
     "%start S %token a b c d %% S: S 'b' | 'b' A 'a'; A: 'a' S 'c' | 'a' | 'a' S 'b';";
+
+/// `S` with one body of so many times `'a'`.
+pub fn one_long_body(alloc: Global, length: usize) -> Result<String, AllocError> {
+    let mut text = String::from_str(alloc, "%% S:")?;
+    for _ in 0..length {
+        text.push_str(" 'a'")?;
+    }
+    text.push(';')?;
+    Ok(text)
+}

@@ -1,6 +1,7 @@
 //! What graphs are looked up by in tests: names of symbols and plain numbers.
 
 ghost use Rattle.std.specs.Prelude.{◌≡◌, IfOk};
+ghost use Rattle.lrspec.specs.merging.Graph.{IsGraphOf};
 
 use lrgrammar::grammar::YaccGrammar;
 use lrgrammar::idx::{IndexStorage, Symbol};
@@ -14,10 +15,14 @@ use std::test::Fail;
 pub fn grammar_and_graph<T: IndexStorage>(
     alloc: Global,
     text: &str,
-) -> Result<(YaccGrammar<T>, StateGraph<T>), Fail> {
+) -> Result<(YaccGrammar<T>, StateGraph<T>), Fail>
+    ensures { IfOk result (λ r. IsGraphOf r.0 r.1) }
+{
     let grm = YaccGrammar::<T>::from_text(alloc, text)?;
-    let graph = pager_stategraph(&grm).ok().ok_or("a graph")?;
-    Ok((grm, graph))
+    match pager_stategraph(&grm) {
+        Ok(graph) => Ok((grm, graph)),
+        Err(_) => Err(Fail::from("a graph")),
+    }
 }
 
 /// The state of that number.

@@ -1,4 +1,5 @@
-//! State graphs of the worked grammars and of large ones, and each public call of graphs with ample memory.
+//! State graphs of the worked grammars and of large ones, what is printed of them, and each public call of graphs
+//! with ample memory.
 #![tactic(auto)]
 
 #[cfg(test)]
@@ -12,6 +13,10 @@ mod large;
 #[cfg(test)]
 mod limits;
 #[cfg(test)]
+mod printed;
+#[cfg(test)]
 mod refusals;
+#[cfg(test)]
+mod walks;
 #[cfg(test)]
 mod worked;

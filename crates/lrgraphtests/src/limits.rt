@@ -1,22 +1,13 @@
 //! The most states that an index type can number.
 
+use crate::grammars::one_long_body;
 use crate::graphs::grammar_and_graph;
 use lrgrammar::grammar::YaccGrammar;
 use lrgrammar::idx::IndexStorage;
 use lrtable::{BuildError, pager_stategraph};
-use std::alloc::{AllocError, Global};
+use std::alloc::Global;
 use std::process::Abort;
 use std::test::Fail;
-
-/// `S` with one body of so many times `'a'`.
-fn one_long_body(alloc: Global, length: usize) -> Result<String, AllocError> {
-    let mut text = String::from_str(alloc, "%% S:")?;
-    for _ in 0..length {
-        text.push_str(" 'a'")?;
-    }
-    text.push(';')?;
-    Ok(text)
-}
 
 /// Each length gives so many states, all of which but the start state have an edge that leads to them.
 fn has_states<T: IndexStorage>(

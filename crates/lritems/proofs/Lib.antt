@@ -22,3 +22,7 @@ pub mod SymbolsShown
 pub mod PassingPairs
 pub mod MergingUnderway
 pub mod LeastItems
+-- printing
+pub mod ItemsUpwards
+pub mod PrintedNames
+pub mod JoinedTexts

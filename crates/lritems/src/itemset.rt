@@ -1,10 +1,12 @@
 //! Items with lookaheads.
 
 ghost use Rattle.std.specs.Prelude.{◌≡◌, ℕ, ◌+◌, ◌<◌, ◌≤◌, ◌≢◌, [], length, Some, IfOk, OnOk, OnErr, IsOk, IfSome, IsTrue, ◌↔◌};
+ghost use Rattle.std.specs.String.{string_bytes};
 ghost use Rattle.std.specs.Cmp.{on_per, and_per, partial_equiv_from_equiv, bool_eq_equiv};
 ghost use Rattle.std.specs.Cmp.Lexicographic.{lists_per};
-ghost use Rattle.lrspec.specs.grammars.ItemSets.{item_at, HasItem, Fits, IsClosure, IsGoto};
+ghost use Rattle.lrspec.specs.grammars.ItemSets.{item_at, HasItem, Fits, IsClosure, IsGoto, AreUpwards};
 ghost use Rattle.lrspec.specs.merging.WeakCompatibility.{Apart};
+ghost use Rattle.lrspec.specs.texts.PrintedTexts.{items_text};
 ghost use Rattle.lrgrammar.specs.Symbols.{symbol_of};
 ghost use Rattle.lrgrammar.specs.Firsts.{AreFirstsOf};
 ghost use Rattle.lritems.specs.ItemsOf.{set_of, look_up, joined, Agree};
@@ -12,7 +14,7 @@ ghost use Rattle.lrspec.specs.grammars.StartState.{IsStartCore, IsCanonicalStart
 
 use crate::closing::{End, expand, take_item};
 use crate::items::{dot_behind, item_fits};
-use crate::printing::push_item;
+use crate::printing::push_items;
 use lrgrammar::firsts::YaccFirsts;
 use lrgrammar::grammar::YaccGrammar;
 use lrgrammar::idx::{IndexStorage, PIdx, SIdx, Symbol};
@@ -129,14 +131,12 @@ impl<T: IndexStorage> Itemset<T> {
     /// The error says that memory was refused.
     pub fn pp(&self, grm: &YaccGrammar<T>) -> Result<String, AllocError>
         requires { Fits grm.now (set_of T.number self.now) }
+        ensures text { IfOk result (λ s.
+            string_bytes s ≡ items_text grm.now (set_of T.number self.now)) }
+        ensures upwards { AreUpwards (set_of T.number self.now) }
     {
         let mut text = String::new(grm.allocator());
-        for (key, ctx) in &self.items {
-            if !text.is_empty() {
-                text.push('\n')?;
-            }
-            push_item(&mut text, grm, key.0, key.1, ctx)?;
-        }
+        push_items(&mut text, grm, self, "\n")?;
         Ok(text)
     }
 }

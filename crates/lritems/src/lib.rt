@@ -7,4 +7,4 @@ pub mod gotos;
 mod items;
 pub mod itemset;
 pub mod merging;
-mod printing;
+pub mod printing;

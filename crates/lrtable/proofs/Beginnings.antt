@@ -45,7 +45,7 @@ pub start_candidates :
     → AreCandidates (start_states core) ds
 start_candidates core ds p d first here there =
     candidates_made [] (start_states core) [] ds core p d refl (λ j b. absurd (omega arith)) refl first here there
-    (record { below = λ q e k h. absurd (omega (arith, h.1)); listed = λ k q e b f. absurd (omega arith) })
+    (record { below = λ q e k h. absurd (omega (arith, h.1)); listed = λ k q e b f. absurd (omega arith); upwards = λ q e k b. absurd (omega arith) })
 
 -- edges out of one state lead to one state by one symbol only
 pub one_symbol :

@@ -1,15 +1,21 @@
 -- the first item of an item set, and the states that are listed by theirs
 use Rattle.std.proofs.Common.{◌≡◌, ◌≢◌, ap, ℕ, zero, suc, ◌+◌, ◌<◌, List, [], ◌∷◌, ◌++◌, length, get_or, Option, None, Some, refl, sym, ◌∙◌, arith, inl, inr}
-use Rattle.std.specs.Prelude.{slice_get}
+use Rattle.std.specs.Prelude.{slice_get, option_map}
 use Rattle.std.specs.List.{All, Contains}
 use Rattle.std.specs.Option.{IsSome, IfNone}
-use Rattle.std.proofs.lemmas.List.Elements.{Contains-append_left, Contains-append_right, Contains-append_cases, All-contains, All-contains_itself}
+use Rattle.std.specs.List.Sorted.{IsStrictlyIncreasing}
+use Rattle.std.proofs.lemmas.List.Elements.{Contains-get_or, Contains-append_left, Contains-append_right, Contains-append_cases, All-contains, All-contains_itself}
+use Rattle.std.proofs.lemmas.List.Kept.{AllPairs-from_increasing}
+use Rattle.std.proofs.lemmas.List.Quantifiers.{all_pairs_push}
 use Rattle.std.proofs.lemmas.Bool.{cases_lt, cases_eq}
 use Rattle.lrspec.specs.grammars.ItemSets.{Items, HasItem}
 use Rattle.lrspec.specs.merging.WeakCompatibility.{SameItems, Apart, Clash, IsUnion}
 use Rattle.lritems.proofs.ItemKeys.{same_or_apart}
 use Rattle.lrtable.specs.Construction.{Draft, draft_core, core_at}
 use Rattle.lrtable.specs.CandidatesOf.{Lists, listed_at, IsFirstItem, AreCandidates}
+use Rattle.lrgrammar.specs.declared.idx.PIdx.{PIdx}
+use Rattle.lrgrammar.specs.declared.idx.SIdx.{SIdx}
+use Rattle.lritems.specs.LeastItem.{least_item}
 use Rattle.lritems.proofs.LeastItems.{same_least}
 
 -- item sets with the same items have the same first item
@@ -25,6 +31,21 @@ pub first_unique : (a : Items) (p d q e : ℕ) → IsFirstItem a p d → IsFirst
 first_unique a p d q e f h =
     let same : Some (q, e) ≡ Some (p, d) = sym h ∙ f in
     (ap (part_of (λ k. k.0)) same, ap (part_of (λ k. k.1)) same)
+
+-- the first item that was found
+pub first_found :
+    {T : Type 0} (number : T → ℕ) (a : Items) (o : Option (PIdx T × SIdx T)) (k : PIdx T × SIdx T)
+    → option_map (λ k. (number k.0.0, number k.1.0)) o ≡ least_item a → o ≡ Some k → IsFirstItem a (number k.0.0) (number k.1.0)
+first_found number a o k l e = sym l ∙ ap (option_map (λ k. (number k.0.0, number k.1.0))) e
+
+-- what holds of the list at the first item that was found holds of it at each item that is the first
+pub at_each_first :
+    {T : Type 0} (number : T → ℕ) (P : List ℕ → Type 0) (cs : Lists) (goto : Items) (ks : List ℕ) (o : Option (PIdx T × SIdx T)) (k : PIdx T × SIdx T)
+    → option_map (λ k. (number k.0.0, number k.1.0)) o ≡ least_item goto → o ≡ Some k → ks ≡ listed_at cs (number k.0.0) (number k.1.0) → P ks
+    → (p d : ℕ) → IsFirstItem goto p d → P (listed_at cs p d)
+at_each_first number P cs goto ks o k l e s h p d i =
+    let u = first_unique goto (number k.0.0) (number k.1.0) p d (first_found number goto o k l e) i in
+    rw (u.0, u.1, ← s) h
 
 -- all that are listed are states
 pub all_below : {ss : List Draft} {cs : Lists} (ks : List ℕ) (p d : ℕ) → AreCandidates ss cs → ks ≡ listed_at cs p d → All (λ k. k < length ss) ks
@@ -65,7 +86,14 @@ pub candidates_kept :
 candidates_kept {old} {new} l s c = record {
   below = λ p d k h. rw l (c.below p d k h);
   listed = λ k p d b f. let b' = rw l at b in c.listed k p d b' (first_same (core_at new k) (core_at old k) (λ q e. ((s k b' q e).1, (s k b' q e).0)) f);
+  upwards = c.upwards;
 }
+
+-- a number above all in a list that increases goes to its end
+pushed_upwards :
+    (ks : List ℕ) (n : ℕ) → IsStrictlyIncreasing ks → ((k : ℕ) → Contains ks k → k < n) → IsStrictlyIncreasing (ks ++ n ∷ [])
+pushed_upwards ks n up below k l =
+    all_pairs_push (λ i j. i < j) ks n (AllPairs-from_increasing ks up) (λ i d b. below (get_or ks i d) (Contains-get_or ks i d b)) k (k + 1) 0 (omega arith) l
 
 one_alone : {n j : ℕ} → Contains (n ∷ []) j → j ≡ n
 one_alone {n} {j} h = go h.0 h.1 h.2
@@ -115,8 +143,19 @@ module _
           | inr ge ↦ new_listed j q e (omega (arith, longer)) f
         ]
 
+    made_upwards : (q e : ℕ) → IsStrictlyIncreasing (listed_at ds q e)
+    made_upwards q e =
+        elim (same_or_apart p d q e) [
+          | inl i ↦ rw (i.0, i.1, here) (pushed_upwards (listed_at cs p d) (length old) (c.upwards p d) (c.below p d))
+          | inr i ↦ rw (there q e i) (c.upwards q e)
+        ]
+
     pub candidates_made : AreCandidates new ds
-    candidates_made = record { below = λ q e j h. made_below q e j h; listed = λ j q e b f. made_listed j q e b f }
+    candidates_made = record {
+      below = λ q e j h. made_below q e j h;
+      listed = λ j q e b f. made_listed j q e b f;
+      upwards = λ q e. made_upwards q e;
+    }
 
 -- an item set with an item has a first one
 pub some_first :

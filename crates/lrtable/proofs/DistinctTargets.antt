@@ -81,7 +81,7 @@ module _ {T X : Type 0} (number : T → ℕ) (state : X → ℕ) (cmp : stored.S
       cc
 
   -- the entries of a map are on different symbols
-  distinct_entries : (es : List (stored.Symbol T × X)) → IsStrictlySortedBy cmp (keys_of es) → AreOnDistinctSymbols (edges_of number state es)
+  pub distinct_entries : (es : List (stored.Symbol T × X)) → IsStrictlySortedBy cmp (keys_of es) → AreOnDistinctSymbols (edges_of number state es)
   distinct_entries [] sorted i j d l m = absurd (omega arith)
   distinct_entries (e ∷ es) sorted i j d l m =
       let key : stored.Symbol T × X → stored.Symbol T = λ f. f.0 in

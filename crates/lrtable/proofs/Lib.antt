@@ -33,3 +33,7 @@ pub mod MarksAdded
 pub mod ReachedMarks
 pub mod RenumberedEdges
 pub mod DistinctTargets
+pub mod EdgesByTarget
+pub mod PrintedStates
+pub mod FirstOfList
+pub mod NextStates

@@ -1,6 +1,7 @@
 -- lists of states by the first item of their cores, as plain data
 use Rattle.std.specs.Prelude.{◌≡◌, ℕ, ◌<◌, List, [], map, Option, None, Some, length}
 use Rattle.std.specs.List.{Contains}
+use Rattle.std.specs.List.Sorted.{IsStrictlyIncreasing}
 use Rattle.std.specs.declared.vec.Vec.{Vec}
 use Rattle.std.specs.declared.alloc.Global.{Global}
 use Rattle.lrgrammar.specs.declared.idx.PIdx.{PIdx}
@@ -29,7 +30,11 @@ listed_at cs p d = list_or_empty (item_at cs p d)
 abbrev pub IsFirstItem : Items → ℕ → ℕ → Type 0
 IsFirstItem a p d = least_item a ≡ Some (p, d)
 
--- the lists have each state, at the first item of its core, and nothing but states
+-- the lists have each state, at the first item of its core, and nothing but states, in order of
+-- making
 pub record AreCandidates (ss : List Draft) (cs : Lists) : Type 0 where
   pub below : (p d k : ℕ) → Contains (listed_at cs p d) k → k < length ss
-  pub listed : (k p d : ℕ) → k < length ss → IsFirstItem (core_at ss k) p d → Contains (listed_at cs p d) k
+  pub listed :
+      (k p d : ℕ) → k < length ss → IsFirstItem (core_at ss k) p d
+      → Contains (listed_at cs p d) k
+  pub upwards : (p d : ℕ) → IsStrictlyIncreasing (listed_at cs p d)

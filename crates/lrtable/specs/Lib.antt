@@ -1,5 +1,6 @@
 pub mod GraphOf
 pub mod Construction
+pub mod Choices
 pub mod Counts
 pub mod Invariant
 pub mod DraftOf

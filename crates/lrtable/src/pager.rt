@@ -1,7 +1,7 @@
 //! Pager's construction of the state graph of a grammar: states are closed one after another, and each goto of a closed
 //! state is placed at an equal state, at one that takes it in, or at a new one.
 
-ghost use Rattle.std.specs.Prelude.{◌≡◌, ℕ, ◌+◌, ◌*◌, ◌^◌, ◌<◌, ◌≤◌, length, IsSome, None, IfOk, IfErr, IfSome, OnOk};
+ghost use Rattle.std.specs.Prelude.{◌≡◌, ℕ, ◌+◌, ◌*◌, ◌^◌, ◌<◌, ◌≤◌, length, None, IfOk, IfErr, OnOk, MatchOption};
 ghost use Rattle.lrspec.specs.grammars.Grammar.{item_count, token_count};
 ghost use Rattle.lrspec.specs.grammars.ItemSets.{Fits};
 ghost use Rattle.lrspec.specs.grammars.StartState.{IsStartCore};
@@ -9,6 +9,7 @@ ghost use Rattle.lrgrammar.specs.Firsts.{AreFirstsOf};
 ghost use Rattle.lrgrammar.specs.GrammarSizes.{IsWithin};
 ghost use Rattle.lritems.specs.ItemsOf.{set_of};
 ghost use Rattle.lrtable.specs.Construction.{core_at, closed_at};
+ghost use Rattle.lrtable.specs.Choices.{NoneUnclosedFrom, IsFirstUnclosedFrom, IsNextUnclosed, ClosesAll};
 ghost use Rattle.lrtable.specs.Counts.{unclosed, weight};
 ghost use Rattle.lrtable.specs.Invariant.{Holds, HasGotos, AreClosed};
 ghost use Rattle.lrtable.specs.CandidatesOf.{AreCandidates};
@@ -53,22 +54,27 @@ fn start_core<T: IndexStorage>(grm: &YaccGrammar<T>) -> Result<Itemset<T>, Alloc
     Ok(core)
 }
 
-/// The next state to close: the first unclosed one from `from` on, or else the first unclosed one.
-fn next_unclosed<T: IndexStorage>(drafts: &[Draft<T>], from: usize) -> Option<usize>
-    ensures some { IfSome result (λ i. (i < length drafts.now) × (closed_at drafts.now i ≡ None)) }
-    ensures none { result ≡ None → AreClosed drafts.now }
+/// The first unclosed state from `from` on.
+fn first_unclosed<T: IndexStorage>(drafts: &[Draft<T>], from: usize) -> Option<usize>
+    ensures { MatchOption result (NoneUnclosedFrom drafts.now from)
+        (IsFirstUnclosedFrom drafts.now from) }
 {
     for i in from..drafts.len() {
         if !drafts[i].is_closed() {
             return Some(i);
         }
     }
-    for (i, draft) in drafts.iter().enumerate() {
-        if !draft.is_closed() {
-            return Some(i);
-        }
-    }
     None
+}
+
+/// The next state to close: the first unclosed one from `from` on, or else the first unclosed one.
+fn next_unclosed<T: IndexStorage>(drafts: &[Draft<T>], from: usize) -> Option<usize>
+    ensures { MatchOption result (AreClosed drafts.now) (IsNextUnclosed drafts.now from) }
+{
+    if let Some(i) = first_unclosed(drafts, from) {
+        return Some(i);
+    }
+    first_unclosed(drafts, 0)
 }
 
 /// Closes a state, and answers its gotos.
@@ -110,6 +116,7 @@ fn construct<T: IndexStorage>(
     ensures holds { OnOk result (Holds grm.now drafts.new.items) }
     ensures gotos { OnOk result ((k : ℕ) → HasGotos grm.now drafts.new.items k) }
     ensures closed { OnOk result (AreClosed drafts.new.items) }
+    ensures order { OnOk result (ClosesAll grm.now 0 drafts.old.items drafts.new.items) }
     ensures made { IfOk result (λ n. length drafts.new.items ≤ n) }
     ensures closings { IfOk result (λ n. n
         ≤ length drafts.new.items * (1 + item_count grm.now * token_count grm.now)) }

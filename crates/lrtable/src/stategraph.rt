@@ -1,14 +1,20 @@
 //! State graphs.
 
-ghost use Rattle.std.specs.Prelude.{◌≡◌, ◌<◌, length, option_map, sum_by};
+ghost use Rattle.std.specs.Prelude.{◌≡◌, ◌<◌, length, map, option_map, sum_by};
+ghost use Rattle.std.specs.List.{range_with_len};
+ghost use Rattle.lrspec.specs.merging.Graph as math;
 ghost use Rattle.lrspec.specs.merging.Graph.{core_of, closed_of, edge};
 ghost use Rattle.lrgrammar.specs.Symbols.{symbol_of};
 ghost use Rattle.lrgrammar.specs.SymbolLaws.{symbol_cmp};
 ghost use Rattle.std.specs.BTreeMap.{get};
 ghost use Rattle.lritems.specs.ItemsOf.{set_of};
 
+mod iterators;
+mod printing;
+
 use crate::StIdx;
 use crate::itemset::Itemset;
+pub use crate::stategraph::iterators::{ClosedStatesIterator, CoreStatesIterator, StIdxIterator};
 use lrgrammar::idx::{IndexStorage, Symbol};
 use std::collections::BTreeMap;
 use std::marker::Model;
@@ -19,6 +25,23 @@ pub(crate) struct State<T: IndexStorage> {
     pub core: Itemset<T>,
     pub closed: Itemset<T>,
     pub edges: BTreeMap<Symbol<T>, StIdx<T>>,
+}
+
+impl<T: IndexStorage> State<T> {
+    ghost use Rattle.lrspec.specs.merging.Graph.{IsInOrder};
+    ghost use Rattle.lrtable.specs.GraphOf.{state_of};
+
+    /// What the maps of the state keep: its items come upwards, and no symbol twice.
+    pub(crate) fn in_order(&self)
+        ensures { IsInOrder (state_of T.number self.now) }
+    {
+        // `len` says of a map that its keys come upwards
+        let _ = (
+            self.core.items.len(),
+            self.closed.items.len(),
+            self.edges.len(),
+        );
+    }
 }
 
 /// The LR(1) state graph of a grammar. Its states are numbered from 0, which is the start state; there are fewer than the
@@ -43,7 +66,7 @@ impl<T: IndexStorage> Model for StateGraph<T> {
 }
 
 impl<T: IndexStorage> StateGraph<T> {
-    ghost use Rattle.lrtable.specs.GraphOf.{graph_of, IsStoredGraph};
+    ghost use Rattle.lrtable.specs.GraphOf.{graph_of, edges_of, IsStoredGraph};
 
     /// The graph of these states, which have so many edges.
     pub(crate) fn new(states: Vec<State<T>>, edges_len: usize) -> StateGraph<T>
@@ -74,12 +97,26 @@ impl<T: IndexStorage> StateGraph<T> {
         self.edges_len
     }
 
+    /// The numbers of the states upwards.
+    pub fn iter_stidxs(&self) -> StIdxIterator<T>
+        ensures { result ≡ range_with_len 0 (length self.now) }
+    {
+        StIdxIterator::new(self.states.len())
+    }
+
     /// The closed state of the state, which is one of the graph.
     pub fn closed_state(&self, stidx: StIdx<T>) -> &Itemset<T>
         requires { T.number stidx.0 < length self.now }
         ensures { set_of T.number result.now ≡ closed_of self.now (T.number stidx.0) }
     {
         &self.states[usize::from(stidx)].closed
+    }
+
+    /// The closed states by number upwards.
+    pub fn iter_closed_states(&self) -> ClosedStatesIterator<'_, T>
+        ensures { result ≡ map (λ state. state.closed) self.now }
+    {
+        ClosedStatesIterator::new(self.states.as_slice())
     }
 
     /// The core of the state, which is one of the graph.
@@ -90,6 +127,13 @@ impl<T: IndexStorage> StateGraph<T> {
         &self.states[usize::from(stidx)].core
     }
 
+    /// The cores of the states by number upwards.
+    pub fn iter_core_states(&self) -> CoreStatesIterator<'_, T>
+        ensures { result ≡ map (λ state. state.core) self.now }
+    {
+        CoreStatesIterator::new(self.states.as_slice())
+    }
+
     /// The state to which the edge of the state on the symbol leads; None where there is no such edge, or no such state.
     pub fn edge(&self, stidx: StIdx<T>, sym: Symbol<T>) -> Option<StIdx<T>>
         ensures { option_map (λ u. T.number u.0) result
@@ -97,6 +141,15 @@ impl<T: IndexStorage> StateGraph<T> {
     {
         let state = self.states.get(usize::from(stidx))?;
         find_edge(&state.edges, sym)
+    }
+
+    /// The edges of the state, which is one of the graph: to which state each leads, by symbol.
+    pub fn edges(&self, stidx: StIdx<T>) -> &BTreeMap<Symbol<T>, StIdx<T>>
+        requires { T.number stidx.0 < length self.now }
+        ensures { edges_of T.number (λ u. T.number u.0) result.now.entries
+            ≡ math.edges_of self.now (T.number stidx.0) }
+    {
+        &self.states[usize::from(stidx)].edges
     }
 }
 

@@ -1,5 +1,6 @@
 -- item sets, their closures and their gotos
-use Rattle.std.specs.Prelude.{◌≡◌, ℕ, suc, ◌<◌, ◌≤◌, Bool, false, if◌then◌else◌, ◌==◌, ◌&&◌, IsTrue, List, [], ◌∷◌, Option, None, Some, length, slice_index_or, ◌↔◌}
+use Rattle.std.specs.Prelude.{◌≡◌, ℕ, suc, ◌<◌, ◌≤◌, Bool, false, if◌then◌else◌, ◌==◌, ◌&&◌, IsTrue, List, [], ◌∷◌, Option, None, Some, length, slice_index_or, ◌↔◌, ◌⊎◌}
+use Rattle.std.specs.List.{AllPairs}
 use Rattle.std.specs.Option.{IsSome, IsSomeAnd}
 use Rattle.lrspec.specs.grammars.Grammar.{Symbol, Rule, Grammar, token_count, body_of, rest, IsProductionOf}
 use Rattle.lrspec.specs.grammars.First.{AllNullable, Begins}
@@ -13,6 +14,14 @@ Items = List ((ℕ × ℕ) × List Bool)
 abbrev pub item_at : {X : Type 0} → List ((ℕ × ℕ) × X) → ℕ → ℕ → Option X
 item_at [] p d = None
 item_at (e ∷ es) p d = if (p == e.0.0) && (d == e.0.1) then Some e.1 else item_at es p d
+
+-- the item comes before the other: its production does, or it is of the same one and its dot does
+abbrev pub Precedes : ℕ × ℕ → ℕ × ℕ → Type 0
+Precedes a b = (a.0 < b.0) ⊎ ((a.0 ≡ b.0) × (a.1 < b.1))
+
+-- the items come by production and then dot, upwards, and none twice
+abbrev pub AreUpwards : Items → Type 0
+AreUpwards a = AllPairs (λ e f. Precedes e.0 f.0) a
 
 -- the item set has the item
 abbrev pub HasItem : Items → ℕ → ℕ → Type 0

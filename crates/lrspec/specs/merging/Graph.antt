@@ -1,9 +1,10 @@
 -- graphs of states, and when one is the grammar's
 use Rattle.std.specs.Prelude.{◌≡◌, ◌≢◌, ℕ, ◌<◌, Bool, false, if◌then◌else◌, ◌==◌, List, [], ◌∷◌, ◌++◌, Option, None, Some, length, slice_get, ◌↔◌}
+use Rattle.std.specs.List.{AllPairs}
 use Rattle.std.specs.Option.{IsSome}
 use Rattle.lrspec.specs.grammars.Grammar.{Symbol, Rule, Token, Grammar, IsProductionOf}
 use Rattle.lrspec.specs.grammars.CanonicalItems.{Stands, Looks}
-use Rattle.lrspec.specs.grammars.ItemSets.{Items, HasItem, LooksIn, Fits, IsClosure, IsBefore, Moved}
+use Rattle.lrspec.specs.grammars.ItemSets.{Items, AreUpwards, HasItem, LooksIn, Fits, IsClosure, IsBefore, Moved}
 use Rattle.lrspec.specs.grammars.StartState.{IsStartCore}
 use Rattle.lrspec.specs.merging.Cores.{HasCoreAfter, IsRooted, IsRootedBy}
 use Rattle.lrspec.specs.merging.WeakCompatibility.{SameItems, Apart, Cross}
@@ -21,6 +22,12 @@ pub record State : Type 0 where
   pub core : Items
   pub closed : Items
   pub edges : List (Symbol × ℕ)
+
+-- a state lists its items upwards, and no symbol twice
+pub record IsInOrder (s : State) : Type 0 where
+  pub core : AreUpwards s.core
+  pub closed : AreUpwards s.closed
+  pub edges : AllPairs (λ e f. e.0 ≢ f.0) s.edges
 
 -- a graph: its states by number, the start state first
 abbrev pub Graph : Type 0
@@ -54,9 +61,13 @@ core_of h s = core_or_none (slice_get h s)
 abbrev pub closed_of : Graph → ℕ → Items
 closed_of h s = closed_or_none (slice_get h s)
 
+-- the edges of the state `s`
+abbrev pub edges_of : Graph → ℕ → List (Symbol × ℕ)
+edges_of h s = edges_or_none (slice_get h s)
+
 -- the state to which the edge of `s` on `x` leads, if there is one
 abbrev pub edge : Graph → ℕ → Symbol → Option ℕ
-edge h s x = edge_at (edges_or_none (slice_get h s)) x
+edge h s x = edge_at (edges_of h s) x
 
 -- following the edges on the symbols of the list from the start state ends in the state
 pub data Leads (h : Graph) : List Symbol → ℕ → Type 0 where

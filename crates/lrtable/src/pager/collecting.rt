@@ -2,7 +2,9 @@
 
 ghost use Rattle.std.specs.Prelude.{◌≡◌, ℕ, ◌<◌, ◌≤◌, Bool, List, Some, IsSome, length, count_by, sum_by, slice_get, slice_index, IfOk, IfErr, OnOk};
 ghost use Rattle.std.specs.BTreeMap.{btree_map_len};
+ghost use Rattle.std.specs.List.{All};
 ghost use Rattle.lrspec.specs.grammars.Grammar as math;
+ghost use Rattle.lrspec.specs.merging.Graph.{IsInOrder};
 ghost use Rattle.lrtable.specs.Construction.{draft_edges, edge_from, AreMarked};
 ghost use Rattle.lrtable.specs.Invariant.{AreClosed, IsCollected};
 ghost use Rattle.lrtable.specs.GraphOf.{edges_of, state_of, graph_of};
@@ -123,6 +125,7 @@ fn renumber_state<T: IndexStorage>(
     requires most { (k : ℕ) → k < length numbers.now → slice_index numbers.now k ≤ T.MAX }
     ensures renumbered { IfOk result (λ s.
         IsRenumbered (slice_index numbers.now) draft (state_of T.number s)) }
+    ensures order { IfOk result (λ s. IsInOrder (state_of T.number s)) }
     ensures len { IfOk result (λ s. btree_map_len s.edges ≤ length numbers.now) }
 {
     let Draft {
@@ -131,11 +134,14 @@ fn renumber_state<T: IndexStorage>(
         edges,
     } = draft;
     let edges = renumber_edges(alloc, &edges, numbers)?;
-    Ok(State {
+    let state = State {
         core,
         closed: closed.unwrap(),
         edges,
-    })
+    };
+    // for what the graph keeps of each state
+    state.in_order();
+    Ok(state)
 }
 
 /// The marked states in their order with new numbers, and how many edges they have.
@@ -155,6 +161,7 @@ fn marked_states<T: IndexStorage>(
     ensures collected { IfOk result (λ r. IsCollected drafts.items marks.now
         (graph_of T.number r.0.items)) }
     ensures len { IfOk result (λ r. length r.0.items ≡ count_by (λ b. b) marks.now) }
+    ensures order { IfOk result (λ r. All IsInOrder (graph_of T.number r.0.items)) }
     ensures edges { IfOk result (λ r. r.1
         ≡ sum_by (λ s. length s.edges) (graph_of T.number r.0.items)) }
 {

@@ -96,7 +96,16 @@ impl<T: IndexStorage> Draft<T> {
             ⊎ ((self.new.closed ≡ None) × Gains self.old.core self.new.core) }
     {
         if weakly_merge(&mut self.core, goto) {
-            self.closed = None;
+            self.unclose();
         }
+    }
+
+    /// Drops the closed state: the state is to be closed again.
+    fn unclose(&mut self)
+        ensures core { self.new.core ≡ self.old.core }
+        ensures edges { self.new.edges ≡ self.old.edges }
+        ensures closed { self.new.closed ≡ None }
+    {
+        self.closed = None;
     }
 }

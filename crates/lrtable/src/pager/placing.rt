@@ -1,6 +1,6 @@
 //! Placing gotos.
 
-ghost use Rattle.std.specs.Prelude.{◌≡◌, ◌≢◌, ℕ, ◌+◌, ◌<◌, ◌≤◌, ◌==◌, ◌&&◌, if◌then◌else◌, length, slice_get, slice_index, None, Some, IfOk, IfErr, IfSome, OnOk, MatchOption, ◌⊎◌};
+ghost use Rattle.std.specs.Prelude.{◌≡◌, ◌≢◌, ℕ, ◌+◌, ◌<◌, ◌≤◌, ◌==◌, ◌&&◌, if◌then◌else◌, length, slice_get, slice_index, None, Some, IfOk, IfErr, OnOk, MatchOption, ◌⊎◌};
 ghost use Rattle.std.specs.List.{All};
 ghost use Rattle.lrspec.specs.grammars.Grammar as math;
 ghost use Rattle.lrspec.specs.grammars.Grammar.{Grammar};
@@ -8,11 +8,12 @@ ghost use Rattle.lrspec.specs.grammars.ItemSets.{HasItem, LooksIn, Fits};
 ghost use Rattle.lrspec.specs.merging.WeakCompatibility.{SameItems, IsWeaklyCompatible, Clash, IsUnion};
 ghost use Rattle.lrspec.specs.merging.Graph.{same_symbol};
 ghost use Rattle.lrgrammar.specs.Symbols.{symbol_of};
-ghost use Rattle.lritems.specs.ItemsOf.{set_of, Agree};
+ghost use Rattle.lritems.specs.ItemsOf.{set_of};
 ghost use Rattle.lrtable.specs.Construction.{core_at, closed_at, edge_from, Stays, Gains, Places, PlacesAll};
 ghost use Rattle.lrtable.specs.Invariant.{MayBePlaced, AllMayBePlaced, Holds};
 ghost use Rattle.lrtable.specs.Chains.{HasChainOf};
-ghost use Rattle.lrtable.specs.CandidatesOf.{AreCandidates};
+ghost use Rattle.lrtable.specs.CandidatesOf.{AreCandidates, IsFirstItem, listed_at};
+ghost use Rattle.lrtable.specs.Choices.{HoldsOfNone, IsFirstWith, IsEqual, IsCompatible, IsPlaceOf};
 ghost use Rattle.lrtable.specs.Refusals.{IsLargeOnly};
 ghost use Rattle.lritems.specs.Gotos.{gotos_of};
 ghost use Rattle.lritems.specs.Merging.{HaveEquallyManyBits};
@@ -33,8 +34,9 @@ fn find_equal<T: IndexStorage>(
     goto: &Itemset<T>,
 ) -> Option<usize>
     requires { All (λ k. k < length drafts.now) candidates.now }
-    ensures { IfSome result (λ k. (k < length drafts.now)
-        × Agree (core_at drafts.now k) (set_of T.number goto.now)) }
+    ensures { MatchOption result
+        (HoldsOfNone (IsEqual drafts.now (set_of T.number goto.now)) candidates.now)
+        (IsFirstWith (IsEqual drafts.now (set_of T.number goto.now)) candidates.now) }
 {
     for k in candidates {
         if *drafts[*k].core() == *goto {
@@ -53,11 +55,14 @@ fn find_compatible<T: IndexStorage>(
     requires below { All (λ k. k < length drafts.now) candidates.now }
     requires bits { (k : ℕ) → k < length drafts.now
         → HaveEquallyManyBits (core_at drafts.now k) (set_of T.number goto.now) }
-    ensures { MatchOption result
+    ensures compatible { MatchOption result
         (All (λ k. SameItems (core_at drafts.now k) (set_of T.number goto.now)
         → Clash (core_at drafts.now k) (set_of T.number goto.now)) candidates.now)
         (λ k. (k < length drafts.now)
         × IsWeaklyCompatible (core_at drafts.now k) (set_of T.number goto.now)) }
+    ensures first { MatchOption result
+        (HoldsOfNone (IsCompatible drafts.now (set_of T.number goto.now)) candidates.now)
+        (IsFirstWith (IsCompatible drafts.now (set_of T.number goto.now)) candidates.now) }
 {
     for k in candidates {
         if weakly_compatible(drafts[*k].core(), goto) {
@@ -100,7 +105,8 @@ fn merge_at<T: IndexStorage>(drafts: &mut Vec<Draft<T>>, k: usize, goto: &Itemse
     ensures closed { (((p d t : ℕ) → LooksIn (core_at drafts.new.items k) p d t
         → LooksIn (core_at drafts.old.items k) p d t)
         × (closed_at drafts.new.items k ≡ closed_at drafts.old.items k))
-        ⊎ ((closed_at drafts.new.items k ≡ None) × Gains (core_at drafts.old.items k) (core_at drafts.new.items k)) }
+        ⊎ ((closed_at drafts.new.items k ≡ None)
+        × Gains (core_at drafts.old.items k) (core_at drafts.new.items k)) }
 {
     drafts[k].merge(goto)
 }
@@ -149,6 +155,9 @@ fn place<T: IndexStorage>(
     requires candidates { AreCandidates drafts.old.items candidates.old }
     ensures placed { IfOk result (λ k. Places drafts.old.items from (symbol_of T.number symbol)
         (set_of T.number goto) k drafts.new.items) }
+    ensures choice { IfOk result (λ k. (p d : ℕ) → IsFirstItem (set_of T.number goto) p d
+        → IsPlaceOf drafts.old.items (listed_at candidates.old p d) (set_of T.number goto)
+        (length drafts.old.items) k) }
     ensures most { OnOk result (length drafts.new.items ≤ T.MAX) }
     ensures candidates { OnOk result (AreCandidates drafts.new.items candidates.new) }
     ensures refused { IfErr result (IsLargeOnly (T.MAX ≤ length drafts.old.items)) }

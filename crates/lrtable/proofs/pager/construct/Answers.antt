@@ -1,14 +1,24 @@
-use Rattle.std.proofs.Common.{◌+◌, refl, arith}
+use Rattle.std.proofs.Common.{◌+◌, arith}
+use Rattle.lrtable.specs.Choices as choice
 use Rattle.lrtable.proofs.ClosedCounts.{closes_counted}
 use Rattle.lrtable.proofs.CountFacts.{none_unclosed_of_closed}
+use Rattle.lrtable.proofs.NextStates.{next_is_unclosed}
 use Rattle.lrtable.proofs.SizeBounds.{closings_fit, closings_most, weight_within}
 use Rattle.lrtable.proofs.ClosingFacts.{closed_holds, closed_gotos, closed_candidates, turned_holds, turned_gotos, turned_made, turned_counted}
 use Rattle.lrtable.proofs.pager.construct.Goals as goal
 
+pub close-requires-clause-below : goal.close-requires-clause-below
+close-requires-clause-below g c =
+    let next = next_is_unclosed (rw c.as_slice.ensures.value at c.in-Some.ensures) in next.0
+
+pub close-requires-clause-unclosed : goal.close-requires-clause-unclosed
+close-requires-clause-unclosed g c =
+    let next = next_is_unclosed (rw c.as_slice.ensures.value at c.in-Some.ensures) in next.1
+
 pub close-requires-clause-fits : goal.close-requires-clause-fits
 close-requires-clause-fits g c =
-    let some = rw c.as_slice.ensures.value at c.in-Some.ensures.some in
-    c.loop-i.invariant.holds.fits c.in-Some.i some.0
+    let next = next_is_unclosed (rw c.as_slice.ensures.value at c.in-Some.ensures) in
+    c.loop-i.invariant.holds.fits c.in-Some.i next.0
 
 pub overflow_add-closings : goal.overflow_add-closings
 overflow_add-closings g c =
@@ -51,11 +61,15 @@ loop-i-preserved g c =
       candidates = p.candidates;
       made = turned_made shape t i.holds p.placed c.loop-i.closings i.made;
       counted = turned_counted shape t i.holds p.placed c.loop-i.closings i.counted;
+      order = λ us r. i.order us (choice.ClosesAll.more (rw c.as_slice.ensures.value at c.in-Some.ensures) t p.placed r);
     }
+
+pub returns-clause-order : goal.returns-clause-order
+returns-clause-order g c = c.loop-i.invariant.order c.loop-i.drafts.items (choice.ClosesAll.done (rw c.as_slice.ensures.value at c.in_default.ensures))
 
 pub returns-clause-made : goal.returns-clause-made
 returns-clause-made g c =
-    let none = none_unclosed_of_closed c.loop-i.drafts.items (rw c.as_slice.ensures.value at (c.in_default.ensures.none refl)) in
+    let none = none_unclosed_of_closed c.loop-i.drafts.items (rw c.as_slice.ensures.value at c.in_default.ensures) in
     omega (arith, none, c.loop-i.invariant.made)
 
 pub returns-clause-closings : goal.returns-clause-closings

@@ -1,5 +1,7 @@
-use Rattle.std.proofs.Common.{◌*◌, ◌+◌, ◌-◌, ◌≤◌, ℕ, length}
+use Rattle.std.proofs.Common.{◌*◌, ◌+◌, ◌-◌, ◌≤◌, ℕ, List, length}
 use Rattle.lrspec.specs.grammars.Grammar.{item_count, token_count}
+use Rattle.lrtable.specs.Construction.{Draft}
+use Rattle.lrtable.specs.Choices.{ClosesAll}
 use Rattle.lrtable.specs.Counts.{unclosed, weight}
 use Rattle.lrtable.specs.Invariant.{Holds, HasGotos}
 use Rattle.lrtable.specs.CandidatesOf.{AreCandidates}
@@ -13,6 +15,7 @@ invariant-loop-i g l = record {
   candidates : AreCandidates l.drafts.items l.candidates;
   made : length l.drafts.items ≤ l.closings + unclosed l.drafts.items;
   counted : l.closings + unclosed l.drafts.items ≤ weight l.grm l.drafts.items;
+  order : (us : List Draft) → ClosesAll l.grm l.from l.drafts.items us → ClosesAll l.grm 0 l.initial.drafts.items us;
 }
 
 abbrev pub decreases-loop-i : goal.decreases-loop-i

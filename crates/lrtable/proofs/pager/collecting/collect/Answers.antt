@@ -12,6 +12,7 @@ new-requires g c =
       some = some_collected marked states.collected;
       states = rw length-map (omega (arith, states.len, count, c.if-count-MAX.false));
       counted = states.edges;
+      order = states.order;
     }
 
 pub returns-clause-states : goal.returns-clause-states

@@ -1,7 +1,9 @@
 use Rattle.std.proofs.Common.{◌≡◌, sym, ◌∙◌, ap, length, slice_index, arith}
 use Rattle.std.proofs.lemmas.List.{length-map, length-drop, map_push}
 use Rattle.std.proofs.lemmas.Option.{slice_get_within}
-use Rattle.lrtable.specs.GraphOf.{state_of}
+use Rattle.std.proofs.lemmas.List.Elements.{All-push}
+use Rattle.lrspec.specs.merging.Graph.{IsInOrder}
+use Rattle.lrtable.specs.GraphOf.{state_of, graph_of}
 use Rattle.lrtable.proofs.CollectedBelow.{first_left, collecting_not, collecting_more, collected_all, apart_at, closed_here, number_most}
 use Rattle.lrtable.proofs.pager.collecting.marked_states.Goals as goal
 
@@ -18,6 +20,7 @@ loop-draft-preserved-then-not-is_marked g c =
       collecting =
           collecting_not (slice_index c.args.numbers.now) c.args.drafts.items c.args.marks.now c.loop-draft.k _ c.loop-draft.edges_len (omega (arith, below, c.requires.marks))
           (sym c.get-is_marked.ensures.value ∙ c.if-not-is_marked.true) i.collecting;
+      order = i.order;
     }
 
 pub renumber_state-requires-clause-closed : goal.renumber_state-requires-clause-closed
@@ -53,6 +56,9 @@ loop-draft-preserved g c =
           collecting_more (slice_index c.args.numbers.now) c.args.drafts.items c.args.marks.now c.loop-draft.k _ _ c.loop-draft.edges_len c.len-edges_len.result c.in-Some.draft (state_of number state)
           (sym c.get-is_marked.ensures.value ∙ c.if-not-is_marked.false) first.0 one.renumbered (rw length-map more) (omega (arith, more, one.len, c.requires.numbers.length_is, c.requires.marks))
           (rw c.in_ok-push.ensures.items (map_push (state_of number) c.loop-draft.states.items state)) i.collecting;
+      order =
+          rw (c.in_ok-push.ensures.items, map_push (state_of number) c.loop-draft.states.items state)
+          (All-push IsInOrder (graph_of number c.loop-draft.states.items) (state_of number state) i.order one.order);
     }
 
 pub returns-clause-collected : goal.returns-clause-collected

@@ -1,5 +1,7 @@
 use Rattle.std.proofs.Common.{◌≡◌, ◌≤◌, length, drop, slice_index}
 use Rattle.std.specs.Vec.Iter.{into_iter_items, into_iter_len}
+use Rattle.std.specs.List.{All}
+use Rattle.lrspec.specs.merging.Graph.{IsInOrder}
 use Rattle.lrtable.specs.GraphOf.{graph_of}
 use Rattle.lrtable.proofs.CollectedBelow.{AreCollecting}
 use Rattle.lrtable.proofs.pager.collecting.marked_states.Given as goal
@@ -12,4 +14,5 @@ invariant-loop-draft g l =
       rest : into_iter_items l.draft-iterator ≡ drop l.k drafts;
       within : l.k ≤ length drafts;
       collecting : AreCollecting (slice_index l.numbers) drafts l.marks l.k (graph_of g.T.IndexStorage.number l.states.items) l.edges_len;
+      order : All IsInOrder (graph_of g.T.IndexStorage.number l.states.items);
     }
