@@ -1,10 +1,10 @@
 #!/usr/bin/env python3
-"""What `lrt start` has to answer for a grammar text, worked out from the definitions of docs/FORMATS.md and not by the program.
+"""What `lrt` has to answer for a command and a grammar text, worked out from the definitions of docs/FORMATS.md and not by
+the program. This module reads the text and prints the answer; `graphs` works out what is to be printed.
 
-Rules that are nullable, FIRST and the lookaheads of the closed start state are least: each starts empty, and what its rule
-asks for is added until nothing is missing. A set of tokens is a number with the bits of those tokens set.
+    definitions.py COMMAND FILE     prints the answer or the fault line, and ends with the status
 
-    definitions.py FILE     prints the answer or the fault line, and ends with the status
+COMMAND is `start`, `core` or `closed`.
 """
 
 import re
@@ -12,6 +12,9 @@ import sys
 from dataclasses import dataclass, field
 from pathlib import Path
 
+import graphs
+
+COMMANDS = ("start", "core", "closed")
 BLANKS = re.compile(rb"(?:[ \t\r\n]+|//[^\n]*|/\*.*?\*/)*", re.DOTALL)
 LEXEME = re.compile(
     rb"""(?P<NAME>[A-Za-z_.][A-Za-z0-9_.]*)
@@ -123,80 +126,68 @@ def meaning(document):
     return Grammar([*prods, (b"^", [document.start or document.rules[0][0]])], tokens)
 
 
-def nullable_rules(grammar):
-    """The rules that have a production whose symbols are all nullable rules."""
-    nullable = set()
-    while more := {rule for rule, body in grammar.prods if all(it in nullable for it in body)} - nullable:
-        nullable |= more
-    return nullable
+class Texts:
+    """The texts of a grammar's items and states."""
+
+    def __init__(self, grammar):
+        self.grammar = grammar
+        self.names = [b"'%b'" % name for name in [*grammar.tokens, b"$"]]
+        self.known_looks = {}
+
+    def symbol(self, symbol):
+        return symbol if isinstance(symbol, bytes) else self.names[symbol]
+
+    def looks(self, looks):
+        if looks not in self.known_looks:
+            bits = reversed(f"{looks:b}")
+            self.known_looks[looks] = b", ".join(name for name, bit in zip(self.names, bits) if bit == "1")
+        return self.known_looks[looks]
+
+    def item(self, item, looks):
+        prod, dot = item
+        rule, body = self.grammar.prods[prod]
+        before, behind = (b"".join(b" " + self.symbol(it) for it in part) for part in (body[:dot], body[dot:]))
+        return b"[%b ->%b .%b, {%b}]" % (rule, before, behind, self.looks(looks))
+
+    def items(self, items):
+        """A line for each item."""
+        return [self.item(*it) for it in items.items()]
+
+    def edges(self, edges):
+        """A line for each edge, by target upwards; a state has no two edges with one target."""
+        by_target = sorted((target, symbol) for symbol, target in edges.items())
+        return [b"%b -> %d" % (self.symbol(symbol), target) for target, symbol in by_target]
+
+    def states(self, states, shown):
+        """The lines of each state: those of its items, `core` or `closed`, and those of its edges."""
+        width = len(str(len(states)))
+        for number, state in enumerate(states):
+            head, *others = self.items(getattr(state, shown)) + self.edges(state.edges)
+            yield f"{number}:".ljust(width + 2).encode() + head
+            yield from (b" " * (width + 2) + line for line in others)
 
 
-def first_of(symbols, first, nullable):
-    """FIRST of a list of symbols, and whether the list is nullable."""
-    found = 0
-    for symbol in symbols:
-        found |= first.get(symbol, 0) if isinstance(symbol, bytes) else 1 << symbol
-        if symbol not in nullable:
-            return found, False
-    return found, True
+def lines(command, grammar):
+    """What the command prints of the grammar, line by line."""
+    texts = Texts(grammar)
+    if command == "start":
+        return texts.items(graphs.Closures(grammar).closed(graphs.start_core(grammar)))
+    return texts.states(graphs.graph(grammar), command)
 
 
-def first_sets(grammar, nullable):
-    """FIRST of each rule: what FIRST of one of its bodies has."""
-    first, is_done = {}, False
-    while not is_done:
-        is_done = True
-        for rule, body in grammar.prods:
-            found = first.get(rule, 0) | first_of(body, first, nullable)[0]
-            is_done = is_done and found == first.get(rule, 0)
-            first[rule] = found
-    return first
-
-
-def start_state(grammar):
-    """The lookaheads of each production that stands, with the dot in front of its body, in the closed start state."""
-    nullable = nullable_rules(grammar)
-    first = first_sets(grammar, nullable)
-    of_rule = {}
-    for place, (rule, _) in enumerate(grammar.prods):
-        of_rule.setdefault(rule, []).append(place)
-    start, end = len(grammar.prods) - 1, 1 << len(grammar.tokens)
-    looks, to_do = {start: end}, [start]
-    while to_do:
-        place = to_do.pop()
-        body = grammar.prods[place][1]
-        if not body or body[0] not in of_rule:
-            continue
-        ahead, is_nullable = first_of(body[1:], first, nullable)
-        ahead |= looks[place] if is_nullable else 0
-        for other in of_rule[body[0]]:
-            joined = looks.get(other, 0) | ahead
-            if looks.get(other) != joined:
-                looks[other] = joined
-                to_do.append(other)
-    return looks
-
-
-def item_text(grammar, place, looks):
-    """The text of the item at the front of that production, with those lookaheads."""
-    rule, body = grammar.prods[place]
-    names = [b"'%b'" % name for name in [*grammar.tokens, b"$"]]
-    symbols = b"".join(b" " + (it if isinstance(it, bytes) else names[it]) for it in body)
-    return b"[%b -> .%b, {%b}]\n" % (rule, symbols, b", ".join(name for n, name in enumerate(names) if looks >> n & 1))
-
-
-def answer(text):
-    """The status, standard output and standard error that `lrt start` owes this text, which is UTF-8."""
+def answer(command, text):
+    """The status, standard output and standard error that the command owes this text, which is UTF-8."""
+    if command not in COMMANDS:
+        raise ValueError(f"no answer is defined for {command}")
     try:
         grammar = meaning(read(text))
     except Refused as why:
         return 1, b"", b"lrt: %b\n" % why.args
-    looks = start_state(grammar)
-    return 0, b"".join(item_text(grammar, place, looks[place]) for place in sorted(looks)), b""
+    return 0, b"".join(line + b"\n" for line in lines(command, grammar)), b""
 
 
 if __name__ == "__main__":
-    status, out, fault = answer(Path(sys.argv[1]).read_bytes())
+    status, out, fault = answer(sys.argv[1], Path(sys.argv[2]).read_bytes())
     sys.stdout.buffer.write(out)
     sys.stderr.buffer.write(fault)
     sys.exit(status)

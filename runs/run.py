@@ -23,16 +23,19 @@ def content(folder, name, absent=b""):
     return file.read_bytes() if file.exists() else absent
 
 
+def arguments(folder):
+    args = content(folder, "args")
+    return args.removesuffix(b"\n").split(b"\n") if args else []
+
+
 def called(folder, room):
     """The status, standard output and standard error of the run's call, made in that room."""
     if not folder.is_dir():
         raise ValueError("there is no such run")
     if (folder / "files").exists():
         shutil.copytree(folder / "files", room, dirs_exist_ok=True)
-    args = content(folder, "args")
     words = ["timeout", "-k", "5", str(SECONDS), "sh", "-c", content(folder, "call", b'"$LRT" "$@"'), "lrt"]
-    words += args.removesuffix(b"\n").split(b"\n") if args else []
-    ran = subprocess.run(words, cwd=room, input=content(folder, "stdin"), capture_output=True)
+    ran = subprocess.run([*words, *arguments(folder)], cwd=room, input=content(folder, "stdin"), capture_output=True)
     return ran.returncode, ran.stdout, ran.stderr
 
 
@@ -42,8 +45,9 @@ def wanted(folder, room):
     if not (folder / "defined").exists():
         return stored
     text = os.path.expandvars(content(folder, "defined").decode().strip())
-    defined = definitions.answer((room / text).read_bytes())
-    if (folder / "out").exists() and stored != defined:
+    command = next(iter(arguments(folder)), b"start").decode()
+    defined = definitions.answer(command, (room / text).read_bytes())
+    if any((folder / name).exists() for name in ("out", "err")) and stored != defined:
         raise ValueError("what is stored as wanted is not the defined answer")
     return defined
 

@@ -1,70 +1,108 @@
 //! The answers to requests, as text.
 
-use crate::requests::{Request, Source};
-use lrgrammar::grammar::{TextError, YaccGrammar};
+ghost use Rattle.std.specs.Prelude.{◌≡◌, ◌++◌, Some, IfOk, IfErr, codes, option_map};
+ghost use Rattle.std.specs.Option.{IsSomeAnd};
+ghost use Rattle.std.specs.String.{string_bytes};
+ghost use Rattle.lrspec.specs.grammars.ItemSets.{Fits};
+ghost use Rattle.lrspec.specs.grammars.StartState.{IsStartCore};
+ghost use Rattle.lrtable.specs.Chains.{HasChainOf};
+ghost use Rattle.lrtable.specs.ItemSets.{set_of};
+ghost use Rattle.lrtable.specs.Refusals.{IsLargeOnly};
+ghost use Rattle.lrt.specs.declared.requests.Command.TheVariants.{Start, Core, Closed};
+ghost use Rattle.lrt.specs.Requests.{name_of};
+ghost use Rattle.lrt.specs.Answers.{max_index, Prints, IsAnswer, IsUnread, IsUnprinted, IsFault};
+
+use crate::faults::Fault;
+use crate::requests::{Command, Request, Source};
+use lrgrammar::grammar::YaccGrammar;
 use lrgrammar::idx::SIdx;
 use lrgrammar::vob::Vob;
 use lrtable::itemset::Itemset;
+use lrtable::{BuildError, pager_stategraph};
 use std::alloc::{AllocError, Global};
-use std::fmt;
-
-/// Why a request has no answer; each displays as the rest of its fault line.
-#[derive(Debug, Drop)]
-pub enum Fault<'a> {
-    CannotRead(Source<'a>),
-    NotUtf8(Source<'a>),
-    Text(TextError),
-    Memory,
-    CannotWrite,
-}
-
-impl fmt::Display for Fault<'_> {
-    fn fmt<W: fmt::Write>(&self, f: &mut fmt::Formatter<W>) -> fmt::Result {
-        match self {
-            Fault::CannotRead(source) => write!(f, "cannot read {source}"),
-            Fault::NotUtf8(source) => write!(f, "{source} is not UTF-8"),
-            Fault::Text(error) => write!(f, "{error}"),
-            Fault::Memory => write!(f, "out of memory"),
-            Fault::CannotWrite => write!(f, "cannot write standard output"),
-        }
-    }
-}
-
-impl From<AllocError> for Fault<'_> {
-    fn from(_refused: AllocError) -> Self {
-        Fault::Memory
-    }
-}
-
-impl From<TextError> for Fault<'_> {
-    fn from(error: TextError) -> Self {
-        Fault::Text(error)
-    }
-}
 
 /// The text that answers a request; `file` holds the bytes of its source, and is None where they could not be read.
 pub fn answer<'a>(
     alloc: Global,
     request: &Request<'a>,
     file: Option<&[u8]>,
-) -> Result<String, Fault<'a>> {
-    let source = request.source();
-    let bytes = file.ok_or(Fault::CannotRead(source))?;
-    let text = std::str::from_utf8(bytes).map_err(|_| Fault::NotUtf8(source))?;
+) -> Result<String, Fault<'a>>
+    ensures text { IfOk result (λ text. IsSomeAnd (option_map (λ bytes. bytes.now) file.entry)
+        (λ bytes. IsAnswer bytes request.now.command (string_bytes text))) }
+    ensures fault { IfErr result (IsFault (option_map (λ bytes. bytes.now) file.entry)
+        request.now.command (name_of request.now.source)) }
+{
+    let text = decoded(request.source, file)?;
     let grm = YaccGrammar::<u32>::from_text(alloc, text)?;
-    match request {
-        Request::Start(_) => Ok(start_text(alloc, &grm)?),
+    printed(request.command, &grm)
+}
+
+/// The bytes of the source as text.
+fn decoded<'a, 'b>(source: Source<'a>, file: Option<&'b [u8]>) -> Result<&'b str, Fault<'a>>
+    ensures text { IfOk result (λ text.
+        option_map (λ bytes. bytes.now) file.entry ≡ Some text.now) }
+    ensures fault { IfErr result
+        (IsUnread (option_map (λ bytes. bytes.now) file.entry) (name_of source.entry)) }
+{
+    let Some(bytes) = file else {
+        return Err(Fault::CannotRead(source));
+    };
+    match std::str::from_utf8(bytes) {
+        Ok(text) => Ok(text),
+        Err(_) => Err(Fault::NotUtf8(source)),
     }
 }
 
-/// The closed start state, an item a line.
-fn start_text(alloc: Global, grm: &YaccGrammar<u32>) -> Result<String, AllocError> {
-    let firsts = grm.firsts()?;
-    let mut ctx = Vob::from_elem(alloc, false, usize::from(grm.tokens_len()))?;
-    ctx.set(usize::from(grm.eof_token_idx()), true);
-    let mut start = Itemset::new(alloc, grm);
-    start.add(grm.start_prod(), SIdx(0), &ctx)?;
-    let mut text = start.close(grm, &firsts)?.pp(grm)?;
+/// The text that the command prints of a grammar.
+fn printed<'a>(command: Command, grm: &YaccGrammar<u32>) -> Result<String, Fault<'a>>
+    ensures text { IfOk result (λ text. Prints grm.now command (string_bytes text)) }
+    ensures fault { IfErr result (IsUnprinted grm.now command) }
+{
+    let mut text = match command {
+        Command::Start => start_text(grm)?,
+        Command::Core => core_text(grm)?,
+        Command::Closed => closed_text(grm)?,
+    };
     text.push('\n')?;
     Ok(text)
+}
+
+/// The core of the start state: the start production at dot 0, looking at the end token.
+fn start_core(grm: &YaccGrammar<u32>) -> Result<Itemset<u32>, AllocError>
+    ensures core { IfOk result (λ s. IsStartCore grm.now (set_of (λ n. n) s)) }
+    ensures fits { IfOk result (λ s. Fits grm.now (set_of (λ n. n) s)) }
+{
+    let alloc = grm.allocator();
+    let mut ctx = Vob::from_elem(alloc, false, usize::from(grm.tokens_len()))?;
+    ctx.set(usize::from(grm.eof_token_idx()), true);
+    let mut core = Itemset::new(alloc, grm);
+    core.add(grm.start_prod(), SIdx(0), &ctx)?;
+    Ok(core)
+}
+
+/// The text of the closed start state, an item a line.
+fn start_text(grm: &YaccGrammar<u32>) -> Result<String, AllocError>
+    ensures { IfOk result (λ s. Prints grm.now Start (string_bytes s ++ codes "\n")) }
+{
+    let firsts = grm.firsts()?;
+    let closed = start_core(grm)?.close(grm, &firsts)?;
+    closed.pp(grm)
+}
+
+/// The text of the state graph with the cores of its states.
+fn core_text(grm: &YaccGrammar<u32>) -> Result<String, BuildError<u32>>
+    ensures text { IfOk result (λ s. Prints grm.now Core (string_bytes s ++ codes "\n")) }
+    ensures refused { IfErr result (IsLargeOnly (HasChainOf grm.now max_index)) }
+{
+    let graph = pager_stategraph(grm)?;
+    Ok(graph.pp_core_states(grm)?)
+}
+
+/// The text of the state graph with its closed states.
+fn closed_text(grm: &YaccGrammar<u32>) -> Result<String, BuildError<u32>>
+    ensures text { IfOk result (λ s. Prints grm.now Closed (string_bytes s ++ codes "\n")) }
+    ensures refused { IfErr result (IsLargeOnly (HasChainOf grm.now max_index)) }
+{
+    let graph = pager_stategraph(grm)?;
+    Ok(graph.pp_closed_states(grm)?)
 }

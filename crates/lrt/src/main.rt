@@ -1,12 +1,21 @@
 //! `lrt`: prints what LR(1) tables are made of.
 #![tactic(auto)]
 
+ghost use Rattle.std.specs.Prelude.{◌≡◌, ◌≢◌, ◌≤◌, ◌↔◌, ◌++◌, ◌⊎◌, OnOk, IfErr, IfSome, codes, map, option_map};
+ghost use Rattle.std.specs.Io.KnownBytes.{Appends};
+ghost use Rattle.std.specs.String.{string_bytes};
+ghost use Rattle.lrt.specs.declared.faults.Fault.TheVariants as fault;
+ghost use Rattle.lrt.specs.Requests.{name_of, AsksSome, AsksNothing};
+ghost use Rattle.lrt.specs.Answers.{HasAnswer, AppendsAnswer, IsPrintFault, fault_text};
+
 mod answers;
+mod faults;
 mod requests;
 #[cfg(test)]
 mod tests;
 
-use answers::{Fault, answer};
+use answers::answer;
+use faults::Fault;
 use requests::{Request, Source, USAGE, requested};
 use std::alloc::{AllocError, Global};
 use std::io::{self, Read, Write};
@@ -26,16 +35,27 @@ pub fn command<R: Read + Drop, W: Write, F: Write>(
     reader: R,
     mut out: W,
     mut faults: F,
-) -> (u8, W, F) {
+) -> (u8, W, F)
+    ensures status { result.0 ≤ 2 }
+    ensures done { result.0 ≡ 0 → AsksSome (map string_bytes args.now) (λ command.
+        AppendsAnswer (W.contents out) (W.contents result.1)
+        (option_map (λ bytes. bytes.now) file.entry) command) }
+    ensures silent { result.0 ≡ 0 → result.2 ≡ faults }
+    // Only an answer that could not be written whole changes what `out` holds.
+    ensures fault { result.0 ≡ 1 → AsksSome (map string_bytes args.now) (λ command.
+        (result.1 ≡ out) ⊎ HasAnswer (option_map (λ bytes. bytes.now) file.entry) command) }
+    ensures usage { (result.0 ≡ 2) ↔ AsksNothing (map string_bytes args.now) }
+    ensures untouched { result.0 ≡ 2 → result.1 ≡ out }
+{
     let Some(request) = requested(args) else {
-        let _ = writeln!(faults, "{USAGE}");
+        let _ = tell_usage(&mut faults);
         return (2, out, faults);
     };
     let _ = reader;
     match print(alloc, &request, file, &mut out) {
         Ok(()) => (0, out, faults),
         Err(fault) => {
-            let _ = writeln!(faults, "lrt: {fault}");
+            let _ = tell(&fault, &mut faults);
             (1, out, faults)
         }
     }
@@ -47,11 +67,34 @@ fn print<'a, W: Write>(
     request: &Request<'a>,
     file: Option<&[u8]>,
     out: &mut W,
-) -> Result<(), Fault<'a>> {
+) -> Result<(), Fault<'a>>
+    ensures printed { OnOk result (AppendsAnswer (W.contents out.old) (W.contents out.new)
+        (option_map (λ bytes. bytes.now) file.entry) request.now.command) }
+    ensures fault { IfErr result (IsPrintFault (option_map (λ bytes. bytes.now) file.entry)
+        request.now.command (name_of request.now.source)) }
+    ensures untouched { IfErr result (λ e. e ≢ fault.CannotWrite → out.new ≡ out.old) }
+{
     let text = answer(alloc, request, file)?;
     out.write_all(text.as_bytes())
         .map_err(|_| Fault::CannotWrite)?;
     out.flush().map_err(|_| Fault::CannotWrite)
+}
+
+/// Writes the line that tells how the program is called.
+fn tell_usage<F: Write>(faults: &mut F) -> io::Result<()>
+    ensures { OnOk result (Appends (F.contents faults.old) (F.contents faults.new)
+        (USAGE.now ++ codes "\n")) }
+{
+    writeln!(faults, "{USAGE}")
+}
+
+/// Writes the line that tells a fault.
+fn tell<F: Write>(fault: &Fault<'_>, faults: &mut F) -> io::Result<()>
+    ensures { OnOk result (IfSome (fault_text fault.now) (λ text.
+        Appends (F.contents faults.old) (F.contents faults.new)
+        (codes "lrt: " ++ text ++ codes "\n"))) }
+{
+    writeln!(faults, "lrt: {fault}")
 }
 
 /// The bytes of the source that the arguments name; None where they can't be had, and where the arguments are wrong usage.
@@ -60,7 +103,7 @@ fn input(rt: &HostRuntime, args: &[String]) -> Result<Option<Vec<u8>>, AllocErro
         return Ok(None);
     };
     let mut bytes = Vec::new(rt.alloc());
-    let read = match request.source() {
+    let read = match request.source {
         Source::File(name) => match fs::File::open(rt, name) {
             Ok(mut file) => file.read_to_end(&mut bytes),
             Err(error) => Err(error),

@@ -55,13 +55,25 @@ fn start_states(rt: HostRuntime) -> Result<(), Fail> {
 }
 
 #[test]
+fn state_graphs(rt: HostRuntime) -> Result<(), Fail> {
+    let text = Some(b"%start S %% S: 'a';".as_slice());
+    let core = "0: [^ -> . S, {'$'}]\n   'a' -> 1\n   S -> 2\n1: [S -> 'a' ., {'$'}]\n\
+        2: [^ -> S ., {'$'}]\n";
+    let closed = "0: [S -> . 'a', {'$'}]\n   [^ -> . S, {'$'}]\n   'a' -> 1\n   S -> 2\n\
+        1: [S -> 'a' ., {'$'}]\n2: [^ -> S ., {'$'}]\n";
+    answers(&rt, rt.alloc(), "core a.y", text, 0, core, "")?;
+    answers(&rt, rt.alloc(), "closed a.y", text, 0, closed, "")
+}
+
+#[test]
 fn wrong_usage(rt: HostRuntime) -> Result<(), Fail> {
     let text = Some(ASSIGNMENTS.as_bytes());
     for line in [
         "start",
         "start a.y b.y",
-        "core a.y",
-        "closed a.y",
+        "starting a.y",
+        "cores a.y",
+        "closed",
         "conflicts a.y",
         "run a.y 5",
         "begin a.y",

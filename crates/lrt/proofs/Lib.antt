@@ -1,0 +1,2 @@
+mod AskingArguments
+mod PrintedTexts

@@ -1,0 +1,11 @@
+use Rattle.std.specs.String.{string_bytes}
+use Rattle.lrtable.specs.ItemSets.{set_of}
+use Rattle.lrt.proofs.PrintedTexts.{start_printed}
+use Rattle.lrt.proofs.answers.start_text.Goals as goal
+
+pub returns : goal.returns
+returns c =
+    let closed = c.in_ok-closed in
+    start_printed string_bytes c.args.grm.now (set_of (λ n. n) closed.closed) c.pp.result
+    (record { fits = closed.ensures.fits; canonical = closed.ensures.start c.in_ok-start_core.ensures.core; upwards = c.pp.ensures.upwards })
+    c.pp.ensures.text

@@ -1,0 +1,96 @@
+-- what is answered to a request, and why there is no answer
+use Rattle.std.specs.Prelude.{◌≡◌, ◌≢◌, ℕ, List, ◌++◌, Option, None, Some, codes}
+use Rattle.std.specs.Io.KnownBytes.{Appends}
+use Rattle.std.specs.List.{All}
+use Rattle.std.specs.Option.{IsSomeAnd}
+use Rattle.std.specs.Str.{IsUtf8}
+use Rattle.lrspec.specs.grammars.Grammar.{Grammar}
+use Rattle.lrspec.specs.grammars.ItemSets.{Items, Fits, AreUpwards}
+use Rattle.lrspec.specs.grammars.StartState.{IsCanonicalStart}
+use Rattle.lrspec.specs.merging.Graph.{Graph, IsGraphOf, AreShared, CoresCross, IsInOrder}
+use Rattle.lrspec.specs.texts.PrintedTexts.{items_text, core_text, closed_text}
+use Rattle.lrgrammar.specs.TextErrors.{IsGrammarOf, IsTextError}
+use Rattle.lrtable.specs.Chains.{HasChainOf}
+use Rattle.lrtable.specs.Refusals.{IsLargeOnly}
+use Rattle.lrt.specs.declared.requests.Command.{Command}
+use Rattle.lrt.specs.declared.requests.Command.TheVariants.{Start, Core, Closed}
+use Rattle.lrt.specs.declared.faults.Fault.{Fault}
+use Rattle.lrt.specs.declared.faults.Fault.TheVariants.{CannotRead, NotUtf8, Text, Build, Memory, CannotWrite}
+use Rattle.lrt.specs.Requests.{name_of, source_text}
+
+-- the greatest index of 32 bits
+abbrev pub max_index : ℕ
+max_index = 4294967295
+
+-- the item set is what stands after no symbol, looking where it looks there
+pub record IsStartState (g : Grammar) (c : Items) : Type 0 where
+  pub fits : Fits g c
+  pub canonical : IsCanonicalStart g c
+  pub upwards : AreUpwards c
+
+-- the graph is the grammar's, its cores are shared, those with the same items cross, and it lists
+-- items upwards and no symbol twice in a state
+pub record IsMergedGraph (g : Grammar) (h : Graph) : Type 0 where
+  pub graph : IsGraphOf g h
+  pub shared : AreShared g h
+  pub crossing : CoresCross h
+  pub order : All IsInOrder h
+
+-- the text that the command prints of a grammar
+pub data Prints (g : Grammar) : Command → List ℕ → Type 0 where
+  start : {c : Items} → IsStartState g c → Prints g Start (items_text g c ++ codes "\n")
+  core : {h : Graph} → IsMergedGraph g h → Prints g Core (core_text g h ++ codes "\n")
+  closed : {h : Graph} → IsMergedGraph g h → Prints g Closed (closed_text g h ++ codes "\n")
+
+-- the bytes are a grammar text, and what the command prints of its grammar is the text
+pub record IsAnswer (bytes : List ℕ) (command : Command) (text : List ℕ) : Type 0 where
+  pub utf8 : IsUtf8 bytes
+  pub grammar : Grammar
+  pub means : IsGrammarOf max_index bytes grammar
+  pub prints : Prints grammar command text
+
+-- there is an answer to the command about the bytes
+abbrev pub HasAnswer : Option (List ℕ) → Command → Type 0
+HasAnswer bytes command = IsSomeAnd bytes (λ bs. (text : List ℕ) × IsAnswer bs command text)
+
+-- what a writer holds grew by an answer to the command about the bytes
+abbrev pub AppendsAnswer :
+    Option (List ℕ) → Option (List ℕ) → Option (List ℕ) → Command → Type 0
+AppendsAnswer old new bytes command =
+    IsSomeAnd bytes (λ bs. (text : List ℕ) × IsAnswer bs command text × Appends old new text)
+
+-- why the bytes of that name, which are none where they could not be read, are no text
+abbrev pub IsUnread : Option (List ℕ) → Option (List ℕ) → Fault → Type 0
+IsUnread bytes name (CannotRead source) = (bytes ≡ None) × (name_of source ≡ name)
+IsUnread bytes name (NotUtf8 source) =
+    IsSomeAnd bytes (λ bs. ¬ (IsUtf8 bs)) × (name_of source ≡ name)
+IsUnread bytes name e = ⊥
+
+-- why nothing is printed of a grammar; want of memory says nothing
+abbrev pub IsUnprinted : Grammar → Command → Fault → Type 0
+IsUnprinted g command (Build e) = IsLargeOnly (HasChainOf g max_index) e × (command ≢ Start)
+IsUnprinted g command Memory = Unit {0}
+IsUnprinted g command e = ⊥
+
+-- why there is no answer to a command about the bytes of that name: the first of these causes
+abbrev pub IsFault : Option (List ℕ) → Command → Option (List ℕ) → Fault → Type 0
+IsFault bytes command name (Text e) = IsSomeAnd bytes (λ bs. IsUtf8 bs × IsTextError max_index bs e)
+IsFault bytes command name (Build e) =
+    IsSomeAnd bytes (λ bs. IsUtf8 bs
+    × ((g : Grammar) × IsGrammarOf max_index bs g × IsUnprinted g command (Build e)))
+IsFault bytes command name Memory = Unit {0}
+IsFault bytes command name e = IsUnread bytes name e
+
+-- why an answer to a command about the bytes of that name is not printed: it cannot be written, or
+-- there is none
+abbrev pub IsPrintFault : Option (List ℕ) → Command → Option (List ℕ) → Fault → Type 0
+IsPrintFault bytes command name CannotWrite = HasAnswer bytes command
+IsPrintFault bytes command name e = IsFault bytes command name e
+
+-- how a fault is told, where the text is not that of an error of a library
+abbrev pub fault_text : Fault → Option (List ℕ)
+fault_text (CannotRead source) = Some (codes "cannot read " ++ source_text source)
+fault_text (NotUtf8 source) = Some (source_text source ++ codes " is not UTF-8")
+fault_text Memory = Some (codes "out of memory")
+fault_text CannotWrite = Some (codes "cannot write standard output")
+fault_text e = None

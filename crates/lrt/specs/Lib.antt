@@ -1,0 +1,4 @@
+-- what the arguments ask for
+pub mod Requests
+-- what is answered to that, and why there is no answer
+pub mod Answers

@@ -1,0 +1,1 @@
+%token y %% S: y x z;
