@@ -7,7 +7,7 @@ use Rattle.std.specs.List.{range_with_len}
 use Rattle.std.specs.Option.{IsSomeAnd}
 use Rattle.lrspec.specs.grammars.Grammar.{Token, Kind, Left, Right, Nonassoc, Precedence, Grammar, body_of, token_precedence, production_precedence}
 use Rattle.lrspec.specs.grammars.ItemSets.{Items, item_at, LooksIn}
-use Rattle.lrspec.proofs.grammars.ListMembers.{Among}
+use Rattle.lrspec.proofs.grammars.ListMembers.{Among, least_first}
 use Rattle.lrspec.specs.merging.Graph.{Graph, closed_of, edge}
 use Rattle.lrspec.specs.tables.Table as table
 use Rattle.lrspec.specs.tables.Table.{Action, bit_or_none, looks_at, is_complete_at, reductions, decide, by_kind, cell_by, cell_of, accepts_at}
@@ -115,17 +115,23 @@ shift_by g t (p ∷ ps) (Some v) b u e = elim (decided (token_precedence g t) (p
   | inr (inr h) ↦ cc
 ]
 
--- it reduces only by one of the reductions
-reduce_by : (g : Grammar) (t : ℕ) (ps : List ℕ) (o : Option ℕ) (b : Bool) (q : ℕ) → cell_by g t ps o b ≡ table.Action.Reduce q → Among q ps
-reduce_by g t [] None true q e = cc
-reduce_by g t [] None false q e = cc
-reduce_by g t [] (Some v) b q e = cc
-reduce_by g t (p ∷ ps) None b q e = inl (cc)
-reduce_by g t (p ∷ ps) (Some v) b q e = elim (decided (token_precedence g t) (production_precedence g p) v p (table.Action.Reduce q) e) [
+-- it reduces only by the first of the reductions
+first_by :
+    (g : Grammar) (t : ℕ) (ps : List ℕ) (o : Option ℕ) (b : Bool) (q : ℕ) → cell_by g t ps o b ≡ table.Action.Reduce q
+    → (qs : List ℕ) × (ps ≡ q ∷ qs)
+first_by g t [] None true q e = cc
+first_by g t [] None false q e = cc
+first_by g t [] (Some v) b q e = cc
+first_by g t (p ∷ ps) None b q e = (ps, cc)
+first_by g t (p ∷ ps) (Some v) b q e = elim (decided (token_precedence g t) (production_precedence g p) v p (table.Action.Reduce q) e) [
   | inl h ↦ cc
-  | inr (inl h) ↦ inl (cc)
+  | inr (inl h) ↦ (ps, cc)
   | inr (inr h) ↦ cc
 ]
+
+-- which is one of them
+reduce_by : (g : Grammar) (t : ℕ) (ps : List ℕ) (o : Option ℕ) (b : Bool) (q : ℕ) → cell_by g t ps o b ≡ table.Action.Reduce q → Among q ps
+reduce_by g t ps o b q e = let (qs, f) = first_by g t ps o b q e in rw f (inl refl)
 
 -- and accepts only where that is told
 accept_by : (g : Grammar) (t : ℕ) (ps : List ℕ) (o : Option ℕ) (b : Bool) → cell_by g t ps o b ≡ table.Action.Accept → b ≡ true
@@ -157,3 +163,16 @@ pub looks_from_accept :
 looks_from_accept g h s t e =
     looks_in_from_test (closed_of h s) g.start_production (length (body_of g g.start_production)) t
     (accept_by g t (reductions g (closed_of h s) t) (edge h s (Token t)) (accepts_at g (closed_of h s) t) e)
+
+-- the first of the reductions is the least
+pub least_of_first : (g : Grammar) (a : Items) (t p q : ℕ) (ps : List ℕ) → reductions g a t ≡ p ∷ ps → Among q (p ∷ ps) → p ≤ q
+least_of_first g a t p q ps e (inl i) = omega (arith, i)
+least_of_first g a t p q ps e (inr i) =
+    let l = least_first (λ r. not (eqb r g.start_production) && is_complete_at g a t r) 0 (length g.productions) p q ps e i in omega (arith, l)
+
+-- a cell that reduces does so by the least of the reductions
+pub least_from_reduce :
+    (g : Grammar) (h : Graph) (s t p q : ℕ) → cell_of g h s t ≡ table.Action.Reduce p → Among q (reductions g (closed_of h s) t) → p ≤ q
+least_from_reduce g h s t p q e i =
+    let (ps, f) = first_by g t (reductions g (closed_of h s) t) (edge h s (Token t)) (accepts_at g (closed_of h s) t) p e in
+    least_of_first g (closed_of h s) t p q ps f (rw f at i)

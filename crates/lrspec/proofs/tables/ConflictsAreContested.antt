@@ -7,7 +7,7 @@ use Rattle.lrspec.specs.grammars.Candidates as candidate
 use Rattle.lrspec.specs.grammars.Candidates.{IsCandidate, IsContested}
 use Rattle.lrspec.specs.merging.Graph.{Graph, core_of, closed_of, IsGraphOf, AreShared, InventsNoConflict}
 use Rattle.lrspec.specs.tables.Table.{reduce_reduce_of, shift_reduce_of, AcceptsAndReduces}
-use Rattle.lrspec.specs.tables.Conflicts.{AreReductionsContested, AreShiftsContested, IsAcceptContested, AcceptsWhereContested}
+use Rattle.lrspec.specs.tables.Conflicts.{AreReductionsContested, AreShiftsContested, IsAcceptContested, IsLeastAcceptContested, IsLeastAcceptReduce, AcceptsWhereContested}
 use Rattle.lrspec.proofs.grammars.CanonicalItemFacts.{stands_of_looks, start_stands_after}
 use Rattle.lrspec.proofs.grammars.ListMembers.{among_from_contains}
 use Rattle.lrspec.proofs.grammars.Closures.{has_of_looks}
@@ -99,3 +99,14 @@ module _ (g : Grammar) (h : Graph) (grammar : IsGrammar g) (m : IsGraphOf g h) w
   -- a state accepts and reduces by a production exactly where both look at the end token after the start rule alone
   pub accepts_where_contested : AcceptsWhereContested g h
   accepts_where_contested p = (λ k. contested_from_accepts k.0 p k.1, accepts_from_contested p)
+
+  -- the least production by which a state reduces where it accepts is the least with which accepting is contested
+  pub least_contested : (p : ℕ) → IsLeastAcceptReduce g h p → IsLeastAcceptContested g p
+  least_contested p k = record {
+    contested = contested_from_accepts k.some.0 p k.some.1;
+    least = λ q c. let (s, a) = accepts_from_contested q c in k.least s q a;
+  }
+
+  -- where no state accepts and reduces, accepting is contested with no production
+  pub accept_uncontested : ((s p : ℕ) → AcceptsAndReduces g h s p → ⊥) → (p : ℕ) → ¬ (IsAcceptContested g p)
+  accept_uncontested none p c = let (s, a) = accepts_from_contested p c in none s p a

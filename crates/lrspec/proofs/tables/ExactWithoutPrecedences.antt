@@ -9,7 +9,7 @@ use Rattle.lrspec.specs.tables.Table as table
 use Rattle.lrspec.specs.tables.Table.{reductions, IsContender, IsCrowded, NoCellIsCrowded, reduce_reduce_of, shift_reduce_of, AcceptsAndReduces, Table, IsTableOf, IsTableFor, IsUncrowded}
 use Rattle.lrspec.proofs.tables.MachineTheorems.{never_stuck, sound, complete, one_tree}
 use Rattle.lrspec.specs.tables.Conflicts.{HasNoConflicts}
-use Rattle.lrspec.specs.tables.Exactness.{TablesRecognise, HasNoPrecedences, IsExact, ListsNothing, TablesAreExact, TablesAreUncrowded}
+use Rattle.lrspec.specs.tables.Exactness.{TablesRecognise, HasNoPrecedences, IsExact, ListsNothing, TablesAreExact, TablesAreUncrowded, IsExactTable}
 use Rattle.lrspec.proofs.grammars.BodyFacts.{symbol_at_dot}
 use Rattle.lrspec.proofs.grammars.CanonicalItemFacts.{stands_of_looks, start_looks_end}
 use Rattle.lrspec.proofs.merging.RootedCores.{rooted_closes_looks}
@@ -160,3 +160,7 @@ module _ (g : Grammar) (h : Graph) (grammar : IsGrammar g) (m : IsGraphOf g h) w
       let clear = uncrowded_without_precedences plain b k n in
       let for_grammar : IsTableFor g b = record { graph = h; graph_of = m; table_of = k } in
       record { never_stuck = never_stuck grammar for_grammar; sound = sound grammar for_grammar; complete = complete grammar clear; one_tree = one_tree grammar clear }
+
+  -- a table of a shared graph is exact
+  pub exact_table : AreShared g h → (b : Table) → IsTableOf g h b → IsExactTable g b
+  exact_table share b k plain = tables_exact_without_precedences plain share b k

@@ -10,6 +10,7 @@ use Rattle.lrspec.proofs.grammars.ListMembers.{Among, among_flat_map, from_flat_
 -- what an entry of the list of reduce/reduce conflicts says: both productions are reductions on the token
 pub record IsPair (g : Grammar) (h : Graph) (t p q s : ℕ) : Type 0 where
   pub below : s < length h
+  pub token : t < token_count g
   pub order : p < q
   pub first : Among p (reductions g (closed_of h s) t)
   pub second : Among q (reductions g (closed_of h s) t)
@@ -18,6 +19,7 @@ pub record IsPair (g : Grammar) (h : Graph) (t p q s : ℕ) : Type 0 where
 -- reduction on it
 pub record IsMix (g : Grammar) (h : Graph) (t p s : ℕ) : Type 0 where
   pub below : s < length h
+  pub token : t < token_count g
   pub target : ℕ
   pub leads : edge h s (Token t) ≡ Some target
   pub reduces : Among p (reductions g (closed_of h s) t)
@@ -35,22 +37,23 @@ pair_by_entry (r ∷ rs) q s t y e =
     (ap (λ z. z.0) m, ap (λ z. z.2) m, ap (λ z. z.3) m, (rs, ap (λ z. z.1 ∷ rs) m, among_from_test q rs k))
 
 pair_from_parts :
-    (g : Grammar) (h : Graph) (v r u t p q s : ℕ) → v < length h
+    (g : Grammar) (h : Graph) (v r u t p q s : ℕ) → v < length h → u < token_count g
     → (u ≡ t) × (r ≡ q) × (v ≡ s) × ((ps : List ℕ) × (reductions g (closed_of h v) u ≡ p ∷ ps) × Among r ps) → IsPair g h t p q s
-pair_from_parts g h v r u t p q s l (i, j, k, (ps, e, m)) =
+pair_from_parts g h v r u t p q s l n (i, j, k, (ps, e, m)) =
     let rest : Among q ps = rw j at m in
     let are : reductions g (closed_of h s) t ≡ p ∷ ps = rw (i, k) at e in
     record {
       below = omega (arith, l, k);
+      token = omega (arith, n, i);
       order = least_first (λ p. not (p == g.start_production) && is_complete_at g (closed_of h s) t p) 0 (length g.productions) p q ps are rest;
       first = rw are (inl refl);
       second = rw are (inr rest);
     }
 
 pair_from_entry :
-    (g : Grammar) (h : Graph) (v r u : ℕ) (y : ℕ × ℕ × ℕ × ℕ) → v < length h
+    (g : Grammar) (h : Graph) (v r u : ℕ) (y : ℕ × ℕ × ℕ × ℕ) → v < length h → u < token_count g
     → reduce_reduce_entry (reductions g (closed_of h v) u) v r u ≡ Some y → IsPair g h y.0 y.1 y.2 y.3
-pair_from_entry g h v r u y l e = pair_from_parts g h v r u y.0 y.1 y.2 y.3 l (pair_by_entry (reductions g (closed_of h v) u) r v u y e)
+pair_from_entry g h v r u y l n e = pair_from_parts g h v r u y.0 y.1 y.2 y.3 l n (pair_by_entry (reductions g (closed_of h v) u) r v u y e)
 
 -- an entry of the list of reduce/reduce conflicts is such a pair
 pub listed_pair : (g : Grammar) (h : Graph) (t p q s : ℕ) → Among (t, p, q, s) (reduce_reduce_of g h) → IsPair g h t p q s
@@ -58,7 +61,7 @@ listed_pair g h t p q s i =
     let (v, j, k) = from_flat_map _ (t, p, q, s) (range_with_len 0 (length h)) i in
     let (r, l, m) = from_flat_map _ (t, p, q, s) (range_with_len 0 (length g.productions)) k in
     let (u, n, e) = from_filter_map _ (t, p, q, s) (range_with_len 0 (token_count g)) m in
-    pair_from_entry g h v r u (t, p, q, s) (below_from_range (length h) v j) e
+    pair_from_entry g h v r u (t, p, q, s) (below_from_range (length h) v j) (below_from_range (token_count g) u n) e
 
 mix_by_listed : (o r : Option Precedence) (x y : ℕ × ℕ × ℕ) → listed o r x ≡ Some y → x ≡ y
 mix_by_listed None r x y e = cc
@@ -75,26 +78,27 @@ mix_by_entry g (r ∷ rs) (Some u) s t y e =
     (ap (λ z. z.0) m, ap (λ z. z.2) m, (u, refl), inl (sym (ap (λ z. z.1) m)))
 
 mix_from_parts :
-    (g : Grammar) (h : Graph) (v u t p s : ℕ) → v < length h
+    (g : Grammar) (h : Graph) (v u t p s : ℕ) → v < length h → u < token_count g
     → (u ≡ t) × (v ≡ s) × ((k : ℕ) × (edge h v (Token u) ≡ Some k)) × Among p (reductions g (closed_of h v) u) → IsMix g h t p s
-mix_from_parts g h v u t p s l (i, j, (k, e), m) = record {
+mix_from_parts g h v u t p s l n (i, j, (k, e), m) = record {
   below = omega (arith, l, j);
+  token = omega (arith, n, i);
   target = k;
   leads = rw (i, j) at e;
   reduces = rw (i, j) at m;
 }
 
 mix_from_entry :
-    (g : Grammar) (h : Graph) (v u : ℕ) (y : ℕ × ℕ × ℕ) → v < length h
+    (g : Grammar) (h : Graph) (v u : ℕ) (y : ℕ × ℕ × ℕ) → v < length h → u < token_count g
     → shift_reduce_entry g (reductions g (closed_of h v) u) (edge h v (Token u)) v u ≡ Some y → IsMix g h y.0 y.1 y.2
-mix_from_entry g h v u y l e = mix_from_parts g h v u y.0 y.1 y.2 l (mix_by_entry g (reductions g (closed_of h v) u) (edge h v (Token u)) v u y e)
+mix_from_entry g h v u y l n e = mix_from_parts g h v u y.0 y.1 y.2 l n (mix_by_entry g (reductions g (closed_of h v) u) (edge h v (Token u)) v u y e)
 
 -- an entry of the list of shift/reduce conflicts is such a mix
 pub listed_mix : (g : Grammar) (h : Graph) (t p s : ℕ) → Among (t, p, s) (shift_reduce_of g h) → IsMix g h t p s
 listed_mix g h t p s i =
     let (v, j, k) = from_flat_map _ (t, p, s) (range_with_len 0 (length h)) i in
     let (u, n, e) = from_filter_map _ (t, p, s) (range_with_len 0 (token_count g)) k in
-    mix_from_entry g h v u (t, p, s) (below_from_range (length h) v j) e
+    mix_from_entry g h v u (t, p, s) (below_from_range (length h) v j) (below_from_range (token_count g) u n) e
 
 pair_entry :
     (rs : List ℕ) (s t p q : ℕ) → Among p rs → Among q rs → p ≢ q

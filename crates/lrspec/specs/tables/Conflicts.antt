@@ -1,11 +1,20 @@
 -- what a listed conflict says of the canonical items, and graphs without conflicts
-use Rattle.std.specs.Prelude.{◌≡◌, ◌≢◌, ℕ, List, [], ◌∷◌, Contains, length, ◌↔◌}
-use Rattle.lrspec.specs.grammars.Grammar.{Symbol, Rule, Grammar, end_token, body_of}
+use Rattle.std.specs.Prelude.{◌≡◌, ◌≢◌, ℕ, ◌<◌, ◌≤◌, List, [], ◌∷◌, Contains, length, ◌↔◌}
+use Rattle.lrspec.specs.grammars.Grammar.{Symbol, Rule, Grammar, end_token, token_count, body_of}
 use Rattle.lrspec.specs.grammars.CanonicalItems.{Looks}
 use Rattle.lrspec.specs.grammars.Candidates.{Shift, Reduce, IsCandidate}
 use Rattle.lrspec.specs.merging.Cores.{HasCoreAfter}
 use Rattle.lrspec.specs.merging.Graph.{Graph, core_of}
-use Rattle.lrspec.specs.tables.Table.{reduce_reduce_of, shift_reduce_of, AcceptsAndReduces}
+use Rattle.lrspec.specs.tables.Table.{Lists, reduce_reduce_of, shift_reduce_of, AcceptsAndReduces}
+
+-- each entry names a token and productions of the grammar
+pub record AreEntriesOf (g : Grammar) (c : Lists) : Type 0 where
+  pub pairs :
+      (t p q s : ℕ) → Contains c.reduce_reduce (t, p, q, s)
+      → (t < token_count g) × (p < length g.productions) × (q < length g.productions)
+  pub mixes :
+      (t p s : ℕ) → Contains c.shift_reduce (t, p, s)
+      → (t < token_count g) × (p < length g.productions)
 
 -- both productions of each entry of the list of reduce/reduce conflicts are candidates of one
 -- token, perhaps another, after a list with the core of that state
@@ -33,6 +42,16 @@ pub record IsAcceptContested (g : Grammar) (p : ℕ) : Type 0 where
       Looks g (Rule start_rule ∷ []) g.start_production
       (length (body_of g g.start_production)) (end_token g)
   pub reduces : Looks g (Rule start_rule ∷ []) p (length (body_of g p)) (end_token g)
+
+-- the least production with which accepting is contested
+pub record IsLeastAcceptContested (g : Grammar) (p : ℕ) : Type 0 where
+  pub contested : IsAcceptContested g p
+  pub least : (q : ℕ) → IsAcceptContested g q → p ≤ q
+
+-- the least production by which a state reduces at the end of the text where it accepts too
+pub record IsLeastAcceptReduce (g : Grammar) (h : Graph) (p : ℕ) : Type 0 where
+  pub some : (s : ℕ) × AcceptsAndReduces g h s p
+  pub least : (s q : ℕ) → AcceptsAndReduces g h s q → p ≤ q
 
 -- a state accepts and reduces by a production exactly where that is canonical
 abbrev pub AcceptsWhereContested : Grammar → Graph → Type 0

@@ -30,3 +30,8 @@ TablesAreUncrowded g h = (b : Table) → IsTableOf g h b → ListsNothing b → 
 -- a table of the graph that lists nothing recognises the grammar
 abbrev pub TablesRecognise : Grammar → Graph → Type 0
 TablesRecognise g h = (b : Table) → IsTableOf g h b → ListsNothing b → Recognises g b
+
+-- without precedences the table lists nothing exactly where no list leaves a token two canonical
+-- candidates
+abbrev pub IsExactTable : Grammar → Table → Type 0
+IsExactTable g b = HasNoPrecedences g → ListsNothing b ↔ IsUncontested g

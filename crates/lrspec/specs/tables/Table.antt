@@ -151,6 +151,15 @@ pub record Table : Type 0 where
   pub reduce_reduce : List (ℕ × ℕ × ℕ × ℕ)
   pub shift_reduce : List (ℕ × ℕ × ℕ)
 
+-- lists of conflicts: the reduce/reduce ones, and the shift/reduce ones
+pub record Lists : Type 0 where
+  pub reduce_reduce : List (ℕ × ℕ × ℕ × ℕ)
+  pub shift_reduce : List (ℕ × ℕ × ℕ)
+
+-- both lists of a table
+abbrev pub lists_of : Table → Lists
+lists_of b = record { reduce_reduce = b.reduce_reduce; shift_reduce = b.shift_reduce }
+
 -- the cell of the state and the token, an error where there is none
 abbrev pub action_of : Table → ℕ → ℕ → Action
 action_of b s t = slice_index_or (slice_index_or b.actions s []) t Error

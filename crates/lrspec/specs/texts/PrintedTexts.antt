@@ -1,10 +1,11 @@
--- texts as they are printed: of productions, items, item sets and graphs
-use Rattle.std.specs.Prelude.{ℕ, ◌-◌, ◌==◌, Bool, false, List, [], ◌++◌, codes, filter, length, slice_index_or, take}
+-- texts as they are printed: of productions, items, item sets, graphs and conflicts
+use Rattle.std.specs.Prelude.{ℕ, ◌-◌, ◌==◌, Bool, false, List, [], ◌∷◌, ◌++◌, codes, filter, length, slice_index_or, take}
 use Rattle.std.specs.Fmt.{decimal}
 use Rattle.std.specs.List.{flat_map, join_by, range_with_len, repeat}
 use Rattle.lrspec.specs.grammars.Grammar.{Symbol, Rule, Token, Grammar, body_of, rule_of, rest}
 use Rattle.lrspec.specs.grammars.ItemSets.{Items}
 use Rattle.lrspec.specs.merging.Graph.{Graph, core_of, closed_of, edges_of}
+use Rattle.lrspec.specs.tables.Table.{Lists}
 
 -- ---- productions
 
@@ -25,9 +26,13 @@ production_text g p = rule_name g (rule_of g p) ++ codes ":" ++ flat_map (quoted
 
 -- ---- items
 
+-- the name of a token, `$` for the end token
+abbrev pub token_name : Grammar → ℕ → List ℕ
+token_name g t = slice_index_or g.token_names t (codes "$")
+
 -- a token: its name between quotes, `$` for the end token
 abbrev pub token_text : Grammar → ℕ → List ℕ
-token_text g t = codes "'" ++ slice_index_or g.token_names t (codes "$") ++ codes "'"
+token_text g t = codes "'" ++ token_name g t ++ codes "'"
 
 -- a symbol: the name of a rule as it is, a token between quotes
 abbrev pub symbol_text : Grammar → Symbol → List ℕ
@@ -101,3 +106,35 @@ core_text g h = graph_text g (core_of h) h
 -- a graph with its closed states
 abbrev pub closed_text : Grammar → Graph → List ℕ
 closed_text g h = graph_text g (closed_of h) h
+
+-- ---- conflicts
+
+-- a shift/reduce conflict: its state, the token that is shifted, and the production
+abbrev pub shift_reduce_line : Grammar → ℕ × ℕ × ℕ → List ℕ
+shift_reduce_line g e =
+    codes "   State " ++ decimal e.2 ++ codes ": Shift(\"" ++ token_name g e.0
+    ++ codes "\") / Reduce(" ++ production_text g e.1 ++ codes ")\n"
+
+-- a reduce/reduce conflict: its state, the token, the production that is reduced, and the other
+abbrev pub reduce_reduce_line : Grammar → ℕ × ℕ × ℕ × ℕ → List ℕ
+reduce_reduce_line g e =
+    codes "   State " ++ decimal e.3 ++ codes " (lookahead " ++ token_name g e.0
+    ++ codes "): Reduce(" ++ production_text g e.1 ++ codes ") / Reduce("
+    ++ production_text g e.2 ++ codes ")\n"
+
+-- a line for each entry under a headline; nothing for none
+abbrev pub headed : {X : Type 0} → List ℕ → (X → List ℕ) → List X → List ℕ
+headed headline line [] = []
+headed headline line (e ∷ es) = headline ++ flat_map line (e ∷ es)
+
+abbrev pub shift_reduce_text : Grammar → Lists → List ℕ
+shift_reduce_text g c =
+    headed (codes "Shift/Reduce conflicts:\n") (shift_reduce_line g) c.shift_reduce
+
+abbrev pub reduce_reduce_text : Grammar → Lists → List ℕ
+reduce_reduce_text g c =
+    headed (codes "Reduce/Reduce conflicts:\n") (reduce_reduce_line g) c.reduce_reduce
+
+-- all conflicts, the shift/reduce ones first
+abbrev pub conflicts_text : Grammar → Lists → List ℕ
+conflicts_text g c = shift_reduce_text g c ++ reduce_reduce_text g c
