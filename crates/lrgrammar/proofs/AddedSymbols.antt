@@ -3,11 +3,12 @@ use Rattle.std.proofs.Common.{◌≡◌, ◌≢◌, ℕ, ◌+◌, ◌<◌, Bool,
 use Rattle.std.proofs.lemmas.List.{get_or-set_same, set-get_or}
 use Rattle.std.proofs.lemmas.Bool.{cases_eq, cases_Bool, both_ways, true_from_ne_false, eq-eqb, eqb-true}
 use Rattle.lrspec.specs.grammars.Grammar.{Rule, Token}
-use Rattle.lrgrammar.specs.Bits.{bit, union}
-use Rattle.lrgrammar.specs.Bits.{unset}
+use Rattle.lrbits.specs.Bits.{bit, union}
+use Rattle.lrbits.specs.Bits.{unset}
 use Rattle.lrgrammar.specs.FirstRows.{row, Adds, unset_rows}
-use Rattle.lrgrammar.proofs.Unions.{length-union, union_bit, union_bit_second, union_grows}
-use Rattle.lrgrammar.proofs.UnsetBits.{unset_falls, set_again, unset_rows_set}
+use Rattle.lrbits.proofs.Unions.{length-union, union_bit, union_bit_second, union_grows}
+use Rattle.lrbits.proofs.UnsetBits.{unset_falls, set_again}
+use Rattle.lrgrammar.proofs.UnsetRows.{unset_rows_set}
 
 -- a row of the same length in the place of another keeps each row's length
 length_row_set : (x : List (List Bool)) (r k : ℕ) (v : List Bool) → r < length x → length v ≡ length (row x r) → length (row (set x r v) k) ≡ length (row x k)

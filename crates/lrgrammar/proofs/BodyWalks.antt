@@ -3,7 +3,7 @@ use Rattle.std.proofs.Common.{◌≡◌, ℕ, ◌<◌, Bool, true, false, ◌||�
 use Rattle.std.proofs.lemmas.Bool.{and_parts, both_ways, cases_Bool, or_cases, or_parts, eqb-true}
 use Rattle.lrspec.specs.grammars.Grammar.{Symbol, Rule, Token, Grammar, body_of, IsProductionOf, IsBodySymbol, AreBodySymbols}
 use Rattle.lrspec.specs.grammars.First.{Begins, here, inside, past}
-use Rattle.lrgrammar.specs.Bits.{bit}
+use Rattle.lrbits.specs.Bits.{bit}
 use Rattle.lrgrammar.specs.NullableBits.{HoldsNullable}
 use Rattle.lrgrammar.specs.FirstRows.{row, starts_symbol, vanishes, starts, FitsRow, IsRuleBelow, Adds, AreRows, HoldBegins, IsDone, unset_rows}
 use Rattle.lrgrammar.proofs.NullableRules.{one_rule}

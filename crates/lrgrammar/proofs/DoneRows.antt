@@ -3,7 +3,7 @@ use Rattle.std.proofs.Common.{◌≡◌, ℕ, ◌+◌, ◌≤◌, ◌≢◌, Boo
 use Rattle.std.proofs.lemmas.Bool.{cases_eq, and_from, or_left, or_right, eq-eqb}
 use Rattle.lrspec.specs.grammars.Grammar.{Symbol, Grammar, IsProductionOf}
 use Rattle.lrspec.specs.grammars.First.{Nullable, Begins, here, inside, past}
-use Rattle.lrgrammar.specs.Bits.{bit}
+use Rattle.lrbits.specs.Bits.{bit}
 use Rattle.lrgrammar.specs.Firsts.{BeginsRule}
 use Rattle.lrgrammar.specs.FirstRows.{row, starts, HoldBegins, IsDone, AreDoneBelow, AreDone}
 use Rattle.lrgrammar.proofs.NullableRules.{below_from_rule}

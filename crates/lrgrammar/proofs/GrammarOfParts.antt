@@ -12,7 +12,7 @@ use Rattle.lrtext.specs.declared.parts.PartSymbol.TheVariants.{Rule, Token}
 use Rattle.lrtext.specs.StoredParts.{parts_of, part_production_of, part_symbol_of}
 use Rattle.lrgrammar.specs.PartNumbers.{AreSmall, part_number}
 use Rattle.lrgrammar.specs.GrammarSizes.{IsWithin}
-use Rattle.lrgrammar.proofs.Images.{any_image}
+use Rattle.lrparts.proofs.Images.{any_image}
 use Rattle.lrgrammar.proofs.ProductionLists.{production_at}
 
 -- the number of a symbol that is in range

@@ -1,9 +1,9 @@
 -- A row joined with another, where a slice of rows is split between the two.
 use Rattle.std.proofs.Common.{◌≡◌, ℕ, ◌-◌, ◌<◌, Bool, List, [], ◌++◌, length, add-zero, get_or, set, ap, sym, ◌∙◌, arith}
 use Rattle.std.proofs.lemmas.List.{length-append, get_or_append_left, get_or-append-add, get_or_default, set-append_left, set-append_right, set-get_or}
-use Rattle.lrgrammar.specs.Bits.{union}
+use Rattle.lrbits.specs.Bits.{union}
 use Rattle.lrgrammar.specs.FirstRows.{row}
-use Rattle.lrgrammar.proofs.Unions.{union_same}
+use Rattle.lrbits.proofs.Unions.{union_same}
 
 -- a row of the first part
 pub row_low : (x low high : List (List Bool)) (i : ℕ) (d : List Bool) → x ≡ low ++ high → i < length low → get_or low i d ≡ row x i

@@ -4,7 +4,7 @@ use Rattle.std.specs.Prelude.{slice_get}
 use Rattle.std.proofs.lemmas.Bool.{cases_eq, and_from, and_parts}
 use Rattle.lrspec.specs.grammars.Grammar.{Symbol, Rule, Token, Grammar, Production, body_of, IsOfRule, IsProductionOf}
 use Rattle.lrspec.specs.grammars.First.{Nullable, AllNullable, by_body, none, more}
-use Rattle.lrgrammar.specs.Bits.{bit}
+use Rattle.lrbits.specs.Bits.{bit}
 use Rattle.lrgrammar.specs.NullableBits.{all_set, HoldsNullable, IsClosed, IsClosedBelow}
 
 -- a closed vector holds each nullable rule

@@ -3,7 +3,7 @@ use Rattle.std.proofs.Common.{◌≡◌, ℕ, ◌+◌, ◌<◌, ◌≤◌, Bool,
 use Rattle.std.proofs.lemmas.List.{length-replicate, get_or-replicate, get_or_past}
 use Rattle.std.proofs.lemmas.Bool.{cases_Bool, cases_lt, or_cases, or_parts}
 use Rattle.lrspec.specs.grammars.Grammar.{Grammar, token_count, IsProductionOf}
-use Rattle.lrgrammar.specs.Bits.{bit}
+use Rattle.lrbits.specs.Bits.{bit}
 use Rattle.lrgrammar.specs.FirstRows.{row, AreRows, HoldBegins, IsDone, AreDoneBelow, unset_rows}
 use Rattle.lrgrammar.proofs.NullableRules.{below_from_rule}
 use Rattle.lrgrammar.proofs.DoneRows.{done_below_more}

@@ -1,9 +1,9 @@
 -- The rows of FIRST sets while they grow, one row a rule: what is known, and what is done.
 use Rattle.std.specs.Prelude.{◌≡◌, ℕ, ◌+◌, ◌<◌, Bool, true, false, ◌==◌, ◌&&◌, ◌||◌, IsTrue, List, [], ◌∷◌, length, slice_index_or, ◌⊎◌}
 use Rattle.lrspec.specs.grammars.Grammar.{Symbol, Rule, Token, Grammar, token_count, body_of, IsProductionOf}
-use Rattle.lrgrammar.specs.Bits.{bit}
+use Rattle.lrbits.specs.Bits.{bit}
 use Rattle.lrgrammar.specs.Firsts.{BeginsRule}
-use Rattle.lrgrammar.specs.Bits.{unset}
+use Rattle.lrbits.specs.Bits.{unset}
 
 -- the row of the rule `r`
 abbrev pub row : List (List Bool) → ℕ → List Bool

@@ -2,7 +2,7 @@
 use Rattle.std.specs.Prelude.{◌≡◌, ℕ, ◌<◌, Bool, IsTrue, List, [], length, slice_index_or, ◌↔◌}
 use Rattle.lrspec.specs.grammars.Grammar.{Grammar, IsGrammar, token_count, body_of, IsProductionOf}
 use Rattle.lrspec.specs.grammars.First.{Nullable, Begins}
-use Rattle.lrgrammar.specs.Bits.{bit}
+use Rattle.lrbits.specs.Bits.{bit}
 
 -- for each rule whether it is nullable, and one bit a token
 pub record Firsts : Type 0 where

@@ -9,12 +9,10 @@ pub mod Symbols
 pub mod Bits
 -- grammars
 pub mod GrammarSizes
-pub mod LookUps
 pub mod StoredGrammar
 pub mod PartNumbers
 -- refusals
 pub mod Refusals
-pub mod UsedRules
 pub mod TextErrors
 -- nullable rules and FIRST sets
 pub mod Firsts

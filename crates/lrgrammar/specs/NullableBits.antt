@@ -2,7 +2,7 @@
 use Rattle.std.specs.Prelude.{ℕ, ◌<◌, Bool, true, false, ◌&&◌, IsTrue, List, [], ◌∷◌}
 use Rattle.lrspec.specs.grammars.Grammar.{Symbol, Rule, Token, Grammar, body_of, IsProductionOf}
 use Rattle.lrspec.specs.grammars.First.{Nullable}
-use Rattle.lrgrammar.specs.Bits.{bit}
+use Rattle.lrbits.specs.Bits.{bit}
 
 -- each symbol is a rule whose bit is set
 abbrev pub all_set : List Bool → List Symbol → Bool

@@ -12,7 +12,7 @@ use Rattle.lrspec.specs.grammars.Grammar.{Grammar, Production, IsGrammar, places
 use Rattle.lrgrammar.specs.Symbols.{symbol_of}
 use Rattle.lrgrammar.specs.GrammarSizes.{IsWithin}
 use Rattle.lrtext.specs.StoredParts.{precedence_of}
-use Rattle.lrgrammar.specs.LookUps.{FindsNames}
+use Rattle.lrparts.specs.LookUps.{FindsNames}
 
 -- a stored production as the grammar has it
 abbrev pub production_of : {T : Type 0} → (T → ℕ) → stored.Production T → Production

@@ -1,7 +1,7 @@
 //! FIRST sets and nullable rules.
 
 ghost use Rattle.std.specs.Prelude.{◌≡◌, ◌<◌, length, IfOk};
-ghost use Rattle.lrgrammar.specs.Bits.{bit};
+ghost use Rattle.lrbits.specs.Bits.{bit};
 ghost use Rattle.lrgrammar.specs.Firsts.{firsts_of, AreFirstsOf};
 
 mod nullable;

@@ -7,9 +7,6 @@ ghost use Rattle.lrspec.specs.grammars.Grammar as math;
 ghost use Rattle.lrgrammar.specs.Symbols.{symbol_of};
 ghost use Rattle.lrgrammar.specs.GrammarSizes.{IsWithin};
 
-mod causes;
-mod doubles;
-mod errors;
 mod lists;
 mod make;
 mod precedences;
@@ -17,7 +14,7 @@ mod texts;
 mod tidxs;
 
 use crate::idx::{IndexStorage, PIdx, RIdx, SIdx, Symbol, TIdx};
-pub use errors::{GrammarError, TextError};
+pub use lrparts::errors::{GrammarError, TextError};
 pub use lrtext::parts::{AssocKind, GrammarParts, PartProd, PartSymbol, PartToken, Precedence};
 use std::alloc::Global;
 use std::collections::BTreeMap;

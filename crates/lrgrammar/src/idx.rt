@@ -53,6 +53,10 @@ pub trait IndexStorage: Copy + Ord + Hash {
         (Self.hash_input x ≡ Self.hash_input y) ↔ (number x ≡ number y) };
 }
 
+/// A state, by its number.
+#[derive(Clone, Copy, PartialEq, Eq, PartialOrd, Ord, Hash, Debug)]
+pub struct StIdx<T>(pub T);
+
 /// A rule, by its number.
 #[derive(Clone, Copy, PartialEq, Eq, PartialOrd, Ord, Hash, Debug)]
 pub struct RIdx<T>(pub T);
@@ -78,6 +82,31 @@ pub enum Symbol<T> {
     Rule(RIdx<T>),
     /// A token.
     Token(TIdx<T>),
+}
+
+impl<T: IndexStorage> StIdx<T> {
+    /// The number of the state, as it is stored.
+    pub fn as_storaget(&self) -> T
+        ensures { result ≡ self.now.0 }
+    {
+        self.0
+    }
+}
+
+impl<T: IndexStorage> From<StIdx<T>> for usize {
+    ghost from_gives = { λ state n. n ≡ T.number state.0 };
+
+    fn from(state: StIdx<T>) -> usize {
+        state.0.to_usize()
+    }
+}
+
+impl<T: IndexStorage> From<StIdx<T>> for u32 {
+    ghost from_gives = { λ state n. n ≡ T.number state.0 };
+
+    fn from(state: StIdx<T>) -> u32 {
+        state.0.to_usize() as u32
+    }
 }
 
 impl<T: IndexStorage> RIdx<T> {

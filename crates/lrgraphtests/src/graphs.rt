@@ -4,9 +4,10 @@ ghost use Rattle.std.specs.Prelude.{◌≡◌, IfOk};
 ghost use Rattle.lrspec.specs.merging.Graph.{IsGraphOf};
 
 use lrgrammar::grammar::YaccGrammar;
-use lrgrammar::idx::{IndexStorage, Symbol};
-use lrtable::itemset::Itemset;
-use lrtable::{StIdx, StateGraph, pager_stategraph};
+use lrgrammar::idx::{IndexStorage, StIdx, Symbol};
+use lrgraphs::StateGraph;
+use lrgraphs::itemset::Itemset;
+use lrpager::pager::build;
 use std::alloc::Global;
 use std::process::Abort;
 use std::test::Fail;
@@ -19,8 +20,8 @@ pub fn grammar_and_graph<T: IndexStorage>(
     ensures { IfOk result (λ r. IsGraphOf r.0 r.1) }
 {
     let grm = YaccGrammar::<T>::from_text(alloc, text)?;
-    match pager_stategraph(&grm) {
-        Ok(graph) => Ok((grm, graph)),
+    match build(&grm) {
+        Ok((graph, _counts)) => Ok((grm, graph)),
         Err(_) => Err(Fail::from("a graph")),
     }
 }

@@ -4,7 +4,8 @@ use crate::grammars::one_long_body;
 use crate::graphs::grammar_and_graph;
 use lrgrammar::grammar::YaccGrammar;
 use lrgrammar::idx::IndexStorage;
-use lrtable::{BuildError, pager_stategraph};
+use lrgraphs::BuildError;
+use lrpager::pager::build;
 use std::alloc::Global;
 use std::process::Abort;
 use std::test::Fail;
@@ -37,7 +38,7 @@ fn is_too_large<T: IndexStorage>(
     for length in lengths {
         let text = one_long_body(alloc, *length)?;
         let grm = YaccGrammar::<T>::from_text(alloc, text.as_str())?;
-        let refused = matches!(pager_stategraph(&grm), Err(BuildError::TooLarge));
+        let refused = matches!(build(&grm), Err(BuildError::TooLarge));
         assert!(rt; refused, "{length}");
     }
     Ok(())

@@ -1,7 +1,7 @@
 //! The texts of refusals.
 
 use lrgrammar::idx::PIdx;
-use lrtable::{BuildError, StateTableError, StateTableErrorKind};
+use lrgraphs::{BuildError, StateTableError, StateTableErrorKind};
 use std::alloc::Global;
 use std::process::Abort;
 use std::test::Fail;

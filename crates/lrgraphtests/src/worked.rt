@@ -7,7 +7,7 @@ use crate::grammars::{
 use crate::graphs::{closed_text, core_text, grammar_and_graph, state, target, walk};
 use lrgrammar::grammar::YaccGrammar;
 use lrgrammar::idx::IndexStorage;
-use lrtable::StateGraph;
+use lrgraphs::StateGraph;
 use std::alloc::Global;
 use std::process::Abort;
 use std::test::Fail;

@@ -13,7 +13,7 @@ use Rattle.std.proofs.lemmas.Bool.{and_from, and_parts, eqb-true}
 use Rattle.std.proofs.lemmas.Map.Lookups.{CmpEqualImpliesEq, exact_unsigned, exact_pairs, btree_map_from_get, btree_map_eq-Decides}
 use Rattle.lrgrammar.specs.declared.idx.PIdx.{PIdx}
 use Rattle.lrgrammar.specs.declared.idx.SIdx.{SIdx}
-use Rattle.lrgrammar.proofs.EqualBits.{same_bits}
+use Rattle.lrbits.proofs.EqualBits.{same_bits}
 use Rattle.lrspec.specs.grammars.ItemSets.{item_at}
 use Rattle.lritems.specs.ItemsOf.{items_of, Agree}
 use Rattle.lritems.proofs.ItemKeys.{Key, key_cmp, item_here}

@@ -6,7 +6,7 @@ use Rattle.lrspec.specs.grammars.First.{AllNullable, Begins}
 use Rattle.lrspec.specs.grammars.ItemSets.{Items, item_at, HasItem, LooksIn, Fits, IsBefore}
 use Rattle.lrspec.proofs.grammars.BodyFacts.{below_of_production, below_of_drop, rest_next, symbol_at_dot}
 use Rattle.lrspec.proofs.grammars.Closures.{has_of_looks}
-use Rattle.lrgrammar.specs.Bits.{bit}
+use Rattle.lrbits.specs.Bits.{bit}
 use Rattle.lritems.specs.ItemsOf.{HaveBits}
 use Rattle.lritems.specs.Expansion.{ArePassedOn, ArePut, PutsNothingIn, PassesOn, IsPutIn, IsExpanded}
 use Rattle.lritems.proofs.JoinedLookaheads.{none_there, some_of}

@@ -8,7 +8,7 @@ use Rattle.lrspec.specs.grammars.ItemSets.{Items, item_at, HasItem, LooksIn, Fit
 use Rattle.lrspec.specs.merging.WeakCompatibility.{Apart}
 use Rattle.lrspec.proofs.grammars.BodyFacts.{below_of_drop}
 use Rattle.lrspec.proofs.grammars.Closures.{has_of_looks}
-use Rattle.lrgrammar.specs.Bits.{bit}
+use Rattle.lrbits.specs.Bits.{bit}
 use Rattle.lritems.specs.ItemsOf.{joined, HaveBits}
 use Rattle.lritems.proofs.JoinedLookaheads.{some_of}
 use Rattle.lritems.proofs.PutLookaheads.{put_bits, put_has, put_items, put_kept, put_from_item, put_from_look, put_more}

@@ -6,7 +6,7 @@ use Rattle.lrspec.specs.grammars.ItemSets as set
 use Rattle.lrspec.specs.grammars.ItemSets.{Items, item_at, HasItem, LooksIn, Fits, IsBefore, Moved}
 use Rattle.lrspec.specs.merging.WeakCompatibility.{Apart}
 use Rattle.lrspec.proofs.grammars.Closures.{has_of_looks}
-use Rattle.lrgrammar.specs.Bits.{bit, union}
+use Rattle.lrbits.specs.Bits.{bit, union}
 use Rattle.lritems.specs.ItemsOf.{joined}
 use Rattle.lritems.specs.Gotos.{HasItemBefore, HasGotoOn, AreOnDistinctSymbols, AreGotosToPlace, AreGotosOf, symbols_shown, HasGotoAt, IsMadeReady, IsPutAt}
 use Rattle.lritems.proofs.GotoUnderway.{IsMoving, end_moving, skip_moving, move_moving}

@@ -2,9 +2,9 @@
 use Rattle.std.proofs.Common.{◌≡◌, ℕ, Bool, true, false, List, Option, None, Some, length, refl, sym, ◌∙◌, ◌⊎◌, inl, inr}
 use Rattle.std.specs.Prelude.{◌||◌, IsTrue}
 use Rattle.std.specs.Option.{IsSome, IsSomeAnd}
-use Rattle.lrgrammar.specs.Bits.{bit}
-use Rattle.lrgrammar.proofs.Unions.{length-union}
-use Rattle.lrgrammar.proofs.Unions.{bit_of_union}
+use Rattle.lrbits.specs.Bits.{bit}
+use Rattle.lrbits.proofs.Unions.{length-union}
+use Rattle.lrbits.proofs.Unions.{bit_of_union}
 use Rattle.lritems.specs.ItemsOf.{joined}
 
 pub or_cases : (a b : Bool) → IsTrue (a || b) → IsTrue a ⊎ IsTrue b

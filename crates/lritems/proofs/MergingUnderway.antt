@@ -6,7 +6,7 @@ use Rattle.lrspec.specs.grammars.Grammar.{Grammar}
 use Rattle.lrspec.specs.grammars.ItemSets.{Items, item_at, HasItem, LooksIn, FitsAt, Fits}
 use Rattle.lrspec.specs.merging.WeakCompatibility.{SameItems, Apart, IsUnion}
 use Rattle.lrspec.proofs.grammars.Closures.{has_of_looks}
-use Rattle.lrgrammar.specs.Bits.{bit, union}
+use Rattle.lrbits.specs.Bits.{bit, union}
 use Rattle.lritems.specs.ItemsOf.{joined, HaveBits, Agree}
 use Rattle.lritems.specs.Merging.{Gains}
 use Rattle.lritems.proofs.ItemKeys.{same_or_apart}

@@ -5,11 +5,11 @@ use Rattle.std.proofs.lemmas.List.{length-replicate}
 use Rattle.lrspec.specs.grammars.Grammar.{Symbol, Rule, Token, Grammar, token_count, AreBodySymbols}
 use Rattle.lrspec.specs.grammars.First as first
 use Rattle.lrspec.specs.grammars.First.{AllNullable, Begins}
-use Rattle.lrgrammar.specs.Bits.{bit, union}
+use Rattle.lrbits.specs.Bits.{bit, union}
 use Rattle.lrgrammar.specs.Firsts.{Firsts, firsts_of, AreFirstsOf}
 use Rattle.lritems.specs.Expansion.{ArePassedOn}
-use Rattle.lrgrammar.proofs.Unions.{length-union}
-use Rattle.lrgrammar.proofs.Unions.{bit_of_union}
+use Rattle.lrbits.proofs.Unions.{length-union}
+use Rattle.lrbits.proofs.Unions.{bit_of_union}
 use Rattle.lritems.proofs.JoinedLookaheads.{or_cases, or_left, or_right}
 
 -- what a walk over the symbols `y` makes of the bits `acc`

@@ -3,7 +3,7 @@ use Rattle.std.proofs.Common.{◌≡◌, ℕ, Bool, List, ◌∷◌, Some, sym, 
 use Rattle.lrspec.specs.grammars.ItemSets.{Items, item_at, HasItem}
 use Rattle.lrspec.specs.merging.WeakCompatibility.{Apart, Meet, Passes, IsWeaklyCompatible, Clash}
 use Rattle.lrspec.proofs.grammars.Closures.{has_of_looks}
-use Rattle.lrgrammar.specs.Bits.{Intersect}
+use Rattle.lrbits.specs.Bits.{Intersect}
 use Rattle.lritems.specs.Merging.{BitsPass, BitsClash}
 use Rattle.lritems.proofs.WalksOverItems.{first_or_rest}
 

@@ -3,7 +3,7 @@ use Rattle.std.proofs.Common.{◌≡◌, ℕ, ◌+◌, ◌<◌, ◌≤◌, Bool,
 use Rattle.std.specs.Prelude.{IsTrue}
 use Rattle.lrspec.specs.grammars.ItemSets.{Items, item_at, HasItem, LooksIn}
 use Rattle.lrspec.specs.merging.WeakCompatibility.{Apart}
-use Rattle.lrgrammar.specs.Bits.{bit}
+use Rattle.lrbits.specs.Bits.{bit}
 use Rattle.lritems.specs.ItemsOf.{joined, HaveBits}
 use Rattle.lritems.specs.Expansion.{ArePut, Keeps}
 use Rattle.lritems.proofs.ItemKeys.{same_or_apart}

@@ -5,7 +5,7 @@ use Rattle.std.proofs.lemmas.Bool.{cases_eq}
 use Rattle.lrspec.specs.grammars.ItemSets.{Items, item_at}
 use Rattle.lrspec.specs.merging.WeakCompatibility.{Apart}
 use Rattle.lritems.specs.ItemsOf.{joined}
-use Rattle.lrgrammar.specs.Bits.{union}
+use Rattle.lrbits.specs.Bits.{union}
 use Rattle.lritems.specs.Expansion.{unset_count, room_at, room}
 use Rattle.lritems.proofs.ItemKeys.{same_or_apart}
 

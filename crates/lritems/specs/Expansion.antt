@@ -6,7 +6,7 @@ use Rattle.lritems.specs.ItemsOf.{set_of}
 use Rattle.lrspec.specs.grammars.Grammar.{Symbol, Rule, Grammar, token_count, rest, IsProductionOf}
 use Rattle.lrspec.specs.grammars.First.{AllNullable, Begins}
 use Rattle.lrspec.specs.grammars.ItemSets.{Items, item_at, HasItem, LooksIn, IsContained}
-use Rattle.lrgrammar.specs.Bits.{bit}
+use Rattle.lrbits.specs.Bits.{bit}
 
 -- the tokens that an item before a rule passes on, where `y` is the rest behind the rule: those
 -- that begin it, and where it is nullable those of the item

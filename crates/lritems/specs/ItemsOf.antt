@@ -3,7 +3,7 @@ use Rattle.std.specs.Prelude.{◌≡◌, ℕ, Bool, List, map, Option, None, Som
 use Rattle.lritems.specs.declared.itemset.Itemset.{Itemset}
 use Rattle.lrgrammar.specs.declared.idx.PIdx.{PIdx}
 use Rattle.lrgrammar.specs.declared.idx.SIdx.{SIdx}
-use Rattle.lrgrammar.specs.Bits.{union}
+use Rattle.lrbits.specs.Bits.{union}
 use Rattle.lrspec.specs.grammars.ItemSets.{Items, item_at}
 
 -- the items of a map, each by the numbers of its production and its dot

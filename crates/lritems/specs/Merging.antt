@@ -2,7 +2,7 @@
 use Rattle.std.specs.Prelude.{ℕ, Bool, List, ◌⊎◌}
 use Rattle.lrspec.specs.grammars.ItemSets.{Items, HasItem, LooksIn}
 use Rattle.lrspec.specs.merging.WeakCompatibility.{Passes}
-use Rattle.lrgrammar.specs.Bits.{Intersect}
+use Rattle.lrbits.specs.Bits.{Intersect}
 use Rattle.lritems.specs.ItemsOf.{HaveBits}
 
 -- all items of both item sets have one number of bits

@@ -1,39 +1,31 @@
-pub mod EdgeFacts
-pub mod GraphFacts
-pub mod CandidateFacts
-pub mod GrowingItemSets
-pub mod DraftFacts
-pub mod PlacedCores
-pub mod PlacedStates
-pub mod ClosedStates
-pub mod PlacedGotos
-pub mod ConstructionTurns
-pub mod CoreGrowth
-pub mod ChainGrowth
-pub mod SumFacts
-pub mod LooksCount
-pub mod CountFacts
-pub mod ClosedCounts
-pub mod PlacedCounts
-pub mod PlacedWeight
-pub mod SizeCauses
-pub mod SizeBounds
-pub mod NewNumbers
-pub mod CollectedStates
-pub mod CollectedGraph
-pub mod DraftLists
-pub mod CandidateLists
-pub mod PlacingFacts
-pub mod PlacingTurns
-pub mod ClosingFacts
-pub mod Beginnings
-pub mod EdgeWalk
-pub mod CollectedBelow
-pub mod MarksAdded
-pub mod ReachedMarks
-pub mod RenumberedEdges
-pub mod DistinctTargets
-pub mod EdgesByTarget
-pub mod PrintedStates
-pub mod FirstOfList
-pub mod NextStates
+-- numbers of actions and gotos, and tables that are kept in matrices
+pub mod KeptNumbers
+pub mod MatrixCells
+pub mod StoredTables
+pub mod TableRows
+pub mod TokensTaken
+-- the reductions of a closed state
+pub mod ReductionsOf
+pub mod CompleteTurns
+pub mod LeastReductions
+pub mod LeastContests
+-- cells, gotos and conflicts of one state
+pub mod RowTurns
+pub mod LeastListed
+pub mod ContestSteps
+pub mod ContestsOfState
+-- rows, state after state
+pub mod IndexedRows
+pub mod ReducedRows
+pub mod RowsByOne
+pub mod NextRows
+pub mod NumbersInTurn
+pub mod StatesInTurn
+-- tables of finished rows
+pub mod FlattenedRows
+pub mod TableOfRows
+pub mod MadeTable
+-- graphs with tables
+pub mod BuildRefusals
+-- texts
+pub mod HeadedTexts

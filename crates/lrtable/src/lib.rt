@@ -1,70 +1,105 @@
-//! LR(1) state graphs of grammars, merged by Pager's rule.
+//! LR(1) state graphs and state tables of grammars, merged by Pager's rule.
 #![tactic(auto)]
 
-ghost use Rattle.std.specs.Prelude.{◌≡◌, ◌<◌, length, IfOk, IfErr};
+ghost use Rattle.std.specs.Prelude.{◌≡◌, ℕ, ◌+◌, ◌-◌, ◌*◌, ◌^◌, ◌<◌, ◌≤◌, length, IfOk, IfErr};
+ghost use Rattle.lrspec.specs.grammars.Grammar.{item_count, token_count};
 ghost use Rattle.lrspec.specs.merging.Graph.{IsGraphOf, AreShared, InventsNoConflict, CoresCross};
-ghost use Rattle.lrtable.specs.Chains.{HasChainOf};
-ghost use Rattle.lrtable.specs.Refusals.{IsLargeOnly};
-
-mod errors;
-mod laws;
-mod pager;
-pub mod stategraph;
-pub mod statetable;
+ghost use Rattle.lrspec.specs.tables.Table.{IsTableOf, lists_of};
+ghost use Rattle.lrspec.specs.tables.Rows.{ReducesApart};
+ghost use Rattle.lrspec.specs.tables.Conflicts.{AreEntriesOf, AreReductionsContested, AreShiftsContested, IsAcceptContested};
+ghost use Rattle.lrspec.specs.tables.Exactness.{IsExactTable};
+ghost use Rattle.lrtable.specs.Chains.{HasChainOf, HasChainOfExactly};
+ghost use Rattle.lrtable.specs.Refusals.{IsBuildRefusal};
 
 /// Item sets with lookaheads.
 pub mod itemset {
     pub use lritems::itemset::{Ctx, Itemset};
 }
 
-pub use crate::errors::BuildError;
-pub use crate::stategraph::StateGraph;
-pub use crate::statetable::{StateTableError, StateTableErrorKind};
+/// State graphs.
+pub mod stategraph {
+    pub use lrgraphs::stategraph::{
+        ClosedStatesIterator, CoreStatesIterator, StIdxIterator, StateGraph,
+    };
+}
+
+pub mod sparsevec;
+pub mod statetable;
+
+pub use crate::statetable::{Action, StateTable, StateTableError, StateTableErrorKind};
 use lrgrammar::grammar::YaccGrammar;
 use lrgrammar::idx::IndexStorage;
+pub use lrgrammar::idx::StIdx;
+pub use lrgraphs::{BuildError, StateGraph};
+use lrpager::pager;
+pub use lrpager::pager::BuildCounts;
+use std::alloc::Global;
 
-/// The number of a state.
-#[derive(Clone, Copy, PartialEq, Eq, PartialOrd, Ord, Hash, Debug)]
-pub struct StIdx<T>(pub T);
-
-impl<T: IndexStorage> StIdx<T> {
-    /// The number as it is stored.
-    pub fn as_storaget(&self) -> T
-        ensures { result ≡ self.now.0 }
-    {
-        self.0
-    }
+/// How a state graph is made smaller than that of the canonical states.
+#[derive(Clone, Copy, Debug, PartialEq, Eq)]
+pub enum Minimiser {
+    /// By Pager's merging of states.
+    Pager,
 }
 
-impl<T: IndexStorage> From<StIdx<T>> for usize {
-    ghost from_gives = { λ s n. n ≡ T.number s.0 };
-
-    fn from(s: StIdx<T>) -> usize {
-        s.0.to_usize()
-    }
-}
-
-impl<T: IndexStorage> From<StIdx<T>> for u32 {
-    ghost from_gives = { λ s n. n ≡ T.number s.0 };
-
-    fn from(s: StIdx<T>) -> u32 {
-        s.0.to_usize() as u32
-    }
-}
-
-/// The LR(1) state graph of the grammar, with states merged by Pager's rule. `TooLarge` where more than the index type's
-/// `MAX` states would be made, or `MAX` or more are left; never `Table`.
-pub fn pager_stategraph<T: IndexStorage>(
+/// The state graph of the grammar and its table. `Table` where a state accepts and reduces at the end of the text;
+/// `TooLarge` where the graph has too many states for the index type.
+pub fn from_yacc<T: IndexStorage>(
+    alloc: Global,
     grm: &YaccGrammar<T>,
-) -> Result<StateGraph<T>, BuildError<T>>
-    ensures graph { IfOk result (λ h. IsGraphOf grm.now h) }
-    ensures shared { IfOk result (λ h. AreShared grm.now h) }
-    ensures conflicts { IfOk result (λ h. InventsNoConflict grm.now h) }
-    ensures crossing { IfOk result CoresCross }
-    ensures below { IfOk result (λ h. length h < T.MAX) }
-    ensures chain { IfOk result (λ h. HasChainOf grm.now (length h)) }
-    ensures refused { IfErr result (IsLargeOnly (HasChainOf grm.now T.MAX)) }
+    minimiser: Minimiser,
+) -> Result<(StateGraph<T>, StateTable<T>), BuildError<T>>
+    ensures graph { IfOk result (λ b. IsGraphOf grm.now b.0) }
+    ensures shared { IfOk result (λ b. AreShared grm.now b.0) }
+    ensures conflicts { IfOk result (λ b. InventsNoConflict grm.now b.0) }
+    ensures crossing { IfOk result (λ b. CoresCross b.0) }
+    ensures below { IfOk result (λ b. length b.0 < T.MAX - 1) }
+    ensures chain { IfOk result (λ b. HasChainOf grm.now (length b.0)) }
+    ensures table { IfOk result (λ b. IsTableOf grm.now b.0 b.1) }
+    ensures reduces { IfOk result (λ b. ReducesApart grm.now b.1) }
+    ensures entries { IfOk result (λ b. AreEntriesOf grm.now (lists_of b.1)) }
+    ensures accepts { IfOk result (λ _. (p : ℕ) → ¬ (IsAcceptContested grm.now p)) }
+    ensures reductions { IfOk result (λ b. AreReductionsContested grm.now b.0) }
+    ensures shifts { IfOk result (λ b. AreShiftsContested grm.now b.0) }
+    ensures exact { IfOk result (λ b. IsExactTable grm.now b.1) }
+    ensures refused { IfErr result (IsBuildRefusal T.number T.MAX grm.now) }
 {
-    let (graph, _counts) = pager::build(grm)?;
-    Ok(graph)
+    let (graph, table, _counts) = from_yacc_counted(alloc, grm, minimiser)?;
+    Ok((graph, table))
+}
+
+/// The same, with what the construction took.
+pub fn from_yacc_counted<T: IndexStorage>(
+    alloc: Global,
+    grm: &YaccGrammar<T>,
+    minimiser: Minimiser,
+) -> Result<(StateGraph<T>, StateTable<T>, BuildCounts), BuildError<T>>
+    ensures graph { IfOk result (λ b. IsGraphOf grm.now b.0) }
+    ensures shared { IfOk result (λ b. AreShared grm.now b.0) }
+    ensures conflicts { IfOk result (λ b. InventsNoConflict grm.now b.0) }
+    ensures crossing { IfOk result (λ b. CoresCross b.0) }
+    ensures below { IfOk result (λ b. length b.0 < T.MAX - 1) }
+    ensures states { IfOk result (λ b. length b.0 ≤ b.2.made) }
+    ensures made { IfOk result (λ b. b.2.made ≤ T.MAX) }
+    ensures closed { IfOk result (λ b. b.2.made ≤ b.2.closings) }
+    ensures closings { IfOk result (λ b. b.2.closings
+        ≤ b.2.made * (1 + item_count grm.now * token_count grm.now)) }
+    ensures fits { IfOk result (λ _.
+        T.MAX * (1 + item_count grm.now * token_count grm.now) < 2 ^ 128) }
+    ensures chain { IfOk result (λ b. HasChainOfExactly grm.now b.2.made) }
+    ensures table { IfOk result (λ b. IsTableOf grm.now b.0 b.1) }
+    ensures reduces { IfOk result (λ b. ReducesApart grm.now b.1) }
+    ensures entries { IfOk result (λ b. AreEntriesOf grm.now (lists_of b.1)) }
+    ensures accepts { IfOk result (λ _. (p : ℕ) → ¬ (IsAcceptContested grm.now p)) }
+    ensures reductions { IfOk result (λ b. AreReductionsContested grm.now b.0) }
+    ensures shifts { IfOk result (λ b. AreShiftsContested grm.now b.0) }
+    ensures exact { IfOk result (λ b. IsExactTable grm.now b.1) }
+    ensures refused { IfErr result (IsBuildRefusal T.number T.MAX grm.now) }
+{
+    let Minimiser::Pager = minimiser;
+    // `tokens_len` says that this is a grammar
+    let _ = grm.tokens_len();
+    let (graph, counts) = pager::build(grm)?;
+    let table = StateTable::new(alloc, grm, &graph)?;
+    Ok((graph, table, counts))
 }

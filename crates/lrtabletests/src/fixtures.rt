@@ -1,5 +1,7 @@
 //! Grammar texts that tests read.
 
+use std::alloc::{AllocError, Global};
+
 /// One sentence, the empty one.
 pub const EMPTY_RULE: &str = "%% S: ;";
 
@@ -18,3 +20,91 @@ pub const THROUGH_NULLABLES: &str = "%token a b c d f %% S: S 'b' | 'b' A 'a' | 
 
 /// Lookaheads go round through all three rules, each below the one in whose body it comes first.
 pub const ROUND: &str = "%% S: C 'd'; A: 'a' | S 'x'; B: A 'b'; C: B 'c' | ;";
+
+/// The states behind `a c` and `b c` have the same items, and may not be merged.
+pub const LR1_AND_NOT_LALR1: &str =
+    "%% S: 'a' A 'd' | 'b' B 'd' | 'a' B 'e' | 'b' A 'e'; A: 'c'; B: 'c';";
+
+/// Behind `a c` both rules look at `x`, so that state takes in the one behind `b c`.
+pub const CONTESTED_ON_X_ALONE: &str =
+    "%% S: 'a' A 'd' | 'a' A 'x' | 'a' B 'e' | 'a' B 'x' | 'b' B 'd' | 'b' A 'e'; A: 'c'; B: 'c';";
+
+/// Differences and products, both from the right.
+pub const TERMS_AND_FACTORS: &str =
+    "%% Expr: Term '-' Expr | Term; Term: Factor '*' Term | Factor; Factor: 'id';";
+
+/// `S: A S 'x'` begins with itself, behind the nullable `A`.
+pub const HIDDEN_LEFT_RECURSION: &str = "%% S: A S 'x' | B 'y'; A: ; B: ;";
+
+/// `id ~ id ~ id` is no sentence.
+pub const NONASSOC: &str = "%nonassoc '~' %% E: E '~' E | 'id';";
+
+/// Behind `a` both a shift and two reductions go on at `b`.
+pub const SHIFT_AND_TWO_REDUCTIONS: &str = "%% A: 'a' 'b' | B 'b'; B: 'a' | C; C: 'a';";
+
+/// Operators of four levels, each of a kind.
+pub const FOUR_LEVELS: &str = "%right '=' %left '+' %left '*' %nonassoc '~' %% \
+    Expr : Expr '+' Expr | Expr '*' Expr | Expr '=' Expr | Expr '~' Expr | 'id' ;";
+
+/// Sums and products without precedences.
+pub const SUMS_AND_PRODUCTS: &str = "%% Expr : Expr '+' Expr | Expr '*' Expr | 'id' ;";
+
+/// Sums and products, both from the left, products first.
+pub const SUMS_AND_PRODUCTS_WITH_LEVELS: &str =
+    "%left '+' %left '*' %% Expr : Expr '+' Expr | Expr '*' Expr | 'id' ;";
+
+/// Sums and products, of which sums alone have a level.
+pub const SUMS_WITH_A_LEVEL: &str = "%left '+' %% Expr : Expr '+' Expr | Expr '*' Expr | 'id' ;";
+
+/// Behind `a` three reductions go on at each of two tokens.
+pub const THREE_REDUCTIONS: &str =
+    "%% S: A 'x' | A 'y' | B 'x' | B 'y' | C 'x' | C 'y'; A: 'a'; B: 'a'; C: 'a';";
+
+/// `A` has a body before those of `B` and one behind them.
+pub const A_RULE_GONE_ON_WITH: &str = "%% S: A 'c' 'd' | B 'c' 'e'; A: 'a'; B: 'a' | 'b'; A: 'b';";
+
+/// No sentence needs `C`.
+pub const AN_UNREACHED_RULE: &str =
+    "%% S: A X | B X | A Y; A: '0' ; B: '0' ; C: '0' ; X: '1' ; Y: '2' ;";
+
+/// What tells `B` from `C` stands two tokens behind it.
+pub const TOLD_APART_LATE: &str = "%start A %% A : B 'x' | C 'x' 'x'; B : 'a'; C : 'a';";
+
+/// One sentence, by two productions.
+pub const ONE_BODY_TWICE: &str = "%% S: 'a' | 'a';";
+
+/// The state that is first made behind `k c` is left again: the grown goto joins the state behind `a c`.
+pub const A_COLLECTED_STATE: &str =
+    "%% S: 'a' A 'd' | 'a' B 'e' | 'b' K 'e' | 'f' 'g' K 'd'; K: 'k' A | 'k' B 'd'; \
+    A: 'c' 'u'; B: 'c' 'v';";
+
+/// Pager's example, in which lookaheads go round through `X`.
+pub const PAGERS_EXAMPLE: &str =
+    "%start X %% X : 'a' Y 'd' | 'a' Z 'c' | 'a' T | 'b' Y 'e' | 'b' Z 'd' | 'b' T; \
+    Y : 't' W | 'u' X; Z : 't' 'u'; T : 'u' X 'a'; W : 'u' V; V : ;";
+
+/// Rules that lead to each other without a token; only `A` has an empty body.
+pub const ROUND_WITHOUT_TOKENS: &str = "%% S: A; A: B | ; B: A;";
+
+/// `B` has no tree, though it begins with a token.
+pub const NEVER_ENDING: &str = "%% S: B; B: 'b' B;";
+
+/// So many tokens, of which the first is the only sentence.
+pub fn many_tokens(alloc: Global, count: usize) -> Result<String, AllocError> {
+    let mut text = String::from_str(alloc, "%token")?;
+    for number in 0..count {
+        text.push_str(format!(in alloc; " t{number}")?.as_str())?;
+    }
+    text.push_str(" %% S: t0;")?;
+    Ok(text)
+}
+
+/// `S` with one body of so many times `'a'`.
+pub fn one_long_body(alloc: Global, length: usize) -> Result<String, AllocError> {
+    let mut text = String::from_str(alloc, "%% S:")?;
+    for _ in 0..length {
+        text.push_str(" 'a'")?;
+    }
+    text.push(';')?;
+    Ok(text)
+}

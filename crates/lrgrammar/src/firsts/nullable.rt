@@ -3,9 +3,9 @@
 ghost use Rattle.std.specs.Prelude.{◌≡◌, ℕ, ◌<◌, false, length, IfOk, IsTrue, ◌↔◌};
 ghost use Rattle.lrspec.specs.grammars.Grammar as math;
 ghost use Rattle.lrspec.specs.grammars.First.{Nullable};
-ghost use Rattle.lrgrammar.specs.Bits.{bit};
+ghost use Rattle.lrbits.specs.Bits.{bit};
 ghost use Rattle.lrgrammar.specs.NullableBits.{all_set, HoldsNullable, IsClosed};
-ghost use Rattle.lrgrammar.specs.Bits.{unset};
+ghost use Rattle.lrbits.specs.Bits.{unset};
 
 use crate::grammar::YaccGrammar;
 use crate::idx::{IndexStorage, PIdx, Symbol};

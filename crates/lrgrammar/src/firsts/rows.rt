@@ -3,7 +3,7 @@
 ghost use Rattle.std.specs.Prelude.{◌≡◌, ◌≢◌, ℕ, ◌<◌, false, length, replicate, slice_set, IfOk, IsTrue, ◌↔◌};
 ghost use Rattle.lrspec.specs.grammars.Grammar as math;
 ghost use Rattle.lrspec.specs.grammars.First.{Nullable};
-ghost use Rattle.lrgrammar.specs.Bits.{bit, union};
+ghost use Rattle.lrbits.specs.Bits.{bit, union};
 ghost use Rattle.lrgrammar.specs.Symbols.{symbol_of};
 ghost use Rattle.lrgrammar.specs.Firsts.{BeginsRule};
 ghost use Rattle.lrgrammar.specs.NullableBits.{HoldsNullable};

@@ -4,7 +4,7 @@ ghost use Rattle.std.specs.Prelude.{◌≡◌, ◌≢◌, ℕ, ◌+◌, ◌<◌,
 ghost use Rattle.std.specs.String.{string_bytes};
 ghost use Rattle.std.specs.BTreeMap.{get_by_text};
 ghost use Rattle.lrspec.specs.texts.Parts.{HasDouble};
-ghost use Rattle.lrgrammar.specs.LookUps.{FindsNames};
+ghost use Rattle.lrparts.specs.LookUps.{FindsNames};
 ghost use Rattle.lrgrammar.specs.StoredGrammar.{production_of, AreListsOf, HasOneMore, KeepsOthers};
 
 use crate::grammar::Production;

@@ -5,20 +5,20 @@ ghost use Rattle.std.specs.String.{string_bytes};
 ghost use Rattle.std.specs.Option.{option_map};
 ghost use Rattle.lrspec.specs.texts.Parts as part;
 ghost use Rattle.lrtext.specs.StoredParts.{parts_of, part_symbol_of, precedence_of};
-ghost use Rattle.lrgrammar.specs.Refusals.{IsRefusedBy, NoEarlyCause};
-ghost use Rattle.lrgrammar.specs.declared.grammar.errors.GrammarError.TheVariants.{Memory};
+ghost use Rattle.lrparts.specs.Refusals.{IsRefusedBy, NoEarlyCause};
+ghost use Rattle.lrparts.specs.declared.errors.GrammarError.TheVariants.{Memory};
 ghost use Rattle.lrgrammar.specs.PartNumbers.{part_number, AreSmall};
 ghost use Rattle.lrgrammar.specs.Symbols.{symbol_of};
 ghost use Rattle.lrgrammar.specs.StoredGrammar.{production_of};
-ghost use Rattle.lrgrammar.specs.TextErrors.{IsGrammarOf, IsTextError};
+ghost use Rattle.lrparts.specs.TextErrors.{IsGrammarOf, IsTextError};
 
-use crate::grammar::causes::refuse;
 use crate::grammar::lists::{places, production_lists};
 use crate::grammar::{
     GrammarError, GrammarParts, PartProd, PartSymbol, Precedence, Production, TextError,
     YaccGrammar,
 };
 use crate::idx::{IndexStorage, PIdx, RIdx, Symbol, TIdx};
+use lrparts::causes::refuse;
 use lrtext::reader::read_parts;
 use std::alloc::{AllocError, Global};
 
@@ -160,7 +160,7 @@ impl<T: IndexStorage> YaccGrammar<T> {
         ensures refused { IfErr result (IsRefusedBy T.MAX (parts_of parts.now)) }
         ensures memory { result ≡ Err Memory → NoEarlyCause T.MAX (parts_of parts.now) }
     {
-        refuse::<T>(alloc, parts)?;
+        refuse(alloc, parts, T::MAX)?;
         let grammar = grammar_from(alloc, parts)?;
         Ok(grammar)
     }

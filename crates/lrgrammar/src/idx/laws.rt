@@ -5,7 +5,7 @@ ghost use Rattle.std.specs.Prelude.{◌≡◌, ◌++◌, IsTrue, ◌↔◌, fold
 ghost use Rattle.std.specs.Ordering.{nat_cmp, ordering_then};
 ghost use Rattle.lrgrammar.specs.SymbolLaws.{symbol_cmp, symbol_writes};
 
-use super::{IndexStorage, PIdx, SIdx, Symbol};
+use super::{IndexStorage, PIdx, SIdx, StIdx, Symbol};
 use std::cmp::Ordering;
 use std::hash::{Hash, Hasher};
 
@@ -45,4 +45,22 @@ fn item_equality<T: IndexStorage>(a: (PIdx<T>, SIdx<T>), b: (PIdx<T>, SIdx<T>)) 
         ↔ ((T.number a.0.0 ≡ T.number b.0.0) × (T.number a.1.0 ≡ T.number b.1.0)) }
 {
     a == b
+}
+
+fn state_order<T: IndexStorage>(a: StIdx<T>, b: StIdx<T>) -> Ordering
+    ensures { result ≡ nat_cmp (T.number a.0) (T.number b.0) }
+{
+    a.cmp(&b)
+}
+
+fn state_equality<T: IndexStorage>(a: StIdx<T>, b: StIdx<T>) -> bool
+    ensures { IsTrue result ↔ (T.number a.0 ≡ T.number b.0) }
+{
+    a == b
+}
+
+fn state_hash<T: IndexStorage, H: Hasher>(a: StIdx<T>, state: &mut H)
+    ensures { state.new ≡ fold H.write state.old (T.hash_input a.0) }
+{
+    a.hash(state);
 }

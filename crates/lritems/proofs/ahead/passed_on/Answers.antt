@@ -1,8 +1,8 @@
 use Rattle.std.proofs.Common.{◌≡◌, ◌-◌, ◌∙◌, sym, ap, refl, length, map, take, drop}
 use Rattle.lrspec.specs.grammars.Grammar as math
-use Rattle.lrgrammar.specs.Bits.{union}
+use Rattle.lrbits.specs.Bits.{union}
 use Rattle.lrgrammar.specs.Symbols.{symbol_of}
-use Rattle.lrgrammar.proofs.Unions.{length-union}
+use Rattle.lrbits.proofs.Unions.{length-union}
 use Rattle.lritems.proofs.SymbolsBehindDots.{symbols_behind, sliced, left_at, left_none}
 use Rattle.lritems.proofs.PassedOn.{turn_past, turn_stop, turn_token, turn_end, none_set, made_passed_on}
 use Rattle.lritems.proofs.ahead.passed_on.Goals as goal

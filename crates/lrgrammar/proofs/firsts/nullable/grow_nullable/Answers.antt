@@ -1,10 +1,10 @@
 use Rattle.std.proofs.Common.{◌≡◌, ◌<◌, true, false, length, set, arith, ◌∙◌, sym, ap, IsTrue, length-set}
 use Rattle.std.proofs.lemmas.Bool.{both_ways}
 use Rattle.lrspec.specs.grammars.Grammar as math
-use Rattle.lrgrammar.specs.Bits.{bit}
+use Rattle.lrbits.specs.Bits.{bit}
 use Rattle.lrgrammar.specs.NullableBits.{all_set}
-use Rattle.lrgrammar.specs.Bits.{unset}
-use Rattle.lrgrammar.proofs.UnsetBits.{unset_falls}
+use Rattle.lrbits.specs.Bits.{unset}
+use Rattle.lrbits.proofs.UnsetBits.{unset_falls}
 use Rattle.lrgrammar.proofs.NullableRules.{holds_set, closed_below_more, closed_from_below}
 use Rattle.lrgrammar.proofs.firsts.nullable.grow_nullable.Goals as goal
 use Rattle.lrgrammar.proofs.firsts.nullable.grow_nullable.Goals.{then-not-get+then-all_nullable, else-not-get, else-not-get-via-then-not-get+else-all_nullable, else-not-get-via-else-not-get}

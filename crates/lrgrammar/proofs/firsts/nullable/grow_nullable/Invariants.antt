@@ -1,6 +1,6 @@
 use Rattle.std.proofs.Common.{◌≡◌, ◌<◌, ◌≤◌, true, false, length}
 use Rattle.lrgrammar.specs.NullableBits.{HoldsNullable, IsClosedBelow}
-use Rattle.lrgrammar.specs.Bits.{unset}
+use Rattle.lrbits.specs.Bits.{unset}
 use Rattle.lrgrammar.proofs.firsts.nullable.grow_nullable.Given as goal
 
 abbrev pub invariant-loop-i : goal.invariant-loop-i

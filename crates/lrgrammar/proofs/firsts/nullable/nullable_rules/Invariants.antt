@@ -1,6 +1,6 @@
 use Rattle.std.proofs.Common.{◌≡◌, length}
 use Rattle.lrgrammar.specs.NullableBits.{HoldsNullable}
-use Rattle.lrgrammar.specs.Bits.{unset}
+use Rattle.lrbits.specs.Bits.{unset}
 use Rattle.lrgrammar.proofs.firsts.nullable.nullable_rules.Given as goal
 
 abbrev pub invariant-loop : goal.invariant-loop

@@ -1,7 +1,7 @@
 use Rattle.lrtext.specs.StoredParts.{parts_of}
-use Rattle.lrgrammar.specs.TextErrors.{read_refusal_of, text_error_of, IsTextError}
+use Rattle.lrparts.specs.TextErrors.{read_refusal_of, text_error_of, IsTextError}
 use Rattle.lrspec.proofs.texts.ResultsPassedOn.{error_passed}
-use Rattle.lrgrammar.proofs.TextRefusals.{read_cause, parts_cause}
+use Rattle.lrparts.proofs.TextRefusals.{read_cause, parts_cause}
 use Rattle.lrgrammar.proofs.grammar.YaccGrammar.from_text.Goals as goal
 
 -- the text means no parts

@@ -5,8 +5,8 @@ use Rattle.std.specs.Option.{option_map}
 use Rattle.lrspec.specs.grammars.Grammar as math
 use Rattle.lrtext.specs.declared.parts.Precedence.{Precedence}
 use Rattle.lrtext.specs.StoredParts.{precedence_of}
-use Rattle.lrgrammar.proofs.Images.{any_image, no_image}
-use Rattle.lrgrammar.proofs.TruthTests.{true_if, false_if}
+use Rattle.lrparts.proofs.Images.{any_image, no_image}
+use Rattle.lrparts.proofs.TruthTests.{true_if, false_if}
 use Rattle.lrgrammar.proofs.grammar.YaccGrammar.has_precedences.Goals as goal
 
 -- a precedence is there exactly where it is in the grammar

@@ -3,7 +3,7 @@ use Rattle.std.specs.Prelude.{slice_get}
 use Rattle.std.specs.BTreeMap.{get_by_text}
 use Rattle.std.specs.String.{string_bytes}
 use Rattle.std.proofs.lemmas.List.{length-map}
-use Rattle.lrgrammar.proofs.NameLookUps.{place_found, place_within, place_missing}
+use Rattle.lrparts.proofs.NameLookUps.{place_found, place_within, place_missing}
 use Rattle.lrgrammar.proofs.grammar.YaccGrammar.token_idx.Goals as goal
 
 pub unwrap-requires : goal.unwrap-requires

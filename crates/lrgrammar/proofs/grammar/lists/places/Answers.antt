@@ -3,7 +3,7 @@ use Rattle.std.specs.BTreeMap.{get_by_text}
 use Rattle.std.specs.String.{string_bytes}
 use Rattle.std.proofs.lemmas.List.{length-map, get_or-map}
 use Rattle.std.proofs.lemmas.Map.Text.{btree_map_updates_text}
-use Rattle.lrgrammar.proofs.NameLookUps.{finds_apart}
+use Rattle.lrparts.proofs.NameLookUps.{finds_apart}
 use Rattle.lrgrammar.proofs.grammar.lists.places.Goals as goal
 
 pub loop-i-preserved : goal.loop-i-preserved

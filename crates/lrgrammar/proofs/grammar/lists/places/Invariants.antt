@@ -1,7 +1,7 @@
 use Rattle.std.proofs.Common.{map}
 use Rattle.std.specs.BTreeMap.{get_by_text}
 use Rattle.std.specs.String.{string_bytes}
-use Rattle.lrgrammar.specs.LookUps.{FindsNames}
+use Rattle.lrparts.specs.LookUps.{FindsNames}
 use Rattle.lrgrammar.proofs.grammar.lists.places.Given as goal
 
 abbrev pub invariant-loop-i : goal.invariant-loop-i

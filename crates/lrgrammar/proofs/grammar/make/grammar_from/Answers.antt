@@ -5,7 +5,7 @@ use Rattle.std.proofs.lemmas.List.{length-map}
 use Rattle.lrspec.specs.grammars.Grammar.{IsGrammar}
 use Rattle.lrspec.specs.texts.Parts.{HasDouble, grammar_of_parts}
 use Rattle.lrspec.proofs.texts.GrammarOfParts.{grammar_from_parts, length-productions}
-use Rattle.lrgrammar.specs.LookUps.{FindsNames}
+use Rattle.lrparts.specs.LookUps.{FindsNames}
 use Rattle.lrgrammar.specs.GrammarSizes.{IsWithin}
 use Rattle.lrtext.specs.StoredParts.{parts_of, part_production_of}
 use Rattle.lrgrammar.specs.StoredGrammar.{production_of}

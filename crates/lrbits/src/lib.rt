@@ -1,0 +1,4 @@
+//! Bit vectors.
+#![tactic(auto)]
+
+pub mod vob;

@@ -1,7 +1,0 @@
-use Rattle.std.specs.Ordering.{nat_cmp}
-use Rattle.std.specs.BTreeMap.{get}
-use Rattle.lrgrammar.specs.LookUps.{FindsKinds}
-use Rattle.lrgrammar.proofs.grammar.doubles.mixed_level.Given as goal
-
-abbrev pub invariant-loop-token : goal.invariant-loop-token
-invariant-loop-token l = FindsKinds (get nat_cmp l.kinds) l.parts.tokens.items l.token-index

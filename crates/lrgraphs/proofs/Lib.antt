@@ -1,0 +1,6 @@
+pub mod EdgeFacts
+pub mod DistinctSymbols
+pub mod GraphFacts
+pub mod OrderedStates
+pub mod EdgesByTarget
+pub mod PrintedStates

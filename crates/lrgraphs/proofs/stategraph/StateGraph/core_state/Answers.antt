@@ -1,0 +1,5 @@
+use Rattle.lrgraphs.proofs.OrderedStates.{cores_upwards}
+use Rattle.lrgraphs.proofs.stategraph.StateGraph.core_state.Goals as goal
+
+pub returns-clause-upwards : goal.returns-clause-upwards
+returns-clause-upwards g c = cores_upwards c.args.self.now _ c.requires (rw (← c.self.view_is) c.self.invariant.order)

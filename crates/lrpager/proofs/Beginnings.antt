@@ -1,0 +1,58 @@
+-- the start state alone: what holds of it, and of the states that a construction ends with
+use Rattle.std.proofs.Common.{◌≡◌, ℕ, ◌≤◌, List, [], ◌∷◌, length, None, Some, refl, ap, ◌∙◌, arith}
+use Rattle.lrspec.specs.grammars.Grammar.{Symbol, Grammar, IsGrammar}
+use Rattle.lrspec.specs.grammars.ItemSets.{Items, HasItem}
+use Rattle.lrspec.specs.grammars.StartState.{IsStartCore}
+use Rattle.lrspec.proofs.merging.ReachedStates.{item_of_rooted, moved_symbol}
+use Rattle.lrpager.specs.Construction.{Draft, start_states, edge_from}
+use Rattle.lrpager.specs.Counts.{unclosed, weight}
+use Rattle.lrpager.specs.Invariant.{Holds, HasGotos}
+use Rattle.lrpager.specs.Closing.{StartsWith}
+use Rattle.lrpager.specs.CandidatesOf.{Lists, listed_at, IsFirstItem, AreCandidates}
+use Rattle.lrspec.specs.merging.WeakCompatibility.{Apart}
+use Rattle.lrpager.proofs.ClosedStates.{start_holds, start_gotos}
+use Rattle.lrpager.proofs.CountFacts.{start_counts}
+use Rattle.lrpager.proofs.CandidateLists.{candidates_made}
+
+module _ {g : Grammar} {ss : List Draft} (s : StartsWith g ss) where
+  pub begins_length : length ss ≡ 1
+  begins_length = ap length s.states
+
+  pub begins_holds : IsGrammar g → Holds g ss
+  begins_holds shape = rw s.states (start_holds s.core shape s.fits s.is_start)
+
+  pub begins_gotos : (k : ℕ) → HasGotos g ss k
+  begins_gotos = rw s.states (start_gotos {g = g} s.core)
+
+  -- it is to be closed
+  pub begins_unclosed : (unclosed ss ≡ 1) × (1 ≤ weight g ss)
+  begins_unclosed = rw s.states (start_counts g (start_states s.core) refl refl)
+
+-- a state that is to be closed and has no edges
+pub draft_alone : (d : Draft) (core : Items) → d.core ≡ core → d.closed ≡ None → d.edges ≡ [] → d ∷ [] ≡ start_states core
+draft_alone d core a b e =
+    ap (λ x. record { core = x; closed = d.closed; edges = d.edges } ∷ []) a
+    ∙ ap (λ x. record { core = core; closed = x; edges = d.edges } ∷ []) b
+    ∙ ap (λ x. record { core = core; closed = None; edges = x } ∷ []) e
+
+-- the start core has an item
+pub start_item : {g : Grammar} {a : Items} → IsStartCore g a → (p : ℕ) × (d : ℕ) × HasItem a p d
+start_item {g} s = (g.start_production, 0, (s.item g.start_production 0).1 (refl, refl))
+
+-- the start state is listed at its first item
+pub start_candidates :
+    (core : Items) (ds : Lists) (p d : ℕ) → IsFirstItem core p d → listed_at ds p d ≡ 0 ∷ [] → ((q e : ℕ) → Apart p d q e → listed_at ds q e ≡ [])
+    → AreCandidates (start_states core) ds
+start_candidates core ds p d first here there =
+    candidates_made [] (start_states core) [] ds core p d refl (λ j b. absurd (omega arith)) refl first here there
+    (record { below = λ q e k h. absurd (omega (arith, h.1)); listed = λ k q e b f. absurd (omega arith); upwards = λ q e k b. absurd (omega arith) })
+
+-- edges out of one state lead to one state by one symbol only
+pub one_symbol :
+    {g : Grammar} {ss : List Draft} → Holds g ss → (k u : ℕ) (x y : Symbol) → edge_from ss k x ≡ Some u → edge_from ss k y ≡ Some u → x ≡ y
+one_symbol holds k u x y e f =
+    let a = holds.edges k u x e in
+    let b = holds.edges k u y f in
+    let (ws, rooted, shared) = holds.sharing u a.below in
+    let (p, d, h) = item_of_rooted (ws, rooted) in
+    moved_symbol ((a.items p d).0 h) ((b.items p d).0 h)

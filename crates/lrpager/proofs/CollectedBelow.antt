@@ -1,0 +1,179 @@
+-- collecting the marked states in their order: what holds of those before some number, and how many edges there are
+use Rattle.std.proofs.Common.{◌≡◌, ℕ, zero, suc, ◌+◌, ◌*◌, ◌<◌, ◌≤◌, Bool, true, false, cond, List, [], ◌∷◌, ◌++◌, length, drop, get_or, Option, None, Some, refl, sym, ap, ◌∙◌, ◌⊎◌, inl, inr, arith, length-append}
+use Rattle.std.specs.Prelude.{slice_get, option_map, count_by, sum_by}
+use Rattle.std.proofs.lemmas.Bool.{cases_lt}
+use Rattle.std.specs.Option.{IsSome}
+use Rattle.std.proofs.lemmas.Option.{slice_get_within}
+use Rattle.std.proofs.lemmas.List.{take_all}
+use Rattle.std.proofs.lemmas.List.Sums.{count_by_more_no, sum_by_push, sum_by-take-le, count_by-le-length}
+use Rattle.lrspec.specs.grammars.Grammar.{Symbol}
+use Rattle.lrspec.specs.merging.Graph.{State, Graph, core_or_none, closed_or_none, edges_or_none, core_of, closed_of, edge, edge_at}
+use Rattle.lrpager.specs.Construction as construction
+use Rattle.lrpager.specs.Construction.{Draft, draft_core, draft_closed, draft_edges, core_at, closed_at, edge_from, AreMarked, new_number}
+use Rattle.lrpager.specs.Invariant.{AreClosed, IsCollected}
+use Rattle.lrpager.specs.Collecting.{LeadToStates, IsMarked, HaveDistinctTargets, IsRenumbered}
+use Rattle.lrpager.proofs.NewNumbers.{marked_below, new_number_after, new_number_increases, new_number_below, new_number_taken}
+
+-- the state `n` of the graph has the core and the closed state of the state `k`, and its edges by new numbers
+pub record IsCopy (f : ℕ → ℕ) (ss : List Draft) (k : ℕ) (h : Graph) (n : ℕ) : Type 0 where
+  pub core : core_of h n ≡ core_at ss k
+  pub closed : Some (closed_of h n) ≡ closed_at ss k
+  pub edges : (x : Symbol) → edge h n x ≡ option_map f (edge_from ss k x)
+
+-- the marked ones of the first `k` states were collected
+pub record AreCollectedBelow (f : ℕ → ℕ) (ss : List Draft) (marks : List Bool) (k : ℕ) (h : Graph) : Type 0 where
+  pub length_is : length h ≡ new_number marks k
+  pub each : (j : ℕ) → j < k → IsMarked marks j → IsCopy f ss j h (new_number marks j)
+
+-- the first of what is left of a list
+pub first_left :
+    {X : Type 0} (xs : List X) (k : ℕ) (x : X) (rest : List X) → drop k xs ≡ x ∷ rest → (slice_get xs k ≡ Some x) × (rest ≡ drop (k + 1) xs)
+first_left [] zero x rest e = absurd (cc)
+first_left [] (suc k) x rest e = absurd (cc)
+first_left (y ∷ xs) zero x rest e = (cc, cc)
+first_left (y ∷ xs) (suc k) x rest e =
+    let next : suc k + 1 ≡ suc (k + 1) = omega arith in
+    let (at, is) = first_left xs k x rest e in
+    (at, is ∙ sym (ap (λ n. drop n (y ∷ xs)) next))
+
+get_pushed : {X : Type 0} (xs : List X) (y : X) (k : ℕ) → k < length xs → slice_get (xs ++ y ∷ []) k ≡ slice_get xs k
+get_pushed [] y k l = absurd (omega arith)
+get_pushed (x ∷ xs) y zero l = refl
+get_pushed (x ∷ xs) y (suc k) l = get_pushed xs y k (omega arith)
+
+get_last : {X : Type 0} (xs : List X) (y : X) → slice_get (xs ++ y ∷ []) (length xs) ≡ Some y
+get_last [] y = refl
+get_last (x ∷ xs) y = get_last xs y
+
+-- a state that comes behind leaves a copy
+copy_kept :
+    (f : ℕ → ℕ) (ss : List Draft) (j : ℕ) (h : Graph) (n : ℕ) (s : State) → n < length h → IsCopy f ss j h n
+    → IsCopy f ss j (h ++ s ∷ []) n
+copy_kept f ss j h n s l c = record {
+  core = ap core_or_none same ∙ c.core;
+  closed = ap (λ o. Some (closed_or_none o)) same ∙ c.closed;
+  edges = λ x. ap (λ o. edge_at (edges_or_none o) x) same ∙ c.edges x;
+}
+  where
+    same : slice_get (h ++ s ∷ []) n ≡ slice_get h n
+    same = get_pushed h s n l
+
+-- the state that comes last is a copy
+copy_last :
+    (f : ℕ → ℕ) (ss : List Draft) (k : ℕ) (h : Graph) (d : Draft) (s : State) → slice_get ss k ≡ Some d → IsRenumbered f d s
+    → IsCopy f ss k (h ++ s ∷ []) (length h)
+copy_last f ss k h d s at m = record {
+  core = ap core_or_none last ∙ (m.core ∙ sym (ap draft_core at));
+  closed = ap (λ o. Some (closed_or_none o)) last ∙ (sym m.closed ∙ sym (ap draft_closed at));
+  edges = λ x. ap (λ o. edge_at (edges_or_none o) x) last ∙ (m.edges x ∙ sym (ap (λ o. option_map f (edge_at (draft_edges o) x)) at));
+}
+  where
+    last : slice_get (h ++ s ∷ []) (length h) ≡ Some s
+    last = get_last h s
+
+before_or_this : (j k : ℕ) → j < k + 1 → (j < k) ⊎ (j ≡ k)
+before_or_this j k l = elim (cases_lt j k) [ inl b ↦ inl b | inr a ↦ inr (omega (arith, l, a)) ]
+
+module _ (f : ℕ → ℕ) (ss : List Draft) (marks : List Bool) where
+  -- a state that isn't marked is left
+  pub collected_not :
+      (k : ℕ) (h : Graph) → k < length marks → get_or marks k false ≡ false → AreCollectedBelow f ss marks k h
+      → AreCollectedBelow f ss marks (k + 1) h
+  collected_not k h l not c = record {
+    length_is = c.length_is ∙ sym (count_by_more_no (λ (b : Bool). b) marks k false l not);
+    each = λ j b m. elim (before_or_this j k b) [
+      | inl i ↦ c.each j i m
+      | inr e ↦ let n : IsMarked marks k = rw e at m in let z : true ≡ false = sym n ∙ not in cc
+    ];
+  }
+
+  -- a marked state is collected
+  pub collected_more :
+      (k : ℕ) (h : Graph) (d : Draft) (s : State) → IsMarked marks k → slice_get ss k ≡ Some d → IsRenumbered f d s
+      → AreCollectedBelow f ss marks k h → AreCollectedBelow f ss marks (k + 1) (h ++ s ∷ [])
+  collected_more k h d s m at renumbered c = record {
+    length_is = omega (arith, length-append h (s ∷ []), c.length_is, new_number_after marks k m);
+    each = λ j b n. elim (before_or_this j k b) [
+      | inl i ↦ copy_kept f ss j h (new_number marks j) s (omega (arith, new_number_increases marks j k n i, c.length_is)) (c.each j i n)
+      | inr e ↦ rw (e, ← c.length_is) (copy_last f ss k h d s at renumbered)
+    ];
+  }
+
+  -- so the graph is collected where all states were gone through, and `f` gives the new numbers
+  module _ (k : ℕ) (h : Graph) (c : AreCollectedBelow f ss marks k h) (all : k ≡ length ss) (same : length marks ≡ length ss) where
+    pub collected_count : length h ≡ count_by (λ (b : Bool). b) marks
+    collected_count = c.length_is ∙ ap (count_by (λ (b : Bool). b)) (take_all k marks (omega (arith, all, same)))
+
+    copied : (j : ℕ) → IsMarked marks j → IsCopy f ss j h (new_number marks j)
+    copied j m = let l = marked_below marks j m in c.each j (omega (arith, l, all, same)) m
+
+    pub collected_all :
+        LeadToStates ss → ((u : ℕ) → u < length ss → f u ≡ new_number marks u) → IsCollected ss marks h
+    collected_all below numbers = record {
+      below = λ j m. let l = new_number_below marks j m in omega (arith, l, collected_count);
+      cores = λ j m. (copied j m).core;
+      closed = λ j m. (copied j m).closed;
+      edges = λ j x m. (copied j m).edges x ∙ agree j x (edge_from ss j x) refl;
+      only = λ s l. new_number_taken marks s (omega (arith, l, collected_count));
+    }
+      where
+        agree : (j : ℕ) (x : Symbol) (o : Option ℕ) → edge_from ss j x ≡ o → option_map f (edge_from ss j x) ≡ option_map (new_number marks) (edge_from ss j x)
+        agree j x None e = rw e refl
+        agree j x (Some u) e = rw e (ap Some (numbers u (below j u x e)))
+
+-- how many edges the states have
+abbrev pub edge_count : Graph → ℕ
+edge_count h = sum_by (λ (s : State). length s.edges) h
+
+-- the marked ones of the first `k` states were collected, and their edges counted, which are few
+pub record AreCollecting (f : ℕ → ℕ) (ss : List Draft) (marks : List Bool) (k : ℕ) (h : Graph) (edges : ℕ) : Type 0 where
+  pub collected : AreCollectedBelow f ss marks k h
+  pub counted : edges ≡ edge_count h
+  pub few : edges ≤ k * length ss
+
+-- a state that isn't marked has no part in it
+pub collecting_not :
+    (f : ℕ → ℕ) (ss : List Draft) (marks : List Bool) (k : ℕ) (h : Graph) (edges : ℕ) → k < length marks → get_or marks k false ≡ false
+    → AreCollecting f ss marks k h edges → AreCollecting f ss marks (k + 1) h edges
+collecting_not f ss marks k h edges l not c =
+    record { collected = collected_not f ss marks k h l not c.collected; counted = c.counted; few = omega (arith, c.few) }
+
+-- a marked state adds its edges
+pub collecting_more :
+    (f : ℕ → ℕ) (ss : List Draft) (marks : List Bool) (k : ℕ) (h new : Graph) (edges more : ℕ) (d : Draft) (s : State) → IsMarked marks k
+    → slice_get ss k ≡ Some d → IsRenumbered f d s → more ≡ length s.edges → more ≤ length ss → new ≡ h ++ s ∷ []
+    → AreCollecting f ss marks k h edges → AreCollecting f ss marks (k + 1) new (edges + more)
+collecting_more f ss marks k h new edges more d s m at renumbered n few is c = rw is (record {
+  collected = collected_more f ss marks k h d s m at renumbered c.collected;
+  counted = omega (arith, sum_by_push (λ (t : State). length t.edges) h s, c.counted, n);
+  few = omega (arith, c.few, few);
+})
+
+-- the edges of a state lead to different states, which are below `n`
+pub apart_at :
+    (ss : List Draft) (n k : ℕ) (d : Draft) → slice_get ss k ≡ Some d → n ≡ length ss → LeadToStates ss
+    → ((k u : ℕ) (x y : Symbol) → edge_from ss k x ≡ Some u → edge_from ss k y ≡ Some u → x ≡ y) → HaveDistinctTargets n d.edges
+apart_at ss n k d at same below one = record {
+  below = λ x u e. let l = below k u x (here x u e) in omega (arith, l, same);
+  apart = λ x y u e i. one k u x y (here x u e) (here y u i);
+}
+  where
+    here : (x : Symbol) (u : ℕ) → edge_at d.edges x ≡ Some u → edge_from ss k x ≡ Some u
+    here x u e = rw at e
+
+-- a state that was closed is so when it is looked at
+pub closed_here : (ss : List Draft) (k : ℕ) (d : Draft) → slice_get ss k ≡ Some d → AreClosed ss → IsSome d.closed
+closed_here ss k d at closed = let is = closed k (slice_get_within ss k d at) in rw at at is
+
+-- new numbers are no more than there are states
+pub number_most : (marks : List Bool) (k : ℕ) → new_number marks k ≤ length marks
+number_most marks k =
+    let part = sum_by-take-le (λ (b : Bool). cond b 1 0) marks k in
+    let all = count_by-le-length (λ (b : Bool). b) marks in
+    omega (arith, part, all)
+
+-- the start state is collected
+pub some_collected : {ss : List Draft} {marks : List Bool} {h : Graph} → AreMarked ss marks → IsCollected ss marks h → 0 < length h
+some_collected marked collected =
+    let start = collected.below 0 (marked.marked [] 0 construction.Walks.start) in
+    omega (arith, start)

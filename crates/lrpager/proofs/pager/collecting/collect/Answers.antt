@@ -1,0 +1,22 @@
+use Rattle.std.proofs.Common.{arith}
+use Rattle.std.proofs.lemmas.List.{length-map}
+use Rattle.lrpager.proofs.CollectedBelow.{some_collected}
+use Rattle.lrpager.proofs.pager.collecting.collect.Goals as goal
+
+pub new-requires : goal.new-requires
+new-requires g c =
+    let states = c.in_ok-states.ensures in
+    let count = c.in_ok-numbers.ensures.count in
+    let marked = rw c.as_slice.ensures.value at c.in_ok-marks.ensures in
+    record {
+      some = some_collected marked states.collected;
+      states = rw length-map (omega (arith, states.len, count, c.if-count-MAX.false));
+      counted = states.edges;
+      order = states.order;
+    }
+
+pub returns-clause-states : goal.returns-clause-states
+returns-clause-states g c =
+    let states = c.in_ok-states.ensures in
+    let count = c.in_ok-numbers.ensures.count in
+    rw (c.new.ensures, length-map) (omega (arith, states.len, count, c.if-count-MAX.false))

@@ -1,0 +1,56 @@
+-- collecting the states that are reached: marking them, and numbering them anew
+use Rattle.std.specs.Prelude.{◌≡◌, ℕ, ◌+◌, ◌<◌, Bool, false, cond, IsTrue, List, [], ◌∷◌, Some, length, option_map, slice_index, slice_index_or, ◌⊎◌}
+use Rattle.lrspec.specs.grammars.Grammar.{Symbol}
+use Rattle.lrspec.proofs.grammars.ListMembers.{Among}
+use Rattle.lrspec.specs.merging.Graph.{State, edge_at}
+use Rattle.lrpager.specs.Construction.{Draft, edge_from, new_number}
+
+-- edges of states lead to states
+abbrev pub LeadToStates : List Draft → Type 0
+LeadToStates ss = (k u : ℕ) (x : Symbol) → edge_from ss k x ≡ Some u → u < length ss
+
+-- ---- marking
+
+-- the state `k` is marked
+abbrev pub IsMarked : List Bool → ℕ → Type 0
+IsMarked marks k = IsTrue (slice_index_or marks k false)
+
+-- how many states are not marked
+abbrev pub unmarked_count : List Bool → ℕ
+unmarked_count [] = 0
+unmarked_count (b ∷ marks) = cond b 0 1 + unmarked_count marks
+
+-- one of the edges leads to the state `u`
+abbrev pub HasTarget : List (Symbol × ℕ) → ℕ → Type 0
+HasTarget es u = (x : Symbol) × (edge_at es x ≡ Some u)
+
+-- no states were marked but some of which `P` holds, and exactly these were put among those whose edges are to be followed
+pub record MarksOnly (P : ℕ → Type 0) (old : List Bool) (todo : List ℕ) (new : List Bool) (rest : List ℕ) : Type 0 where
+  pub length_is : length new ≡ length old
+  pub still : (k : ℕ) → IsMarked old k → IsMarked new k
+  pub only : (k : ℕ) → IsMarked new k → IsMarked old k ⊎ (P k × Among k rest)
+  pub waiting : (k : ℕ) → Among k todo → Among k rest
+  pub noted : (k : ℕ) → Among k rest → Among k todo ⊎ IsMarked new k
+  pub left : unmarked_count new + length rest ≡ unmarked_count old + length todo
+
+-- ---- numbering anew
+
+-- the list has the new number of each state
+pub record AreNewNumbers (marks : List Bool) (numbers : List ℕ) : Type 0 where
+  pub length_is : length numbers ≡ length marks
+  pub at : (k : ℕ) → k < length marks → slice_index numbers k ≡ new_number marks k
+
+-- the edges lead to different states below `n`
+pub record HaveDistinctTargets (n : ℕ) (es : List (Symbol × ℕ)) : Type 0 where
+  pub below : (x : Symbol) (u : ℕ) → edge_at es x ≡ Some u → u < n
+  pub apart : (x y : Symbol) (u : ℕ) → edge_at es x ≡ Some u → edge_at es y ≡ Some u → x ≡ y
+
+-- each edge leads to the state to which `f` takes the one to which it led
+abbrev pub AreRenumbered : (ℕ → ℕ) → List (Symbol × ℕ) → List (Symbol × ℕ) → Type 0
+AreRenumbered f old new = (x : Symbol) → edge_at new x ≡ option_map f (edge_at old x)
+
+-- the state has the core and the closed state of the draft, and its edges by new numbers
+pub record IsRenumbered (f : ℕ → ℕ) (d : Draft) (s : State) : Type 0 where
+  pub core : s.core ≡ d.core
+  pub closed : d.closed ≡ Some s.closed
+  pub edges : AreRenumbered f d.edges s.edges

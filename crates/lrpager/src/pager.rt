@@ -1,0 +1,187 @@
+//! Pager's construction of the state graph of a grammar: states are closed one after another, and each goto of a closed
+//! state is placed at an equal state, at one that takes it in, or at a new one.
+
+ghost use Rattle.std.specs.Prelude.{◌≡◌, ℕ, ◌+◌, ◌*◌, ◌^◌, ◌<◌, ◌≤◌, length, None, IfOk, IfErr, OnOk, MatchOption};
+ghost use Rattle.lrspec.specs.grammars.Grammar.{item_count, token_count};
+ghost use Rattle.lrspec.specs.grammars.ItemSets.{Fits};
+ghost use Rattle.lrspec.specs.grammars.StartState.{IsStartCore};
+ghost use Rattle.lrgrammar.specs.Firsts.{AreFirstsOf};
+ghost use Rattle.lrgrammar.specs.GrammarSizes.{IsWithin};
+ghost use Rattle.lritems.specs.ItemsOf.{set_of};
+ghost use Rattle.lrpager.specs.Construction.{core_at, closed_at};
+ghost use Rattle.lrpager.specs.Choices.{NoneUnclosedFrom, IsFirstUnclosedFrom, IsNextUnclosed, ClosesAll};
+ghost use Rattle.lrpager.specs.Counts.{unclosed, weight};
+ghost use Rattle.lrpager.specs.Invariant.{Holds, HasGotos, AreClosed};
+ghost use Rattle.lrpager.specs.CandidatesOf.{AreCandidates};
+ghost use Rattle.lrpager.specs.Closing.{ClosesTo, StartsWith};
+ghost use Rattle.lrspec.specs.merging.Graph.{IsGraphOf, AreShared, InventsNoConflict, CoresCross};
+ghost use Rattle.lrpager.specs.Chains.{HasChainOf, HasChainOfExactly};
+ghost use Rattle.lrpager.specs.Refusals.{IsLargeOnly};
+ghost use Rattle.lritems.specs.Gotos.{gotos_of};
+
+mod candidates;
+mod collecting;
+mod draft;
+mod placing;
+#[cfg(test)]
+mod tests;
+
+use crate::pager::candidates::Candidates;
+use crate::pager::collecting::collect;
+use crate::pager::draft::Draft;
+use crate::pager::placing::place_all;
+use lrgrammar::firsts::YaccFirsts;
+use lrgrammar::grammar::YaccGrammar;
+use lrgrammar::idx::{IndexStorage, SIdx, Symbol};
+use lrgrammar::vob::Vob;
+use lrgraphs::{BuildError, StateGraph};
+use lritems::gotos::gotos;
+use lritems::itemset::Itemset;
+use lritems::merging::first_item;
+use std::alloc::AllocError;
+
+/// The core of the start state: the start production at dot 0, looking at the end token.
+fn start_core<T: IndexStorage>(grm: &YaccGrammar<T>) -> Result<Itemset<T>, AllocError>
+    ensures core { IfOk result (λ s. IsStartCore grm.now (set_of T.number s)) }
+    ensures fits { IfOk result (λ s. Fits grm.now (set_of T.number s)) }
+{
+    let alloc = grm.allocator();
+    let mut ctx = Vob::from_elem(alloc, false, usize::from(grm.tokens_len()))?;
+    ctx.set(usize::from(grm.eof_token_idx()), true);
+    let mut core = Itemset::new(alloc, grm);
+    core.add(grm.start_prod(), SIdx(T::from_usize(0).unwrap()), &ctx)?;
+    Ok(core)
+}
+
+/// The first unclosed state from `from` on.
+fn first_unclosed<T: IndexStorage>(drafts: &[Draft<T>], from: usize) -> Option<usize>
+    ensures { MatchOption result (NoneUnclosedFrom drafts.now from)
+        (IsFirstUnclosedFrom drafts.now from) }
+{
+    for i in from..drafts.len() {
+        if !drafts[i].is_closed() {
+            return Some(i);
+        }
+    }
+    None
+}
+
+/// The next state to close: the first unclosed one from `from` on, or else the first unclosed one.
+fn next_unclosed<T: IndexStorage>(drafts: &[Draft<T>], from: usize) -> Option<usize>
+    ensures { MatchOption result (AreClosed drafts.now) (IsNextUnclosed drafts.now from) }
+{
+    if let Some(i) = first_unclosed(drafts, from) {
+        return Some(i);
+    }
+    first_unclosed(drafts, 0)
+}
+
+/// Closes a state, and answers its gotos.
+fn close<T: IndexStorage>(
+    drafts: &mut Vec<Draft<T>>,
+    i: usize,
+    grm: &YaccGrammar<T>,
+    firsts: &YaccFirsts<T>,
+) -> Result<Vec<(Symbol<T>, Itemset<T>)>, AllocError>
+    requires below { i < length drafts.old.items }
+    requires unclosed { closed_at drafts.old.items i ≡ None }
+    requires fits { Fits grm.now (core_at drafts.old.items i) }
+    requires of { AreFirstsOf grm.now firsts.now }
+    ensures { IfOk result (λ gs. ClosesTo grm.now drafts.old.items i drafts.new.items
+        (gotos_of T.number gs.items)) }
+{
+    let closed = drafts[i].core().close(grm, firsts)?;
+    let successors = gotos(&closed, grm)?;
+    drafts[i].set_closed(closed);
+    Ok(successors)
+}
+
+/// Closes states and places their gotos until all states are closed, and answers how often a state was closed.
+fn construct<T: IndexStorage>(
+    drafts: &mut Vec<Draft<T>>,
+    candidates: &mut Candidates<T>,
+    grm: &YaccGrammar<T>,
+    firsts: &YaccFirsts<T>,
+) -> Result<u128, BuildError<T>>
+    requires of { AreFirstsOf grm.now firsts.now }
+    requires sizes { IsWithin T.MAX grm.now }
+    requires most { length drafts.old.items ≤ T.MAX }
+    requires holds { Holds grm.now drafts.old.items }
+    requires gotos { (k : ℕ) → HasGotos grm.now drafts.old.items k }
+    requires candidates { AreCandidates drafts.old.items candidates.old }
+    requires made { length drafts.old.items ≤ unclosed drafts.old.items }
+    requires counted { unclosed drafts.old.items ≤ weight grm.now drafts.old.items }
+    ensures most { OnOk result (length drafts.new.items ≤ T.MAX) }
+    ensures holds { OnOk result (Holds grm.now drafts.new.items) }
+    ensures gotos { OnOk result ((k : ℕ) → HasGotos grm.now drafts.new.items k) }
+    ensures closed { OnOk result (AreClosed drafts.new.items) }
+    ensures order { OnOk result (ClosesAll grm.now 0 drafts.old.items drafts.new.items) }
+    ensures made { IfOk result (λ n. length drafts.new.items ≤ n) }
+    ensures closings { IfOk result (λ n. n
+        ≤ length drafts.new.items * (1 + item_count grm.now * token_count grm.now)) }
+    ensures refused { IfErr result (IsLargeOnly (HasChainOf grm.now T.MAX)) }
+{
+    let mut closings: u128 = 0;
+    let mut from: usize = 0;
+    while let Some(i) = next_unclosed(drafts.as_slice(), from) {
+        let successors = close(drafts, i, grm, firsts)?;
+        closings += 1;
+        place_all(drafts, candidates, grm, i, successors)?;
+        from = i + 1;
+    }
+    Ok(closings)
+}
+
+/// The start state, which is to be closed, and the candidates with it.
+fn begin<T: IndexStorage>(
+    grm: &YaccGrammar<T>,
+) -> Result<(Vec<Draft<T>>, Candidates<T>), AllocError>
+    ensures start { IfOk result (λ b. StartsWith grm.now b.0.items) }
+    ensures candidates { IfOk result (λ b. AreCandidates b.0.items b.1) }
+{
+    let alloc = grm.allocator();
+    let core = start_core(grm)?;
+    let mut candidates = Candidates::new(alloc);
+    candidates.add(first_item(&core).unwrap(), 0)?;
+    let mut drafts = Vec::new(alloc);
+    drafts.push(Draft::new(alloc, core))?;
+    Ok((drafts, candidates))
+}
+
+/// What a construction took.
+#[derive(Clone, Copy, Debug, PartialEq, Eq)]
+pub struct BuildCounts {
+    /// How many states were made, those among them that no state leads to in the end.
+    pub made: usize,
+    /// How often a state was closed.
+    pub closings: u128,
+}
+
+/// The state graph of the grammar, merged by Pager's rule, and what its construction took. `TooLarge` where more than the
+/// index type's `MAX` states would be made, or `MAX` or more are left; never `Table`.
+pub fn build<T: IndexStorage>(
+    grm: &YaccGrammar<T>,
+) -> Result<(StateGraph<T>, BuildCounts), BuildError<T>>
+    ensures graph { IfOk result (λ b. IsGraphOf grm.now b.0) }
+    ensures shared { IfOk result (λ b. AreShared grm.now b.0) }
+    ensures conflicts { IfOk result (λ b. InventsNoConflict grm.now b.0) }
+    ensures crossing { IfOk result (λ b. CoresCross b.0) }
+    ensures below { IfOk result (λ b. length b.0 < T.MAX) }
+    ensures states { IfOk result (λ b. length b.0 ≤ b.1.made) }
+    ensures made { IfOk result (λ b. b.1.made ≤ T.MAX) }
+    ensures closed { IfOk result (λ b. b.1.made ≤ b.1.closings) }
+    ensures closings { IfOk result (λ b. b.1.closings
+        ≤ b.1.made * (1 + item_count grm.now * token_count grm.now)) }
+    ensures fits { IfOk result (λ _.
+        T.MAX * (1 + item_count grm.now * token_count grm.now) < 2 ^ 128) }
+    ensures chain { IfOk result (λ b. HasChainOfExactly grm.now b.1.made) }
+    ensures refused { IfErr result (IsLargeOnly (HasChainOf grm.now T.MAX)) }
+{
+    let _sizes = grm.tokens_len();
+    let firsts = grm.firsts()?;
+    let (mut drafts, mut candidates) = begin(grm)?;
+    let closings = construct(&mut drafts, &mut candidates, grm, &firsts)?;
+    let made = drafts.len();
+    let graph = collect(drafts)?;
+    Ok((graph, BuildCounts { made, closings }))
+}

@@ -1,0 +1,209 @@
+//! The graph of the states that are reached.
+
+ghost use Rattle.std.specs.Prelude.{◌≡◌, ℕ, ◌<◌, ◌≤◌, Bool, List, Some, IsSome, length, count_by, sum_by, slice_get, slice_index, IfOk, IfErr, OnOk};
+ghost use Rattle.std.specs.BTreeMap.{btree_map_len};
+ghost use Rattle.std.specs.List.{All};
+ghost use Rattle.lrspec.specs.grammars.Grammar as math;
+ghost use Rattle.lrspec.specs.merging.Graph.{IsInOrder};
+ghost use Rattle.lrpager.specs.Construction.{draft_edges, edge_from, AreMarked};
+ghost use Rattle.lrpager.specs.Invariant.{AreClosed, IsCollected};
+ghost use Rattle.lrgraphs.specs.GraphOf.{edges_of, state_of, graph_of};
+ghost use Rattle.lrpager.specs.Refusals.{IsLargeOnly};
+ghost use Rattle.lrpager.specs.Collecting.{LeadToStates, IsMarked, HasTarget, MarksOnly, AreNewNumbers, HaveDistinctTargets, AreRenumbered, IsRenumbered};
+
+use crate::pager::draft::Draft;
+use lrgrammar::idx::{IndexStorage, StIdx, Symbol};
+use lrgrammar::vob::Vob;
+use lrgraphs::BuildError;
+use lrgraphs::stategraph::{State, StateGraph};
+use std::alloc::{AllocError, Global};
+use std::collections::BTreeMap;
+
+/// Marks a state, whose edges are to be followed if it wasn't marked.
+fn mark(marks: &mut Vob, todo: &mut Vec<usize>, state: usize) -> Result<(), AllocError>
+    requires { state < length marks.old }
+    ensures marked { OnOk result (IsMarked marks.new state) }
+    ensures only { OnOk result
+        (MarksOnly (λ k. k ≡ state) marks.old todo.old.items marks.new todo.new.items) }
+{
+    if marks.set(state, true) {
+        todo.push(state)?;
+    }
+    Ok(())
+}
+
+/// Marks the states to which the edges lead.
+fn mark_targets<T: IndexStorage>(
+    marks: &mut Vob,
+    todo: &mut Vec<usize>,
+    edges: &BTreeMap<Symbol<T>, usize>,
+) -> Result<(), AllocError>
+    requires { (u : ℕ) → HasTarget (edges_of T.number (λ u. u) edges.now.entries) u
+        → u < length marks.old }
+    ensures marked { OnOk result ((u : ℕ)
+        → HasTarget (edges_of T.number (λ u. u) edges.now.entries) u → IsMarked marks.new u) }
+    ensures only { OnOk result (MarksOnly (HasTarget (edges_of T.number (λ u. u) edges.now.entries))
+        marks.old todo.old.items marks.new todo.new.items) }
+{
+    for (_symbol, target) in edges {
+        mark(marks, todo, *target)?;
+    }
+    Ok(())
+}
+
+/// The edges of the state `k`.
+fn edges_at<T: IndexStorage>(drafts: &[Draft<T>], k: usize) -> &BTreeMap<Symbol<T>, usize>
+    requires { k < length drafts.now }
+    ensures { edges_of T.number (λ u. u) result.now.entries ≡ draft_edges (slice_get drafts.now k) }
+{
+    let draft = &drafts[k];
+    &draft.edges
+}
+
+/// Marks the states that are reached from the first one.
+fn mark_reached<T: IndexStorage>(alloc: Global, drafts: &[Draft<T>]) -> Result<Vob, AllocError>
+    requires some { 0 < length drafts.now }
+    requires below { LeadToStates drafts.now }
+    ensures { IfOk result (λ marks. AreMarked drafts.now marks) }
+{
+    let mut marks = Vob::from_elem(alloc, false, drafts.len())?;
+    let mut todo = Vec::new(alloc);
+    mark(&mut marks, &mut todo, 0)?;
+    while let Some(k) = todo.pop() {
+        mark_targets(&mut marks, &mut todo, edges_at(drafts, k))?;
+    }
+    Ok(marks)
+}
+
+/// The new numbers of the states, and how many states are marked.
+fn new_numbers(alloc: Global, marks: &Vob) -> Result<(Vec<usize>, usize), AllocError>
+    ensures numbers { IfOk result (λ r. AreNewNumbers marks.now r.0.items) }
+    ensures count { IfOk result (λ r. r.1 ≡ count_by (λ b. b) marks.now) }
+{
+    let mut numbers = Vec::new(alloc);
+    let mut next: usize = 0;
+    for k in 0..marks.len() {
+        numbers.push(next)?;
+        if marks.get(k) {
+            next += 1;
+        }
+    }
+    Ok((numbers, next))
+}
+
+/// The edges, which lead to the new numbers of the states.
+fn renumber_edges<T: IndexStorage>(
+    alloc: Global,
+    edges: &BTreeMap<Symbol<T>, usize>,
+    numbers: &[usize],
+) -> Result<BTreeMap<Symbol<T>, StIdx<T>>, AllocError>
+    requires apart { HaveDistinctTargets (length numbers.now)
+        (edges_of T.number (λ u. u) edges.now.entries) }
+    requires most { (k : ℕ) → k < length numbers.now → slice_index numbers.now k ≤ T.MAX }
+    ensures edges { IfOk result (λ es. AreRenumbered (slice_index numbers.now)
+        (edges_of T.number (λ u. u) edges.now.entries)
+        (edges_of T.number (λ u. T.number u.0) es.entries)) }
+    ensures len { IfOk result (λ es. btree_map_len es ≤ length numbers.now) }
+{
+    let mut renumbered = BTreeMap::new(alloc);
+    for (symbol, target) in edges {
+        let number = StIdx(T::from_usize(numbers[*target]).unwrap());
+        renumbered.insert(*symbol, number)?;
+    }
+    Ok(renumbered)
+}
+
+/// The state, whose edges lead to the new numbers of the states.
+fn renumber_state<T: IndexStorage>(
+    alloc: Global,
+    draft: Draft<T>,
+    numbers: &[usize],
+) -> Result<State<T>, AllocError>
+    requires closed { IsSome draft.closed }
+    requires apart { HaveDistinctTargets (length numbers.now) draft.edges }
+    requires most { (k : ℕ) → k < length numbers.now → slice_index numbers.now k ≤ T.MAX }
+    ensures renumbered { IfOk result (λ s.
+        IsRenumbered (slice_index numbers.now) draft (state_of T.number s)) }
+    ensures order { IfOk result (λ s. IsInOrder (state_of T.number s)) }
+    ensures len { IfOk result (λ s. btree_map_len s.edges ≤ length numbers.now) }
+{
+    let Draft {
+        core,
+        closed,
+        edges,
+    } = draft;
+    let edges = renumber_edges(alloc, &edges, numbers)?;
+    let state = State {
+        core,
+        closed: closed.unwrap(),
+        edges,
+    };
+    // for what the graph keeps of each state
+    state.in_order();
+    Ok(state)
+}
+
+/// The marked states in their order with new numbers, and how many edges they have.
+fn marked_states<T: IndexStorage>(
+    alloc: Global,
+    drafts: Vec<Draft<T>>,
+    marks: &Vob,
+    numbers: &[usize],
+) -> Result<(Vec<State<T>>, usize), AllocError>
+    requires below { LeadToStates drafts.items }
+    requires one_symbol { (k u : ℕ) (x y : math.Symbol) → edge_from drafts.items k x ≡ Some u
+        → edge_from drafts.items k y ≡ Some u → x ≡ y }
+    requires closed { AreClosed drafts.items }
+    requires most { length drafts.items ≤ T.MAX }
+    requires marks { length marks.now ≡ length drafts.items }
+    requires numbers { AreNewNumbers marks.now numbers.now }
+    ensures collected { IfOk result (λ r. IsCollected drafts.items marks.now
+        (graph_of T.number r.0.items)) }
+    ensures len { IfOk result (λ r. length r.0.items ≡ count_by (λ b. b) marks.now) }
+    ensures order { IfOk result (λ r. All IsInOrder (graph_of T.number r.0.items)) }
+    ensures edges { IfOk result (λ r. r.1
+        ≡ sum_by (λ s. length s.edges) (graph_of T.number r.0.items)) }
+{
+    let mut states = Vec::new(alloc);
+    let mut edges_len: usize = 0;
+    let mut k: usize = 0;
+    for draft in drafts {
+        let is_marked = marks.get(k);
+        k += 1;
+        if !is_marked {
+            continue;
+        }
+        let state = renumber_state(alloc, draft, numbers)?;
+        edges_len += state.edges.len();
+        states.push(state)?;
+    }
+    Ok((states, edges_len))
+}
+
+/// The graph of the states that are reached, in their order and numbered anew.
+pub(crate) fn collect<T: IndexStorage>(
+    drafts: Vec<Draft<T>>,
+) -> Result<StateGraph<T>, BuildError<T>>
+    requires some { 0 < length drafts.items }
+    requires below { (k u : ℕ) (x : math.Symbol) → edge_from drafts.items k x ≡ Some u
+        → u < length drafts.items }
+    requires one_symbol { (k u : ℕ) (x y : math.Symbol) → edge_from drafts.items k x ≡ Some u
+        → edge_from drafts.items k y ≡ Some u → x ≡ y }
+    requires closed { AreClosed drafts.items }
+    requires most { length drafts.items ≤ T.MAX }
+    ensures collected { IfOk result (λ h. (marks : List Bool)
+        × AreMarked drafts.items marks × IsCollected drafts.items marks h) }
+    ensures states { IfOk result (λ h. length h < T.MAX) }
+    ensures refused { IfErr result (IsLargeOnly (T.MAX ≤ length drafts.items)) }
+    ensures large { IfErr result (IsLargeOnly ((marks : List Bool)
+        × AreMarked drafts.items marks × (T.MAX ≤ count_by (λ b. b) marks))) }
+{
+    let alloc = *drafts.allocator();
+    let marks = mark_reached(alloc, drafts.as_slice())?;
+    let (numbers, count) = new_numbers(alloc, &marks)?;
+    if count >= T::MAX {
+        return Err(BuildError::TooLarge);
+    }
+    let (states, edges_len) = marked_states(alloc, drafts, &marks, numbers.as_slice())?;
+    Ok(StateGraph::new(states, edges_len))
+}

@@ -1,0 +1,14 @@
+use Rattle.std.proofs.Common.{◌≡◌, rules}
+use Rattle.std.specs.Prelude.{codes}
+use Rattle.std.specs.String.{string_bytes}
+use Rattle.lrparts.proofs.Images.{any_image, no_image, Contains-from_any, any_from_Contains}
+use Rattle.lrparts.proofs.TruthTests.{true_if, false_if}
+use Rattle.lrparts.proofs.causes.reserved_name.Goals as goal
+
+pub returns-then-eq : goal.returns-then-eq
+returns-then-eq c =
+    true_if (Contains-from_any _ _ (any_image string_bytes (λ n. n ≡ codes "^") c.args.parts.now.rules.items _ _ c.name-item.result c.deref-name-items.ensures.value c.loop-name-test.true c.name-item.is (search rules)))
+
+pub returns : goal.returns
+returns c =
+    false_if (λ h. no_image string_bytes (λ n. n ≡ codes "^") c.args.parts.now.rules.items _ _ c.deref-name-items.ensures.value c.loop-name-test.false c.loop-name.invariant (any_from_Contains _ _ h))

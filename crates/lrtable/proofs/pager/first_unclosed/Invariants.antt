@@ -1,6 +1,0 @@
-use Rattle.std.proofs.Common.{◌<◌, ◌≤◌, ℕ}
-use Rattle.lrtable.specs.Choices.{IsUnclosed}
-use Rattle.lrtable.proofs.pager.first_unclosed.Given as goal
-
-abbrev pub invariant-loop-i : goal.invariant-loop-i
-invariant-loop-i g l = (k : ℕ) → l.from ≤ k → k < l.i → IsUnclosed l.drafts k → ⊥

@@ -1,9 +1,0 @@
-use Rattle.lrtable.specs.Choices as choice
-use Rattle.lrtable.proofs.NextStates.{first_is_next}
-use Rattle.lrtable.proofs.pager.next_unclosed.Goals as goal
-
-pub returns-in-Some : goal.returns-in-Some
-returns-in-Some g c = choice.IsNextUnclosed.later c.in-Some.ensures
-
-pub returns : goal.returns
-returns g c = first_is_next c.args.drafts.now c.args.from c.first_unclosed-2.result c.in_default.ensures c.first_unclosed-2.ensures
