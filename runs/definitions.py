@@ -1,10 +1,10 @@
 #!/usr/bin/env python3
 """What `lrt` has to answer for a command and a grammar text, worked out from the definitions of docs/FORMATS.md and not by
-the program. This module reads the text and prints the answer; `graphs` works out what is to be printed.
+the program. This module reads the text and prints the answer; `graphs` and `tables` work out what is to be printed.
 
     definitions.py COMMAND FILE     prints the answer or the fault line, and ends with the status
 
-COMMAND is `start`, `core` or `closed`.
+COMMAND is `start`, `core`, `closed` or `conflicts`.
 """
 
 import re
@@ -13,8 +13,9 @@ from dataclasses import dataclass, field
 from pathlib import Path
 
 import graphs
+import tables
 
-COMMANDS = ("start", "core", "closed")
+COMMANDS = ("start", "core", "closed", "conflicts")
 BLANKS = re.compile(rb"(?:[ \t\r\n]+|//[^\n]*|/\*.*?\*/)*", re.DOTALL)
 LEXEME = re.compile(
     rb"""(?P<NAME>[A-Za-z_.][A-Za-z0-9_.]*)
@@ -39,8 +40,8 @@ PLACES = {
 }
 
 
-class Refused(Exception):
-    """The text is refused, with this fault."""
+class Fault(Exception):
+    """There is no answer, with this fault."""
 
 
 @dataclass
@@ -86,7 +87,7 @@ def read(text):
             break
         kind, name, end = lexeme_at(text, at)
         if kind not in PLACES[place] or kind == "%start" and document.start is not None:
-            raise Refused(b"syntax error at byte %d" % at)
+            raise Fault(b"syntax error at byte %d" % at)
         place, at = PLACES[place][kind], end
         document.take(place, kind, name)
     return document
@@ -95,10 +96,11 @@ def read(text):
 @dataclass
 class Grammar:
     """Productions as pairs of a rule's name and a body, the start production last; in a body a rule is its name, and a token
-    its number."""
+    its number. The tokens that have a precedence are `levelled`."""
 
     prods: list
     tokens: list
+    levelled: set
 
 
 def meaning(document):
@@ -107,40 +109,41 @@ def meaning(document):
     known = {*document.tokens, *document.levels}
     bodies = [(rule, body) for rule, bodies in document.rules for body in bodies]
     if document.start not in {None, *rules}:
-        raise Refused(b"unknown symbol " + document.start)
+        raise Fault(b"unknown symbol " + document.start)
     for kind, name in (symbol for _, body in bodies for symbol in body):
         if kind == "NAME" and name not in rules and name not in known:
-            raise Refused(b"unknown symbol " + name)
+            raise Fault(b"unknown symbol " + name)
     levels = set()
     for name in document.levels:
         if name in levels:
-            raise Refused(b"token " + name + b" has two precedences")
+            raise Fault(b"token " + name + b" has two precedences")
         levels.add(name)
     if not rules:
-        raise Refused(b"no start rule")
+        raise Fault(b"no start rule")
     is_rule = lambda kind, name: kind == "NAME" and name in rules
     of_bodies = [name for _, body in bodies for kind, name in body if not is_rule(kind, name)]
     tokens = list(dict.fromkeys([*document.tokens, *of_bodies, *document.levels]))
     number = {name: place for place, name in enumerate(tokens)}
     prods = [(rule, [name if is_rule(kind, name) else number[name] for kind, name in body]) for rule, body in bodies]
-    return Grammar([*prods, (b"^", [document.start or document.rules[0][0]])], tokens)
+    start = (b"^", [document.start or document.rules[0][0]])
+    return Grammar([*prods, start], tokens, {number[name] for name in levels})
 
 
 class Texts:
-    """The texts of a grammar's items and states."""
+    """The texts of a grammar's items, states and conflicts."""
 
     def __init__(self, grammar):
         self.grammar = grammar
-        self.names = [b"'%b'" % name for name in [*grammar.tokens, b"$"]]
+        self.tokens = [*grammar.tokens, b"$"]
+        self.quoted = [b"'%b'" % name for name in self.tokens]
         self.known_looks = {}
 
     def symbol(self, symbol):
-        return symbol if isinstance(symbol, bytes) else self.names[symbol]
+        return symbol if isinstance(symbol, bytes) else self.quoted[symbol]
 
     def looks(self, looks):
         if looks not in self.known_looks:
-            bits = reversed(f"{looks:b}")
-            self.known_looks[looks] = b", ".join(name for name, bit in zip(self.names, bits) if bit == "1")
+            self.known_looks[looks] = b", ".join(self.quoted[token] for token in graphs.tokens_of(looks))
         return self.known_looks[looks]
 
     def item(self, item, looks):
@@ -166,13 +169,37 @@ class Texts:
             yield f"{number}:".ljust(width + 2).encode() + head
             yield from (b" " * (width + 2) + line for line in others)
 
+    def prod(self, prod):
+        rule, body = self.grammar.prods[prod]
+        names = (symbol if isinstance(symbol, bytes) else self.tokens[symbol] for symbol in body)
+        return rule + b":" + b"".join(b' "%b"' % name for name in names)
+
+    def conflicts(self, shift_reduce, reduce_reduce):
+        """A headline for each list that has entries, and a line for each entry."""
+        if not shift_reduce and not reduce_reduce:
+            yield b"no conflicts"
+        if shift_reduce:
+            yield b"Shift/Reduce conflicts:"
+        for token, prod, state in shift_reduce:
+            yield b'   State %d: Shift("%b") / Reduce(%b)' % (state, self.tokens[token], self.prod(prod))
+        if reduce_reduce:
+            yield b"Reduce/Reduce conflicts:"
+        for token, prod, other, state in reduce_reduce:
+            prods = self.prod(prod), self.prod(other)
+            yield b"   State %d (lookahead %b): Reduce(%b) / Reduce(%b)" % (state, self.tokens[token], *prods)
+
 
 def lines(command, grammar):
     """What the command prints of the grammar, line by line."""
     texts = Texts(grammar)
     if command == "start":
         return texts.items(graphs.Closures(grammar).closed(graphs.start_core(grammar)))
-    return texts.states(graphs.graph(grammar), command)
+    states = graphs.graph(grammar)
+    if tables.accepts_and_reduces(grammar, states):
+        raise Fault(b"Accept/reduce conflict")
+    if command == "conflicts":
+        return texts.conflicts(*tables.conflicts(grammar, states))
+    return texts.states(states, command)
 
 
 def answer(command, text):
@@ -180,10 +207,10 @@ def answer(command, text):
     if command not in COMMANDS:
         raise ValueError(f"no answer is defined for {command}")
     try:
-        grammar = meaning(read(text))
-    except Refused as why:
+        out = lines(command, meaning(read(text)))
+    except Fault as why:
         return 1, b"", b"lrt: %b\n" % why.args
-    return 0, b"".join(line + b"\n" for line in lines(command, grammar)), b""
+    return 0, b"".join(line + b"\n" for line in out), b""
 
 
 if __name__ == "__main__":

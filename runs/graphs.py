@@ -9,6 +9,11 @@ from dataclasses import dataclass, field
 from itertools import chain, combinations
 
 
+def tokens_of(tokens):
+    """The tokens of a set, upwards."""
+    return [token for token, bit in enumerate(reversed(f"{tokens:b}")) if bit == "1"]
+
+
 def nullable_rules(grammar):
     """The rules that have a production whose symbols are all nullable rules: the least set of them."""
     nullable = set()

@@ -8,12 +8,14 @@ use Rattle.lrspec.specs.grammars.Grammar.{Grammar}
 use Rattle.lrspec.specs.grammars.ItemSets.{Items, Fits, AreUpwards}
 use Rattle.lrspec.specs.grammars.StartState.{IsCanonicalStart}
 use Rattle.lrspec.specs.merging.Graph.{Graph, IsGraphOf, AreShared, CoresCross, IsInOrder}
-use Rattle.lrspec.specs.texts.PrintedTexts.{items_text, core_text, closed_text}
+use Rattle.lrspec.specs.tables.Table.{Table, IsTableOf, lists_of}
+use Rattle.lrspec.specs.tables.Conflicts.{AreReductionsContested, AreShiftsContested, IsAcceptContested}
+use Rattle.lrspec.specs.tables.Exactness.{IsExactTable, ListsNothing}
+use Rattle.lrspec.specs.texts.PrintedTexts.{items_text, core_text, closed_text, conflicts_text}
 use Rattle.lrgrammar.specs.TextErrors.{IsGrammarOf, IsTextError}
-use Rattle.lrtable.specs.Chains.{HasChainOf}
-use Rattle.lrtable.specs.Refusals.{IsLargeOnly}
+use Rattle.lrtable.specs.Refusals.{IsBuildRefusal}
 use Rattle.lrt.specs.declared.requests.Command.{Command}
-use Rattle.lrt.specs.declared.requests.Command.TheVariants.{Start, Core, Closed}
+use Rattle.lrt.specs.declared.requests.Command.TheVariants.{Start, Core, Closed, Conflicts}
 use Rattle.lrt.specs.declared.faults.Fault.{Fault}
 use Rattle.lrt.specs.declared.faults.Fault.TheVariants.{CannotRead, NotUtf8, Text, Build, Memory, CannotWrite}
 use Rattle.lrt.specs.Requests.{name_of, source_text}
@@ -36,11 +38,37 @@ pub record IsMergedGraph (g : Grammar) (h : Graph) : Type 0 where
   pub crossing : CoresCross h
   pub order : All IsInOrder h
 
+-- no production contends with accepting
+abbrev pub AcceptsAlone : Grammar → Type 0
+AcceptsAlone g = (p : ℕ) → ¬ (IsAcceptContested g p)
+
+-- the table is that of a graph of the grammar with shared cores; each conflict that it lists is
+-- contested, and without precedences it lists none exactly where the grammar is uncontested
+pub record IsMergedTable (g : Grammar) (b : Table) : Type 0 where
+  pub graph : Graph
+  pub graph_of : IsGraphOf g graph
+  pub shared : AreShared g graph
+  pub crossing : CoresCross graph
+  pub table_of : IsTableOf g graph b
+  pub reductions : AreReductionsContested g graph
+  pub shifts : AreShiftsContested g graph
+  pub exact : IsExactTable g b
+
 -- the text that the command prints of a grammar
 pub data Prints (g : Grammar) : Command → List ℕ → Type 0 where
   start : {c : Items} → IsStartState g c → Prints g Start (items_text g c ++ codes "\n")
-  core : {h : Graph} → IsMergedGraph g h → Prints g Core (core_text g h ++ codes "\n")
-  closed : {h : Graph} → IsMergedGraph g h → Prints g Closed (closed_text g h ++ codes "\n")
+  core :
+      {h : Graph} → IsMergedGraph g h → AcceptsAlone g
+      → Prints g Core (core_text g h ++ codes "\n")
+  closed :
+      {h : Graph} → IsMergedGraph g h → AcceptsAlone g
+      → Prints g Closed (closed_text g h ++ codes "\n")
+  no_conflicts :
+      {b : Table} → IsMergedTable g b → AcceptsAlone g → ListsNothing b
+      → Prints g Conflicts (codes "no conflicts\n")
+  conflicts :
+      {b : Table} → IsMergedTable g b → AcceptsAlone g → ¬ (ListsNothing b)
+      → Prints g Conflicts (conflicts_text g (lists_of b))
 
 -- the bytes are a grammar text, and what the command prints of its grammar is the text
 pub record IsAnswer (bytes : List ℕ) (command : Command) (text : List ℕ) : Type 0 where
@@ -68,7 +96,7 @@ IsUnread bytes name e = ⊥
 
 -- why nothing is printed of a grammar; want of memory says nothing
 abbrev pub IsUnprinted : Grammar → Command → Fault → Type 0
-IsUnprinted g command (Build e) = IsLargeOnly (HasChainOf g max_index) e × (command ≢ Start)
+IsUnprinted g command (Build e) = IsBuildRefusal (λ n. n) max_index g e × (command ≢ Start)
 IsUnprinted g command Memory = Unit {0}
 IsUnprinted g command e = ⊥
 

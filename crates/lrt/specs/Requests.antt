@@ -1,7 +1,7 @@
 -- what the arguments ask for
 use Rattle.std.specs.Prelude.{ℕ, List, [], ◌∷◌, Option, None, Some, codes}
 use Rattle.lrt.specs.declared.requests.Command.{Command}
-use Rattle.lrt.specs.declared.requests.Command.TheVariants.{Start, Core, Closed}
+use Rattle.lrt.specs.declared.requests.Command.TheVariants.{Start, Core, Closed, Conflicts}
 use Rattle.lrt.specs.declared.requests.Source.{Source}
 use Rattle.lrt.specs.declared.requests.Source.TheVariants.{File, StandardInput}
 
@@ -20,6 +20,7 @@ abbrev pub command_name : Command → List ℕ
 command_name Start = codes "start"
 command_name Core = codes "core"
 command_name Closed = codes "closed"
+command_name Conflicts = codes "conflicts"
 
 -- the arguments that ask for something: none at all for the start state of the grammar that
 -- standard input holds, or else a command and a file

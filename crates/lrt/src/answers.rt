@@ -5,10 +5,9 @@ ghost use Rattle.std.specs.Option.{IsSomeAnd};
 ghost use Rattle.std.specs.String.{string_bytes};
 ghost use Rattle.lrspec.specs.grammars.ItemSets.{Fits};
 ghost use Rattle.lrspec.specs.grammars.StartState.{IsStartCore};
-ghost use Rattle.lrtable.specs.Chains.{HasChainOf};
 ghost use Rattle.lrtable.specs.ItemSets.{set_of};
-ghost use Rattle.lrtable.specs.Refusals.{IsLargeOnly};
-ghost use Rattle.lrt.specs.declared.requests.Command.TheVariants.{Start, Core, Closed};
+ghost use Rattle.lrtable.specs.Refusals.{IsBuildRefusal};
+ghost use Rattle.lrt.specs.declared.requests.Command.TheVariants.{Start, Core, Closed, Conflicts};
 ghost use Rattle.lrt.specs.Requests.{name_of};
 ghost use Rattle.lrt.specs.Answers.{max_index, Prints, IsAnswer, IsUnread, IsUnprinted, IsFault};
 
@@ -18,7 +17,7 @@ use lrgrammar::grammar::YaccGrammar;
 use lrgrammar::idx::SIdx;
 use lrgrammar::vob::Vob;
 use lrtable::itemset::Itemset;
-use lrtable::{BuildError, pager_stategraph};
+use lrtable::{BuildError, Minimiser, from_yacc};
 use std::alloc::{AllocError, Global};
 
 /// The text that answers a request; `file` holds the bytes of its source, and is None where they could not be read.
@@ -58,11 +57,18 @@ fn printed<'a>(command: Command, grm: &YaccGrammar<u32>) -> Result<String, Fault
     ensures text { IfOk result (λ text. Prints grm.now command (string_bytes text)) }
     ensures fault { IfErr result (IsUnprinted grm.now command) }
 {
-    let mut text = match command {
+    Ok(match command {
         Command::Start => start_text(grm)?,
         Command::Core => core_text(grm)?,
         Command::Closed => closed_text(grm)?,
-    };
+        Command::Conflicts => conflicts_text(grm)?,
+    })
+}
+
+/// The text with a line feed behind it.
+fn ended(mut text: String) -> Result<String, AllocError>
+    ensures { IfOk result (λ s. string_bytes s ≡ string_bytes text ++ codes "\n") }
+{
     text.push('\n')?;
     Ok(text)
 }
@@ -82,27 +88,40 @@ fn start_core(grm: &YaccGrammar<u32>) -> Result<Itemset<u32>, AllocError>
 
 /// The text of the closed start state, an item a line.
 fn start_text(grm: &YaccGrammar<u32>) -> Result<String, AllocError>
-    ensures { IfOk result (λ s. Prints grm.now Start (string_bytes s ++ codes "\n")) }
+    ensures { IfOk result (λ s. Prints grm.now Start (string_bytes s)) }
 {
     let firsts = grm.firsts()?;
     let closed = start_core(grm)?.close(grm, &firsts)?;
-    closed.pp(grm)
+    ended(closed.pp(grm)?)
 }
 
 /// The text of the state graph with the cores of its states.
 fn core_text(grm: &YaccGrammar<u32>) -> Result<String, BuildError<u32>>
-    ensures text { IfOk result (λ s. Prints grm.now Core (string_bytes s ++ codes "\n")) }
-    ensures refused { IfErr result (IsLargeOnly (HasChainOf grm.now max_index)) }
+    ensures text { IfOk result (λ s. Prints grm.now Core (string_bytes s)) }
+    ensures refused { IfErr result (IsBuildRefusal (λ n. n) max_index grm.now) }
 {
-    let graph = pager_stategraph(grm)?;
-    Ok(graph.pp_core_states(grm)?)
+    let (graph, _table) = from_yacc(grm.allocator(), grm, Minimiser::Pager)?;
+    Ok(ended(graph.pp_core_states(grm)?)?)
 }
 
 /// The text of the state graph with its closed states.
 fn closed_text(grm: &YaccGrammar<u32>) -> Result<String, BuildError<u32>>
-    ensures text { IfOk result (λ s. Prints grm.now Closed (string_bytes s ++ codes "\n")) }
-    ensures refused { IfErr result (IsLargeOnly (HasChainOf grm.now max_index)) }
+    ensures text { IfOk result (λ s. Prints grm.now Closed (string_bytes s)) }
+    ensures refused { IfErr result (IsBuildRefusal (λ n. n) max_index grm.now) }
 {
-    let graph = pager_stategraph(grm)?;
-    Ok(graph.pp_closed_states(grm)?)
+    let (graph, _table) = from_yacc(grm.allocator(), grm, Minimiser::Pager)?;
+    Ok(ended(graph.pp_closed_states(grm)?)?)
+}
+
+/// The text of the conflicts of the table, or that there are none.
+fn conflicts_text(grm: &YaccGrammar<u32>) -> Result<String, BuildError<u32>>
+    ensures text { IfOk result (λ s. Prints grm.now Conflicts (string_bytes s)) }
+    ensures refused { IfErr result (IsBuildRefusal (λ n. n) max_index grm.now) }
+{
+    let alloc = grm.allocator();
+    let (_graph, table) = from_yacc(alloc, grm, Minimiser::Pager)?;
+    match table.conflicts() {
+        Some(conflicts) => Ok(conflicts.pp(grm)?),
+        None => Ok(String::from_str(alloc, "no conflicts\n")?),
+    }
 }

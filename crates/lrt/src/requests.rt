@@ -38,6 +38,8 @@ pub enum Command {
     Core,
     /// The state graph with its closed states.
     Closed,
+    /// The conflicts of the table.
+    Conflicts,
 }
 
 /// A command, and where the grammar is read from that it is about.
@@ -58,6 +60,8 @@ fn command_named(word: &str) -> Option<Command>
         Some(Command::Core)
     } else if word == "closed" {
         Some(Command::Closed)
+    } else if word == "conflicts" {
+        Some(Command::Conflicts)
     } else {
         None
     }

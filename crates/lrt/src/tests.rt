@@ -66,6 +66,21 @@ fn state_graphs(rt: HostRuntime) -> Result<(), Fail> {
 }
 
 #[test]
+fn conflicts(rt: HostRuntime) -> Result<(), Fail> {
+    let dangling = Some(b"%% S: 'if' S | 'if' S 'else' S | 'x';".as_slice());
+    let listed = "Shift/Reduce conflicts:\n\
+        \x20  State 4: Shift(\"else\") / Reduce(S: \"if\" \"S\")\n";
+    let none = "no conflicts\n";
+    let accepting = Some(b"%% D: D;".as_slice());
+    let told = "lrt: Accept/reduce conflict\n";
+    answers(&rt, rt.alloc(), "conflicts a.y", dangling, 0, listed, "")?;
+    let text = Some(ASSIGNMENTS.as_bytes());
+    answers(&rt, rt.alloc(), "conflicts a.y", text, 0, none, "")?;
+    answers(&rt, rt.alloc(), "conflicts a.y", accepting, 1, "", told)?;
+    answers(&rt, rt.alloc(), "core a.y", accepting, 1, "", told)
+}
+
+#[test]
 fn wrong_usage(rt: HostRuntime) -> Result<(), Fail> {
     let text = Some(ASSIGNMENTS.as_bytes());
     for line in [
@@ -74,7 +89,7 @@ fn wrong_usage(rt: HostRuntime) -> Result<(), Fail> {
         "starting a.y",
         "cores a.y",
         "closed",
-        "conflicts a.y",
+        "conflict a.y",
         "run a.y 5",
         "begin a.y",
     ] {

@@ -1,1 +1,1 @@
-%% S: S | A 'b' 'a' A; A: S A S | A 'b';
+%% S: A S S | S A 'b'; A: S;

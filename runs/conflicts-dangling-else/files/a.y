@@ -1,0 +1,1 @@
+%% S: 'if' S | 'if' S 'else' S | 'x';

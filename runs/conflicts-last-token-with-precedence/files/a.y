@@ -1,0 +1,1 @@
+%left '-' ':' %% Expr : Expr '-' Expr | 'if' Expr ':' Expr | 'id' ;

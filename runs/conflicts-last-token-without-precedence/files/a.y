@@ -1,0 +1,1 @@
+%left '-' 'neg' %% Expr : Expr '-' Expr | 'neg' '(' Expr | 'id' ;

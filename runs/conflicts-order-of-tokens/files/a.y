@@ -1,0 +1,1 @@
+%token '*' '+' %% Expr : Expr '+' Expr | Expr '*' Expr | 'id' ;

@@ -1,0 +1,1 @@
+%start A %% A : B 'x' | C 'x' 'x'; B : 'a'; C : 'a';

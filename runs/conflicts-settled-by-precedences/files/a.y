@@ -1,0 +1,6 @@
+%right '='
+%left '+'
+%left '*'
+%nonassoc '~'
+%%
+Expr : Expr '+' Expr | Expr '*' Expr | Expr '=' Expr | Expr '~' Expr | 'id' ;

@@ -1,0 +1,1 @@
+%left '+' %% Expr : Expr '+' Expr | Expr '*' Expr | 'id' ;
