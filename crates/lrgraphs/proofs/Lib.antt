@@ -1,3 +1,4 @@
+-- the lemma files
 pub mod EdgeFacts
 pub mod DistinctSymbols
 pub mod GraphFacts

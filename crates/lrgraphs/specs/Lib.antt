@@ -1,1 +1,2 @@
+-- the files of definitions
 pub mod GraphOf

@@ -1,3 +1,4 @@
+-- the lemma files
 pub mod CandidateFacts
 pub mod GrowingItemSets
 pub mod DraftFacts

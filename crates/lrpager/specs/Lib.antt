@@ -1,3 +1,4 @@
+-- the files of definitions
 pub mod Construction
 pub mod Choices
 pub mod Counts

@@ -1,2 +1,3 @@
+-- the lemma files
 mod AskingArguments
 mod PrintedTexts
