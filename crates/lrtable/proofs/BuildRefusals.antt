@@ -9,7 +9,8 @@ use Rattle.lrgraphs.specs.declared.errors.BuildError.TheVariants.{Table, TooLarg
 use Rattle.lrgraphs.specs.declared.statetable.StateTableErrorKind.{StateTableErrorKind}
 use Rattle.lrgraphs.specs.declared.statetable.StateTableErrorKind.TheVariants.{AcceptReduceConflict}
 use Rattle.lrtable.specs.Chains.{HasChainOf, HasChainOfExactly}
-use Rattle.lrtable.specs.Refusals.{TellsOne, IsTableRefusal, IsBuildRefusal}
+use Rattle.lrcells.specs.Refusals.{TellsOne, IsTableRefusal}
+use Rattle.lrtable.specs.Refusals.{IsBuildRefusal}
 
 -- what holds of the production that is told
 still_told :

@@ -1,12 +1,3 @@
 pub mod ItemSets
 pub mod Chains
 pub mod Refusals
-pub mod Matrix
-pub mod StoredActions
-pub mod StoredLists
-pub mod StoredTable
-pub mod StateRows
-pub mod Contests
-pub mod ReducingRows
-pub mod RowsOf
-pub mod TakenTokens

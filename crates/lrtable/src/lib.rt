@@ -23,8 +23,18 @@ pub mod stategraph {
     };
 }
 
-pub mod sparsevec;
-pub mod statetable;
+/// Matrices of numbers.
+pub mod sparsevec {
+    pub use lrcells::sparsevec::SparseVec;
+}
+
+/// State tables.
+pub mod statetable {
+    pub use lrcells::statetable::{
+        Action, Conflicts, CoreReducesIterator, StateActionsIterator, StateTable,
+    };
+    pub use lrgraphs::statetable::{StateTableError, StateTableErrorKind};
+}
 
 pub use crate::statetable::{Action, StateTable, StateTableError, StateTableErrorKind};
 use lrgrammar::grammar::YaccGrammar;

@@ -1,0 +1,130 @@
+-- the table whose matrices have the rows of the states of a graph is that of the graph
+use Rattle.std.proofs.Common.{◌≡◌, ◌≢◌, ℕ, false, ltb, ◌+◌, ◌*◌, ◌<◌, ◌≤◌, List, [], Option, None, Some, length, map, refl, sym, subst, ap, ◌∙◌, ◌⊎◌, inl, inr, ◌↔◌, arith, get_or}
+use Rattle.std.specs.List.{flat_map, range_with_len}
+use Rattle.std.proofs.lemmas.List.FromFn.{get_or-map-range_with_len, length-map-range_with_len}
+use Rattle.std.proofs.lemmas.Bool.{cases_lt, le-ltb}
+use Rattle.lrspec.specs.grammars.Grammar.{Grammar, Rule, token_count}
+use Rattle.lrspec.specs.merging.Graph.{Graph, edge}
+use Rattle.lrspec.specs.tables.Table.{Action, Reduce, Error, Table, Lists, action_of, goto_of, cell_of, reduce_reduce_of, shift_reduce_of, AcceptsAndReduces, IsTableOf}
+use Rattle.lrspec.specs.tables.Rows.{AreAllWith, AreReducedBy, ReducesOnly}
+use Rattle.lrcells.specs.Matrix.{Matrix}
+use Rattle.lrcells.specs.StoredActions.{action_number, action_numbered, goto_number, goto_numbered}
+use Rattle.lrcells.specs.StoredTable.{rows_of, lists_or_none, table_of}
+use Rattle.lrcells.specs.StateRows.{action_row, goto_row}
+use Rattle.lrcells.specs.RowsOf.{HasCell, ReduceByOne}
+use Rattle.lrcells.proofs.KeptNumbers.{numbered_action, numbered_goto}
+use Rattle.lrcells.proofs.StoredTables.{action_there, action_none, action_past, goto_there}
+use Rattle.lrcells.proofs.FlattenedRows.{length_of_rows, cell_of_rows}
+
+-- so many cells has each row
+pub length_of_action_row : (g : Grammar) (h : Graph) (s : ℕ) → length (action_row g h s) ≡ token_count g
+length_of_action_row g h s = length-map-range_with_len (λ t. action_number (cell_of g h s t)) 0 (token_count g)
+
+pub length_of_goto_row : (g : Grammar) (h : Graph) (s : ℕ) → length (goto_row g h s) ≡ length g.rule_names
+length_of_goto_row g h s = length-map-range_with_len (λ r. goto_number (edge h s (Rule r))) 0 (length g.rule_names)
+
+-- the matrices have the rows of the `n` states of the graph
+pub record HasRowsOf (g : Grammar) (h : Graph) (n : ℕ) (actions gotos : Matrix) : Type 0 where
+  pub states : n ≡ length h
+  pub tokens : actions.cols ≡ token_count g
+  pub cells : actions.cells ≡ flat_map (action_row g h) (range_with_len 0 n)
+  pub rules : gotos.cols ≡ length g.rule_names
+  pub edges : gotos.cells ≡ flat_map (goto_row g h) (range_with_len 0 n)
+
+module _ (g : Grammar) (h : Graph) (n : ℕ) (actions gotos : Matrix) (kept : Option Lists) (has : HasRowsOf g h n actions gotos) where
+  -- the table of the matrices
+  abbrev pub made : Table
+  made = table_of n actions gotos kept
+
+  pub cell_made : (s t : ℕ) → s < n → t < token_count g → action_of made s t ≡ cell_of g h s t
+  cell_made s t l k =
+      action_there n actions gotos kept s t l (omega (arith, has.tokens))
+      ∙ (ap action_numbered (
+      ap (λ cells. get_or cells (s * actions.cols + t) 0) has.cells
+      ∙ (ap (λ cols. get_or (flat_map (action_row g h) (range_with_len 0 n)) (s * cols + t) 0) has.tokens
+      ∙ (cell_of_rows (action_row g h) (token_count g) (length_of_action_row g h) n s t 0 l k
+      ∙ get_or-map-range_with_len (λ u. action_number (cell_of g h s u)) 0 (token_count g) t t 0 k (omega arith))))
+      ∙ numbered_action (cell_of g h s t))
+
+  pub goto_made : (s r : ℕ) → s < n → r < length g.rule_names → goto_of made s r ≡ edge h s (Rule r)
+  goto_made s r l k =
+      goto_there n actions gotos kept s r l (omega (arith, has.rules))
+      ∙ (ap goto_numbered (
+      ap (λ cells. get_or cells (s * gotos.cols + r) 0) has.edges
+      ∙ (ap (λ cols. get_or (flat_map (goto_row g h) (range_with_len 0 n)) (s * cols + r) 0) has.rules
+      ∙ (cell_of_rows (goto_row g h) (length g.rule_names) (length_of_goto_row g h) n s r 0 l k
+      ∙ get_or-map-range_with_len (λ u. goto_number (edge h s (Rule u))) 0 (length g.rule_names) r r 0 k (omega arith))))
+      ∙ numbered_goto (edge h s (Rule r)))
+
+  -- behind the last token the table errs
+  errs_beside : (s t : ℕ) → token_count g ≤ t → action_of made s t ≡ Error
+  errs_beside s t k =
+      let whole : length actions.cells ≡ n * actions.cols =
+      ap length has.cells
+      ∙ (length_of_rows (action_row g h) (token_count g) (length_of_action_row g h) n ∙ ap (λ cols. n * cols) (sym has.tokens)) in
+      let beside : ltb t actions.cols ≡ false = le-ltb t actions.cols (omega (arith, has.tokens)) in
+      action_none n actions gotos kept s t whole (rw beside refl)
+
+  -- the table errs outside of its states and tokens
+  pub inside_made : (s t : ℕ) → action_of made s t ≢ Error → (s < n) × (t < token_count g)
+  inside_made s t not_error = states (cases_lt s n) (cases_lt t (token_count g))
+    where
+      states : (s < n) ⊎ (n ≤ s) → (t < token_count g) ⊎ (token_count g ≤ t) → (s < n) × (t < token_count g)
+      states (inl l) (inl k) = (l, k)
+      states (inl l) (inr k) = absurd (not_error (errs_beside s t k))
+      states (inr l) k = absurd (not_error (action_past n actions gotos kept s t l))
+
+  pub made_of_graph :
+      ((s p : ℕ) → AcceptsAndReduces g h s p → ⊥)
+      → (lists_or_none kept).reduce_reduce ≡ reduce_reduce_of g h
+      → (lists_or_none kept).shift_reduce ≡ shift_reduce_of g h
+      → IsTableOf g h made
+  made_of_graph none pairs mixes = record {
+    no_contest = none;
+    start = refl;
+    cells = λ s t l k. cell_made s t (omega (arith, has.states)) k;
+    gotos = λ s r l k. goto_made s r (omega (arith, has.states)) k;
+    reduce_reduce = pairs;
+    shift_reduce = mixes;
+  }
+
+  -- a row of the table has an action other than an error exactly if the state has a cell with it
+  cell_kept : (s : ℕ) (a : Action) → s < n → a ≢ Error → HasCell g h s a ↔ ((t : ℕ) × (action_of made s t ≡ a))
+  cell_kept s a l not_error = (
+    λ (t, k, e). (t, cell_made s t l k ∙ e),
+    λ (t, e).
+        let k = (inside_made s t (λ i. not_error (sym e ∙ i))).1 in
+        (t, k, sym (cell_made s t l k) ∙ e),
+  )
+
+  -- the productions by which the cells of a state reduce are those by which the row does
+  pub reduced_by : (s : ℕ) (ps : List ℕ) → s < n → AreAllWith (λ p. HasCell g h s (Reduce p)) ps → AreReducedBy made s ps
+  reduced_by s ps l all = record {
+    upwards = all.upwards;
+    members = λ p.
+        let cells = cell_kept s (Reduce p) l (λ e. cc) in
+        (λ c. cells.0 ((all.members p).0 c), λ c. (all.members p).1 (cells.1 c));
+  }
+
+  -- the cells of a state reduce by one production and else err exactly if the row does so
+  pub reduces_only : (s : ℕ) → s < n → ReduceByOne g h s ↔ ReducesOnly made s
+  reduces_only s l = (to, back)
+    where
+      either : (t p : ℕ) → ((t : ℕ) → t < token_count g → (cell_of g h s t ≡ Error) ⊎ (cell_of g h s t ≡ Reduce p)) → (t < token_count g) ⊎ (token_count g ≤ t)
+          → (action_of made s t ≡ Error) ⊎ (action_of made s t ≡ Reduce p)
+      either t p each (inl k) = moved (each t k)
+        where
+          moved : (cell_of g h s t ≡ Error) ⊎ (cell_of g h s t ≡ Reduce p) → (action_of made s t ≡ Error) ⊎ (action_of made s t ≡ Reduce p)
+          moved (inl e) = inl (cell_made s t l k ∙ e)
+          moved (inr e) = inr (cell_made s t l k ∙ e)
+      either t p each (inr k) = inl (errs_beside s t k)
+
+      to : ReduceByOne g h s → ReducesOnly made s
+      to (p, some, each) = (p, (cell_kept s (Reduce p) l (λ e. cc)).0 some, λ t. either t p each (cases_lt t (token_count g)))
+
+      back : ReducesOnly made s → ReduceByOne g h s
+      back (p, some, each) = (
+        p,
+        (cell_kept s (Reduce p) l (λ e. cc)).1 some,
+        λ t k. subst (λ a. (a ≡ Error) ⊎ (a ≡ Reduce p)) (cell_made s t l k) (each t),
+      )

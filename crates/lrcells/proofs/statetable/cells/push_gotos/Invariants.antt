@@ -1,0 +1,12 @@
+use Rattle.std.proofs.Common.{◌≡◌, ◌++◌, map}
+use Rattle.std.specs.List.{range_with_len}
+use Rattle.lrspec.specs.grammars.Grammar.{Rule}
+use Rattle.lrspec.specs.merging.Graph.{edge}
+use Rattle.lrcells.specs.StoredActions.{goto_number}
+use Rattle.lrcells.proofs.statetable.cells.push_gotos.Given as goal
+
+abbrev pub invariant-loop-rule : goal.invariant-loop-rule
+invariant-loop-rule g l =
+    l.cells.items
+    ≡ l.fn.cells.items
+    ++ map (λ r. goto_number (edge l.sg (g.T.IndexStorage.number l.stidx.0) (Rule r))) (range_with_len 0 l.rule)
