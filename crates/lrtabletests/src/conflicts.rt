@@ -7,10 +7,7 @@ use crate::fixtures::{
     SUMS_AND_PRODUCTS_WITH_LEVELS, SUMS_WITH_A_LEVEL, TERMS_AND_FACTORS, THREE_REDUCTIONS,
     TOLD_APART_LATE,
 };
-use crate::tables::{grammar_and_table, reduce_reduce, shift_reduce};
-use lrgrammar::idx::IndexStorage;
-use std::alloc::Global;
-use std::process::Abort;
+use crate::tables::conflicts;
 use std::test::Fail;
 
 #[test]
@@ -26,78 +23,43 @@ fn no_conflicts(rt: HostRuntime) -> Result<(), Fail> {
         A_COLLECTED_STATE,
         NEVER_ENDING,
     ] {
-        let (_grm, _graph, table) = grammar_and_table::<u32>(rt.alloc(), text)?;
-        assert!(rt; table.conflicts().is_none(), "{text}");
+        let told = conflicts::<u32>(rt.alloc(), text)?;
+        assert_eq!(rt; told.as_str(), "none", "{text}");
     }
     Ok(())
 }
 
-/// The conflicts of the table of the text are these, those between reductions before the others.
-fn has_conflicts<T: IndexStorage>(
-    rt: &impl Abort,
-    alloc: Global,
-    text: &str,
-    between: &[(usize, usize, usize, usize)],
-    against: &[(usize, usize, usize)],
-) -> Result<(), Fail> {
-    let (_grm, _graph, table) = grammar_and_table::<T>(alloc, text)?;
-    let conflicts = table.conflicts().ok_or("conflicts")?;
-    assert_eq!(rt;
-        reduce_reduce(alloc, conflicts)?.as_slice(),
-        between,
-        "{text}"
-    );
-    assert_eq!(rt; conflicts.rr_len(), between.len(), "{text}");
-    assert_eq!(rt;
-        shift_reduce(alloc, conflicts)?.as_slice(),
-        against,
-        "{text}"
-    );
-    assert_eq!(rt; conflicts.sr_len(), against.len(), "{text}");
+/// Reduce/reduce conflicts by token, the production that the table takes, the other and the state; shift/reduce conflicts by token,
+/// production and state.
+#[test]
+fn listed_conflicts(rt: HostRuntime) -> Result<(), Fail> {
+    for (text, wanted) in [
+        (CONTESTED_ON_X_ALONE, "3 (1,6,7,6) (2,6,7,6) (3,6,7,6), 0"),
+        (HIDDEN_LEFT_RECURSION, "2 (1,2,3,0) (1,2,3,1), 0"),
+        (A_RULE_GONE_ON_WITH, "2 (0,2,3,3) (0,4,5,4), 0"),
+        (AN_UNREACHED_RULE, "1 (1,3,4,3), 0"),
+        (TOLD_APART_LATE, "1 (0,2,3,3), 0"),
+        (ONE_BODY_TWICE, "1 (1,0,1,1), 0"),
+        (ROUND_WITHOUT_TOKENS, "1 (0,0,3,1), 0"),
+        (
+            THREE_REDUCTIONS,
+            "4 (0,6,7,4) (1,6,7,4) (0,6,8,4) (1,6,8,4), 0",
+        ),
+        (SUMS_AND_PRODUCTS, "0, 4 (0,0,5) (1,0,5) (0,1,6) (1,1,6)"),
+        (SUMS_WITH_A_LEVEL, "0, 3 (1,0,5) (0,1,6) (1,1,6)"),
+    ] {
+        let told = conflicts::<u32>(rt.alloc(), text)?;
+        assert_eq!(rt; told.as_str(), wanted, "{text}");
+    }
     Ok(())
 }
 
 #[test]
-fn of_two_reductions(rt: HostRuntime) -> Result<(), Fail> {
-    let alloc = rt.alloc();
-    let contested = [(1, 6, 7, 6), (2, 6, 7, 6), (3, 6, 7, 6)];
-    has_conflicts::<u32>(&rt, alloc, CONTESTED_ON_X_ALONE, &contested, &[])?;
-    let hidden = [(1, 2, 3, 0), (1, 2, 3, 1)];
-    has_conflicts::<u32>(&rt, alloc, HIDDEN_LEFT_RECURSION, &hidden, &[])?;
-    let gone_on = [(0, 2, 3, 3), (0, 4, 5, 4)];
-    has_conflicts::<u32>(&rt, alloc, A_RULE_GONE_ON_WITH, &gone_on, &[])?;
-    has_conflicts::<u32>(&rt, alloc, AN_UNREACHED_RULE, &[(1, 3, 4, 3)], &[])?;
-    has_conflicts::<u32>(&rt, alloc, TOLD_APART_LATE, &[(0, 2, 3, 3)], &[])?;
-    has_conflicts::<u32>(&rt, alloc, ONE_BODY_TWICE, &[(1, 0, 1, 1)], &[])?;
-    has_conflicts::<u32>(&rt, alloc, ROUND_WITHOUT_TOKENS, &[(0, 0, 3, 1)], &[])?;
-    let of_three = [(0, 6, 7, 4), (1, 6, 7, 4), (0, 6, 8, 4), (1, 6, 8, 4)];
-    has_conflicts::<u32>(&rt, alloc, THREE_REDUCTIONS, &of_three, &[])
-}
-
-#[test]
-fn of_a_shift_and_a_reduction(rt: HostRuntime) -> Result<(), Fail> {
-    let against = [(0, 0, 5), (1, 0, 5), (0, 1, 6), (1, 1, 6)];
-    has_conflicts::<u32>(&rt, rt.alloc(), SUMS_AND_PRODUCTS, &[], &against)?;
-    let without_a_level = [(1, 0, 5), (0, 1, 6), (1, 1, 6)];
-    has_conflicts::<u32>(&rt, rt.alloc(), SUMS_WITH_A_LEVEL, &[], &without_a_level)
-}
-
-#[test]
-fn of_both_kinds(rt: HostRuntime) -> Result<(), Fail> {
-    let between = [(1, 2, 4, 1)];
-    let against = [(1, 2, 1)];
-    has_conflicts::<u8>(
-        &rt,
-        rt.alloc(),
-        SHIFT_AND_TWO_REDUCTIONS,
-        &between,
-        &against,
-    )?;
-    has_conflicts::<u32>(
-        &rt,
-        rt.alloc(),
-        SHIFT_AND_TWO_REDUCTIONS,
-        &between,
-        &against,
-    )
+fn conflicts_of_both_kinds(rt: HostRuntime) -> Result<(), Fail> {
+    let wanted = "1 (1,2,4,1), 1 (1,2,1)";
+    let small = conflicts::<u8>(rt.alloc(), SHIFT_AND_TWO_REDUCTIONS)?;
+    assert_eq!(rt; small.as_str(), wanted);
+    let large = conflicts::<u32>(rt.alloc(), SHIFT_AND_TWO_REDUCTIONS)?;
+    assert_eq!(rt; large.as_str(), wanted);
+    Ok(())
 }

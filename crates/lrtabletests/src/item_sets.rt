@@ -137,11 +137,16 @@ fn closures(rt: HostRuntime) -> Result<(), Fail> {
                 [S -> . 'a', {'b', '$'}]\n[^ -> . S, {'$'}]",
         ),
     ] {
-        let small = closed_text::<u8>(&rt, alloc, text, prod, dot, looks)?;
-        assert_eq!(rt; small.as_str(), wanted, "{text}");
-        let large = closed_text::<u32>(&rt, alloc, text, prod, dot, looks)?;
-        assert_eq!(rt; large.as_str(), wanted, "{text}");
+        let told = closed_text::<u32>(&rt, alloc, text, prod, dot, looks)?;
+        assert_eq!(rt; told.as_str(), wanted, "{text}");
     }
+    Ok(())
+}
+
+#[test]
+fn closure_by_bytes(rt: HostRuntime) -> Result<(), Fail> {
+    let told = closed_text::<u8>(&rt, rt.alloc(), EMPTY_RULE, 1, 0, "$")?;
+    assert_eq!(rt; told.as_str(), "[S -> ., {'$'}]\n[^ -> . S, {'$'}]");
     Ok(())
 }
 
@@ -167,28 +172,16 @@ fn goto_text<T: IndexStorage>(
 
 #[test]
 fn gotos(rt: HostRuntime) -> Result<(), Fail> {
-    let alloc = rt.alloc();
-    for (prod, dot, looks, name, wanted) in [
-        (
-            5,
-            0,
-            "$",
-            "S",
-            "[S -> S . 'b', {'b', '$'}]\n[^ -> S ., {'$'}]",
-        ),
-        (
-            1,
-            1,
-            "b $",
-            "a",
-            "[A -> 'a' . S 'c', {'a'}]\n[A -> 'a' ., {'a'}]\n[A -> 'a' . S 'b', {'a'}]",
-        ),
-    ] {
-        let small = goto_text::<u8>(&rt, alloc, prod, dot, looks, name)?;
-        assert_eq!(rt; small.as_str(), wanted, "{name}");
-        let large = goto_text::<u32>(&rt, alloc, prod, dot, looks, name)?;
-        assert_eq!(rt; large.as_str(), wanted, "{name}");
-    }
+    let small = goto_text::<u8>(&rt, rt.alloc(), 5, 0, "$", "S")?;
+    assert_eq!(rt;
+        small.as_str(),
+        "[S -> S . 'b', {'b', '$'}]\n[^ -> S ., {'$'}]"
+    );
+    let large = goto_text::<u32>(&rt, rt.alloc(), 1, 1, "b $", "a")?;
+    assert_eq!(rt;
+        large.as_str(),
+        "[A -> 'a' . S 'c', {'a'}]\n[A -> 'a' ., {'a'}]\n[A -> 'a' . S 'b', {'a'}]"
+    );
     Ok(())
 }
 
@@ -206,10 +199,8 @@ fn item_fits<T: IndexStorage>(
 
 #[test]
 fn fitting_items(rt: HostRuntime) -> Result<(), Fail> {
-    let alloc = rt.alloc();
     for (prod, dot, fits) in [(1, 1, true), (1, 2, false), (2, 0, false)] {
-        assert_eq!(rt; item_fits::<u8>(&rt, alloc, prod, dot)?, fits);
-        assert_eq!(rt; item_fits::<u32>(&rt, alloc, prod, dot)?, fits);
+        assert_eq!(rt; item_fits::<u8>(&rt, rt.alloc(), prod, dot)?, fits);
     }
     Ok(())
 }

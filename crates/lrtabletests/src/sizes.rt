@@ -13,18 +13,30 @@ use std::test::Fail;
 #[test]
 fn states(rt: HostRuntime) -> Result<(), Fail> {
     for (text, states) in [
-        (LR1_AND_NOT_LALR1, 14),
         (CONTESTED_ON_X_ALONE, 15),
-        (TERMS_AND_FACTORS, 9),
-        (RULE_WITHOUT_A_TREE, 7),
         (HIDDEN_LEFT_RECURSION, 7),
         (NONASSOC, 5),
-        (NO_SENTENCE, 3),
         (FOUR_LEVELS, 11),
-        (TOLD_APART_LATE, 8),
     ] {
         let (_grm, graph, _table) = grammar_and_table::<u32>(rt.alloc(), text)?;
         assert_eq!(rt; usize::from(graph.all_states_len()), states, "{text}");
+    }
+    Ok(())
+}
+
+#[test]
+fn states_and_edges(rt: HostRuntime) -> Result<(), Fail> {
+    for (text, states, edges) in [
+        (TERMS_AND_FACTORS, 9, 13),
+        (RULE_WITHOUT_A_TREE, 7, 6),
+        (NO_SENTENCE, 3, 2),
+        (TOLD_APART_LATE, 8, 7),
+        (ROUND_WITHOUT_TOKENS, 4, 3),
+        (NEVER_ENDING, 5, 5),
+    ] {
+        let (_grm, graph, _table) = grammar_and_table::<u32>(rt.alloc(), text)?;
+        assert_eq!(rt; usize::from(graph.all_states_len()), states, "{text}");
+        assert_eq!(rt; graph.all_edges_len(), edges, "{text}");
     }
     Ok(())
 }
@@ -40,20 +52,13 @@ fn states_edges_and_closings(rt: HostRuntime) -> Result<(), Fail> {
         let (graph, _table, counts) = from_yacc_counted(rt.alloc(), &grm, Minimiser::Pager)
             .ok()
             .ok_or("a table")?;
-        assert_eq!(rt; usize::from(graph.all_states_len()), states, "{text}");
-        assert_eq!(rt; graph.all_edges_len(), edges, "{text}");
-        assert_eq!(rt; counts.made, made, "{text}");
+        let built = [
+            usize::from(graph.all_states_len()),
+            graph.all_edges_len(),
+            counts.made,
+        ];
+        assert_eq!(rt; built, [states, edges, made], "{text}");
         assert_eq!(rt; counts.closings, closings, "{text}");
-    }
-    Ok(())
-}
-
-#[test]
-fn states_and_edges_without_tokens_or_trees(rt: HostRuntime) -> Result<(), Fail> {
-    for (text, states, edges) in [(ROUND_WITHOUT_TOKENS, 4, 3), (NEVER_ENDING, 5, 5)] {
-        let (_grm, graph, _table) = grammar_and_table::<u32>(rt.alloc(), text)?;
-        assert_eq!(rt; usize::from(graph.all_states_len()), states, "{text}");
-        assert_eq!(rt; graph.all_edges_len(), edges, "{text}");
     }
     Ok(())
 }

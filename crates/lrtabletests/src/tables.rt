@@ -1,4 +1,4 @@
-//! What tables are looked up by in tests: names of symbols and plain numbers.
+//! What tables say, as short texts that tests compare.
 
 ghost use Rattle.std.specs.Prelude.{IfOk};
 ghost use Rattle.lrspec.specs.merging.Graph.{IsGraphOf};
@@ -6,10 +6,10 @@ ghost use Rattle.lrspec.specs.tables.Table.{lists_of};
 ghost use Rattle.lrspec.specs.tables.Conflicts.{AreEntriesOf};
 
 use lrgrammar::grammar::YaccGrammar;
-use lrgrammar::idx::{IndexStorage, PIdx, TIdx};
-use lrtable::statetable::Conflicts;
+use lrgrammar::idx::IndexStorage;
+use lrtable::statetable::{Conflicts, CoreReducesIterator, StateActionsIterator};
 use lrtable::{Action, Minimiser, StIdx, StateGraph, StateTable, from_yacc};
-use std::alloc::Global;
+use std::alloc::{AllocError, Global};
 use std::test::Fail;
 
 /// The grammar of the text, its graph and its table.
@@ -27,123 +27,137 @@ pub fn grammar_and_table<T: IndexStorage>(
     }
 }
 
-/// The state of the graph with that number.
-pub fn state<T: IndexStorage>(graph: &StateGraph<T>, number: usize) -> Result<StIdx<T>, Fail> {
-    if number >= usize::from(graph.all_states_len()) {
-        return Err(Fail::from("a state of the graph"));
-    }
+/// The state of that number.
+fn state<T: IndexStorage>(number: usize) -> Result<StIdx<T>, Fail> {
     Ok(StIdx(T::from_usize(number).ok_or("a state")?))
 }
 
-/// The token of that name; `$` is the end token.
-fn token<T: IndexStorage>(grm: &YaccGrammar<T>, name: &str) -> Result<TIdx<T>, Fail> {
-    if name == "$" {
-        return Ok(grm.eof_token_idx());
-    }
-    Ok(grm.token_idx(name).ok_or("a token")?)
-}
-
-/// The same action, by plain numbers.
-fn by_numbers<T: IndexStorage>(action: Action<T>) -> Action<usize> {
+/// An action: `s` and the state for a shift, `r` and the production for a reduction.
+fn action_text<T: IndexStorage>(alloc: Global, action: Action<T>) -> Result<String, AllocError> {
     match action {
-        Action::Shift(to) => Action::Shift(StIdx(usize::from(to))),
-        Action::Reduce(by) => Action::Reduce(PIdx(usize::from(by))),
-        Action::Accept => Action::Accept,
-        Action::Error => Action::Error,
+        Action::Shift(to) => format!(in alloc; " s{}", usize::from(to)),
+        Action::Reduce(by) => format!(in alloc; " r{}", usize::from(by)),
+        Action::Accept => String::from_str(alloc, " accept"),
+        Action::Error => String::from_str(alloc, " error"),
     }
 }
 
-/// What the state does on the token of that name.
-pub fn action<T: IndexStorage>(
-    grm: &YaccGrammar<T>,
-    graph: &StateGraph<T>,
-    table: &StateTable<T>,
-    from: usize,
-    name: &str,
-) -> Result<Action<usize>, Fail> {
-    let token = token(grm, name)?;
-    Ok(by_numbers(table.action(state(graph, from)?, token)))
-}
-
-/// Where the rule of that name leads from the state.
-pub fn goto<T: IndexStorage>(
-    grm: &YaccGrammar<T>,
-    graph: &StateGraph<T>,
-    table: &StateTable<T>,
-    from: usize,
-    name: &str,
-) -> Result<Option<usize>, Fail> {
-    let rule = grm.rule_idx(name).ok_or("a rule")?;
-    Ok(table.goto(state(graph, from)?, rule).map(usize::from))
-}
-
-/// The numbers of the tokens on which the state does not err.
+/// What the state does on the tokens of these names; `$` is the end token.
 pub fn actions<T: IndexStorage>(
     alloc: Global,
-    graph: &StateGraph<T>,
+    grm: &YaccGrammar<T>,
     table: &StateTable<T>,
     from: usize,
-) -> Result<Vec<usize>, Fail> {
-    let mut tokens = Vec::new(alloc);
-    for token in table.state_actions(state(graph, from)?) {
-        tokens.push(usize::from(token))?;
+    names: &str,
+) -> Result<String, Fail> {
+    let from = state(from)?;
+    let mut told = String::new(alloc);
+    for name in names.split_whitespace() {
+        let token = grm.token_idx(name).unwrap_or(grm.eof_token_idx());
+        told.push_str(action_text(alloc, table.action(from, token))?.as_str())?;
     }
-    Ok(tokens)
+    Ok(told)
 }
 
-/// The numbers of the tokens that the state shifts.
-pub fn shifts<T: IndexStorage>(
+/// Where the rules of these names lead from the state; `-` where one leads nowhere.
+pub fn gotos<T: IndexStorage>(
     alloc: Global,
-    graph: &StateGraph<T>,
+    grm: &YaccGrammar<T>,
     table: &StateTable<T>,
     from: usize,
-) -> Result<Vec<usize>, Fail> {
-    let mut tokens = Vec::new(alloc);
-    for token in table.state_shifts(state(graph, from)?) {
-        tokens.push(usize::from(token))?;
+    names: &str,
+) -> Result<String, Fail> {
+    let from = state(from)?;
+    let mut told = String::new(alloc);
+    for name in names.split_whitespace() {
+        match table.goto(from, grm.rule_idx(name).ok_or("a rule")?) {
+            Some(to) => told.push_str(format!(in alloc; " {}", usize::from(to))?.as_str())?,
+            None => told.push_str(" -")?,
+        }
     }
-    Ok(tokens)
+    Ok(told)
 }
 
-/// The numbers of the productions by which the state reduces.
-pub fn reduces<T: IndexStorage>(
+/// Adds the numbers of the tokens that the iterator gives.
+fn push_tokens<T: IndexStorage>(
     alloc: Global,
-    graph: &StateGraph<T>,
-    table: &StateTable<T>,
-    from: usize,
-) -> Result<Vec<usize>, Fail> {
-    let mut prods = Vec::new(alloc);
-    for prod in table.core_reduces(state(graph, from)?) {
-        prods.push(usize::from(prod))?;
+    told: &mut String,
+    tokens: StateActionsIterator<'_, T>,
+) -> Result<(), AllocError> {
+    for token in tokens {
+        told.push_str(format!(in alloc; " {}", usize::from(token))?.as_str())?;
     }
-    Ok(prods)
+    Ok(())
 }
 
-/// The reduce/reduce conflicts, by plain numbers.
-pub fn reduce_reduce<T: IndexStorage>(
+/// Adds the numbers of the productions by which the state reduces.
+fn push_reduces<T: IndexStorage>(
+    alloc: Global,
+    told: &mut String,
+    prods: CoreReducesIterator<'_, T>,
+) -> Result<(), AllocError> {
+    for prod in prods {
+        told.push_str(format!(in alloc; " {}", usize::from(prod))?.as_str())?;
+    }
+    Ok(())
+}
+
+/// The tokens on which the state acts and those that it shifts, the productions by which it reduces, and whether it reduces by
+/// one and does nothing else.
+pub fn row<T: IndexStorage>(
+    alloc: Global,
+    table: &StateTable<T>,
+    from: usize,
+) -> Result<String, Fail> {
+    let from = state(from)?;
+    let mut told = String::from_str(alloc, "acts")?;
+    push_tokens(alloc, &mut told, table.state_actions(from))?;
+    told.push_str(", shifts")?;
+    push_tokens(alloc, &mut told, table.state_shifts(from))?;
+    told.push_str(", reduces")?;
+    push_reduces(alloc, &mut told, table.core_reduces(from))?;
+    if table.reduce_only_state(from) {
+        told.push_str(" only")?;
+    }
+    Ok(told)
+}
+
+/// The reduce/reduce conflicts, by numbers.
+fn reduce_reduce<T: IndexStorage>(
     alloc: Global,
     conflicts: &Conflicts<T>,
-) -> Result<Vec<(usize, usize, usize, usize)>, Fail> {
-    let mut list = Vec::new(alloc);
+) -> Result<String, AllocError> {
+    let mut told = String::new(alloc);
     for (token, prod, other, state) in conflicts.rr_conflicts() {
-        list.push((
-            usize::from(*token),
-            usize::from(*prod),
-            usize::from(*other),
-            usize::from(*state),
-        ))?;
+        let (token, prod) = (usize::from(*token), usize::from(*prod));
+        let (other, state) = (usize::from(*other), usize::from(*state));
+        told.push_str(format!(in alloc; " ({token},{prod},{other},{state})")?.as_str())?;
     }
-    Ok(list)
+    Ok(told)
 }
 
-/// The shift/reduce conflicts, by plain numbers.
-pub fn shift_reduce<T: IndexStorage>(
+/// The shift/reduce conflicts, by numbers.
+fn shift_reduce<T: IndexStorage>(
     alloc: Global,
     conflicts: &Conflicts<T>,
-) -> Result<Vec<(usize, usize, usize)>, Fail> {
-    let mut list = Vec::new(alloc);
+) -> Result<String, AllocError> {
+    let mut told = String::new(alloc);
     for (token, prod, state) in conflicts.sr_conflicts() {
-        list.push((usize::from(*token), usize::from(*prod), usize::from(*state)))?;
+        let (token, prod) = (usize::from(*token), usize::from(*prod));
+        let state = usize::from(*state);
+        told.push_str(format!(in alloc; " ({token},{prod},{state})")?.as_str())?;
     }
-    Ok(list)
+    Ok(told)
+}
+
+/// The conflicts of the table of the text: how many there are between reductions, and which, and the same of shifts.
+pub fn conflicts<T: IndexStorage>(alloc: Global, text: &str) -> Result<String, Fail> {
+    let (_grm, _graph, table) = grammar_and_table::<T>(alloc, text)?;
+    let Some(conflicts) = table.conflicts() else {
+        return Ok(String::from_str(alloc, "none")?);
+    };
+    let between = reduce_reduce(alloc, conflicts)?;
+    let against = shift_reduce(alloc, conflicts)?;
+    let (rr, sr) = (conflicts.rr_len(), conflicts.sr_len());
+    Ok(format!(in alloc; "{rr}{}, {sr}{}", between.as_str(), against.as_str())?)
 }
