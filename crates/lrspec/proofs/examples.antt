@@ -21,6 +21,7 @@ pub mod OperatorCells
 -- ---- grammar texts
 pub mod TextExamples
 pub mod MeaningExamples
+pub mod LineExamples
 pub mod CoresByComputing
 pub mod ExampleChain
 pub mod ClosuresByComputing

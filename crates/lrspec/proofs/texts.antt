@@ -13,6 +13,9 @@ pub mod UniqueDocuments
 -- meaning
 pub mod RepeatedNames
 pub mod TextOutcomes
+-- lines
+pub mod LineFacts
+pub mod WordFacts
 -- grammars of parts
 pub mod GrammarOfParts
 pub mod CausesInOrder

@@ -6,3 +6,6 @@ pub mod Documents
 pub mod ReadingStates
 pub mod Meaning
 pub mod PrintedTexts
+pub mod Lines
+pub mod Devices
+pub mod MachineLines

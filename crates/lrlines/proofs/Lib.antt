@@ -1,0 +1,6 @@
+-- the files of lemmas
+pub mod Counts
+pub mod KnownBytes
+pub mod AnsweredLines
+pub mod AnsweringBytes
+pub mod ReadingLines
