@@ -1,7 +1,8 @@
 //! Grammars.
 
 ghost use Rattle.std.specs.Prelude.{◌≡◌, ℕ, ◌+◌, ◌<◌, ◌≤◌, Bool, List, length, map, slice_get, option_map, Some, Contains, IfSome, IfNone};
-ghost use Rattle.std.specs.List.{range_with_len};
+ghost use Rattle.std.specs.List.{All, range_with_len};
+ghost use Rattle.std.specs.Str.{IsUtf8};
 ghost use Rattle.lrspec.specs.texts.Parts.{HasDouble};
 ghost use Rattle.lrspec.specs.grammars.Grammar as math;
 ghost use Rattle.lrgrammar.specs.Symbols.{symbol_of};
@@ -59,6 +60,7 @@ impl<T: IndexStorage> YaccGrammar<T> {
     /// The memory in which the grammar lies, for what is made beside it.
     pub fn allocator(&self) -> Global
         ensures shape { math.IsGrammar self.now }
+        ensures texts { All IsUtf8 self.now.token_names }
     {
         *self.prods.allocator()
     }

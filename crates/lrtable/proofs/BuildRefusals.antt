@@ -1,5 +1,5 @@
 -- why a grammar has no graph with a table, by why the graph has no table
-use Rattle.std.proofs.Common.{ℕ, ◌≤◌, length, Option, None, Some, arith}
+use Rattle.std.proofs.Common.{ℕ, ◌≤◌, length, None, Some, arith}
 use Rattle.lrspec.specs.grammars.Grammar.{Grammar, IsGrammar}
 use Rattle.lrspec.specs.merging.Graph.{Graph, IsGraphOf}
 use Rattle.lrspec.specs.tables.Conflicts.{IsLeastAcceptReduce, IsLeastAcceptContested}
@@ -8,7 +8,7 @@ use Rattle.lrgraphs.specs.declared.errors.BuildError.{BuildError}
 use Rattle.lrgraphs.specs.declared.errors.BuildError.TheVariants.{Table, TooLarge, Memory}
 use Rattle.lrgraphs.specs.declared.statetable.StateTableErrorKind.{StateTableErrorKind}
 use Rattle.lrgraphs.specs.declared.statetable.StateTableErrorKind.TheVariants.{AcceptReduceConflict}
-use Rattle.lrtable.specs.Chains.{HasChainOf, HasChainOfExactly}
+use Rattle.lrtable.specs.Chains.{HasChainOfExactly}
 use Rattle.lrcells.specs.Refusals.{TellsOne, IsTableRefusal}
 use Rattle.lrtable.specs.Refusals.{IsBuildRefusal}
 

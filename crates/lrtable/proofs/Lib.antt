@@ -1,2 +1,9 @@
 -- the files of lemmas
 pub mod BuildRefusals
+pub mod ReachedConfigs
+pub mod ReachedRuns
+pub mod StackLists
+pub mod MachineSteps
+pub mod NamedTokens
+pub mod SearchedPlaces
+pub mod ReducedProductions

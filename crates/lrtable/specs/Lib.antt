@@ -1,3 +1,6 @@
 pub mod ItemSets
 pub mod Chains
 pub mod Refusals
+pub mod RunAnswers
+pub mod WorkingMachine
+pub mod Reached

@@ -4,7 +4,7 @@
 ghost use Rattle.std.specs.Prelude.{◌≡◌, ℕ, ◌+◌, ◌-◌, ◌*◌, ◌^◌, ◌<◌, ◌≤◌, length, IfOk, IfErr};
 ghost use Rattle.lrspec.specs.grammars.Grammar.{item_count, token_count};
 ghost use Rattle.lrspec.specs.merging.Graph.{IsGraphOf, AreShared, InventsNoConflict, CoresCross};
-ghost use Rattle.lrspec.specs.tables.Table.{IsTableOf, lists_of};
+ghost use Rattle.lrspec.specs.tables.Table.{IsTableOf, IsTableFor, lists_of};
 ghost use Rattle.lrspec.specs.tables.Rows.{ReducesApart};
 ghost use Rattle.lrspec.specs.tables.Conflicts.{AreEntriesOf, AreReductionsContested, AreShiftsContested, IsAcceptContested};
 ghost use Rattle.lrspec.specs.tables.Exactness.{IsExactTable};
@@ -27,6 +27,8 @@ pub mod stategraph {
 pub mod sparsevec {
     pub use lrcells::sparsevec::SparseVec;
 }
+
+pub mod machine;
 
 /// State tables.
 pub mod statetable {
@@ -66,6 +68,7 @@ pub fn from_yacc<T: IndexStorage>(
     ensures below { IfOk result (λ b. length b.0 < T.MAX - 1) }
     ensures chain { IfOk result (λ b. HasChainOf grm.now (length b.0)) }
     ensures table { IfOk result (λ b. IsTableOf grm.now b.0 b.1) }
+    ensures table_for { IfOk result (λ b. IsTableFor grm.now b.1) }
     ensures reduces { IfOk result (λ b. ReducesApart grm.now b.1) }
     ensures entries { IfOk result (λ b. AreEntriesOf grm.now (lists_of b.1)) }
     ensures accepts { IfOk result (λ _. (p : ℕ) → ¬ (IsAcceptContested grm.now p)) }
@@ -98,6 +101,7 @@ pub fn from_yacc_counted<T: IndexStorage>(
         T.MAX * (1 + item_count grm.now * token_count grm.now) < 2 ^ 128) }
     ensures chain { IfOk result (λ b. HasChainOfExactly grm.now b.2.made) }
     ensures table { IfOk result (λ b. IsTableOf grm.now b.0 b.1) }
+    ensures table_for { IfOk result (λ b. IsTableFor grm.now b.1) }
     ensures reduces { IfOk result (λ b. ReducesApart grm.now b.1) }
     ensures entries { IfOk result (λ b. AreEntriesOf grm.now (lists_of b.1)) }
     ensures accepts { IfOk result (λ _. (p : ℕ) → ¬ (IsAcceptContested grm.now p)) }

@@ -1,0 +1,2 @@
+-- texts that grow keep to named tokens
+mod NamedTokens

@@ -1,0 +1,64 @@
+//! Texts derived from the start rule by the productions of a run.
+
+use lrgrammar::grammar::YaccGrammar;
+use lrgrammar::idx::{IndexStorage, PIdx, RIdx, Symbol, TIdx};
+use std::alloc::Global;
+use std::test::Fail;
+
+/// The rule and the body of the production, if there is one.
+pub fn production<T: IndexStorage>(
+    grm: &YaccGrammar<T>,
+    pidx: PIdx<T>,
+) -> Option<(RIdx<T>, &[Symbol<T>])> {
+    if usize::from(pidx) < usize::from(grm.prods_len()) {
+        Some((grm.prod_to_rule(pidx), grm.prod(pidx)))
+    } else {
+        None
+    }
+}
+
+/// The symbols with the body of the production in place of the last rule; None if that is not the production's.
+fn expanded<T: IndexStorage>(
+    alloc: Global,
+    grm: &YaccGrammar<T>,
+    symbols: &[Symbol<T>],
+    by: PIdx<T>,
+) -> Result<Option<Vec<Symbol<T>>>, Fail> {
+    let (rule, body) = production(grm, by).ok_or("a production")?;
+    let last = symbols
+        .iter()
+        .rposition(|symbol| matches!(symbol, Symbol::Rule(_)));
+    let Some(at) = last else {
+        return Ok(None);
+    };
+    if symbols[at] != Symbol::Rule(rule) {
+        return Ok(None);
+    }
+    let mut list = symbols[..at].to_vec(alloc)?;
+    list.extend_from_slice(body)?;
+    list.extend_from_slice(&symbols[at + 1..])?;
+    Ok(Some(list))
+}
+
+/// Whether the reductions are those of one tree of the start rule, whose leaves are the text: from the last one back
+/// each is of the last rule that is left.
+pub fn derives<T: IndexStorage>(
+    alloc: Global,
+    grm: &YaccGrammar<T>,
+    reductions: &[PIdx<T>],
+    text: &[TIdx<T>],
+) -> Result<bool, Fail> {
+    let (_, start) = production(grm, grm.start_prod()).ok_or("a start production")?;
+    let mut symbols = start.to_vec(alloc)?;
+    for by in reductions.iter().rev() {
+        match expanded(alloc, grm, &symbols, *by)? {
+            Some(list) => symbols = list,
+            None => return Ok(false),
+        }
+    }
+    let leaves = symbols
+        .iter()
+        .zip(text)
+        .all(|(symbol, token)| *symbol == Symbol::Token(*token));
+    Ok(symbols.len() == text.len() && leaves)
+}

@@ -1,0 +1,120 @@
+//! Texts drawn at random, on which the machine does what a plain one does.
+
+ghost use Rattle.std.specs.Prelude.{◌<◌, IfOk};
+ghost use Rattle.lrspec.specs.grammars.Grammar.{end_token};
+ghost use Rattle.lrspec.specs.tables.Table.{IsTableFor};
+ghost use Rattle.lrspec.specs.tables.Recognition.{AreNamed};
+ghost use Rattle.lrtable.specs.RunAnswers.{text_of};
+
+use crate::derivations::derives;
+use crate::draws::Draws;
+use crate::fixtures;
+use crate::plain_machine::run_plainly;
+use crate::tables::grammar_and_table;
+use lrgrammar::grammar::YaccGrammar;
+use lrgrammar::idx::TIdx;
+use lrtable::StateTable;
+use lrtable::machine::{Verdict, run};
+use std::alloc::Global;
+use std::test::Fail;
+
+/// How many texts are drawn for each of the fourteen grammars: ten thousand in all, and a few more.
+const TEXTS: usize = 715;
+
+/// The most tokens that a text has.
+const LONGEST: usize = 12;
+
+/// How many steps a run makes at most.
+const STEPS: usize = 200;
+
+/// A named token, if there is one.
+fn draw_token(grm: &YaccGrammar<u32>, draws: &mut Draws) -> Result<TIdx<u32>, Fail>
+    ensures { IfOk result (λ t. t.0 < end_token grm.now) }
+{
+    let named = usize::from(grm.eof_token_idx());
+    if named == 0 {
+        return Err(Fail::from("a named token"));
+    }
+    Ok(TIdx(u32::try_from(draws.below(named))?))
+}
+
+/// A text of named tokens, which is more often a short one. Without a named token it is empty.
+fn draw_text(
+    alloc: Global,
+    grm: &YaccGrammar<u32>,
+    draws: &mut Draws,
+) -> Result<Vec<TIdx<u32>>, Fail>
+    ensures { IfOk result (λ v. AreNamed grm.now (text_of (λ n. n) v.items)) }
+{
+    let mut text = Vec::new(alloc);
+    if usize::from(grm.eof_token_idx()) == 0 {
+        return Ok(text);
+    }
+    let most = draws.below(LONGEST + 1);
+    for _ in 0..draws.below(most + 1) {
+        let token = draw_token(grm, draws)?;
+        text.push(token)?;
+    }
+    Ok(text)
+}
+
+/// Whether the text is accepted; None where the machines differ, or where the reductions do not derive the text.
+fn accepted(
+    alloc: Global,
+    grm: &YaccGrammar<u32>,
+    table: &StateTable<u32>,
+    text: &[TIdx<u32>],
+) -> Result<Option<bool>, Fail>
+    requires table_for { IsTableFor grm.now table.now }
+    requires named { AreNamed grm.now (text_of (λ n. n) text.now) }
+{
+    let run = run(alloc, grm, table, text, STEPS)?;
+    if run != run_plainly(alloc, grm, table, text, STEPS)? {
+        return Ok(None);
+    }
+    if run.verdict != Verdict::Accepted {
+        return Ok(Some(false));
+    }
+    let derived = derives(alloc, grm, &run.reductions, text)?;
+    Ok(derived.then_some(true))
+}
+
+/// Whether any of the texts is accepted; None where one is not run as it should be.
+fn any_accepted(alloc: Global, grammar: &str, draws: &mut Draws) -> Result<Option<bool>, Fail> {
+    let (grm, table) = grammar_and_table::<u32>(alloc, grammar)?;
+    let mut any = false;
+    for _ in 0..TEXTS {
+        let text = draw_text(alloc, &grm, draws)?;
+        match accepted(alloc, &grm, &table, &text)? {
+            Some(is_accepted) => any |= is_accepted,
+            None => return Ok(None),
+        }
+    }
+    Ok(Some(any))
+}
+
+/// Beside each grammar stands whether the machine accepts any text at all.
+#[test]
+fn as_the_plain_machine(rt: HostRuntime) -> Result<(), Fail> {
+    let mut draws = Draws::new(9);
+    for (grammar, any) in [
+        (fixtures::LR1_AND_NOT_LALR1, true),
+        (fixtures::CONTESTED_ON_X_ALONE, true),
+        (fixtures::TERMS_AND_FACTORS, true),
+        (fixtures::RULE_WITHOUT_A_TREE, true),
+        (fixtures::HIDDEN_LEFT_RECURSION, false),
+        (fixtures::NONASSOC, true),
+        (fixtures::SHIFT_AND_TWO_REDUCTIONS, true),
+        (fixtures::NO_SENTENCE, false),
+        (fixtures::FOUR_LEVELS, true),
+        (fixtures::SUMS_AND_PRODUCTS, true),
+        (fixtures::SUMS_AND_PRODUCTS_WITH_LEVELS, true),
+        (fixtures::ROUND_WITHOUT_TOKENS, true),
+        (fixtures::NEVER_ENDING, false),
+        (fixtures::ONE_BODY_TWICE, true),
+    ] {
+        let found = any_accepted(rt.alloc(), grammar, &mut draws)?;
+        assert_eq!(rt; found, Some(any), "{grammar}");
+    }
+    Ok(())
+}

@@ -1,0 +1,98 @@
+//! Runs, some as long as the least index type allows, and what little steps they take.
+
+ghost use Rattle.std.specs.Prelude.{◌<◌, IfOk};
+ghost use Rattle.lrspec.specs.grammars.Grammar.{end_token};
+ghost use Rattle.lrspec.specs.tables.Recognition.{AreNamed};
+ghost use Rattle.lrtable.specs.RunAnswers.{text_of};
+
+use crate::fixtures::{
+    NEVER_ENDING, ONE_BODY_TWICE, ROUND_WITHOUT_TOKENS, TERMS_AND_FACTORS, repeated,
+};
+use crate::tables::grammar_and_table;
+use lrgrammar::grammar::YaccGrammar;
+use lrgrammar::idx::{IndexStorage, TIdx};
+use lrtable::machine::{Run, run};
+use std::alloc::{AllocError, Global};
+use std::test::Fail;
+
+/// The token of that name.
+fn token<T: IndexStorage>(grm: &YaccGrammar<T>, name: &str) -> Result<TIdx<T>, Fail>
+    ensures { IfOk result (λ t. T.number t.0 < end_token grm.now) }
+{
+    match grm.token_idx(name) {
+        Some(token) => Ok(token),
+        None => Err(Fail::from("a token")),
+    }
+}
+
+/// The tokens that the words of the text name.
+pub fn tokens<T: IndexStorage>(
+    alloc: Global,
+    grm: &YaccGrammar<T>,
+    text: &str,
+) -> Result<Vec<TIdx<T>>, Fail>
+    ensures { IfOk result (λ v. AreNamed grm.now (text_of T.number v.items)) }
+{
+    let mut tokens = Vec::new(alloc);
+    for name in text.split_ascii_whitespace() {
+        let token = token(grm, name)?;
+        tokens.push(token)?;
+    }
+    Ok(tokens)
+}
+
+/// The verdict, the number of steps, and the numbers of the productions.
+fn told<T: IndexStorage>(alloc: Global, run: &Run<T>) -> Result<String, AllocError> {
+    let verdict = run.verdict;
+    let steps = run.steps;
+    let mut text = format!(in alloc; "{verdict:?} {steps}:")?;
+    for prod in &run.reductions {
+        let number = usize::from(*prod);
+        text.push_str(format!(in alloc; " {number}")?.as_str())?;
+    }
+    Ok(text)
+}
+
+/// How a run of at most so many steps on the text comes out.
+fn outcome<T: IndexStorage>(
+    alloc: Global,
+    grammar: &str,
+    text: &str,
+    steps: usize,
+) -> Result<String, Fail> {
+    let (grm, table) = grammar_and_table::<T>(alloc, grammar)?;
+    let tokens = tokens(alloc, &grm, text)?;
+    let run = run(alloc, &grm, &table, &tokens, steps)?;
+    Ok(told(alloc, &run)?)
+}
+
+#[test]
+fn by_bytes(rt: HostRuntime) -> Result<(), Fail> {
+    let alloc = rt.alloc();
+    let grammar = repeated(alloc, "%% S:", " 'a'", 251, ";")?;
+    let text = repeated(alloc, "", "a ", 251, "")?;
+    for (grammar, text, steps, wanted) in [
+        (grammar.as_str(), text.as_str(), 1000, "Accepted 253: 0"),
+        (TERMS_AND_FACTORS, "id - id", 10, "Accepted 10: 4 3 4 3 1 0"),
+        (TERMS_AND_FACTORS, "id - id", 9, "Unfinished 9: 4 3 4 3 1 0"),
+    ] {
+        let come_out = outcome::<u8>(alloc, grammar, text, steps)?;
+        assert_eq!(rt; come_out.as_str(), wanted);
+    }
+    Ok(())
+}
+
+#[test]
+fn by_four_bytes(rt: HostRuntime) -> Result<(), Fail> {
+    for (grammar, text, steps, wanted) in [
+        (ROUND_WITHOUT_TOKENS, "", 100, "Accepted 3: 2 0"),
+        (NEVER_ENDING, "", 100, "Rejected 1:"),
+        (NEVER_ENDING, "b b", 100, "Rejected 3:"),
+        (NEVER_ENDING, "b", 1, "Unfinished 1:"),
+        (ONE_BODY_TWICE, "a", 100, "Accepted 3: 0"),
+    ] {
+        let come_out = outcome::<u32>(rt.alloc(), grammar, text, steps)?;
+        assert_eq!(rt; come_out.as_str(), wanted);
+    }
+    Ok(())
+}
