@@ -1,3 +1,4 @@
 -- the lemma files
+mod AnsweredLines
 mod AskingArguments
 mod PrintedTexts

@@ -7,7 +7,7 @@ use Rattle.lrspec.specs.merging.Graph.{Graph}
 use Rattle.lrspec.specs.tables.Table.{Lists, Table, lists_of}
 use Rattle.lrspec.specs.tables.Exactness.{ListsNothing}
 use Rattle.lrspec.specs.texts.PrintedTexts.{items_text, core_text, closed_text, conflicts_text}
-use Rattle.lrt.specs.declared.requests.Command.TheVariants.{Start, Core, Closed, Conflicts}
+use Rattle.lrt.specs.declared.requests.Listing.TheVariants.{Start, Core, Closed, Conflicts}
 use Rattle.lrt.specs.Answers.{Prints, IsStartState, IsMergedGraph, IsMergedTable, AcceptsAlone}
 
 pub start_printed :

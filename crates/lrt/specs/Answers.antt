@@ -14,8 +14,8 @@ use Rattle.lrspec.specs.tables.Exactness.{IsExactTable, ListsNothing}
 use Rattle.lrspec.specs.texts.PrintedTexts.{items_text, core_text, closed_text, conflicts_text}
 use Rattle.lrgrammar.specs.TextErrors.{IsGrammarOf, IsTextError}
 use Rattle.lrtable.specs.Refusals.{IsBuildRefusal}
-use Rattle.lrt.specs.declared.requests.Command.{Command}
-use Rattle.lrt.specs.declared.requests.Command.TheVariants.{Start, Core, Closed, Conflicts}
+use Rattle.lrt.specs.declared.requests.Listing.{Listing}
+use Rattle.lrt.specs.declared.requests.Listing.TheVariants.{Start, Core, Closed, Conflicts}
 use Rattle.lrt.specs.declared.faults.Fault.{Fault}
 use Rattle.lrt.specs.declared.faults.Fault.TheVariants.{CannotRead, NotUtf8, Text, Build, Memory, CannotWrite}
 use Rattle.lrt.specs.Requests.{name_of, source_text}
@@ -54,8 +54,8 @@ pub record IsMergedTable (g : Grammar) (b : Table) : Type 0 where
   pub shifts : AreShiftsContested g graph
   pub exact : IsExactTable g b
 
--- the text that the command prints of a grammar
-pub data Prints (g : Grammar) : Command → List ℕ → Type 0 where
+-- the text that is printed of a grammar
+pub data Prints (g : Grammar) : Listing → List ℕ → Type 0 where
   start : {c : Items} → IsStartState g c → Prints g Start (items_text g c ++ codes "\n")
   core :
       {h : Graph} → IsMergedGraph g h → AcceptsAlone g
@@ -70,22 +70,26 @@ pub data Prints (g : Grammar) : Command → List ℕ → Type 0 where
       {b : Table} → IsMergedTable g b → AcceptsAlone g → ¬ (ListsNothing b)
       → Prints g Conflicts (conflicts_text g (lists_of b))
 
--- the bytes are a grammar text, and what the command prints of its grammar is the text
-pub record IsAnswer (bytes : List ℕ) (command : Command) (text : List ℕ) : Type 0 where
+-- the bytes are a grammar text that means the grammar
+abbrev pub MeansGrammar : List ℕ → Grammar → Type 0
+MeansGrammar bytes g = IsUtf8 bytes × IsGrammarOf max_index bytes g
+
+-- the bytes are a grammar text, and what is printed of its grammar is the text
+pub record IsAnswer (bytes : List ℕ) (listing : Listing) (text : List ℕ) : Type 0 where
   pub utf8 : IsUtf8 bytes
   pub grammar : Grammar
   pub means : IsGrammarOf max_index bytes grammar
-  pub prints : Prints grammar command text
+  pub prints : Prints grammar listing text
 
--- there is an answer to the command about the bytes
-abbrev pub HasAnswer : Option (List ℕ) → Command → Type 0
-HasAnswer bytes command = IsSomeAnd bytes (λ bs. (text : List ℕ) × IsAnswer bs command text)
+-- something is printed of the grammar that the bytes mean
+abbrev pub HasAnswer : Option (List ℕ) → Listing → Type 0
+HasAnswer bytes listing = IsSomeAnd bytes (λ bs. (text : List ℕ) × IsAnswer bs listing text)
 
--- what a writer holds grew by an answer to the command about the bytes
+-- what a writer holds grew by what is printed of the grammar that the bytes mean
 abbrev pub AppendsAnswer :
-    Option (List ℕ) → Option (List ℕ) → Option (List ℕ) → Command → Type 0
-AppendsAnswer old new bytes command =
-    IsSomeAnd bytes (λ bs. (text : List ℕ) × IsAnswer bs command text × Appends old new text)
+    Option (List ℕ) → Option (List ℕ) → Option (List ℕ) → Listing → Type 0
+AppendsAnswer old new bytes listing =
+    IsSomeAnd bytes (λ bs. (text : List ℕ) × IsAnswer bs listing text × Appends old new text)
 
 -- why the bytes of that name, which are none where they could not be read, are no text
 abbrev pub IsUnread : Option (List ℕ) → Option (List ℕ) → Fault → Type 0
@@ -95,25 +99,29 @@ IsUnread bytes name (NotUtf8 source) =
 IsUnread bytes name e = ⊥
 
 -- why nothing is printed of a grammar; want of memory says nothing
-abbrev pub IsUnprinted : Grammar → Command → Fault → Type 0
-IsUnprinted g command (Build e) = IsBuildRefusal (λ n. n) max_index g e × (command ≢ Start)
-IsUnprinted g command Memory = Unit {0}
-IsUnprinted g command e = ⊥
+abbrev pub IsUnprinted : Grammar → Listing → Fault → Type 0
+IsUnprinted g listing (Build e) = IsBuildRefusal (λ n. n) max_index g e × (listing ≢ Start)
+IsUnprinted g listing Memory = Unit {0}
+IsUnprinted g listing e = ⊥
 
--- why there is no answer to a command about the bytes of that name: the first of these causes
-abbrev pub IsFault : Option (List ℕ) → Command → Option (List ℕ) → Fault → Type 0
-IsFault bytes command name (Text e) = IsSomeAnd bytes (λ bs. IsUtf8 bs × IsTextError max_index bs e)
-IsFault bytes command name (Build e) =
-    IsSomeAnd bytes (λ bs. IsUtf8 bs
-    × ((g : Grammar) × IsGrammarOf max_index bs g × IsUnprinted g command (Build e)))
-IsFault bytes command name Memory = Unit {0}
-IsFault bytes command name e = IsUnread bytes name e
+-- why the bytes of that name mean no grammar: the first of these causes
+abbrev pub IsTextFault : Option (List ℕ) → Option (List ℕ) → Fault → Type 0
+IsTextFault bytes name (Text e) = IsSomeAnd bytes (λ bs. IsUtf8 bs × IsTextError max_index bs e)
+IsTextFault bytes name Memory = Unit {0}
+IsTextFault bytes name e = IsUnread bytes name e
 
--- why an answer to a command about the bytes of that name is not printed: it cannot be written, or
+-- why nothing is printed about the bytes of that name: the first of these causes
+abbrev pub IsFault : Option (List ℕ) → Listing → Option (List ℕ) → Fault → Type 0
+IsFault bytes listing name (Build e) =
+    IsSomeAnd bytes (λ bs.
+    (g : Grammar) × MeansGrammar bs g × IsUnprinted g listing (Build e))
+IsFault bytes listing name e = IsTextFault bytes name e
+
+-- why the text that is to be printed about the bytes of that name is not: it cannot be written, or
 -- there is none
-abbrev pub IsPrintFault : Option (List ℕ) → Command → Option (List ℕ) → Fault → Type 0
-IsPrintFault bytes command name CannotWrite = HasAnswer bytes command
-IsPrintFault bytes command name e = IsFault bytes command name e
+abbrev pub IsPrintFault : Option (List ℕ) → Listing → Option (List ℕ) → Fault → Type 0
+IsPrintFault bytes listing name CannotWrite = HasAnswer bytes listing
+IsPrintFault bytes listing name e = IsFault bytes listing name e
 
 -- how a fault is told, where the text is not that of an error of a library
 abbrev pub fault_text : Fault → Option (List ℕ)

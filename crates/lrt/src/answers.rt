@@ -7,12 +7,13 @@ ghost use Rattle.lrspec.specs.grammars.ItemSets.{Fits};
 ghost use Rattle.lrspec.specs.grammars.StartState.{IsStartCore};
 ghost use Rattle.lrtable.specs.ItemSets.{set_of};
 ghost use Rattle.lrtable.specs.Refusals.{IsBuildRefusal};
-ghost use Rattle.lrt.specs.declared.requests.Command.TheVariants.{Start, Core, Closed, Conflicts};
+ghost use Rattle.lrt.specs.declared.requests.Listing.TheVariants.{Start, Core, Closed, Conflicts};
 ghost use Rattle.lrt.specs.Requests.{name_of};
-ghost use Rattle.lrt.specs.Answers.{max_index, Prints, IsAnswer, IsUnread, IsUnprinted, IsFault};
+ghost use Rattle.lrt.specs.Answers.{max_index, MeansGrammar, Prints, IsAnswer};
+ghost use Rattle.lrt.specs.Answers.{IsUnread, IsUnprinted, IsTextFault, IsFault};
 
 use crate::faults::Fault;
-use crate::requests::{Command, Request, Source};
+use crate::requests::{Listing, Source};
 use lrgrammar::grammar::YaccGrammar;
 use lrgrammar::idx::SIdx;
 use lrgrammar::vob::Vob;
@@ -20,20 +21,36 @@ use lrtable::itemset::Itemset;
 use lrtable::{BuildError, Minimiser, from_yacc};
 use std::alloc::{AllocError, Global};
 
-/// The text that answers a request; `file` holds the bytes of its source, and is None where they could not be read.
+/// The text that is printed of a grammar; `file` holds the bytes of its source, and is None where they could not be
+/// read.
 pub fn answer<'a>(
     alloc: Global,
-    request: &Request<'a>,
+    listing: Listing,
+    source: Source<'a>,
     file: Option<&[u8]>,
 ) -> Result<String, Fault<'a>>
     ensures text { IfOk result (λ text. IsSomeAnd (option_map (λ bytes. bytes.now) file.entry)
-        (λ bytes. IsAnswer bytes request.now.command (string_bytes text))) }
+        (λ bytes. IsAnswer bytes listing (string_bytes text))) }
     ensures fault { IfErr result (IsFault (option_map (λ bytes. bytes.now) file.entry)
-        request.now.command (name_of request.now.source)) }
+        listing (name_of source.entry)) }
 {
-    let text = decoded(request.source, file)?;
-    let grm = YaccGrammar::<u32>::from_text(alloc, text)?;
-    printed(request.command, &grm)
+    let grm = grammar_of(alloc, source, file)?;
+    printed(listing, &grm)
+}
+
+/// The grammar that the source means.
+pub fn grammar_of<'a>(
+    alloc: Global,
+    source: Source<'a>,
+    file: Option<&[u8]>,
+) -> Result<YaccGrammar<u32>, Fault<'a>>
+    ensures grammar { IfOk result (λ grm.
+        IsSomeAnd (option_map (λ bytes. bytes.now) file.entry) (λ bytes. MeansGrammar bytes grm)) }
+    ensures fault { IfErr result (IsTextFault (option_map (λ bytes. bytes.now) file.entry)
+        (name_of source.entry)) }
+{
+    let text = decoded(source, file)?;
+    Ok(YaccGrammar::<u32>::from_text(alloc, text)?)
 }
 
 /// The bytes of the source as text.
@@ -52,16 +69,16 @@ fn decoded<'a, 'b>(source: Source<'a>, file: Option<&'b [u8]>) -> Result<&'b str
     }
 }
 
-/// The text that the command prints of a grammar.
-fn printed<'a>(command: Command, grm: &YaccGrammar<u32>) -> Result<String, Fault<'a>>
-    ensures text { IfOk result (λ text. Prints grm.now command (string_bytes text)) }
-    ensures fault { IfErr result (IsUnprinted grm.now command) }
+/// The text that is printed of a grammar.
+fn printed<'a>(listing: Listing, grm: &YaccGrammar<u32>) -> Result<String, Fault<'a>>
+    ensures text { IfOk result (λ text. Prints grm.now listing (string_bytes text)) }
+    ensures fault { IfErr result (IsUnprinted grm.now listing) }
 {
-    Ok(match command {
-        Command::Start => start_text(grm)?,
-        Command::Core => core_text(grm)?,
-        Command::Closed => closed_text(grm)?,
-        Command::Conflicts => conflicts_text(grm)?,
+    Ok(match listing {
+        Listing::Start => start_text(grm)?,
+        Listing::Core => core_text(grm)?,
+        Listing::Closed => closed_text(grm)?,
+        Listing::Conflicts => conflicts_text(grm)?,
     })
 }
 

@@ -7,6 +7,7 @@ ghost use Rattle.lrt.specs.declared.faults.Fault.TheVariants as fault;
 use crate::requests::Source;
 use lrgrammar::grammar::TextError;
 use lrtable::BuildError;
+use lrtable::machine::LineError;
 use std::alloc::AllocError;
 use std::fmt;
 
@@ -17,6 +18,7 @@ pub enum Fault<'a> {
     NotUtf8(Source<'a>),
     Text(TextError),
     Build(BuildError<u32>),
+    Lines(LineError),
     Memory,
     CannotWrite,
 }
@@ -30,6 +32,7 @@ impl fmt::Display for Fault<'_> {
             Fault::NotUtf8(source) => write!(f, "{source} is not UTF-8"),
             Fault::Text(error) => write!(f, "{error}"),
             Fault::Build(error) => write!(f, "{error}"),
+            Fault::Lines(error) => write!(f, "{error}"),
             Fault::Memory => write!(f, "out of memory"),
             Fault::CannotWrite => write!(f, "cannot write standard output"),
         }
@@ -57,5 +60,13 @@ impl From<BuildError<u32>> for Fault<'_> {
 
     fn from(error: BuildError<u32>) -> Self {
         Fault::Build(error)
+    }
+}
+
+impl From<LineError> for Fault<'_> {
+    ghost from_gives = { λ error f. f ≡ fault.Lines error };
+
+    fn from(error: LineError) -> Self {
+        Fault::Lines(error)
     }
 }

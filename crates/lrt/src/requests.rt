@@ -1,9 +1,9 @@
 //! What the arguments ask for.
 
-ghost use Rattle.std.specs.Prelude.{◌≡◌, ◌≢◌, None, Some, IfSome, MatchOption, map};
+ghost use Rattle.std.specs.Prelude.{◌≡◌, ◌≢◌, ℕ, None, Some, IfSome, MatchOption, map};
 ghost use Rattle.std.specs.String.{string_bytes};
-ghost use Rattle.lrt.specs.declared.requests.Command as requests;
-ghost use Rattle.lrt.specs.Requests.{Asks, AsksNothing, command_name, name_of, source_text};
+ghost use Rattle.lrt.specs.declared.requests.Listing as requests;
+ghost use Rattle.lrt.specs.Requests.{Asks, AsksNothing, WritesSteps, listing_name, name_of, source_text};
 
 use std::fmt;
 
@@ -31,7 +31,7 @@ impl fmt::Display for Source<'_> {
 
 /// What is printed of a grammar.
 #[derive(Clone, Copy, Debug)]
-pub enum Command {
+pub enum Listing {
     /// The closed start state.
     Start,
     /// The state graph with the cores of its states.
@@ -42,6 +42,15 @@ pub enum Command {
     Conflicts,
 }
 
+/// What the program does with a grammar.
+#[derive(Clone, Copy, Debug)]
+pub enum Command {
+    /// It prints something of the grammar.
+    Print(Listing),
+    /// It answers the lines of standard input by the grammar's machine, each in at most so many steps.
+    Run(usize),
+}
+
 /// A command, and where the grammar is read from that it is about.
 #[derive(Clone, Copy)]
 pub struct Request<'a> {
@@ -49,22 +58,34 @@ pub struct Request<'a> {
     pub source: Source<'a>,
 }
 
-/// The command of that name.
-fn command_named(word: &str) -> Option<Command>
-    ensures { MatchOption result ((command : requests.Command) → command_name command ≢ word.now)
-        (λ command. command_name command ≡ word.now) }
+/// What the word says that is printed.
+fn listing_named(word: &str) -> Option<Listing>
+    ensures { MatchOption result ((listing : requests.Listing) → listing_name listing ≢ word.now)
+        (λ listing. listing_name listing ≡ word.now) }
 {
     if word == "start" {
-        Some(Command::Start)
+        Some(Listing::Start)
     } else if word == "core" {
-        Some(Command::Core)
+        Some(Listing::Core)
     } else if word == "closed" {
-        Some(Command::Closed)
+        Some(Listing::Closed)
     } else if word == "conflicts" {
-        Some(Command::Conflicts)
+        Some(Listing::Conflicts)
     } else {
         None
     }
+}
+
+/// The number of steps that the digits write.
+fn steps_written(digits: &str) -> Option<usize>
+    ensures { MatchOption result ((steps : ℕ) → ¬ (WritesSteps digits.now steps))
+        (λ steps. WritesSteps digits.now steps) }
+{
+    // Numbers of std may have a sign.
+    if digits.starts_with('+') {
+        return None;
+    }
+    digits.parse().ok()
 }
 
 /// What the arguments, without the program's name, ask for; None where they are wrong usage.
@@ -73,15 +94,17 @@ pub fn requested(args: &[String]) -> Option<Request<'_>>
         Asks (map string_bytes args.now) r.command (name_of r.source)) }
     ensures none { result ≡ None → AsksNothing (map string_bytes args.now) }
 {
-    match args {
-        [] => Some(Request {
-            command: Command::Start,
-            source: Source::StandardInput,
-        }),
-        [word, file] => Some(Request {
-            command: command_named(word.as_str())?,
-            source: Source::File(file.as_str()),
-        }),
-        _ => None,
-    }
+    let (command, source) = match args {
+        [] => (Command::Print(Listing::Start), Source::StandardInput),
+        [word, file] => (
+            Command::Print(listing_named(word.as_str())?),
+            Source::File(file.as_str()),
+        ),
+        [word, file, digits] if word.as_str() == "run" => (
+            Command::Run(steps_written(digits.as_str())?),
+            Source::File(file.as_str()),
+        ),
+        _ => return None,
+    };
+    Some(Request { command, source })
 }

@@ -90,12 +90,50 @@ fn wrong_usage(rt: HostRuntime) -> Result<(), Fail> {
         "cores a.y",
         "closed",
         "conflict a.y",
-        "run a.y 5",
         "begin a.y",
+        "run a.y",
+        "run a.y +1",
+        "run a.y 18446744073709551616",
     ] {
         answers(&rt, rt.alloc(), line, text, 2, "", USAGE)?;
         answers(&rt, rt.alloc(), line, None, 2, "", USAGE)?;
     }
+    Ok(())
+}
+
+#[test]
+fn no_digits(rt: HostRuntime) -> Result<(), Fail> {
+    let alloc = rt.alloc();
+    let mut args = words(alloc, "run a.y")?;
+    args.push(String::new(alloc))?;
+    let (status, _, told) = command(
+        alloc,
+        args.as_slice(),
+        Some(ASSIGNMENTS.as_bytes()),
+        io::empty(),
+        Vec::new(alloc),
+        Vec::new(alloc),
+    );
+    assert_eq!(rt; status, 2);
+    assert_eq!(rt; told.as_slice(), USAGE.as_bytes());
+    Ok(())
+}
+
+#[test]
+fn lines(rt: HostRuntime) -> Result<(), Fail> {
+    let alloc = rt.alloc();
+    let args = words(alloc, "run a.y 007")?;
+    let (status, wrote, _) = command(
+        alloc,
+        args.as_slice(),
+        Some(b"%% S: S 'a' | 'b';".as_slice()),
+        b"b a\nb b\nx\nb a a a".as_slice(),
+        Vec::new(alloc),
+        Vec::new(alloc),
+    );
+    let text = "accept 5: S.1 S.0\nreject 2\nunknown x\nunfinished 7\n";
+    assert_eq!(rt; status, 0);
+    assert_eq!(rt; wrote.as_slice(), text.as_bytes());
     Ok(())
 }
 
@@ -165,8 +203,13 @@ fn refused_texts(rt: HostRuntime) -> Result<(), Fail> {
 }
 
 /// That this output cannot be written is the fault told.
-fn cannot_write<W: io::Write + Drop>(rt: &impl Abort, alloc: Global, out: W) -> Result<(), Fail> {
-    let args = words(alloc, "start a.y")?;
+fn cannot_write<W: io::Write + Drop>(
+    rt: &impl Abort,
+    alloc: Global,
+    line: &str,
+    out: W,
+) -> Result<(), Fail> {
+    let args = words(alloc, line)?;
     let text = Some(ASSIGNMENTS.as_bytes());
     let (status, _, told) = command(
         alloc,
@@ -214,10 +257,11 @@ impl io::Write for Unflushed {
 
 #[test]
 fn output_that_takes_nothing(rt: HostRuntime) -> Result<(), Fail> {
-    cannot_write(&rt, rt.alloc(), Stuck)
+    cannot_write(&rt, rt.alloc(), "start a.y", Stuck)
 }
 
 #[test]
 fn output_whose_flush_fails(rt: HostRuntime) -> Result<(), Fail> {
-    cannot_write(&rt, rt.alloc(), Unflushed)
+    cannot_write(&rt, rt.alloc(), "start a.y", Unflushed)?;
+    cannot_write(&rt, rt.alloc(), "run a.y 5", Unflushed)
 }
