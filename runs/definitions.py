@@ -1,8 +1,9 @@
 #!/usr/bin/env python3
 """What `lrt` has to answer for a command and a grammar text, worked out from the definitions of docs/FORMATS.md and not by
-the program. This module reads the text and prints the answer; `graphs` and `tables` work out what is to be printed.
+the program. This module reads the text and prints the answer; `graphs`, `tables` and `machine` work out what is to be printed.
 
-    definitions.py COMMAND FILE     prints the answer or the fault line, and ends with the status
+    definitions.py COMMAND FILE         prints the answer or the fault line, and ends with the status
+    definitions.py run FILE STEPS       the same for the lines of standard input
 
 COMMAND is `start`, `core`, `closed` or `conflicts`.
 """
@@ -13,9 +14,10 @@ from dataclasses import dataclass, field
 from pathlib import Path
 
 import graphs
+import machine
 import tables
 
-COMMANDS = ("start", "core", "closed", "conflicts")
+COMMANDS = ("start", "core", "closed", "conflicts", "run")
 BLANKS = re.compile(rb"(?:[ \t\r\n]+|//[^\n]*|/\*.*?\*/)*", re.DOTALL)
 LEXEME = re.compile(
     rb"""(?P<NAME>[A-Za-z_.][A-Za-z0-9_.]*)
@@ -46,7 +48,8 @@ class Fault(Exception):
 
 @dataclass
 class Document:
-    """What a text says, in its order; a name of a body is a pair of NAME or QUOTED and the name."""
+    """What a text says, in its order; a name of a body is a pair of NAME or QUOTED and the name, and a level a pair of its kind
+    and its names."""
 
     start: bytes | None = None
     tokens: list = field(default_factory=list)
@@ -57,8 +60,12 @@ class Document:
         """Takes the lexeme that leads to this place."""
         if place == "declarations":
             self.start = name
-        elif place in ("tokens", "levels"):
-            getattr(self, place).append(name)
+        elif place == "tokens":
+            self.tokens.append(name)
+        elif place == "level":
+            self.levels.append((kind.encode(), []))
+        elif place == "levels":
+            self.levels[-1][1].append(name)
         elif place == "rule":
             self.rules.append((name, []))
         elif kind in (":", "|"):
@@ -96,37 +103,39 @@ def read(text):
 @dataclass
 class Grammar:
     """Productions as pairs of a rule's name and a body, the start production last; in a body a rule is its name, and a token
-    its number. The tokens that have a precedence are `levelled`."""
+    its number. The tokens that have a precedence are `levelled`, each with its level and kind."""
 
     prods: list
     tokens: list
-    levelled: set
+    levelled: dict
 
 
 def meaning(document):
     """The grammar that the document means."""
     rules = {name for name, _ in document.rules}
-    known = {*document.tokens, *document.levels}
+    in_levels = [name for _, names in document.levels for name in names]
+    known = {*document.tokens, *in_levels}
     bodies = [(rule, body) for rule, bodies in document.rules for body in bodies]
     if document.start not in {None, *rules}:
         raise Fault(b"unknown symbol " + document.start)
     for kind, name in (symbol for _, body in bodies for symbol in body):
         if kind == "NAME" and name not in rules and name not in known:
             raise Fault(b"unknown symbol " + name)
-    levels = set()
-    for name in document.levels:
-        if name in levels:
-            raise Fault(b"token " + name + b" has two precedences")
-        levels.add(name)
+    levels = {}
+    for level, (kind, names) in enumerate(document.levels):
+        for name in names:
+            if name in levels:
+                raise Fault(b"token " + name + b" has two precedences")
+            levels[name] = level, kind
     if not rules:
         raise Fault(b"no start rule")
     is_rule = lambda kind, name: kind == "NAME" and name in rules
     of_bodies = [name for _, body in bodies for kind, name in body if not is_rule(kind, name)]
-    tokens = list(dict.fromkeys([*document.tokens, *of_bodies, *document.levels]))
+    tokens = list(dict.fromkeys([*document.tokens, *of_bodies, *in_levels]))
     number = {name: place for place, name in enumerate(tokens)}
     prods = [(rule, [name if is_rule(kind, name) else number[name] for kind, name in body]) for rule, body in bodies]
     start = (b"^", [document.start or document.rules[0][0]])
-    return Grammar([*prods, start], tokens, {number[name] for name in levels})
+    return Grammar([*prods, start], tokens, {number[name]: level for name, level in levels.items()})
 
 
 class Texts:
@@ -189,9 +198,9 @@ class Texts:
             yield b"   State %d (lookahead %b): Reduce(%b) / Reduce(%b)" % (state, self.tokens[token], *prods)
 
 
-def lines(command, grammar):
-    """What the command prints of the grammar, line by line."""
-    texts = Texts(grammar)
+def lines(arguments, grammar, given):
+    """What the command prints of the grammar and of what standard input gives, line by line."""
+    texts, command = Texts(grammar), arguments[0]
     if command == "start":
         return texts.items(graphs.Closures(grammar).closed(graphs.start_core(grammar)))
     states = graphs.graph(grammar)
@@ -199,22 +208,26 @@ def lines(command, grammar):
         raise Fault(b"Accept/reduce conflict")
     if command == "conflicts":
         return texts.conflicts(*tables.conflicts(grammar, states))
+    if command == "run":
+        return machine.answers(grammar, states, given, int(arguments[2]))
     return texts.states(states, command)
 
 
-def answer(command, text):
-    """The status, standard output and standard error that the command owes this text, which is UTF-8."""
-    if command not in COMMANDS:
-        raise ValueError(f"no answer is defined for {command}")
+def answer(arguments, text, given):
+    """The status, standard output and standard error that a call with these arguments owes this grammar text, which is UTF-8,
+    and what standard input gives."""
+    if arguments[0] not in COMMANDS:
+        raise ValueError(f"no answer is defined for {arguments[0]}")
     try:
-        out = lines(command, meaning(read(text)))
+        out = lines(arguments, meaning(read(text)), given)
     except Fault as why:
         return 1, b"", b"lrt: %b\n" % why.args
     return 0, b"".join(line + b"\n" for line in out), b""
 
 
 if __name__ == "__main__":
-    status, out, fault = answer(sys.argv[1], Path(sys.argv[2]).read_bytes())
+    given = sys.stdin.buffer.read() if sys.argv[1] == "run" else b""
+    status, out, fault = answer(sys.argv[1:], Path(sys.argv[2]).read_bytes(), given)
     sys.stdout.buffer.write(out)
     sys.stderr.buffer.write(fault)
     sys.exit(status)

@@ -45,8 +45,8 @@ def wanted(folder, room):
     if not (folder / "defined").exists():
         return stored
     text = os.path.expandvars(content(folder, "defined").decode().strip())
-    command = next(iter(arguments(folder)), b"start").decode()
-    defined = definitions.answer(command, (room / text).read_bytes())
+    words = [word.decode() for word in arguments(folder)] or ["start"]
+    defined = definitions.answer(words, (room / text).read_bytes(), content(folder, "stdin"))
     if any((folder / name).exists() for name in ("out", "err")) and stored != defined:
         raise ValueError("what is stored as wanted is not the defined answer")
     return defined

@@ -8,9 +8,6 @@ pub const EMPTY_RULE: &str = "%% S: ;";
 /// One sentence, of one token.
 pub const ONE_TOKEN: &str = "%start S %% S: 'a';";
 
-/// Names of tokens in which stand Greek letters, blanks, quotes and a backslash.
-pub const ODD_NAMES: &str = "%% S: 'λόγος' 'a \"b' \"it's\" '\\';";
-
 /// Pager's example, in which lookaheads go round through `X`.
 pub const PAGERS_EXAMPLE: &str =
     "%start X %% X : 'a' Y 'd' | 'a' Z 'c' | 'a' T | 'b' Y 'e' | 'b' Z 'd' | 'b' T; \

@@ -1,0 +1,79 @@
+"""Runs of the machine that a grammar's table drives, worked out from the definitions of docs/FORMATS.md and not by the
+program."""
+
+import re
+
+from tables import complete
+
+
+def precedence(grammar, prod):
+    """The level and kind of the last token of the production's body, or None."""
+    tokens = [it for it in grammar.prods[prod][1] if not isinstance(it, bytes)]
+    return grammar.levelled.get(tokens[-1]) if tokens else None
+
+
+def takes_shift(token, prod):
+    """Whether the shift wins against the reduction, by their precedences; None where neither does."""
+    if token is None or prod is None:
+        return True
+    if token[0] != prod[0]:
+        return token[0] > prod[0]
+    return {b"%right": True, b"%left": False, b"%nonassoc": None}[token[1]]
+
+
+def cell(grammar, state, token):
+    """What the state does on the token: a word, and a state or a production where it shifts or reduces."""
+    start = len(grammar.prods) - 1
+    prods = [prod for prod, looks in complete(grammar, state).items() if looks >> token & 1]
+    reductions = [prod for prod in prods if prod != start]
+    target = state.edges.get(token)
+    if target is None and not reductions:
+        return ("accept", None) if start in prods else ("error", None)
+    if target is None:
+        return "reduce", min(reductions)
+    wins = not reductions or takes_shift(grammar.levelled.get(token), precedence(grammar, min(reductions)))
+    return {True: ("shift", target), False: ("reduce", reductions and min(reductions)), None: ("error", None)}[wins]
+
+
+def run(grammar, states, text, steps):
+    """How the run on the text comes out, as `accept`, `reject` or `unfinished`, its steps, and its reductions."""
+    stack, used, reductions = [0], 0, []
+    for step in range(steps):
+        token = text[used] if used < len(text) else len(grammar.tokens)
+        does, what = cell(grammar, states[stack[-1]], token)
+        if does == "shift":
+            stack.append(what)
+            used += 1
+        elif does == "reduce":
+            rule, body = grammar.prods[what]
+            del stack[len(stack) - len(body) :]
+            stack.append(states[stack[-1]].edges[rule])
+            reductions.append(what)
+        else:
+            return "accept" if does == "accept" else "reject", step + 1, reductions
+    return "unfinished", steps, reductions
+
+
+def place(grammar, prod):
+    """A production as its rule, and its place among the productions of that rule."""
+    rule = grammar.prods[prod][0]
+    return b"%b.%d" % (rule, sum(it[0] == rule for it in grammar.prods[:prod]))
+
+
+def line_answer(grammar, states, line, steps):
+    """The answer to a line."""
+    words = [word for word in re.split(rb"[ \t]", line) if word]
+    for word in words:
+        if word not in grammar.tokens:
+            return b"unknown " + word
+    verdict, made, reductions = run(grammar, states, [grammar.tokens.index(word) for word in words], steps)
+    if verdict == "accept":
+        return b"accept %d:" % made + b"".join(b" " + place(grammar, prod) for prod in reductions)
+    return b"%b %d" % (verdict.encode(), made)
+
+
+def answers(grammar, states, text, steps):
+    """The answer to each line of the text."""
+    *whole, rest = text.split(b"\n")
+    lines = [line.removesuffix(b"\r") for line in whole] + ([rest] if rest else [])
+    return [line_answer(grammar, states, line, steps) for line in lines]

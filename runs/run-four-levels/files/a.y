@@ -1,0 +1,1 @@
+%right '=' %left '+' %left '*' %nonassoc '~' %% Expr : Expr '+' Expr | Expr '*' Expr | Expr '=' Expr | Expr '~' Expr | 'id' ;
