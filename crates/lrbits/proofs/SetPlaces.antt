@@ -3,7 +3,7 @@ use Rattle.std.proofs.Common.{◌≡◌, ℕ, zero, suc, ◌+◌, ◌-◌, ◌<�
 use Rattle.std.proofs.lemmas.List.{get_or-take, get_or-drop}
 use Rattle.std.specs.List.Sorted.{IsStrictlyIncreasing}
 use Rattle.lrbits.specs.Bits.{bit, places, set_places}
-use Rattle.std.proofs.Common.{◌≡◌, ℕ, zero, suc, ◌+◌, ◌-◌, ◌<◌, ◌≤◌, Bool, true, false, List, [], ◌∷◌, length, drop, get_or, drop-cons, refl, sym, ◌∙◌, arith, add-one}
+use Rattle.std.proofs.Common.{◌≡◌, ℕ, zero, suc, ◌+◌, ◌-◌, ◌<◌, ◌≤◌, Bool, true, false, List, [], ◌∷◌, length, drop, get_or, refl, sym, ◌∙◌, arith, add-one}
 use Rattle.lrbits.specs.Bits.{bit, set_places}
 
 -- what stands in `places` is the place of a set bit
@@ -70,11 +70,3 @@ set_places_members v from to h i = (λ c. set_there v from to i c, λ s. stands_
 pub set_places_upwards : (v : List Bool) (from to : ℕ) → IsStrictlyIncreasing (set_places v from to)
 set_places_upwards v from to k h =
     rw add-one (places_upwards from (take (to - from) (drop from v)) k (omega (arith, h)))
-
--- the first bit of a range is not set
-pub places-skip : (v : List Bool) (i j : ℕ) → i < j → j ≤ length v → get_or v i false ≡ false → set_places v (i + 1) j ≡ set_places v i j
-places-skip v i j h e s =
-    let n : j - i ≡ suc (j - (i + 1)) = omega arith in
-    let b : i < length v = omega arith in
-    let d : drop i v ≡ false ∷ drop (i + 1) v = rw (add-one, drop-cons v i false, s) refl in
-    rw (n, d) refl
