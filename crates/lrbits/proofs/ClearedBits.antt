@@ -17,16 +17,19 @@ module _ (n : ℕ) (ws : List ℕ) (count : length ws ≡ (n + 63) / 64) where
   whole_unused h i l = past_words ws i (omega arith)
 
   module _ (part : 0 < n % 64) where
-    pub cleared_used : (i : ℕ) → i < n → word_bit (set ws (n / 64) (bit_and (get_or ws (n / 64) 0) (1 * 2 ^ (n % 64) % 2 ^ 64 - 1))) i ≡ word_bit ws i
+    pub cleared_used : (i : ℕ) → i < n
+        → word_bit (set ws (n / 64) (bit_and (get_or ws (n / 64) 0) (1 * 2 ^ (n % 64) % 2 ^ 64 - 1))) i ≡ word_bit ws i
     cleared_used i h =
         ⊎_elim
-        (λ (e : i / 64 ≡ n / 64). bit_of_set ws (n / 64) (bit_and (get_or ws (n / 64) 0) (1 * 2 ^ (n % 64) % 2 ^ 64 - 1)) i (omega arith) e ∙ low_same (get_or ws (n / 64) 0) (n % 64) (i % 64) (omega arith) (omega arith) ∙ rw e refl)
+        (λ (e : i / 64 ≡ n / 64). bit_of_set ws (n / 64) (bit_and (get_or ws (n / 64) 0) (1 * 2 ^ (n % 64) % 2 ^ 64 - 1)) i
+        (omega arith) e ∙ low_same (get_or ws (n / 64) 0) (n % 64) (i % 64) (omega arith) (omega arith) ∙ rw e refl)
         (λ (d : i / 64 ≡ n / 64 → ⊥). bit_of_other ws (n / 64) _ i d)
         (cases_eq (i / 64) (n / 64))
 
     pub cleared_unused : AreUnusedZero n (set ws (n / 64) (bit_and (get_or ws (n / 64) 0) (1 * 2 ^ (n % 64) % 2 ^ 64 - 1)))
     cleared_unused i h =
         ⊎_elim
-        (λ (e : i / 64 ≡ n / 64). bit_of_set ws (n / 64) (bit_and (get_or ws (n / 64) 0) (1 * 2 ^ (n % 64) % 2 ^ 64 - 1)) i (omega arith) e ∙ low_unset (get_or ws (n / 64) 0) (n % 64) (i % 64) (omega arith) (omega arith))
+        (λ (e : i / 64 ≡ n / 64). bit_of_set ws (n / 64) (bit_and (get_or ws (n / 64) 0) (1 * 2 ^ (n % 64) % 2 ^ 64 - 1)) i
+        (omega arith) e ∙ low_unset (get_or ws (n / 64) 0) (n % 64) (i % 64) (omega arith) (omega arith))
         (λ (d : i / 64 ≡ n / 64 → ⊥). bit_of_other ws (n / 64) _ i d ∙ past_words ws i (omega arith))
         (cases_eq (i / 64) (n / 64))

@@ -6,10 +6,12 @@ use Rattle.lrbits.specs.Words.{in_word, word_bit, first_bits, Packs, AreUnusedZe
 use Rattle.lrbits.proofs.PackedBits.{first_bits_are}
 
 -- the bits of one word many times
-pub filled_bit : (m w : ℕ) (value : Bool) → ((i : ℕ) → i < 64 → in_word w i ≡ value) → (i : ℕ) → i / 64 < m → word_bit (replicate m w) i ≡ value
+pub filled_bit : (m w : ℕ) (value : Bool) → ((i : ℕ) → i < 64 → in_word w i ≡ value) → (i : ℕ) → i / 64 < m
+    → word_bit (replicate m w) i ≡ value
 filled_bit m w value h i l = rw (get_or-replicate m (i / 64) w 0 l) (h (i % 64) (omega arith))
 
-pub filled_list : (n : ℕ) (ws : List ℕ) (value : Bool) → ((i : ℕ) → i < n → word_bit ws i ≡ value) → first_bits n ws ≡ replicate n value
+pub filled_list : (n : ℕ) (ws : List ℕ) (value : Bool) → ((i : ℕ) → i < n → word_bit ws i ≡ value)
+    → first_bits n ws ≡ replicate n value
 filled_list n ws value h =
     first_bits_are n ws (replicate n value) (length-replicate n value) (λ i l. h i l ∙ sym (get_or-replicate n i value false l))
 

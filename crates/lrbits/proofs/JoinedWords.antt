@@ -20,14 +20,16 @@ abbrev pub IsChanged : List ℕ → List ℕ → ℕ → Type 0
 IsChanged ws vs i = (k : ℕ) × (k < i) × (get_or ws k 0 ≢ get_or vs k 0)
 
 module _ (ws vs other : List ℕ) (i : ℕ) where
-  pub joined_same : AreJoined ws vs other i → AreLeft ws vs i → bit_or (get_or ws i 0) (get_or other i 0) ≡ get_or ws i 0 → AreJoined ws vs other (i + 1)
+  pub joined_same : AreJoined ws vs other i → AreLeft ws vs i → bit_or (get_or ws i 0) (get_or other i 0) ≡ get_or ws i 0
+      → AreJoined ws vs other (i + 1)
   joined_same d l e k h =
       ⊎_elim
       (λ (q : k ≡ i). rw q (sym e ∙ rw (l i (omega arith)) refl))
       (λ (n : k ≡ i → ⊥). d k (omega arith))
       (cases_eq k i)
 
-  pub joined_set : AreJoined ws vs other i → AreLeft ws vs i → i < length ws → AreJoined (set ws i (bit_or (get_or ws i 0) (get_or other i 0))) vs other (i + 1)
+  pub joined_set : AreJoined ws vs other i → AreLeft ws vs i → i < length ws
+      → AreJoined (set ws i (bit_or (get_or ws i 0) (get_or other i 0))) vs other (i + 1)
   joined_set d l b k h =
       ⊎_elim
       (λ (q : k ≡ i). rw (q, get_or-set_same, l i (omega arith)) refl)
@@ -50,16 +52,24 @@ module _ (ws vs other : List ℕ) (i : ℕ) where
       (i, omega arith, λ e. n (sym (get_or-set_same ws i w 0 b) ∙ e ∙ sym (l i (omega arith))))
 
 -- after the last word
-pub joined_bits : (ws vs other : List ℕ) (i : ℕ) → AreJoined ws vs other i → length vs ≤ i → length ws ≡ length vs → length other ≡ length vs → (k : ℕ) → word_bit ws k ≡ (word_bit vs k || word_bit other k)
+pub joined_bits : (ws vs other : List ℕ) (i : ℕ) → AreJoined ws vs other i → length vs ≤ i → length ws ≡ length vs
+    → length other ≡ length vs → (k : ℕ) → word_bit ws k ≡ (word_bit vs k || word_bit other k)
 joined_bits ws vs other n d h e f k =
     ⊎_elim
     (λ (l : k / 64 < n). rw (d (k / 64) l) (in_or (get_or vs (k / 64) 0) (get_or other (k / 64) 0) (k % 64)))
-    (λ (l : n ≤ k / 64). rw (get_or_past ws (k / 64) 0 (omega arith), get_or_past vs (k / 64) 0 (omega arith), get_or_past other (k / 64) 0 (omega arith)) (rw in_zero refl))
+    (λ (l : n ≤ k / 64). rw (
+      get_or_past ws (k / 64) 0 (omega arith),
+      get_or_past vs (k / 64) 0 (omega arith),
+      get_or_past other (k / 64) 0
+          (omega arith),
+    ) (rw in_zero refl))
     (cases_lt (k / 64) n)
 
 -- a word that is another than it was has another bit
-pub changed_bits : (ws vs other : List ℕ) (i : ℕ) → AreJoined ws vs other i → ((k : ℕ) → get_or other k 0 < 2 ^ 64) → IsChanged ws vs i → SameBits ws vs → ⊥
+pub changed_bits : (ws vs other : List ℕ) (i : ℕ) → AreJoined ws vs other i → ((k : ℕ) → get_or other k 0 < 2 ^ 64)
+    → IsChanged ws vs i → SameBits ws vs → ⊥
 changed_bits ws vs other i d f p h =
     let k = p.0 in
     let j = d k p.1 in
-    p.2 (j ∙ same_or (get_or vs k 0) (get_or other k 0) (f k) (λ b l. ap (λ w. in_word w b) (sym j) ∙ bits_of_same ws vs h k b l))
+    p.2 (j ∙ same_or (get_or vs k 0) (get_or other k 0) (f k) (λ b l. ap (λ w. in_word w b) (sym j)
+    ∙ bits_of_same ws vs h k b l))

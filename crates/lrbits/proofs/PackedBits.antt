@@ -39,26 +39,32 @@ bit_packed n ws u i =
     (cases_lt i n)
 
 -- a list is that of the first bits, where it has their number and each of them
-pub first_bits_are : (n : ℕ) (ws : List ℕ) (v : List Bool) → length v ≡ n → ((i : ℕ) → i < n → word_bit ws i ≡ get_or v i false) → first_bits n ws ≡ v
+pub first_bits_are : (n : ℕ) (ws : List ℕ) (v : List Bool) → length v ≡ n
+    → ((i : ℕ) → i < n → word_bit ws i ≡ get_or v i false) → first_bits n ws ≡ v
 first_bits_are n ws v e h =
-    ext_get_or false (first_bits n ws) v (length-first_bits n ws ∙ sym e) (λ i l. bit_below n ws i (omega (arith, length-first_bits n ws)) ∙ h i (omega (arith, length-first_bits n ws)))
+    ext_get_or false (first_bits n ws) v (length-first_bits n ws
+    ∙ sym e) (λ i l. bit_below n ws i (omega (arith, length-first_bits n ws)) ∙ h i (omega (arith, length-first_bits n ws)))
 
 -- the bits of one word, where all bits are the same
-pub bits_of_same : (ws vs : List ℕ) → SameBits ws vs → (k i : ℕ) → i < 64 → in_word (get_or ws k 0) i ≡ in_word (get_or vs k 0) i
+pub bits_of_same : (ws vs : List ℕ) → SameBits ws vs → (k i : ℕ) → i < 64
+    → in_word (get_or ws k 0) i ≡ in_word (get_or vs k 0) i
 bits_of_same ws vs h k i b =
     let q : (64 * k + i) / 64 ≡ k = omega arith in
     let r : (64 * k + i) % 64 ≡ i = omega arith in
     rw (q, r) at (h (64 * k + i))
 
 -- words with the same bits are equal
-pub same_words : (ws vs : List ℕ) → length ws ≡ length vs → ((k : ℕ) → get_or ws k 0 < 2 ^ 64) → ((k : ℕ) → get_or vs k 0 < 2 ^ 64) → SameBits ws vs → ws ≡ vs
-same_words ws vs e f g h = ext_get_or 0 ws vs e (λ k l. same_word (get_or ws k 0) (get_or vs k 0) (f k) (g k) (bits_of_same ws vs h k))
+pub same_words : (ws vs : List ℕ) → length ws ≡ length vs → ((k : ℕ) → get_or ws k 0 < 2 ^ 64)
+    → ((k : ℕ) → get_or vs k 0 < 2 ^ 64) → SameBits ws vs → ws ≡ vs
+same_words ws vs e f g h = ext_get_or 0 ws vs e
+    (λ k l. same_word (get_or ws k 0) (get_or vs k 0) (f k) (g k) (bits_of_same ws vs h k))
 
 -- lists of first bits are equal where the words have the same bits, and only there
 pub same_lists : (n : ℕ) (ws vs : List ℕ) → SameBits ws vs → first_bits n ws ≡ first_bits n vs
 same_lists n ws vs h = first_bits_are n ws (first_bits n vs) (length-first_bits n vs) (λ i l. h i ∙ sym (bit_below n vs i l))
 
-pub same_from_lists : (n : ℕ) (ws vs : List ℕ) → AreUnusedZero n ws → AreUnusedZero n vs → first_bits n ws ≡ first_bits n vs → SameBits ws vs
+pub same_from_lists : (n : ℕ) (ws vs : List ℕ) → AreUnusedZero n ws → AreUnusedZero n vs
+    → first_bits n ws ≡ first_bits n vs → SameBits ws vs
 same_from_lists n ws vs u t e i = sym (bit_packed n ws u i) ∙ ap (λ v. get_or v i false) e ∙ bit_packed n vs t i
 
 -- a bit of the word that was written
@@ -69,16 +75,20 @@ pub bit_of_other : (ws : List ℕ) (k w i : ℕ) → i / 64 ≢ k → word_bit (
 bit_of_other ws k w i n = rw (get_or-set_other ws k (i / 64) w 0 n) refl
 
 -- the list of joined words is the union
-pub joined_list : (n : ℕ) (ws vs other : List ℕ) → ((i : ℕ) → word_bit ws i ≡ (word_bit vs i || word_bit other i)) → first_bits n ws ≡ union (first_bits n vs) (first_bits n other)
+pub joined_list : (n : ℕ) (ws vs other : List ℕ) → ((i : ℕ) → word_bit ws i ≡ (word_bit vs i || word_bit other i))
+    → first_bits n ws ≡ union (first_bits n vs) (first_bits n other)
 joined_list n ws vs other h =
-    first_bits_are n ws (union (first_bits n vs) (first_bits n other)) (length-union (first_bits n vs) (first_bits n other) ∙ length-first_bits n vs) (λ i l. h i ∙ sym (both i l))
+    first_bits_are n ws (union (first_bits n vs) (first_bits n other)) (length-union (first_bits n vs) (first_bits n other)
+    ∙ length-first_bits n vs) (λ i l. h i ∙ sym (both i l))
   where
     both : (i : ℕ) → i < n → get_or (union (first_bits n vs) (first_bits n other)) i false ≡ (word_bit vs i || word_bit other i)
     both i l =
-        bit_of_union (first_bits n vs) (first_bits n other) (length-first_bits n other ∙ sym (length-first_bits n vs)) i ∙ rw (bit_below n vs i l, bit_below n other i l) refl
+        bit_of_union (first_bits n vs) (first_bits n other) (length-first_bits n other ∙ sym (length-first_bits n vs)) i
+        ∙ rw (bit_below n vs i l, bit_below n other i l) refl
 
 -- joined words have no unused bit
-pub joined_packs : (n : ℕ) (ws vs other : List ℕ) → length ws ≡ length vs → ((i : ℕ) → word_bit ws i ≡ (word_bit vs i || word_bit other i)) → Packs n vs → AreUnusedZero n other → Packs n ws
+pub joined_packs : (n : ℕ) (ws vs other : List ℕ) → length ws ≡ length vs
+    → ((i : ℕ) → word_bit ws i ≡ (word_bit vs i || word_bit other i)) → Packs n vs → AreUnusedZero n other → Packs n ws
 joined_packs n ws vs other e h p u = record {
   count = e ∙ p.count;
   unused = λ i l. h i ∙ rw (p.unused i l, u i l) refl;
@@ -97,9 +107,11 @@ pub same_items : {A : Type 0} (v : Vec ℕ A) (ws : List ℕ) → length ws ≡ 
 same_items v ws e = with_items_is v ws (omega (arith, v.ok.0))
 
 -- lists of one length are those of as many bits
-pub one_length : (n m : ℕ) (ws vs : List ℕ) (v w : List Bool) → first_bits n ws ≡ v → first_bits m vs ≡ w → length w ≡ length v → m ≡ n
+pub one_length : (n m : ℕ) (ws vs : List ℕ) (v w : List Bool) → first_bits n ws ≡ v → first_bits m vs ≡ w
+    → length w ≡ length v → m ≡ n
 one_length n m ws vs v w a b e = omega (arith, view_length n ws v a, view_length m vs w b)
 
 -- each bit of the list, past its end too
-pub view_bit : (n : ℕ) (ws : List ℕ) (v : List Bool) → first_bits n ws ≡ v → AreUnusedZero n ws → (i : ℕ) → get_or v i false ≡ word_bit ws i
+pub view_bit : (n : ℕ) (ws : List ℕ) (v : List Bool) → first_bits n ws ≡ v → AreUnusedZero n ws → (i : ℕ)
+    → get_or v i false ≡ word_bit ws i
 view_bit n ws v e u i = ap (λ x. get_or x i false) (sym e) ∙ bit_packed n ws u i

@@ -7,7 +7,8 @@ use Rattle.std.proofs.Common.{◌≡◌, ℕ, zero, suc, ◌+◌, ◌-◌, ◌<�
 use Rattle.lrbits.specs.Bits.{bit, set_places}
 
 -- what stands in `places` is the place of a set bit
-pub places_set : (n : ℕ) (v : List Bool) (i k : ℕ) → k < length (places n v) → get_or (places n v) k i ≡ i → (j : ℕ) × (i ≡ n + j) × (get_or v j false ≡ true)
+pub places_set : (n : ℕ) (v : List Bool) (i k : ℕ) → k < length (places n v) → get_or (places n v) k i ≡ i
+    → (j : ℕ) × (i ≡ n + j) × (get_or v j false ≡ true)
 places_set n [] i k h e = absurd (omega arith)
 places_set n (true ∷ v) i zero h e = (0, omega (arith, e), refl)
 places_set n (true ∷ v) i (suc k) h e =
@@ -36,7 +37,8 @@ places_from n (true ∷ v) (suc k) h = omega (arith, places_from (n + 1) v k (om
 places_from n (false ∷ v) k h = omega (arith, places_from (n + 1) v k h)
 
 -- each place is below the next
-pub places_upwards : (n : ℕ) (v : List Bool) (k : ℕ) → suc k < length (places n v) → slice_index (places n v) k < slice_index (places n v) (suc k)
+pub places_upwards : (n : ℕ) (v : List Bool) (k : ℕ) → suc k < length (places n v)
+    → slice_index (places n v) k < slice_index (places n v) (suc k)
 places_upwards n [] k h = absurd (omega arith)
 places_upwards n (true ∷ v) zero h = omega (arith, places_from (n + 1) v 0 (omega arith))
 places_upwards n (true ∷ v) (suc k) h = places_upwards (n + 1) v k (omega arith)
@@ -52,7 +54,8 @@ take_set (suc m) (a ∷ v) (suc j) s =
     (omega (arith, p.0), p.1)
 
 -- what the set places of a range are
-pub set_places_members : (v : List Bool) (from to : ℕ) → from ≤ to → (i : ℕ) → Contains (set_places v from to) i ↔ ((from ≤ i) × (i < to) × IsTrue (bit v i))
+pub set_places_members : (v : List Bool) (from to : ℕ) → from ≤ to → (i : ℕ)
+    → Contains (set_places v from to) i ↔ ((from ≤ i) × (i < to) × IsTrue (bit v i))
 set_places_members v from to h i = (λ c. set_there v from to i c, λ s. stands_there v from to i h s)
   where
     set_there : (v : List Bool) (from to i : ℕ) → Contains (set_places v from to) i → (from ≤ i) × (i < to) × IsTrue (bit v i)
@@ -61,10 +64,13 @@ set_places_members v from to h i = (λ c. set_there v from to i c, λ s. stands_
         let t = take_set (to - from) (drop from v) p.0 p.2 in
         (omega (arith, p.1), omega (arith, p.1, t.0), rw p.1 (sym (get_or-drop from v p.0 false) ∙ t.1))
 
-    stands_there : (v : List Bool) (from to i : ℕ) → from ≤ to → (from ≤ i) × (i < to) × IsTrue (bit v i) → Contains (set_places v from to) i
+    stands_there : (v : List Bool) (from to i : ℕ) → from ≤ to → (from ≤ i) × (i < to) × IsTrue (bit v i)
+        → Contains (set_places v from to) i
     stands_there v from to i h s =
         let e : i ≡ from + (i - from) = omega (arith, s.0) in
-        places_of_set from (take (to - from) (drop from v)) i (i - from) e (get_or-take (to - from) (drop from v) (i - from) false (omega (arith, s.0, s.1)) ∙ get_or-drop from v (i - from) false ∙ rw (← e) s.2)
+        places_of_set from (take (to - from) (drop from v)) i (i - from) e
+        (get_or-take (to - from) (drop from v) (i - from) false (omega (arith, s.0, s.1))
+        ∙ get_or-drop from v (i - from) false ∙ rw (← e) s.2)
 
 -- the set places of a range ascend
 pub set_places_upwards : (v : List Bool) (from to : ℕ) → IsStrictlyIncreasing (set_places v from to)

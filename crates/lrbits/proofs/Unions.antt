@@ -17,7 +17,8 @@ union_same (true ∷ v) = ap (λ x. true ∷ x) (union_same v)
 union_same (false ∷ v) = ap (λ x. false ∷ x) (union_same v)
 
 -- a set bit of a union is one of either vector
-pub union_bit : (v w : List Bool) (i : ℕ) → get_or (union v w) i false ≡ true → (get_or v i false ≡ true) ⊎ (get_or w i false ≡ true)
+pub union_bit : (v w : List Bool) (i : ℕ) → get_or (union v w) i false ≡ true
+    → (get_or v i false ≡ true) ⊎ (get_or w i false ≡ true)
 union_bit [] w i h = inl h
 union_bit (a ∷ v) [] i h = inl h
 union_bit (true ∷ v) (b ∷ w) zero h = inl refl
@@ -25,7 +26,8 @@ union_bit (false ∷ v) (b ∷ w) zero h = inr h
 union_bit (a ∷ v) (b ∷ w) (suc i) h = union_bit v w i h
 
 -- a set bit of the second vector is set in the union
-pub union_bit_second : (v w : List Bool) (i : ℕ) → length w ≡ length v → get_or w i false ≡ true → get_or (union v w) i false ≡ true
+pub union_bit_second : (v w : List Bool) (i : ℕ) → length w ≡ length v → get_or w i false ≡ true
+    → get_or (union v w) i false ≡ true
 union_bit_second [] [] i e h = h
 union_bit_second [] (b ∷ w) i e h = absurd (omega arith)
 union_bit_second (a ∷ v) [] i e h = cc

@@ -75,7 +75,9 @@ unfolding in_word
 clear_other w k i h b n = rw (bit_at_clear_other w64 w k h i b n) refl
 
 -- the lowest bit of a word that is not 0
-pub lowest : (w : ℕ) → 0 < w → w < 2 ^ 64 → (trailing_zeros w64 w < 64) × (in_word w (trailing_zeros w64 w) ≡ true) × ((i : ℕ) → i < trailing_zeros w64 w → in_word w i ≡ false)
+pub lowest : (w : ℕ) → 0 < w → w < 2 ^ 64
+    → (trailing_zeros w64 w < 64) × (in_word w (trailing_zeros w64 w) ≡ true) ×
+    ((i : ℕ) → i < trailing_zeros w64 w → in_word w i ≡ false)
 lowest w h b =
     let l = bit_at-trailing_zeros w64 w h b in
     (l.0, in_one w _ l.1, λ i k. out_zero w i (l.2 i k))
@@ -113,21 +115,25 @@ power k h =
 -- `w & (MAX << k)`
 pub high_unset : (w k i : ℕ) → k < 64 → i < k → in_word (bit_and w ((2 ^ 64 - 1) * 2 ^ k % 2 ^ 64)) i ≡ false
 high_unset w k i h l =
-    let m : in_word ((2 ^ 64 - 1) * 2 ^ k % 2 ^ 64) i ≡ false = out_zero ((2 ^ 64 - 1) * 2 ^ k % 2 ^ 64) i (rw (ones_shl 64 k (omega arith)) (bit_at_mask_below k 64 i l)) in
+    let m : in_word ((2 ^ 64 - 1) * 2 ^ k % 2 ^ 64) i ≡ false = out_zero ((2 ^ 64 - 1) * 2 ^ k % 2 ^ 64) i
+    (rw (ones_shl 64 k (omega arith)) (bit_at_mask_below k 64 i l)) in
     in_and w ((2 ^ 64 - 1) * 2 ^ k % 2 ^ 64) i ∙ and_right (in_word w i) (in_word ((2 ^ 64 - 1) * 2 ^ k % 2 ^ 64) i) m
 
 pub high_same : (w k i : ℕ) → k < 64 → k ≤ i → i < 64 → in_word (bit_and w ((2 ^ 64 - 1) * 2 ^ k % 2 ^ 64)) i ≡ in_word w i
 high_same w k i h l b =
-    let m : in_word ((2 ^ 64 - 1) * 2 ^ k % 2 ^ 64) i ≡ true = in_one ((2 ^ 64 - 1) * 2 ^ k % 2 ^ 64) i (rw (ones_shl 64 k (omega arith)) (bit_at_mask_inside k 64 i l b)) in
+    let m : in_word ((2 ^ 64 - 1) * 2 ^ k % 2 ^ 64) i ≡ true = in_one ((2 ^ 64 - 1) * 2 ^ k % 2 ^ 64) i
+    (rw (ones_shl 64 k (omega arith)) (bit_at_mask_inside k 64 i l b)) in
     in_and w ((2 ^ 64 - 1) * 2 ^ k % 2 ^ 64) i ∙ and_with (in_word w i) (in_word ((2 ^ 64 - 1) * 2 ^ k % 2 ^ 64) i) m
 
 -- `w & ((1 << k) - 1)`
 pub low_same : (w k i : ℕ) → k < 64 → i < k → in_word (bit_and w (1 * 2 ^ k % 2 ^ 64 - 1)) i ≡ in_word w i
 low_same w k i h l =
-    let m : in_word (1 * 2 ^ k % 2 ^ 64 - 1) i ≡ true = in_one (1 * 2 ^ k % 2 ^ 64 - 1) i (rw (power k h) (bit_at_ones k i l)) in
+    let m : in_word (1 * 2 ^ k % 2 ^ 64 - 1) i ≡ true = in_one (1 * 2 ^ k % 2 ^ 64 - 1) i
+    (rw (power k h) (bit_at_ones k i l)) in
     in_and w (1 * 2 ^ k % 2 ^ 64 - 1) i ∙ and_with (in_word w i) (in_word (1 * 2 ^ k % 2 ^ 64 - 1) i) m
 
 pub low_unset : (w k i : ℕ) → k < 64 → k ≤ i → in_word (bit_and w (1 * 2 ^ k % 2 ^ 64 - 1)) i ≡ false
 low_unset w k i h l =
-    let m : in_word (1 * 2 ^ k % 2 ^ 64 - 1) i ≡ false = out_zero (1 * 2 ^ k % 2 ^ 64 - 1) i (rw (power k h) (bit_at_ones_above k i l)) in
+    let m : in_word (1 * 2 ^ k % 2 ^ 64 - 1) i ≡ false = out_zero (1 * 2 ^ k % 2 ^ 64 - 1) i
+    (rw (power k h) (bit_at_ones_above k i l)) in
     in_and w (1 * 2 ^ k % 2 ^ 64 - 1) i ∙ and_right (in_word w i) (in_word (1 * 2 ^ k % 2 ^ 64 - 1) i) m

@@ -9,6 +9,7 @@ returns c =
     let e : c.fill.new.self ≡ replicate n c.word_of.result = c.fill.ensures.after (λ y h. h) in
     record {
       len = omega arith;
-      used = λ i h. c.clear_unused.ensures.used i h ∙ ap (λ ws. word_bit ws i) e ∙ filled_bit n c.word_of.result c.args.value c.word_of.ensures.bits i (omega arith);
+      used = λ i h. c.clear_unused.ensures.used i h ∙ ap (λ ws. word_bit ws i) e
+          ∙ filled_bit n c.word_of.result c.args.value c.word_of.ensures.bits i (omega arith);
       unused = c.clear_unused.ensures.unused;
     }

@@ -29,7 +29,8 @@ loop-i-preserved c =
     ]
 
 pub returns-clause-each : goal.returns-clause-each
-returns-clause-each c = joined_bits c.loop-i.words c.args.words.now c.args.other.now c.loop-i.i c.loop-i.invariant.joined (omega arith) (omega arith) (omega arith)
+returns-clause-each c = joined_bits c.loop-i.words c.args.words.now c.args.other.now c.loop-i.i c.loop-i.invariant.joined
+    (omega arith) (omega arith) (omega arith)
 
 pub returns-clause-changed : goal.returns-clause-changed
 returns-clause-changed c =

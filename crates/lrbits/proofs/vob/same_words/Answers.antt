@@ -14,5 +14,9 @@ other_fits c k = search rules
 
 pub returns : goal.returns
 returns c =
-    let d = slice_eq-Decides Decides-eqb c.args.words.now c.args.other.now c.eq.result c.eq.ensures in
-    (λ t i. ap (λ ws. word_bit ws i) (d.0 t), λ s. d.1 (same_words c.args.words.now c.args.other.now (sym c.requires) (λ k. Fits-lt-pow (words_fit c k)) (λ k. Fits-lt-pow (other_fits c k)) s))
+    let d = slice_eq-Decides Decides-eqb c.args.words.now c.args.other.now c.eq.result c.eq.ensures in (
+      λ t i. ap (λ ws. word_bit ws i) (d.0 t),
+      λ s. d.1
+          (same_words c.args.words.now c.args.other.now (sym c.requires) (λ k. Fits-lt-pow (words_fit c k))
+          (λ k. Fits-lt-pow (other_fits c k)) s),
+    )

@@ -10,5 +10,8 @@ returns-then-words-i-ne0 c =
     (λ _. shared_place c.args.words.now c.args.other.now c.loop-i.i c.if-words-i-ne0.true (Fits-lt-pow f), λ _. search rules)
 
 pub returns : goal.returns
-returns c =
-    (λ h. absurd (search rules), λ p. absurd (none_shared c.args.words.now c.args.other.now c.loop-i.i c.loop-i.invariant c.loop-i-test.false p.0 p.1 p.2))
+returns c = (
+  λ h. absurd (search rules),
+  λ p. absurd
+      (none_shared c.args.words.now c.args.other.now c.loop-i.i c.loop-i.invariant c.loop-i-test.false p.0 p.1 p.2),
+)

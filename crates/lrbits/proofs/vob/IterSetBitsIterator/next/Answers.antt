@@ -22,7 +22,8 @@ returns-then-self-le64-clause-steps c =
     let s = c.loop-self.self-inside in
     let m = c.loop-self.invariant in
     let z : s.word ≡ 0 = omega arith in
-    let n : places_left s.words.now s.word s.base s.end ≡ [] = rw z (no_word s.words.now s.base s.end m.whole m.within (omega arith)) in
+    let n : places_left s.words.now s.word s.base s.end ≡ [] = rw z
+    (no_word s.words.now s.base s.end m.whole m.within (omega arith)) in
     (sym c.self.view_is ∙ sym m.same ∙ n, n)
 
 -- the item is the first of those that are left
@@ -35,8 +36,10 @@ gives c =
     let fits : s.word < 2 ^ 64 = Fits-lt-pow known in
     let i : c.args.self.now ≡ places_left s.words.now s.word s.base s.end = sym c.self.view_is ∙ sym m.same in
     elim c.if-i-self.branch [
-      | then-i-self w ↦ rw w.result-is (i ∙ lowest_place s.words.now s.base s.end m.whole m.within s.word some fits w.if-i-self.true)
-      | else-i-self w ↦ let p = past_end s.words.now s.base s.end m.whole m.within s.word some fits w.if-i-self.false in rw w.result-is (i ∙ p.0, p.1)
+      | then-i-self w ↦ rw w.result-is (i
+          ∙ lowest_place s.words.now s.base s.end m.whole m.within s.word some fits w.if-i-self.true)
+      | else-i-self w ↦ let p = past_end s.words.now s.base s.end m.whole m.within s.word some fits w.if-i-self.false in rw
+          w.result-is (i ∙ p.0, p.1)
     ]
 
 pub returns-clause-steps : goal.returns-clause-steps

@@ -7,7 +7,9 @@ invariant-loop-self l = record {
   order : l.self-inside.base ≤ l.self-inside.end;
   whole : l.self-inside.base % 64 ≡ 0;
   within : l.self-inside.end ≤ 64 * length l.self-inside.words.now;
-  same : places_left l.self-inside.words.now l.self-inside.word l.self-inside.base l.self-inside.end ≡ places_left l.initial.self-inside.words.now l.initial.self-inside.word l.initial.self-inside.base l.initial.self-inside.end;
+  same : places_left l.self-inside.words.now l.self-inside.word l.self-inside.base l.self-inside.end
+      ≡ places_left l.initial.self-inside.words.now l.initial.self-inside.word
+      l.initial.self-inside.base l.initial.self-inside.end;
 }
 
 abbrev pub decreases-loop-self : goal.decreases-loop-self

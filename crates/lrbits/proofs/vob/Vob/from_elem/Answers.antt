@@ -21,8 +21,12 @@ module _ (c : After-fill_words) where
 pub invariant_of-result : goal.invariant_of-result
 invariant_of-result c =
     let a = (goal.at.invariant_of-result c).After-fill_words in
-    rw (stored a) (filled_packs c.args.len c.fill_words.new.words (many a ∙ count (goal.at.invariant_of-result c).After-as_mut_slice) c.fill_words.ensures.unused)
+    rw (stored a) (filled_packs c.args.len c.fill_words.new.words (many a
+    ∙ count (goal.at.invariant_of-result c).After-as_mut_slice) c.fill_words.ensures.unused)
 
 pub returns : goal.returns
 returns c =
-    record { bits = rw (stored (goal.at.returns c).After-fill_words) (filled_list c.args.len c.fill_words.new.words c.args.value c.fill_words.ensures.used) }
+    record {
+      bits = rw (stored (goal.at.returns c).After-fill_words)
+          (filled_list c.args.len c.fill_words.new.words c.args.value c.fill_words.ensures.used);
+    }

@@ -14,5 +14,6 @@ pub returns : goal.returns
 returns c =
     let ws = c.self.inside.words.items in
     let b = below (goal.at.returns c).After-self in
-    let w = c.index.ensures ∙ get_or_default_zero ws (c.args.i / 64) c.index.result.now (omega (arith, b, c.self.invariant.count)) in
+    let w = c.index.ensures
+    ∙ get_or_default_zero ws (c.args.i / 64) c.index.result.now (omega (arith, b, c.self.invariant.count)) in
     record { value = rw (← c.self.view_is, bit_below c.self.inside.len ws c.args.i b, ← w) c.has_bit.ensures }

@@ -10,7 +10,13 @@ use Rattle.lrbits.proofs.vob.Vob.iter_set_bits.Goals.{After-as_slice, then-range
 
 pub index-requires : goal.index-requires
 index-requires c =
-    omega (arith, view_length c.self.inside.len c.self.inside.words.items c.args.self.now c.self.view_is, c.self.invariant.count, c.self.inside.words.ok.0)
+    omega (
+      arith,
+      view_length c.self.inside.len c.self.inside.words.items c.args.self.now
+          c.self.view_is,
+      c.self.invariant.count,
+      c.self.inside.words.ok.0,
+    )
 
 within : (c : After-as_slice) → c.args.range.end ≤ c.self.inside.len
 within c = omega (arith, view_length c.self.inside.len c.self.inside.words.items c.args.self.now c.self.view_is)
@@ -18,7 +24,10 @@ within c = omega (arith, view_length c.self.inside.len c.self.inside.words.items
 room : (c : After-as_slice) → c.self.inside.len ≤ 64 * length c.self.inside.words.items
 room c = omega (arith, c.self.invariant.count)
 
-left : (c : After-as_slice) → places_left c.self.inside.words.items c.if-range.word (c.args.range.start - c.args.range.start % 64) c.args.range.end ≡ set_places (first_bits c.self.inside.len c.self.inside.words.items) c.args.range.start c.args.range.end
+left : (c : After-as_slice)
+    → places_left c.self.inside.words.items c.if-range.word
+    (c.args.range.start - c.args.range.start % 64) c.args.range.end ≡ set_places
+    (first_bits c.self.inside.len c.self.inside.words.items) c.args.range.start c.args.range.end
 left c =
     let n = c.self.inside.len in
     let ws = c.self.inside.words.items in
@@ -26,9 +35,12 @@ left c =
     let to = c.args.range.end in
     elim c.if-range.branch [
       | then-range w ↦
-          let v : w.index.result.now ≡ get_or ws (from / 64) 0 = w.index.ensures ∙ get_or_default_zero ws (from / 64) w.index.result.now (omega (arith, within c, room c)) in
-          rw (w.word-is, v) (begin_word n ws from to (from - from % 64) refl c.requires.order (within c) (room c) w.if-range.true)
-      | else-range w ↦ rw w.word-is (begin_empty n ws from to (from - from % 64) refl c.requires.order (within c) (room c) w.if-range.false)
+          let v : w.index.result.now ≡ get_or ws (from / 64) 0 = w.index.ensures
+          ∙ get_or_default_zero ws (from / 64) w.index.result.now (omega (arith, within c, room c)) in
+          rw (w.word-is, v)
+          (begin_word n ws from to (from - from % 64) refl c.requires.order (within c) (room c) w.if-range.true)
+      | else-range w ↦ rw w.word-is
+          (begin_empty n ws from to (from - from % 64) refl c.requires.order (within c) (room c) w.if-range.false)
     ]
 
 pub invariant_of-result : goal.invariant_of-result

@@ -10,11 +10,23 @@ use Rattle.lrbits.proofs.vob.Vob.set.Goals.{After-has_bit}
 
 pub index-word-requires : goal.index-word-requires
 index-word-requires c =
-    omega (arith, view_length c.self.inside.len c.self.inside.words.items c.args.self.now c.self.view_is, c.self.invariant.count, c.self.inside.words.ok.0)
+    omega (
+      arith,
+      view_length c.self.inside.len c.self.inside.words.items c.args.self.now
+          c.self.view_is,
+      c.self.invariant.count,
+      c.self.inside.words.ok.0,
+    )
 
 pub index_mut-requires : goal.index_mut-requires
 index_mut-requires c =
-    omega (arith, view_length c.self.inside.len c.self.inside.words.items c.args.self.now c.self.view_is, c.self.invariant.count, c.self.inside.words.ok.0)
+    omega (
+      arith,
+      view_length c.self.inside.len c.self.inside.words.items c.args.self.now
+          c.self.view_is,
+      c.self.invariant.count,
+      c.self.inside.words.ok.0,
+    )
 
 module _ (c : After-has_bit) where
   within : c.args.i < c.self.inside.len
@@ -22,13 +34,17 @@ module _ (c : After-has_bit) where
 
   -- the word that is written over
   before : c.index-word.result.now ≡ get_or c.self.inside.words.items (c.args.i / 64) 0
-  before = c.index-word.ensures ∙ get_or_default_zero c.self.inside.words.items (c.args.i / 64) c.index-word.result.now (omega (arith, within, c.self.invariant.count))
+  before = c.index-word.ensures
+      ∙ get_or_default_zero c.self.inside.words.items (c.args.i / 64) c.index-word.result.now
+      (omega (arith, within, c.self.invariant.count))
 
-  others : (k : ℕ) → k < 64 → k ≢ c.args.i % 64 → in_word c.with_bit.result k ≡ in_word (get_or c.self.inside.words.items (c.args.i / 64) 0) k
+  others : (k : ℕ) → k < 64 → k ≢ c.args.i % 64
+      → in_word c.with_bit.result k ≡ in_word (get_or c.self.inside.words.items (c.args.i / 64) 0) k
   others = rw (← before) c.with_bit.ensures.kept
 
   tested : c.has_bit.result ≡ bit c.args.self.now c.args.i
-  tested = rw (← c.self.view_is, bit_below c.self.inside.len c.self.inside.words.items c.args.i within, ← before) c.has_bit.ensures
+  tested = rw
+      (← c.self.view_is, bit_below c.self.inside.len c.self.inside.words.items c.args.i within, ← before) c.has_bit.ensures
 
 -- whether two truth values differ
 differ : (a b : Bool) → IsTrue (not (beq a b)) ↔ (a ≢ b)
@@ -39,11 +55,14 @@ differ false false = (λ h. cc, λ n. absurd (n refl))
 
 pub invariant_of-self : goal.invariant_of-self
 invariant_of-self c =
-    written_packs c.self.inside.len c.self.inside.words.items c.args.i c.with_bit.result c.args.value c.self.invariant (within c) c.with_bit.ensures.written (others c)
+    written_packs c.self.inside.len c.self.inside.words.items c.args.i c.with_bit.result c.args.value c.self.invariant
+    (within c) c.with_bit.ensures.written (others c)
 
 pub returns-clause-after : goal.returns-clause-after
 returns-clause-after c =
-    rw (← c.self.view_is) (written_list c.self.inside.len c.self.inside.words.items c.args.i c.with_bit.result c.args.value c.self.invariant (within c) c.with_bit.ensures.written (others c))
+    rw (← c.self.view_is)
+    (written_list c.self.inside.len c.self.inside.words.items c.args.i c.with_bit.result c.args.value c.self.invariant
+    (within c) c.with_bit.ensures.written (others c))
 
 pub returns-clause-changed : goal.returns-clause-changed
 returns-clause-changed c = rw (← tested c) (differ c.has_bit.result c.args.value)

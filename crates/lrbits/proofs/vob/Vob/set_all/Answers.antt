@@ -18,9 +18,13 @@ module _ (c : After-fill_words) where
 pub invariant_of-self : goal.invariant_of-self
 invariant_of-self c =
     let a = (goal.at.invariant_of-self c).After-fill_words in
-    rw (stored a) (filled_packs c.self.inside.len c.fill_words.new.words (many a ∙ c.self.invariant.count) c.fill_words.ensures.unused)
+    rw (stored a) (filled_packs c.self.inside.len c.fill_words.new.words (many a
+    ∙ c.self.invariant.count) c.fill_words.ensures.unused)
 
 pub returns : goal.returns
 returns c =
     let n = view_length c.self.inside.len c.self.inside.words.items c.args.self.now c.self.view_is in
-    record { after = rw (n, stored (goal.at.returns c).After-fill_words) (filled_list c.self.inside.len c.fill_words.new.words c.args.value c.fill_words.ensures.used) }
+    record {
+      after = rw (n, stored (goal.at.returns c).After-fill_words)
+          (filled_list c.self.inside.len c.fill_words.new.words c.args.value c.fill_words.ensures.used);
+    }

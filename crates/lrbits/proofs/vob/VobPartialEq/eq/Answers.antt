@@ -12,20 +12,26 @@ decides : (c : After-same_words) → Decides c.same_words.result (c.args.self.no
 decides c =
     let v = c.self.inside in
     let w = c.other.inside in
-    words_decide v.len w.len v.words.items w.words.items c.args.self.now c.args.other.now c.same_words.result c.if-self-other.true c.self.invariant c.other.invariant c.self.view_is c.other.view_is (rw (← c.as_slice.ensures.value, ← c.as_slice-then-self-other.ensures.value) c.same_words.ensures)
+    words_decide v.len w.len v.words.items w.words.items c.args.self.now c.args.other.now c.same_words.result
+    c.if-self-other.true c.self.invariant c.other.invariant c.self.view_is c.other.view_is
+    (rw (← c.as_slice.ensures.value, ← c.as_slice-then-self-other.ensures.value) c.same_words.ensures)
 
 differs : (c : Else-self-other) → Decides (eqb c.self.inside.len c.other.inside.len) (c.args.self.now ≡ c.args.other.now)
 differs c =
     let v = c.self.inside in
     let w = c.other.inside in
-    lengths_decide v.len w.len v.words.items w.words.items c.args.self.now c.args.other.now c.if-self-other.false c.self.view_is c.other.view_is
+    lengths_decide v.len w.len v.words.items w.words.items c.args.self.now c.args.other.now c.if-self-other.false
+    c.self.view_is c.other.view_is
 
 pub same_words-requires : goal.same_words-requires
 same_words-requires c =
-    ap length c.as_slice-then-self-other.ensures.value ∙ same_count c.self.inside.len c.other.inside.len c.self.inside.words.items c.other.inside.words.items c.self.invariant c.other.invariant (sym c.if-self-other.true) ∙ ap length (sym c.as_slice.ensures.value)
+    ap length c.as_slice-then-self-other.ensures.value
+    ∙ same_count c.self.inside.len c.other.inside.len c.self.inside.words.items c.other.inside.words.items
+    c.self.invariant c.other.invariant (sym c.if-self-other.true) ∙ ap length (sym c.as_slice.ensures.value)
 
 pub returns-then-self-other-clause-answer : goal.returns-then-self-other-clause-answer
-returns-then-self-other-clause-answer c = same_from_decides c.same_words.result _ (decides c) (same_bits c.args.self.now c.args.other.now _ refl)
+returns-then-self-other-clause-answer c = same_from_decides c.same_words.result _ (decides c)
+    (same_bits c.args.self.now c.args.other.now _ refl)
 
 pub returns-then-self-other-clause-same : goal.returns-then-self-other-clause-same
 returns-then-self-other-clause-same c = decides c
