@@ -12,6 +12,8 @@ pub mod LeastContests
 -- cells, gotos and conflicts of one state
 pub mod RowTurns
 pub mod LeastListed
+pub mod FilledPlaces
+pub mod EdgeTargets
 pub mod ContestSteps
 pub mod ContestsOfState
 -- rows, state after state

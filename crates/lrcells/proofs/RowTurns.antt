@@ -3,10 +3,9 @@ use Rattle.std.proofs.Common.{◌≡◌, ℕ, ◌+◌, Bool, List, [], ◌∷◌
 use Rattle.std.specs.List.{range_with_len}
 use Rattle.std.proofs.lemmas.List.{map-append}
 use Rattle.std.proofs.lemmas.List.FromFn.{map-range_with_len_more}
-use Rattle.lrspec.specs.grammars.Grammar.{Grammar, Rule, Token}
+use Rattle.lrspec.specs.grammars.Grammar.{Grammar, Token}
 use Rattle.lrspec.specs.merging.Graph.{Graph, closed_of, edge}
 use Rattle.lrspec.specs.tables.Table.{Action, accepts_at, cell_by, cell_of, reductions}
-use Rattle.lrcells.specs.StoredActions.{goto_number}
 
 -- one cell more
 pub row_turn :
@@ -17,14 +16,9 @@ row_turn f old cells new i v before pushed here =
 
 -- the cell of a token, by what it is made of
 pub cell_found :
-    (g : Grammar) (h : Graph) (s t u : ℕ) (o : Option ℕ) (accepts : Bool) (a : Action) → u ≡ t → o ≡ edge h s (Token u)
+    (g : Grammar) (h : Graph) (s t u : ℕ) (o : Option ℕ) (accepts : Bool) (a : Action) → u ≡ t → o ≡ edge h s (Token t)
     → accepts ≡ accepts_at g (closed_of h s) t → a ≡ cell_by g u (reductions g (closed_of h s) t) o accepts → a ≡ cell_of g h s t
 cell_found g h s t u o accepts a same leads accepted cell = cell ∙ rw (leads, accepted, same) refl
-
--- the goto of a rule, by what it is made of
-pub goto_found :
-    (h : Graph) (s r u v : ℕ) (o : Option ℕ) → u ≡ r → o ≡ edge h s (Rule u) → v ≡ goto_number o → v ≡ goto_number (edge h s (Rule r))
-goto_found h s r u v o same leads number = number ∙ rw (leads, same) refl
 
 -- one element more, as a list of the places shows it
 pub mapped_turn :

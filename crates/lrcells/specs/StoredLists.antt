@@ -16,6 +16,10 @@ mix_of number e = (number e.0.0, number e.1.0, number e.2.0)
 abbrev pub least_of : {T : Type 0} → (T → ℕ) → List (Option (PIdx T)) → List (Option ℕ)
 least_of number ps = map (option_map (λ p. number p.0)) ps
 
+-- states to which edges lead by their numbers
+abbrev pub targets_of : {T : Type 0} → (T → ℕ) → List (Option (StIdx T)) → List (Option ℕ)
+targets_of number us = map (option_map (λ u. number u.0)) us
+
 -- both lists by numbers
 abbrev pub pairs_of : {T : Type 0} → (T → ℕ) → List (TIdx T × PIdx T × PIdx T × StIdx T) → List (ℕ × ℕ × ℕ × ℕ)
 pairs_of number es = map (pair_of number) es

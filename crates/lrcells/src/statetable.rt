@@ -19,7 +19,9 @@ mod conflicts;
 mod contests;
 mod iterators;
 mod numbers;
+mod places;
 mod rows;
+mod targets;
 
 use crate::sparsevec::SparseVec;
 use crate::statetable::accept_reduce::accept_reduce;

@@ -10,8 +10,9 @@ ghost use Rattle.lrcells.specs.StoredLists.{least_of};
 
 use crate::statetable::action::Action;
 use crate::statetable::numbers::{number_of_action, number_of_goto};
+use crate::statetable::targets::{rule_targets, token_targets};
 use lrgrammar::grammar::{AssocKind, YaccGrammar};
-use lrgrammar::idx::{IndexStorage, PIdx, RIdx, StIdx, Symbol, TIdx};
+use lrgrammar::idx::{IndexStorage, PIdx, StIdx, TIdx};
 use lrgraphs::stategraph::StateGraph;
 use lritems::itemset::Ctx;
 use std::alloc::AllocError;
@@ -86,11 +87,11 @@ pub(crate) fn push_actions<T: IndexStorage>(
     ensures row { OnOk result (cells.new.items
         ≡ cells.old.items ++ action_row grm.now sg.now (T.number stidx.0)) }
 {
+    let targets = token_targets(grm, sg, stidx)?;
     for token in 0..usize::from(grm.tokens_len()) {
         let tidx = TIdx(T::from_usize(token).unwrap());
-        let edge = sg.edge(stidx, Symbol::Token(tidx));
         let accepts = accepted.is_some_and(|ctx| ctx.get(token));
-        cells.push(number_of_action(cell(grm, tidx, least[token], edge, accepts)))?;
+        cells.push(number_of_action(cell(grm, tidx, least[token], targets[token], accepts)))?;
     }
     Ok(())
 }
@@ -105,9 +106,9 @@ pub(crate) fn push_gotos<T: IndexStorage>(
     ensures row { OnOk result (cells.new.items
         ≡ cells.old.items ++ goto_row grm.now sg.now (T.number stidx.0)) }
 {
-    for rule in 0..usize::from(grm.rules_len()) {
-        let ridx = RIdx(T::from_usize(rule).unwrap());
-        cells.push(number_of_goto(sg.edge(stidx, Symbol::Rule(ridx))))?;
+    let targets = rule_targets(grm, sg, stidx)?;
+    for target in &targets {
+        cells.push(number_of_goto(*target))?;
     }
     Ok(())
 }

@@ -1,6 +1,6 @@
 use Rattle.std.proofs.Common.{◌≡◌, ◌<◌, option_map, sym, ap, ◌∙◌, arith, rules}
-use Rattle.lrspec.specs.grammars.Grammar.{token_count}
-use Rattle.lrspec.specs.merging.Graph.{closed_of}
+use Rattle.lrspec.specs.grammars.Grammar.{Token, token_count}
+use Rattle.lrspec.specs.merging.Graph.{closed_of, edge}
 use Rattle.lrspec.specs.tables.Table.{bit_or_none, cell_of, reductions}
 use Rattle.lrcells.specs.StateRows.{first_of}
 use Rattle.lrcells.specs.StoredActions.{action_of, action_number}
@@ -29,6 +29,11 @@ cell-requires-clause-prod g c =
     (ap (option_map (λ p. number p.0)) c.index-least-token.is
     ∙ listed_at (option_map (λ p. number p.0)) (λ u. first_of (reductions grm a u)) c.args.least.now (token_count grm) c.requires.least t c.index-least-token.result l)
 
+pub index-requires : goal.index-requires
+index-requires g c =
+    let number = g.T.IndexStorage.number in
+    omega (arith, as_many (option_map (λ u. number u.0)) (λ t. edge c.args.sg.now (number c.args.stidx.0) (Token t)) c.in_ok-targets.targets.items (token_count c.args.grm.now) c.in_ok-targets.ensures)
+
 pub loop-token-preserved : goal.loop-token-preserved
 loop-token-preserved g c =
     let number = g.T.IndexStorage.number in
@@ -42,9 +47,12 @@ loop-token-preserved g c =
     let first : option_map (λ p. number p.0) c.index-least-token.result ≡ first_of (reductions grm a t) =
     ap (option_map (λ p. number p.0)) c.index-least-token.is
     ∙ listed_at (option_map (λ p. number p.0)) (λ u. first_of (reductions grm a u)) c.args.least.now (token_count grm) c.requires.least t c.index-least-token.result l in
+    let leads : option_map (λ u. number u.0) c.index.result.now ≡ edge h s (Token t) =
+    ap (option_map (λ u. number u.0)) c.index.ensures
+    ∙ listed_at (option_map (λ u. number u.0)) (λ u. edge h s (Token u)) c.in_ok-targets.targets.items (token_count grm) c.in_ok-targets.ensures t c.index.result.now l in
     let accepted : c.is_some_and-accepts.result ≡ bit_or_none (option_map (λ ctx. ctx.now) c.args.accepted) t = search rules in
     let found =
-    cell_found grm h s t (number c.unwrap.result) (option_map (λ u. number u.0) c.edge-edge.result) c.is_some_and-accepts.result (action_of number c.cell.result) same
-    c.edge-edge.ensures (accepted ∙ c.requires.accepts t) (c.cell.ensures (reductions grm a t) (sym first)) in
+    cell_found grm h s t (number c.unwrap.result) (option_map (λ u. number u.0) c.index.result.now) c.is_some_and-accepts.result (action_of number c.cell.result) same
+    leads (accepted ∙ c.requires.accepts t) (c.cell.ensures (reductions grm a t) (sym first)) in
     row_turn (λ u. action_number (cell_of grm h s u)) c.args.cells.now.items c.loop-token.cells.items c.push.new.self.items t c.number_of_action.result c.loop-token.invariant
     c.in_ok-push.ensures.items (c.number_of_action.ensures ∙ ap action_number found)

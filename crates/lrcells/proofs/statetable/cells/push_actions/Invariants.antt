@@ -8,4 +8,4 @@ abbrev pub invariant-loop-token : goal.invariant-loop-token
 invariant-loop-token g l =
     l.cells.items
     ≡ l.fn.cells.items
-    ++ map (λ t. action_number (cell_of l.grm l.sg (g.T.IndexStorage.number l.stidx.0) t)) (range_with_len 0 l.token-counter)
+    ++ map (λ t. action_number (cell_of l.grm l.sg (g.T.IndexStorage.number l.fn.stidx.0) t)) (range_with_len 0 l.token-counter)

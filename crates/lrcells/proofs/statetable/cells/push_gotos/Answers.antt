@@ -1,16 +1,35 @@
-use Rattle.std.proofs.Common.{option_map}
+use Rattle.std.proofs.Common.{◌≡◌, ◌<◌, ◌∙◌, length, option_map, ap, arith}
 use Rattle.lrspec.specs.grammars.Grammar.{Rule}
 use Rattle.lrspec.specs.merging.Graph.{edge}
 use Rattle.lrcells.specs.StoredActions.{goto_number}
-use Rattle.lrcells.proofs.RowTurns.{row_turn, goto_found}
+use Rattle.lrcells.specs.StoredLists.{targets_of}
+use Rattle.lrcells.proofs.LeastListed.{as_many, listed_at}
+use Rattle.lrcells.proofs.RowTurns.{row_turn}
 use Rattle.lrcells.proofs.statetable.cells.push_gotos.Goals as goal
 
-pub loop-rule-preserved : goal.loop-rule-preserved
-loop-rule-preserved g c =
+pub loop-target-preserved : goal.loop-target-preserved
+loop-target-preserved g c =
     let number = g.T.IndexStorage.number in
     let h = c.args.sg.now in
     let s = number c.args.stidx.0 in
-    let same = (rw c.unwrap.ensures at c.from_usize.ensures).1 in
-    row_turn (λ r. goto_number (edge h s (Rule r))) c.args.cells.now.items c.loop-rule.cells.items c.push.new.self.items c.loop-rule.rule c.number_of_goto.result c.loop-rule.invariant
-    c.in_ok-push.ensures.items
-    (goto_found h s c.loop-rule.rule (number c.unwrap.result) c.number_of_goto.result (option_map (λ u. number u.0) c.edge.result) same c.edge.ensures c.number_of_goto.ensures)
+    let n = length c.args.grm.now.rule_names in
+    let r = c.loop-target.target-index in
+    let targets = c.deref-target-items.result.now in
+    let made = ap (targets_of number) c.deref-target-items.ensures.value ∙ c.in_ok-targets.ensures in
+    let many : length targets ≡ n = as_many (option_map (λ u. number u.0)) (λ r. edge h s (Rule r)) targets n made in
+    let l : r < n = omega arith in
+    let target = listed_at (option_map (λ u. number u.0)) (λ r. edge h s (Rule r)) targets n made r c.target-item.result l in
+    row_turn (λ r. goto_number (edge h s (Rule r))) c.args.cells.now.items c.loop-target.cells.items c.push.new.self.items r c.number_of_goto.result c.loop-target.invariant
+    c.in_ok-push.ensures.items (c.number_of_goto.ensures ∙ ap goto_number (ap (option_map (λ u. number u.0)) c.target-item.is ∙ target))
+
+pub returns : goal.returns
+returns g c =
+    let number = g.T.IndexStorage.number in
+    let h = c.args.sg.now in
+    let s = number c.args.stidx.0 in
+    let n = length c.args.grm.now.rule_names in
+    let targets = c.deref-target-items.result.now in
+    let made = ap (targets_of number) c.deref-target-items.ensures.value ∙ c.in_ok-targets.ensures in
+    let many : length targets ≡ n = as_many (option_map (λ u. number u.0)) (λ r. edge h s (Rule r)) targets n made in
+    let all : c.loop-target.target-index ≡ n = omega arith in
+    record { row = rw (← all) c.loop-target.invariant }

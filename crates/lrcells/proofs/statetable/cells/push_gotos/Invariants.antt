@@ -5,8 +5,8 @@ use Rattle.lrspec.specs.merging.Graph.{edge}
 use Rattle.lrcells.specs.StoredActions.{goto_number}
 use Rattle.lrcells.proofs.statetable.cells.push_gotos.Given as goal
 
-abbrev pub invariant-loop-rule : goal.invariant-loop-rule
-invariant-loop-rule g l =
+abbrev pub invariant-loop-target : goal.invariant-loop-target
+invariant-loop-target g l =
     l.cells.items
     ≡ l.fn.cells.items
-    ++ map (λ r. goto_number (edge l.sg (g.T.IndexStorage.number l.stidx.0) (Rule r))) (range_with_len 0 l.rule)
+    ++ map (λ r. goto_number (edge l.sg (g.T.IndexStorage.number l.fn.stidx.0) (Rule r))) (range_with_len 0 l.target-index)

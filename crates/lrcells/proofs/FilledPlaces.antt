@@ -1,0 +1,56 @@
+-- lists of places that are filled while nothing stands there
+use Rattle.std.proofs.Common.{◌≡◌, ◌≢◌, ℕ, ◌<◌, List, length, map, get_or, Option, None, Some, option_map, ⊎_elim, refl, sym, ◌∙◌, arith}
+use Rattle.std.specs.List.{range_with_len}
+use Rattle.std.specs.Option.{option_or}
+use Rattle.std.proofs.Math.ListN.{get_or-map}
+use Rattle.std.proofs.lemmas.Bool.{cases_eq}
+use Rattle.std.proofs.lemmas.List.{length-map, same_lists, get_or_default}
+use Rattle.std.proofs.lemmas.List.FromFn.{length-map-range_with_len, get_or-map-range_with_len}
+
+-- with what is to come where nothing stands yet, each of the first `n` places holds what it is to hold in the end
+abbrev pub AreFilling : {X : Type 0} → (X → ℕ) → List (Option X) → ℕ → (ℕ → Option ℕ) → (ℕ → Option ℕ) → Type 0
+AreFilling number os n coming whole = (t : ℕ) → t < n → option_or (option_map number (get_or os t None)) (coming t) ≡ whole t
+
+-- what comes later to a place at which a value has come is lost
+covered :
+    {X : Type 0} (number : X → ℕ) (o : Option X) (x : X) (later : Option ℕ)
+    → option_or (option_map number (option_or o (Some x))) later ≡ option_or (option_map number o) (Some (number x))
+covered number None x later = refl
+covered number (Some y) x later = refl
+
+-- nothing is to come
+alone : {X : Type 0} (number : X → ℕ) (o : Option X) → option_or (option_map number o) None ≡ option_map number o
+alone number None = refl
+alone number (Some y) = refl
+
+-- a value comes to its place
+pub filled_turn :
+    {X : Type 0} (number : X → ℕ) (old new : List (Option X)) (n k : ℕ) (x : X) (coming later whole : ℕ → Option ℕ)
+    → length old ≡ n → (k < length old → get_or new k None ≡ option_or (get_or old k None) (Some x))
+    → ((t : ℕ) → t ≢ k → get_or new t None ≡ get_or old t None)
+    → coming k ≡ Some (number x) → ((t : ℕ) → t ≢ k → coming t ≡ later t)
+    → AreFilling number old n coming whole → AreFilling number new n later whole
+filled_turn number old new n k x coming later whole many here others comes remain filling t l =
+    ⊎_elim
+    (λ (e : t ≡ k).
+    let within : k < length old = omega arith in
+    rw (e, here within, covered number (get_or old k None) x (later k), ← comes, ← e) (filling t l))
+    (λ (d : t ≢ k). rw (others t d, ← (remain t d)) (filling t l))
+    (cases_eq t k)
+
+-- nothing stands anywhere yet
+pub filling_none : {X : Type 0} (number : X → ℕ) (n : ℕ) (whole : ℕ → Option ℕ) (os : List (Option X)) → ((t : ℕ) → t < n → get_or os t None ≡ None) → AreFilling number os n whole whole
+filling_none number n whole os none t l = rw (none t l) refl
+
+-- all that comes has come
+pub filled_all :
+    {X : Type 0} (number : X → ℕ) (os : List (Option X)) (n : ℕ) (coming whole : ℕ → Option ℕ) → length os ≡ n → ((t : ℕ) → coming t ≡ None)
+    → AreFilling number os n coming whole → map (option_map number) os ≡ map whole (range_with_len 0 n)
+filled_all number os n coming whole many none filling =
+    let same : length (map (option_map number) os) ≡ n = length-map os (option_map number) ∙ many in
+    same_lists _ _ (same ∙ sym (length-map-range_with_len whole 0 n))
+    (λ t d l.
+    let within : t < n = omega arith in
+    let stands : get_or (map (option_map number) os) t None ≡ whole t =
+    get_or-map (option_map number) os t None ∙ sym (alone number (get_or os t None)) ∙ (rw (none t) at (filling t within)) in
+    get_or_default (map (option_map number) os) t d None l ∙ stands ∙ sym (get_or-map-range_with_len whole 0 n t t d within (omega arith)))
