@@ -8,7 +8,8 @@ use Rattle.lrspec.specs.grammars.ItemSets.{Items, item_at, Fits}
 use Rattle.lrspec.specs.tables.Table.{bit_or_none, accepts_at}
 use Rattle.lrcells.specs.StateRows.{complete_item, complete_items}
 
-other : (p q : ℕ) → p ≢ q → eqb p q ≡ false
+-- the test of two different numbers
+pub other : (p q : ℕ) → p ≢ q → eqb p q ≡ false
 other p q n = elim (eqb_tells p q) [ inl e ↦ absurd (n e.1) | inr e ↦ e.0 ]
 
 -- what a test of two numbers tells, where the second is known by another name

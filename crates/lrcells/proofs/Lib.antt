@@ -14,6 +14,7 @@ pub mod RowTurns
 pub mod LeastListed
 pub mod FilledPlaces
 pub mod EdgeTargets
+pub mod LookingTokens
 pub mod ContestSteps
 pub mod ContestsOfState
 -- rows, state after state

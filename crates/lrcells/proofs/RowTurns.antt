@@ -19,10 +19,3 @@ pub cell_found :
     (g : Grammar) (h : Graph) (s t u : ℕ) (o : Option ℕ) (accepts : Bool) (a : Action) → u ≡ t → o ≡ edge h s (Token t)
     → accepts ≡ accepts_at g (closed_of h s) t → a ≡ cell_by g u (reductions g (closed_of h s) t) o accepts → a ≡ cell_of g h s t
 cell_found g h s t u o accepts a same leads accepted cell = cell ∙ rw (leads, accepted, same) refl
-
--- one element more, as a list of the places shows it
-pub mapped_turn :
-    {X Y : Type 0} (shown : X → Y) (f : ℕ → Y) (before new : List X) (i : ℕ) (x : X) → map shown before ≡ map f (range_with_len 0 i)
-    → new ≡ before ++ x ∷ [] → shown x ≡ f i → map shown new ≡ map f (range_with_len 0 (i + 1))
-mapped_turn shown f before new i x listed pushed here =
-    rw (pushed, map-append shown before (x ∷ []), listed, here) (sym (map-range_with_len_more f 0 i i (omega arith)))

@@ -1,7 +1,8 @@
 //! The complete items of a closed state, by which it reduces or accepts.
 
-ghost use Rattle.std.specs.Prelude.{◌≡◌, ℕ, ◌<◌, length, map, option_map, IfOk, IfSome};
+ghost use Rattle.std.specs.Prelude.{◌≡◌, ℕ, ◌<◌, [], ◌∷◌, length, map, slice_index_or, option_map, IfOk, IfSome};
 ghost use Rattle.std.specs.List.{All, range_with_len};
+ghost use Rattle.std.specs.Option.{option_or};
 ghost use Rattle.lrspec.specs.grammars.Grammar as math;
 ghost use Rattle.lrspec.specs.grammars.ItemSets.{Fits};
 ghost use Rattle.lrspec.specs.tables.Table.{accepts_at, bit_or_none};
@@ -9,6 +10,7 @@ ghost use Rattle.lritems.specs.ItemsOf.{set_of};
 ghost use Rattle.lrcells.specs.StateRows.{complete_items, first_at};
 ghost use Rattle.lrcells.specs.StoredLists.{least_of};
 
+use crate::statetable::places::fill;
 use lrgrammar::grammar::YaccGrammar;
 use lrgrammar::idx::{IndexStorage, PIdx, SIdx};
 use lritems::itemset::{Ctx, Itemset};
@@ -66,6 +68,18 @@ pub(crate) fn least_at<T: IndexStorage>(
     None
 }
 
+/// Puts the production at each of its lookaheads at which none stands.
+fn fill_lookaheads<T: IndexStorage>(least: &mut [Option<PIdx<T>>], pidx: PIdx<T>, ctx: &Ctx)
+    ensures { (t : ℕ) → t < length least.old
+        → option_map (λ p. T.number p.0) (slice_index_or least.new t None)
+        ≡ option_or (option_map (λ p. T.number p.0) (slice_index_or least.old t None))
+        (first_at ((T.number pidx.0, ctx.now) ∷ []) t) }
+{
+    for token in ctx.iter_set_bits(0..ctx.len()) {
+        fill(least, token, pidx);
+    }
+}
+
 /// The least production by which the state reduces on each token, if there is one.
 pub(crate) fn least_by_token<T: IndexStorage>(
     grm: &YaccGrammar<T>,
@@ -76,9 +90,9 @@ pub(crate) fn least_by_token<T: IndexStorage>(
         ≡ map (first_at (map (λ c. (T.number c.0.0, c.1.now)) completes.now))
         (range_with_len 0 (math.token_count grm.now))) }
 {
-    let mut least = Vec::new(grm.allocator());
-    for token in 0..usize::from(grm.tokens_len()) {
-        least.push(least_at(completes, token))?;
+    let mut least = vec![in grm.allocator(); None; usize::from(grm.tokens_len())]?;
+    for (pidx, ctx) in completes {
+        fill_lookaheads(least.as_mut_slice(), *pidx, ctx);
     }
     Ok(least)
 }

@@ -32,7 +32,10 @@ cell-requires-clause-prod g c =
 pub index-requires : goal.index-requires
 index-requires g c =
     let number = g.T.IndexStorage.number in
-    omega (arith, as_many (option_map (λ u. number u.0)) (λ t. edge c.args.sg.now (number c.args.stidx.0) (Token t)) c.in_ok-targets.targets.items (token_count c.args.grm.now) c.in_ok-targets.ensures)
+    let h = c.args.sg.now in
+    let s = number c.args.stidx.0 in
+    let n = token_count c.args.grm.now in
+    omega (arith, as_many (option_map (λ u. number u.0)) (λ t. edge h s (Token t)) c.in_ok-targets.targets.items n c.in_ok-targets.ensures)
 
 pub loop-token-preserved : goal.loop-token-preserved
 loop-token-preserved g c =
@@ -49,7 +52,8 @@ loop-token-preserved g c =
     ∙ listed_at (option_map (λ p. number p.0)) (λ u. first_of (reductions grm a u)) c.args.least.now (token_count grm) c.requires.least t c.index-least-token.result l in
     let leads : option_map (λ u. number u.0) c.index.result.now ≡ edge h s (Token t) =
     ap (option_map (λ u. number u.0)) c.index.ensures
-    ∙ listed_at (option_map (λ u. number u.0)) (λ u. edge h s (Token u)) c.in_ok-targets.targets.items (token_count grm) c.in_ok-targets.ensures t c.index.result.now l in
+    ∙ listed_at (option_map (λ u. number u.0)) (λ u. edge h s (Token u)) c.in_ok-targets.targets.items (token_count grm)
+    c.in_ok-targets.ensures t c.index.result.now l in
     let accepted : c.is_some_and-accepts.result ≡ bit_or_none (option_map (λ ctx. ctx.now) c.args.accepted) t = search rules in
     let found =
     cell_found grm h s t (number c.unwrap.result) (option_map (λ u. number u.0) c.index.result.now) c.is_some_and-accepts.result (action_of number c.cell.result) same

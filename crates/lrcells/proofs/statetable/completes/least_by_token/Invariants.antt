@@ -1,11 +1,17 @@
-use Rattle.std.proofs.Common.{◌≡◌, map}
-use Rattle.std.specs.List.{range_with_len}
+-- the productions of the complete items so far stand at their lookaheads
+use Rattle.std.proofs.Common.{◌≡◌, length, map, drop}
+use Rattle.lrspec.specs.grammars.Grammar.{token_count}
 use Rattle.lrcells.specs.StateRows.{first_at}
-use Rattle.lrcells.specs.StoredLists.{least_of}
+use Rattle.lrcells.proofs.FilledPlaces.{AreFilling}
 use Rattle.lrcells.proofs.statetable.completes.least_by_token.Given as goal
 
-abbrev pub invariant-loop-token : goal.invariant-loop-token
-invariant-loop-token g l =
+abbrev pub invariant-loop-pidx : goal.invariant-loop-pidx
+invariant-loop-pidx g l =
     let number = g.T.IndexStorage.number in
-    least_of number l.least.items
-    ≡ map (first_at (map (λ c. (number c.0.0, c.1.now)) l.completes)) (range_with_len 0 l.token)
+    let shown = map (λ c. (number c.0.0, c.1.now)) in
+    record {
+      many : length l.least.items ≡ token_count l.grm;
+      filling :
+          AreFilling (λ p. number p.0) l.least.items (token_count l.grm) (first_at (shown (drop l.pidx-index l.completes)))
+          (first_at (shown l.completes));
+    }

@@ -1,3 +1,4 @@
+-- the targets of the edges so far stand at the places of their rules
 use Rattle.std.proofs.Common.{◌≡◌, length}
 use Rattle.lrspec.specs.grammars.Grammar.{Rule}
 use Rattle.lrspec.specs.merging.Graph.{edge, edge_at}
@@ -8,8 +9,10 @@ use Rattle.lrcells.proofs.statetable.targets.rule_targets.Given as goal
 abbrev pub invariant-loop-symbol : goal.invariant-loop-symbol
 invariant-loop-symbol g l =
     let number = g.T.IndexStorage.number in
+    let left = edges_of number (λ u. number u.0) l.symbol-iterator in
     record {
       many : length l.targets.items ≡ length l.grm.rule_names;
-      filling : AreFilling (λ u. number u.0) l.targets.items (length l.grm.rule_names) (λ r. edge_at (edges_of number (λ u. number u.0) l.symbol-iterator) (Rule r))
+      filling :
+          AreFilling (λ u. number u.0) l.targets.items (length l.grm.rule_names) (λ r. edge_at left (Rule r))
           (λ r. edge l.sg (number l.fn.stidx.0) (Rule r));
     }

@@ -1,0 +1,13 @@
+-- the production stands at its lookaheads so far, where none stood
+use Rattle.std.proofs.Common.{[], ◌∷◌, None, length, get_or, option_map}
+use Rattle.std.specs.Option.{option_or}
+use Rattle.lrcells.specs.StateRows.{first_at}
+use Rattle.lrcells.proofs.FilledPlaces.{AreFilling}
+use Rattle.lrcells.proofs.LookingTokens.{coming}
+use Rattle.lrcells.proofs.statetable.completes.fill_lookaheads.Given as goal
+
+abbrev pub invariant-loop-token : goal.invariant-loop-token
+invariant-loop-token g l =
+    let number = g.T.IndexStorage.number in
+    AreFilling (λ p. number p.0) l.least (length l.fn.least) (coming l.token-iterator (number l.fn.pidx.0))
+    (λ t. option_or (option_map (λ p. number p.0) (get_or l.fn.least t None)) (first_at ((number l.fn.pidx.0, l.fn.ctx) ∷ []) t))
