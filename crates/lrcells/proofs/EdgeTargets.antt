@@ -1,6 +1,5 @@
 -- targets of the edges of a state, by the places of their symbols
-use Rattle.std.proofs.Common.{◌≡◌, ◌≢◌, ℕ, ◌<◌, ◌≤◌, List, ◌∷◌, length, get_or, Option, None, Some, eq-eqb, refl}
-use Rattle.std.specs.Option.{option_or}
+use Rattle.std.proofs.Common.{◌≡◌, ℕ, ◌≤◌, List, ◌∷◌, length, Option, None, eq-eqb, refl}
 use Rattle.std.proofs.lemmas.Option.{slice_get_past}
 use Rattle.lrspec.specs.grammars.Grammar.{Symbol, Rule, Token}
 use Rattle.lrspec.specs.merging.Graph.{Graph, edge, edge_at}

@@ -1,5 +1,5 @@
 -- the production comes to one of its lookaheads after the other
-use Rattle.std.proofs.Common.{◌≡◌, ◌∙◌, ℕ, Option, [], ◌∷◌, None, length, get_or, option_map, refl, ap, arith}
+use Rattle.std.proofs.Common.{◌≡◌, ◌∙◌, ℕ, Option, [], ◌∷◌, None, length, get_or, option_map, refl, ap}
 use Rattle.std.specs.Option.{option_or}
 use Rattle.lrgrammar.specs.Bits.{set_places}
 use Rattle.lrcells.specs.StateRows.{first_at}

@@ -1,5 +1,5 @@
 -- each complete item brings its production to its lookaheads
-use Rattle.std.proofs.Common.{◌≡◌, ℕ, ◌+◌, ◌<◌, ◌∙◌, Bool, List, Bor, None, length, map, get_or, drop, replicate, refl, ap, arith, rules}
+use Rattle.std.proofs.Common.{◌≡◌, ℕ, ◌+◌, ◌<◌, ◌∙◌, Bool, List, Bor, None, length, map, get_or, drop, replicate, ap, arith, rules}
 use Rattle.std.proofs.lemmas.List.{get_or-replicate}
 use Rattle.lrspec.specs.grammars.Grammar.{token_count}
 use Rattle.lrgrammar.specs.declared.idx.PIdx.{PIdx}
