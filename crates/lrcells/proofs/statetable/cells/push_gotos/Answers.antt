@@ -22,7 +22,8 @@ loop-target-preserved g c =
     ap (option_map (λ u. number u.0)) c.target-item.is
     ∙ listed_at (option_map (λ u. number u.0)) (λ r. edge h s (Rule r)) targets n made r c.target-item.result l in
     row_turn (λ r. goto_number (edge h s (Rule r))) c.args.cells.now.items c.loop-target.cells.items c.push.new.self.items r
-    c.number_of_goto.result c.loop-target.invariant c.in_ok-push.ensures.items (c.number_of_goto.ensures ∙ ap goto_number target)
+    c.number_of_goto.result c.loop-target.invariant c.in_ok-push.ensures.items
+    (c.number_of_goto.ensures ∙ ap goto_number target)
 
 pub returns : goal.returns
 returns g c =

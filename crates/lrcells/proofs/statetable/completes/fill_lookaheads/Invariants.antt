@@ -9,5 +9,6 @@ use Rattle.lrcells.proofs.statetable.completes.fill_lookaheads.Given as goal
 abbrev pub invariant-loop-token : goal.invariant-loop-token
 invariant-loop-token g l =
     let number = g.T.IndexStorage.number in
-    AreFilling (λ p. number p.0) l.least (length l.fn.least) (coming l.token-iterator (number l.fn.pidx.0))
-    (λ t. option_or (option_map (λ p. number p.0) (get_or l.fn.least t None)) (first_at ((number l.fn.pidx.0, l.fn.ctx) ∷ []) t))
+    let p = number l.fn.pidx.0 in
+    AreFilling (λ q. number q.0) l.least (length l.fn.least) (coming l.token-iterator p)
+    (λ t. option_or (option_map (λ q. number q.0) (get_or l.fn.least t None)) (first_at ((p, l.fn.ctx) ∷ []) t))

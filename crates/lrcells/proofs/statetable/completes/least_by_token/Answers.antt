@@ -1,5 +1,6 @@
 -- each complete item brings its production to its lookaheads
-use Rattle.std.proofs.Common.{◌≡◌, ℕ, ◌+◌, ◌<◌, ◌∙◌, Bool, List, Bor, None, length, map, get_or, drop, replicate, ap, arith, rules}
+use Rattle.std.proofs.Common.{◌≡◌, ℕ, ◌+◌, ◌<◌, ◌∙◌, Bool, List, Bor, None, length, map, get_or}
+use Rattle.std.proofs.Common.{drop, replicate, ap, arith, rules}
 use Rattle.std.proofs.lemmas.List.{get_or-replicate}
 use Rattle.lrspec.specs.grammars.Grammar.{token_count}
 use Rattle.lrgrammar.specs.declared.idx.PIdx.{PIdx}
@@ -18,7 +19,8 @@ loop-pidx-init g c =
     record {
       many = many;
       filling =
-          filling_none (λ p. number p.0) n (first_at (map (λ x. (number x.0.0, x.1.now)) c.args.completes.now)) c.in_ok-least.least.items
+          filling_none (λ p. number p.0) n (first_at (map (λ x. (number x.0.0, x.1.now)) c.args.completes.now))
+          c.in_ok-least.least.items
           (λ t l. ap (λ os. get_or os t None) items ∙ get_or-replicate n t None None l);
     }
 
@@ -50,6 +52,7 @@ returns g c =
     let shown : PIdx g.row.T.Denot × Bor Vob → ℕ × List Bool = λ x. (number x.0.0, x.1.now) in
     let items = c.args.completes.now in
     let left = map shown (drop c.loop-pidx.pidx-index items) in
-    filled_all (λ p. number p.0) c.loop-pidx.least.items (token_count c.args.grm.now) (first_at left) (first_at (map shown items))
+    filled_all (λ p. number p.0) c.loop-pidx.least.items (token_count c.args.grm.now)
+    (first_at left) (first_at (map shown items))
     (λ t. ap (λ xs. first_at xs t) (none_shown shown items c.loop-pidx.pidx-index (omega arith)))
     c.loop-pidx.invariant.filling c.loop-pidx.invariant.many
