@@ -9,7 +9,7 @@ use Rattle.lrspec.specs.tables.Table.{Table, Lists, lists_of, AcceptsAndReduces,
 use Rattle.lrspec.specs.tables.Rows.{ReducesApart}
 use Rattle.lrspec.specs.tables.Conflicts.{AreEntriesOf}
 use Rattle.lrgrammar.specs.GrammarSizes.{IsWithin}
-use Rattle.lrcells.specs.Matrix.{Matrix, HasRows}
+use Rattle.lrsparse.specs.Matrix.{Matrix, HasRows}
 use Rattle.lrcells.specs.StateRows.{action_row, goto_row}
 use Rattle.lrcells.specs.StoredActions.{action_numbered, goto_numbered, IsIndexed}
 use Rattle.lrcells.specs.StoredLists.{pairs_of, mixes_of}

@@ -5,7 +5,7 @@ use Rattle.std.specs.List.{All}
 use Rattle.std.proofs.lemmas.Bool.{cases_lt, lt-ltb, le-ltb}
 use Rattle.std.proofs.lemmas.List.Elements.{All-get_or}
 use Rattle.std.proofs.lemmas.Option.{slice_get_within, get_or_from_slice_get}
-use Rattle.lrcells.specs.Matrix.{Matrix, value_at}
+use Rattle.lrsparse.specs.Matrix.{Matrix, value_at}
 
 pub read_among : (P : ℕ → Type 0) (m : Matrix) (s c v : ℕ) → All P m.cells → value_at m s c ≡ Some v → P v
 read_among P m s c v all h = elim (cases_lt c m.cols) [

@@ -7,7 +7,7 @@ use Rattle.lrspec.specs.grammars.Grammar.{Grammar, Rule, token_count}
 use Rattle.lrspec.specs.merging.Graph.{Graph, edge}
 use Rattle.lrspec.specs.tables.Table.{Action, Reduce, Error, Table, Lists, action_of, goto_of, cell_of, reduce_reduce_of, shift_reduce_of, AcceptsAndReduces, IsTableOf}
 use Rattle.lrspec.specs.tables.Rows.{AreAllWith, AreReducedBy, ReducesOnly}
-use Rattle.lrcells.specs.Matrix.{Matrix}
+use Rattle.lrsparse.specs.Matrix.{Matrix}
 use Rattle.lrcells.specs.StoredActions.{action_number, action_numbered, goto_number, goto_numbered}
 use Rattle.lrcells.specs.StoredTable.{rows_of, lists_or_none, table_of}
 use Rattle.lrcells.specs.StateRows.{action_row, goto_row}

@@ -8,7 +8,7 @@ use Rattle.std.specs.declared.alloc.Global.{Global}
 use Rattle.lrgrammar.specs.declared.idx.PIdx.{PIdx}
 use Rattle.lrspec.specs.tables.Table.{Action, Shift, Reduce, Accept, Error, Table, Lists, action_of}
 use Rattle.lrspec.specs.tables.Rows.{AreActingTokens, AreShiftedTokens, AreReducedBy, ReducesOnly}
-use Rattle.lrcells.specs.Matrix.{Matrix, value_at}
+use Rattle.lrsparse.specs.Matrix.{Matrix, value_at}
 use Rattle.lrcells.specs.StoredTable.{table_of, numbers_of, AreKeptOfRows}
 use Rattle.lrcells.specs.TakenTokens.{takes, takes_cell, tokens_taken}
 use Rattle.lrcells.proofs.StoredTables.{action_read, action_none, action_past}

@@ -8,7 +8,7 @@ use Rattle.std.proofs.lemmas.List.Elements.{All-contains, filter_passes}
 use Rattle.std.proofs.lemmas.List.FromFn.{length-range_with_len, get_or-range_with_len}
 use Rattle.std.proofs.lemmas.List.Kept.{IsStrictlyIncreasing-filter}
 use Rattle.lrspec.proofs.grammars.ListMembers.{Among, contains_from_among, among_below}
-use Rattle.lrcells.specs.Matrix.{Matrix, value_at}
+use Rattle.lrsparse.specs.Matrix.{Matrix, value_at}
 use Rattle.lrcells.specs.TakenTokens.{takes_cell, tokens_taken}
 
 -- a range goes upwards

@@ -1,6 +1,5 @@
 -- the files of definitions
 pub mod Refusals
-pub mod Matrix
 pub mod StoredActions
 pub mod StoredLists
 pub mod StoredTable

@@ -6,7 +6,7 @@ use Rattle.std.specs.declared.alloc.Global.{Global}
 use Rattle.lrgrammar.specs.declared.idx.PIdx.{PIdx}
 use Rattle.lrspec.specs.tables.Table.{Action, Table, Lists}
 use Rattle.lrspec.specs.tables.Rows.{AreReducedBy, ReducesOnly}
-use Rattle.lrcells.specs.Matrix.{Matrix}
+use Rattle.lrsparse.specs.Matrix.{Matrix}
 use Rattle.lrcells.specs.StoredActions.{action_numbered, goto_numbered, IsIndexed}
 
 -- the first `n` rows of a matrix, where `f` tells what each number says

@@ -2,7 +2,7 @@
 use Rattle.std.specs.Prelude.{◌≡◌, ℕ, ◌+◌, ◌-◌, ◌<◌, Bool, false, true, not, List, [], ◌∷◌, filter, Option, None, Some, MatchOption}
 use Rattle.std.specs.List.{range_with_len}
 use Rattle.lrspec.specs.tables.Table.{Action, Shift, Reduce, Accept, Error}
-use Rattle.lrcells.specs.Matrix.{Matrix, value_at}
+use Rattle.lrsparse.specs.Matrix.{Matrix, value_at}
 use Rattle.lrcells.specs.StoredActions.{action_numbered}
 
 -- whether an action is taken: each shift, and where not only these are, each reduction and accepting

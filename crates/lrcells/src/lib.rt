@@ -1,5 +1,6 @@
 //! State tables of LR(1) state graphs.
 #![tactic(auto)]
 
-pub mod sparsevec;
+pub use lrsparse::sparsevec;
+
 pub mod statetable;

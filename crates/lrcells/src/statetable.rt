@@ -23,7 +23,6 @@ mod places;
 mod rows;
 mod targets;
 
-use crate::sparsevec::SparseVec;
 use crate::statetable::accept_reduce::accept_reduce;
 pub use crate::statetable::action::Action;
 pub use crate::statetable::conflicts::Conflicts;
@@ -35,6 +34,7 @@ use lrgrammar::idx::{IndexStorage, PIdx, RIdx, StIdx, TIdx};
 use lrgraphs::BuildError;
 use lrgraphs::stategraph::StateGraph;
 pub use lrgraphs::statetable::{StateTableError, StateTableErrorKind};
+use lrsparse::sparsevec::SparseVec;
 use std::alloc::{AllocError, Global};
 use std::marker::Model;
 

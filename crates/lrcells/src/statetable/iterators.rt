@@ -3,14 +3,14 @@
 ghost use Rattle.std.specs.Prelude.{◌≡◌, ℕ, ◌≤◌, List, map};
 ghost use Rattle.std.specs.List.{All};
 ghost use Rattle.std.specs.Iterator.{YieldsFirstBy, item_count};
-ghost use Rattle.lrcells.specs.Matrix.{value_at};
+ghost use Rattle.lrsparse.specs.Matrix.{value_at};
 ghost use Rattle.lrcells.specs.StoredActions.{action_numbered, IsIndexed};
 ghost use Rattle.lrcells.specs.TakenTokens.{takes_cell, tokens_taken, IsFirstTaken};
 
-use crate::sparsevec::SparseVec;
 use crate::statetable::action::Action;
 use crate::statetable::numbers::action_of_number;
 use lrgrammar::idx::{IndexStorage, PIdx, TIdx};
+use lrsparse::sparsevec::SparseVec;
 use std::marker::{Model, PhantomData};
 
 /// Tokens upwards on which a state does not err, or which it shifts. It gives each once, and then none.

@@ -1,5 +1,5 @@
 use Rattle.std.proofs.Common.{◌≡◌, Some, None, length, sym, ◌∙◌}
-use Rattle.lrcells.specs.Matrix.{value_at}
+use Rattle.lrsparse.specs.Matrix.{value_at}
 use Rattle.lrcells.proofs.StoredTables.{action_read, action_none}
 use Rattle.lrcells.proofs.statetable.StateTable.action.Goals as goal
 

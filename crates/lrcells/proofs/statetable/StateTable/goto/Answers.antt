@@ -1,6 +1,6 @@
 use Rattle.std.proofs.Common.{◌≡◌, ◌≤◌, Some, None, IfSome, length, sym, ◌∙◌}
 use Rattle.lrspec.specs.tables.Table.{goto_of}
-use Rattle.lrcells.specs.Matrix.{value_at}
+use Rattle.lrsparse.specs.Matrix.{value_at}
 use Rattle.lrcells.specs.StoredActions.{goto_numbered}
 use Rattle.lrcells.proofs.MatrixCells.{read_among}
 use Rattle.lrcells.proofs.StoredTables.{goto_read, goto_none}

@@ -1,0 +1,7 @@
+-- The lemmas of this crate's proofs.
+pub mod OwnedBits
+pub mod MetColumns
+pub mod ColumnSteps
+pub mod ColumnsOfRow
+pub mod PlacedRow
+pub mod RowsInList

@@ -1,0 +1,161 @@
+use Rattle.std.proofs.Common.{◌≡◌, ◌≢◌, ◌↔◌, ◌⊎◌, ◌≤◌, ◌/◌, ◌-◌, ◌<◌, ◌+◌, ◌∙◌, ℕ, List, ◌++◌, None, Some, length, take, drop, slice_index, slice_index_or, refl, sym, ap, arith}
+use Rattle.std.specs.List.{slice_get}
+use Rattle.std.proofs.Math.Seq.{take-append_seam}
+use Rattle.lrsparse.specs.Owned.{IsOwned, MeetsNone}
+use Rattle.lrsparse.specs.Places.{HasEntry, Fits, IsPlaced, row_of}
+use Rattle.lrsparse.proofs.ColumnsOfRow.{fits_row, row_fits, least_within, last_within, column_to_last, entry_to_last, no_entries}
+use Rattle.lrsparse.proofs.PlacedRow.{row_placed, others_kept, above_placed, owned_placed}
+use Rattle.lrsparse.proofs.sparsevec.places.Places.place.Goals as goal
+
+pub returns-in_default-clause-numbers : goal.returns-in_default-clause-numbers
+returns-in_default-clause-numbers c =
+    let list = c.args.self.now.list.items in
+    let found = c.in_ok-columns.ensures in
+    let was = sym (c.in_default.ensures ∙ (rw c.deref.ensures.value at c.last.ensures.value)) in
+    let none = no_entries list c.args.self.now.owned.items c.in_ok-columns.columns.items c.args.empty c.args.numbers.now c.requires.placed.owned found.entries found.all was in
+    row_placed list list c.args.empty c.args.row 0 c.args.numbers.now (λ k h. absurd (none k h)) (λ p h. refl) c.requires.placed.above
+
+-- what is known where the displacement is found
+module _ (c : goal.After-least_displacement-displacement) where
+  was : slice_get c.in_ok-columns.columns.items (length c.in_ok-columns.columns.items - 1) ≡ Some c.in-Some.last
+  was = sym (c.in-Some.ensures ∙ (rw c.deref.ensures.value at c.last.ensures.value))
+
+  least : (d : ℕ) → d < c.least_displacement-displacement.result → MeetsNone c.args.self.now.owned.items c.in_ok-columns.columns.items d → ⊥
+  least = rw (c.as_slice.ensures.value, c.as_slice-2.ensures.value) at c.least_displacement-displacement.ensures.least
+
+  fits : MeetsNone c.args.self.now.owned.items c.in_ok-columns.columns.items c.least_displacement-displacement.result
+  fits = rw (c.as_slice.ensures.value, c.as_slice-2.ensures.value) at c.least_displacement-displacement.ensures.fits
+
+  within : c.least_displacement-displacement.result ≤ length c.args.self.now.list.items
+  within = least_within c.args.self.now.list.items c.args.self.now.owned.items c.in_ok-columns.columns.items c.args.empty c.args.numbers.now
+      c.requires.placed.owned c.in_ok-columns.ensures.entries c.in_ok-columns.ensures.all c.least_displacement-displacement.result least
+
+  narrow : c.in-Some.last < length c.args.numbers.now
+  narrow = last_within c.args.self.now.list.items c.args.self.now.owned.items c.in_ok-columns.columns.items c.args.empty c.args.numbers.now
+      c.requires.placed.owned c.in_ok-columns.ensures.entries c.in_ok-columns.ensures.all c.in_ok-columns.ensures.upwards c.in-Some.last was
+
+pub overflow_add-end : goal.overflow_add-end
+overflow_add-end c = omega (arith, within c, narrow c, c.requires.room)
+
+pub overflow_add-end-2 : goal.overflow_add-end-2
+overflow_add-end-2 c = omega (arith, within c, narrow c, c.requires.room)
+
+pub put_entries-requires : goal.put_entries-requires
+put_entries-requires c = λ k h.
+    let before = sym (c.in-Some.ensures ∙ (rw c.deref.ensures.value at c.last.ensures.value)) in
+    omega (
+      arith,
+      entry_to_last c.args.self.now.list.items c.args.self.now.owned.items c.in_ok-columns.columns.items c.args.empty c.args.numbers.now
+          c.requires.placed.owned c.in_ok-columns.ensures.entries c.in_ok-columns.ensures.all c.in_ok-columns.ensures.upwards c.in-Some.last before k h,
+      ap length c.as_mut_slice.ensures.value,
+      c.in_ok-reach.ensures.len,
+    )
+
+pub own_columns-requires-clause-within : goal.own_columns-requires-clause-within
+own_columns-requires-clause-within c = λ k l.
+    let before = sym (c.in-Some.ensures ∙ (rw c.deref.ensures.value at c.last.ensures.value)) in
+    omega (
+      arith,
+      rw (← c.as_slice-3.ensures.value) at (column_to_last c.args.self.now.list.items c.args.self.now.owned.items c.in_ok-columns.columns.items c.args.empty c.args.numbers.now
+          c.requires.placed.owned c.in_ok-columns.ensures.entries c.in_ok-columns.ensures.all c.in_ok-columns.ensures.upwards c.in-Some.last before) k l,
+      ap length c.as_mut_slice-2.ensures.value,
+      c.in_ok-reach-2.ensures.len,
+    )
+
+-- what is known where the entries are put into the list
+module _ (c : goal.After-drop-columns-2) where
+  put :
+      (k : ℕ) → HasEntry c.args.empty c.args.numbers.now k
+      → slice_index_or c.put_entries.new.list (c.least_displacement-displacement.result + k) None
+      ≡ Some (record { row = c.args.row; number = slice_index_or c.args.numbers.now k c.args.empty })
+  put = c.put_entries.ensures.put
+
+  kept :
+      (p : ℕ) → ((k : ℕ) → HasEntry c.args.empty c.args.numbers.now k → p ≢ c.least_displacement-displacement.result + k)
+      → slice_index_or c.put_entries.new.list p None ≡ slice_index_or c.args.self.now.list.items p None
+  kept p h = c.put_entries.ensures.kept p h ∙ (ap (λ xs. slice_index_or xs p None) c.as_mut_slice.ensures.value ∙ c.in_ok-reach.ensures.values p)
+
+  long : length c.put_entries.new.list ≡ c.reach.new.list.len
+  long = c.put_entries.auto.list ∙ c.as_mut_slice.ensures.len
+
+  whole : take c.reach.new.list.len (c.put_entries.new.list ++ drop (length c.put_entries.new.list) c.reach.new.list.items) ≡ c.put_entries.new.list
+  whole = rw (← long) (take-append_seam c.put_entries.new.list (drop (length c.put_entries.new.list) c.reach.new.list.items))
+
+  row_there : row_of c.put_entries.new.list c.args.empty (length c.args.numbers.now) c.args.row c.least_displacement-displacement.result ≡ c.args.numbers.now
+  row_there = row_placed c.args.self.now.list.items c.put_entries.new.list c.args.empty c.args.row c.least_displacement-displacement.result c.args.numbers.now put kept c.requires.placed.above
+
+  words_long : length c.own_columns.new.words ≡ c.reach-2.new.list.len
+  words_long = c.own_columns.auto.words ∙ c.as_mut_slice-2.ensures.len
+
+  whole_words : take c.reach-2.new.list.len (c.own_columns.new.words ++ drop (length c.own_columns.new.words) c.reach-2.new.list.items) ≡ c.own_columns.new.words
+  whole_words = rw (← words_long) (take-append_seam c.own_columns.new.words (drop (length c.own_columns.new.words) c.reach-2.new.list.items))
+
+  more :
+      (q : ℕ)
+      → IsOwned c.own_columns.new.words q
+      ↔ (IsOwned c.args.self.now.owned.items q
+      ⊎ ((k : ℕ) × (k < length c.in_ok-columns.columns.items) × (q ≡ c.least_displacement-displacement.result + slice_index c.in_ok-columns.columns.items k)))
+  more q =
+      let same : slice_index c.as_mut_slice-2.result.now (q / 64) ≡ slice_index c.args.self.now.owned.items (q / 64) =
+      ap (λ ws. slice_index ws (q / 64)) c.as_mut_slice-2.ensures.value ∙ c.in_ok-reach-2.ensures.values (q / 64) in
+      rw (same, c.as_slice-3.ensures.value) at (c.own_columns.ensures q)
+
+  was_last : slice_get c.in_ok-columns.columns.items (length c.in_ok-columns.columns.items - 1) ≡ Some c.in-Some.last
+  was_last = sym (c.in-Some.ensures ∙ (rw c.deref.ensures.value at c.last.ensures.value))
+
+  least_of : (d : ℕ) → d < c.least_displacement-displacement.result → MeetsNone c.args.self.now.owned.items c.in_ok-columns.columns.items d → ⊥
+  least_of = rw (c.as_slice.ensures.value, c.as_slice-2.ensures.value) at c.least_displacement-displacement.ensures.least
+
+  row_fits_there : Fits c.args.self.now.list.items c.args.empty c.args.numbers.now c.least_displacement-displacement.result
+  row_fits_there = fits_row c.args.self.now.list.items c.args.self.now.owned.items c.in_ok-columns.columns.items c.args.empty c.args.numbers.now
+      c.requires.placed.owned c.in_ok-columns.ensures.entries c.in_ok-columns.ensures.all c.least_displacement-displacement.result
+      (rw (c.as_slice.ensures.value, c.as_slice-2.ensures.value) at c.least_displacement-displacement.ensures.fits)
+
+  within_list : c.least_displacement-displacement.result ≤ length c.args.self.now.list.items
+  within_list = least_within c.args.self.now.list.items c.args.self.now.owned.items c.in_ok-columns.columns.items c.args.empty c.args.numbers.now
+      c.requires.placed.owned c.in_ok-columns.ensures.entries c.in_ok-columns.ensures.all c.least_displacement-displacement.result least_of
+
+  last_narrow : c.in-Some.last < length c.args.numbers.now
+  last_narrow = last_within c.args.self.now.list.items c.args.self.now.owned.items c.in_ok-columns.columns.items c.args.empty c.args.numbers.now
+      c.requires.placed.owned c.in_ok-columns.ensures.entries c.in_ok-columns.ensures.all c.in_ok-columns.ensures.upwards c.in-Some.last was_last
+
+pub returns-clause-numbers : goal.returns-clause-numbers
+returns-clause-numbers c = rw (whole c) (row_there c)
+
+pub returns-clause-others : goal.returns-clause-others
+returns-clause-others c =
+    rw (whole c) (others_kept c.args.self.now.list.items c.put_entries.new.list c.args.empty c.args.row c.least_displacement-displacement.result c.args.numbers.now
+    (put c) (kept c) c.requires.placed.above (row_fits_there c))
+
+pub returns-clause-fits : goal.returns-clause-fits
+returns-clause-fits c = row_fits_there c
+
+pub returns-clause-least : goal.returns-clause-least
+returns-clause-least c = λ k l h.
+    least_of c k l (row_fits c.args.self.now.list.items c.args.self.now.owned.items c.in_ok-columns.columns.items c.args.empty c.args.numbers.now
+    c.requires.placed.owned c.in_ok-columns.ensures.entries c.in_ok-columns.ensures.all k h)
+
+pub returns-clause-within : goal.returns-clause-within
+returns-clause-within c = within_list c
+
+pub returns-clause-long : goal.returns-clause-long
+returns-clause-long c = rw (whole c) (omega (arith, c.put_entries.auto.list, ap length c.as_mut_slice.ensures.value, c.in_ok-reach.ensures.len, within_list c, last_narrow c))
+
+pub returns-clause-placed : goal.returns-clause-placed
+returns-clause-placed c = record {
+  above = rw (whole c) (above_placed c.args.self.now.list.items c.put_entries.new.list c.args.empty c.args.row c.least_displacement-displacement.result c.args.numbers.now
+      (put c) (kept c) c.requires.placed.above);
+  owned = rw (whole c, whole_words c) (owned_placed c.args.self.now.list.items c.put_entries.new.list c.args.empty c.args.row c.least_displacement-displacement.result c.args.numbers.now
+      (put c) (kept c) c.requires.placed.above c.args.self.now.owned.items c.own_columns.new.words c.in_ok-columns.columns.items
+      c.requires.placed.owned c.in_ok-columns.ensures.entries c.in_ok-columns.ensures.all (more c));
+  words = rw (whole c, whole_words c) (omega (
+    arith,
+    c.requires.placed.words,
+    c.put_entries.auto.list,
+    ap length c.as_mut_slice.ensures.value,
+    c.in_ok-reach.ensures.len,
+    c.own_columns.auto.words,
+    ap length c.as_mut_slice-2.ensures.value,
+    c.in_ok-reach-2.ensures.len,
+  ));
+}

@@ -1,0 +1,4 @@
+-- What the contracts of this crate cite.
+pub mod Matrix
+pub mod Places
+pub mod Owned

@@ -1,0 +1,45 @@
+-- the list in which the entries of a matrix stand, each from its row's displacement on
+use Rattle.std.specs.Prelude.{◌≡◌, ◌≢◌, ℕ, ◌+◌, ◌<◌, ◌==◌, List, [], ◌∷◌, ◌++◌, Option, None, Some, IsSome, IfSome, ◌↔◌, ◌*◌, ◌≤◌, if◌then◌else◌, length, map, slice_index_or}
+use Rattle.std.specs.List.{range_with_len}
+use Rattle.lrsparse.specs.declared.sparsevec.places.Entry.{Entry}
+use Rattle.lrsparse.specs.declared.sparsevec.places.Places.{Places}
+use Rattle.lrsparse.specs.Owned.{IsOwned}
+
+-- no row owns the place
+abbrev pub IsFree : List (Option Entry) → ℕ → Type 0
+IsFree list place = slice_index_or list place None ≡ None
+
+-- a row of these numbers has an entry in the column
+abbrev pub HasEntry : ℕ → List ℕ → ℕ → Type 0
+HasEntry empty numbers column = slice_index_or numbers column empty ≢ empty
+
+-- at the displacement none of the entries of a row of these numbers meets an owned place
+abbrev pub Fits : List (Option Entry) → ℕ → List ℕ → ℕ → Type 0
+Fits list empty numbers displacement = (c : ℕ) → HasEntry empty numbers c → IsFree list (displacement + c)
+
+-- all places that are owned are owned by rows above this one
+abbrev pub AreOwnedBelow : ℕ → List (Option Entry) → Type 0
+AreOwnedBelow row list = (place : ℕ) → IfSome (slice_index_or list place None) (λ e. e.row < row)
+
+-- rows above this one are placed: it is known which places they own
+pub record IsPlaced (row : ℕ) (places : Places) : Type 0 where
+  pub above : AreOwnedBelow row places.list.items
+  pub owned : (place : ℕ) → IsOwned places.owned.items place ↔ IsSome (slice_index_or places.list.items place None)
+  pub words : 64 * length places.owned.items ≤ length places.list.items + 64
+
+-- the number that the row has in a place: the empty one where it doesn't own it
+abbrev pub number_of : ℕ → ℕ → Option Entry → ℕ
+number_of empty row None = empty
+number_of empty row (Some e) = if e.row == row then e.number else empty
+
+abbrev pub number_at : List (Option Entry) → ℕ → ℕ → ℕ → ℕ
+number_at list empty row place = number_of empty row (slice_index_or list place None)
+
+-- the numbers of the row, which stands from the displacement on
+abbrev pub row_of : List (Option Entry) → ℕ → ℕ → ℕ → ℕ → List ℕ
+row_of list empty cols row displacement = map (λ c. number_at list empty row (displacement + c)) (range_with_len 0 cols)
+
+-- the rows from this one on, which have these displacements, one after another
+abbrev pub rows_from : List (Option Entry) → ℕ → ℕ → ℕ → List ℕ → List ℕ
+rows_from list empty cols row [] = []
+rows_from list empty cols row (d ∷ ds) = row_of list empty cols row d ++ rows_from list empty cols (row + 1) ds

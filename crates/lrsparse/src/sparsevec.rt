@@ -1,0 +1,85 @@
+//! Matrices of numbers.
+
+ghost use Rattle.std.specs.Prelude.{◌≡◌, ◌≤◌, ℕ, ◌*◌, length, IfOk};
+ghost use Rattle.lrsparse.specs.Matrix.{value_at, HasRows};
+
+mod owned;
+mod places;
+#[cfg(test)]
+mod tests;
+
+use crate::sparsevec::places::{Entry, Places, entry_at};
+use std::alloc::{AllocError, Global};
+use std::marker::Model;
+
+/// A matrix of numbers, in most of whose cells one number stands. The other cells are entries, which stand in one list: those of
+/// a row from its displacement on, each as far behind it as its column says, beside the row that owns the place.
+#[derive(Drop)]
+pub struct SparseVec {
+    list: Vec<Option<Entry>>,
+    displacements: Vec<usize>,
+    empty: usize,
+    cols: usize,
+}
+
+impl Model for SparseVec {
+    ghost use Rattle.lrsparse.specs.Matrix.{Matrix};
+
+    ghost Value = { Matrix };
+
+    ghost use Rattle.std.specs.Prelude.{ℕ, ◌+◌, ◌<◌, ◌^◌};
+    ghost use Rattle.std.specs.List.{All};
+    ghost use Rattle.lrsparse.specs.Places.{rows_from};
+
+    ghost view = { λ m. record {
+      cols = m.cols;
+      cells = rows_from m.list.items m.empty m.cols 0 m.displacements.items;
+    } };
+
+    ghost invariant = { λ m. All (λ d. d + m.cols < 2 ^ 64) m.displacements.items };
+}
+
+impl SparseVec {
+    /// The matrix whose rows, of `cols` cells each, stand in the list one after another; `empty` is the number that stands in
+    /// most cells. The error says that memory was refused.
+    pub fn from(
+        alloc: Global,
+        cells: &[usize],
+        empty: usize,
+        cols: usize,
+    ) -> Result<SparseVec, AllocError>
+        requires { HasRows cols (length cells.now) }
+        ensures cols { IfOk result (λ m. m.cols ≡ cols) }
+        ensures cells { IfOk result (λ m. m.cells ≡ cells.now) }
+    {
+        let mut places = Places::new(alloc);
+        let mut displacements = Vec::new(alloc);
+        let mut rest = cells;
+        while !rest.is_empty() {
+            let (numbers, behind) = rest.split_at(cols);
+            let displacement = places.place(displacements.len(), numbers, empty)?;
+            displacements.push(displacement)?;
+            rest = behind;
+        }
+        Ok(SparseVec {
+            list: places.list,
+            displacements,
+            empty,
+            cols,
+        })
+    }
+
+    /// The number in the row and the column; None outside of the matrix.
+    pub fn get(&self, row: usize, col: usize) -> Option<usize>
+        ensures { result ≡ value_at self.now row col }
+    {
+        if col >= self.cols {
+            return None;
+        }
+        let displacement = *self.displacements.get(row)?;
+        match entry_at(self.list.as_slice(), displacement + col) {
+            Some(entry) if entry.row == row => Some(entry.number),
+            _ => Some(self.empty),
+        }
+    }
+}

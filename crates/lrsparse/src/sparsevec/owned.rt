@@ -1,0 +1,84 @@
+//! The places of a list that rows own, as the bits of words, and the search for a displacement among them.
+
+ghost use Rattle.std.specs.Prelude.{◌≡◌, ◌≤◌, ◌<◌, ◌+◌, ◌-◌, ◌*◌, ◌^◌, ℕ, length, slice_index, ◌↔◌, ◌⊎◌};
+ghost use Rattle.std.specs.Int.{bit_at};
+ghost use Rattle.lrsparse.specs.Owned.{IsOwned, MeetsNone};
+
+/// How many places a word has.
+pub(crate) const WORD: usize = 64;
+
+/// The word, whose places nobody owns past the last one.
+fn word_at(words: &[u64], index: usize) -> u64
+    ensures { result ≡ slice_index words.now index }
+{
+    words.get(index).copied().unwrap_or(0)
+}
+
+/// The places from this one on, as many as a word has.
+fn places_from(words: &[u64], place: usize) -> u64
+    ensures { (i : ℕ) → i < 64 → (bit_at result i ≡ 1) ↔ IsOwned words.now (place + i) }
+{
+    let bit = place % WORD;
+    let low = word_at(words, place / WORD) >> bit;
+    if bit == 0 {
+        return low;
+    }
+    low | word_at(words, place / WORD + 1) << (WORD - bit)
+}
+
+/// The displacements from this one on, as many as a word has, at which some column meets an owned place; all of them, where
+/// that is found before the last column.
+fn met_from(words: &[u64], columns: &[usize], displacement: usize) -> u64
+    requires { (k : ℕ) → k < length columns.now → displacement + slice_index columns.now k < 2 ^ 64 }
+    ensures met { (i : ℕ) → i < 64 → bit_at result i ≡ 1 → ¬ (MeetsNone words.now columns.now (displacement + i)) }
+    ensures unmet { (i : ℕ) → i < 64 → bit_at result i ≡ 0 → MeetsNone words.now columns.now (displacement + i) }
+{
+    let mut met = 0;
+    for column in columns {
+        met |= places_from(words, displacement + *column);
+        if met == u64::MAX {
+            return met;
+        }
+    }
+    met
+}
+
+/// The least displacement at which no column meets an owned place. None is below the start.
+pub(crate) fn least_displacement(words: &[u64], columns: &[usize], start: usize) -> usize
+    requires none { (d : ℕ) → d < start → ¬ (MeetsNone words.now columns.now d) }
+    requires room { (k : ℕ) → k < length columns.now
+        → 64 * length words.now + slice_index columns.now k + 64 < 2 ^ 64 }
+    ensures fits { MeetsNone words.now columns.now result }
+    ensures least { (d : ℕ) → d < result → ¬ (MeetsNone words.now columns.now d) }
+{
+    let mut displacement = start;
+    loop {
+        let met = met_from(words, columns, displacement);
+        if met < u64::MAX {
+            return displacement + met.trailing_ones() as usize;
+        }
+        displacement += WORD;
+    }
+}
+
+/// Lets the place be owned.
+fn own(words: &mut [u64], place: usize)
+    requires { place < 64 * length words.old }
+    ensures { (p : ℕ) → IsOwned words.new p ↔ (IsOwned words.old p ⊎ (p ≡ place)) }
+{
+    words[place / WORD] |= 1 << (place % WORD);
+}
+
+/// Lets the places be owned in which the columns stand, at the displacement.
+pub(crate) fn own_columns(words: &mut [u64], columns: &[usize], displacement: usize)
+    requires room { 64 * length words.old < 2 ^ 64 }
+    requires within { (k : ℕ) → k < length columns.now
+        → displacement + slice_index columns.now k < 64 * length words.old }
+    ensures { (p : ℕ) → IsOwned words.new p
+        ↔ (IsOwned words.old p
+        ⊎ ((k : ℕ) × (k < length columns.now) × (p ≡ displacement + slice_index columns.now k))) }
+{
+    for column in columns {
+        own(words, displacement + *column);
+    }
+}
