@@ -7,6 +7,7 @@ ghost use Rattle.lrspec.specs.tables.Table.{IsTableOf, lists_of, goto_of};
 ghost use Rattle.lrspec.specs.tables.Conflicts.{AreEntriesOf};
 ghost use Rattle.lrspec.specs.tables.Exactness.{ListsNothing};
 ghost use Rattle.lrspec.specs.tables.Rows.{AreActingTokens, AreShiftedTokens, AreReducedBy, ReducesOnly, ReducesApart};
+ghost use Rattle.lrsparse.specs.Matrix.{HasRows};
 ghost use Rattle.lrcells.specs.StoredActions.{action_of};
 ghost use Rattle.lrcells.specs.Refusals.{IsTableRefusal};
 ghost use Rattle.lrcells.specs.RowsOf.{AreRowsOf};
@@ -85,6 +86,15 @@ fn rows_of<T: IndexStorage>(
     Ok(rows)
 }
 
+/// The matrix of these cells, of which most are 0; the list itself is let go of.
+fn matrix_of(alloc: Global, cells: Vec<usize>, cols: usize) -> Result<SparseVec, AllocError>
+    requires { HasRows cols (length cells.items) }
+    ensures cols { IfOk result (λ m. m.cols ≡ cols) }
+    ensures cells { IfOk result (λ m. m.cells ≡ cells.items) }
+{
+    SparseVec::from(alloc, cells.as_slice(), 0, cols)
+}
+
 impl<T: IndexStorage> StateTable<T> {
     /// The table of the graph, which is one of the grammar. `TooLarge` where the graph has `MAX - 1` states or more; or else
     /// `Table` where a state accepts and reduces at the end of the text.
@@ -113,8 +123,8 @@ impl<T: IndexStorage> StateTable<T> {
         let tokens_len = usize::from(grm.tokens_len());
         let rules_len = usize::from(grm.rules_len());
         Ok(StateTable {
-            actions: SparseVec::from(alloc, rows.actions.as_slice(), 0, tokens_len)?,
-            gotos: SparseVec::from(alloc, rows.gotos.as_slice(), 0, rules_len)?,
+            actions: matrix_of(alloc, rows.actions, tokens_len)?,
+            gotos: matrix_of(alloc, rows.gotos, rules_len)?,
             tokens_len,
             core_reduces: rows.core_reduces,
             reduce_only: rows.reduce_only,
