@@ -5,3 +5,4 @@ pub mod ColumnSteps
 pub mod ColumnsOfRow
 pub mod PlacedRow
 pub mod RowsInList
+pub mod StartsKept

@@ -1,9 +1,16 @@
 -- the list in which the entries of a matrix stand, each from its row's displacement on
-use Rattle.std.specs.Prelude.{◌≡◌, ◌≢◌, ℕ, ◌+◌, ◌<◌, ◌==◌, List, [], ◌∷◌, ◌++◌, Option, None, Some, IsSome, IfSome, ◌↔◌, ◌*◌, ◌≤◌, if◌then◌else◌, length, map, slice_index_or}
+use Rattle.std.specs.Prelude.{◌≡◌, ◌≢◌, ℕ, ◌+◌, ◌<◌, ◌==◌, List, [], ◌∷◌, ◌++◌, Option, None, Some, IsSome, IfSome, ◌↔◌, ◌*◌, ◌≤◌, if◌then◌else◌, length, map, slice_index, slice_index_or, Contains}
 use Rattle.std.specs.List.{range_with_len}
+use Rattle.std.specs.List.Sorted.{IsStrictlyIncreasing}
+use Rattle.std.specs.BTreeMap.{BTreeMap, get}
+use Rattle.std.specs.Cmp.Lexicographic.{slice_cmp}
+use Rattle.std.specs.Ordering.{nat_cmp}
+use Rattle.std.specs.declared.cmp.Ordering.{Ordering}
+use Rattle.std.specs.declared.vec.Vec.{Vec}
+use Rattle.std.specs.declared.alloc.Global.{Global}
 use Rattle.lrsparse.specs.declared.sparsevec.places.Entry.{Entry}
 use Rattle.lrsparse.specs.declared.sparsevec.places.Places.{Places}
-use Rattle.lrsparse.specs.Owned.{IsOwned}
+use Rattle.lrsparse.specs.Owned.{IsOwned, MeetsNone}
 
 -- no row owns the place
 abbrev pub IsFree : List (Option Entry) → ℕ → Type 0
@@ -12,6 +19,12 @@ IsFree list place = slice_index_or list place None ≡ None
 -- a row of these numbers has an entry in the column
 abbrev pub HasEntry : ℕ → List ℕ → ℕ → Type 0
 HasEntry empty numbers column = slice_index_or numbers column empty ≢ empty
+
+-- these are the columns upwards in which a row of these numbers has entries
+pub record AreColumns (empty : ℕ) (numbers columns : List ℕ) : Type 0 where
+  pub entries : (k : ℕ) → k < length columns → HasEntry empty numbers (slice_index columns k)
+  pub all : (c : ℕ) → HasEntry empty numbers c → Contains columns c
+  pub upwards : IsStrictlyIncreasing columns
 
 -- at the displacement none of the entries of a row of these numbers meets an owned place
 abbrev pub Fits : List (Option Entry) → ℕ → List ℕ → ℕ → Type 0
@@ -26,6 +39,14 @@ pub record IsPlaced (row : ℕ) (places : Places) : Type 0 where
   pub above : AreOwnedBelow row places.list.items
   pub owned : (place : ℕ) → IsOwned places.owned.items place ↔ IsSome (slice_index_or places.list.items place None)
   pub words : 64 * length places.owned.items ≤ length places.list.items + 64
+
+-- lists of columns by the order of maps
+abbrev pub columns_cmp : Vec ℕ Global → Vec ℕ Global → Ordering
+columns_cmp a b = slice_cmp nat_cmp a.items b.items
+
+-- where the search for a row of the same columns may begin: at no displacement below does none of them meet an owned place
+abbrev pub AreStarts : BTreeMap (Vec ℕ Global) ℕ → List ℕ → Type 0
+AreStarts starts words = (columns : Vec ℕ Global) (d k : ℕ) → get columns_cmp starts columns ≡ Some d → k < d → ¬ (MeetsNone words columns.items k)
 
 -- the number that the row has in a place: the empty one where it doesn't own it
 abbrev pub number_of : ℕ → ℕ → Option Entry → ℕ

@@ -8,8 +8,9 @@ mod places;
 #[cfg(test)]
 mod tests;
 
-use crate::sparsevec::places::{Entry, Places, entry_at};
+use crate::sparsevec::places::{Entry, Places, entry_at, place_row};
 use std::alloc::{AllocError, Global};
+use std::collections::BTreeMap;
 use std::marker::Model;
 
 /// A matrix of numbers, in most of whose cells one number stands. The other cells are entries, which stand in one list: those of
@@ -53,11 +54,18 @@ impl SparseVec {
         ensures cells { IfOk result (λ m. m.cells ≡ cells.now) }
     {
         let mut places = Places::new(alloc);
+        let mut starts = BTreeMap::new(alloc);
         let mut displacements = Vec::new(alloc);
         let mut rest = cells;
         while !rest.is_empty() {
             let (numbers, behind) = rest.split_at(cols);
-            let displacement = places.place(displacements.len(), numbers, empty)?;
+            let displacement = place_row(
+                &mut places,
+                &mut starts,
+                displacements.len(),
+                numbers,
+                empty,
+            )?;
             displacements.push(displacement)?;
             rest = behind;
         }

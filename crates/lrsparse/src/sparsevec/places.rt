@@ -1,11 +1,12 @@
 //! The list in which the entries of a matrix stand, and where its rows are placed.
 
 ghost use Rattle.std.specs.Prelude.{◌≡◌, ◌≢◌, ◌≤◌, ◌<◌, ◌+◌, ℕ, List, Option, length, slice_index, slice_index_or, IsTrue, ◌↔◌, Contains, IfOk, OnOk, max, ◌^◌};
-ghost use Rattle.std.specs.List.Sorted.{IsStrictlyIncreasing};
-ghost use Rattle.lrsparse.specs.Places.{IsFree, HasEntry, Fits, IsPlaced, number_at, row_of};
+ghost use Rattle.lrsparse.specs.Owned.{IsOwned, MeetsNone};
+ghost use Rattle.lrsparse.specs.Places.{AreColumns, AreStarts, HasEntry, Fits, IsPlaced, number_at, row_of};
 
 use crate::sparsevec::owned::{WORD, least_displacement, own_columns};
 use std::alloc::{AllocError, Global};
+use std::collections::BTreeMap;
 
 /// An entry of a matrix: its number, and the row in which it stands, which owns its place.
 #[derive(Clone, Copy)]
@@ -23,10 +24,7 @@ pub(crate) fn entry_at(list: &[Option<Entry>], place: usize) -> Option<Entry>
 
 /// The columns upwards in which the row has an entry, which is any number but the empty one.
 fn columns_of(alloc: Global, numbers: &[usize], empty: usize) -> Result<Vec<usize>, AllocError>
-    ensures entries { IfOk result (λ v. (k : ℕ) → k < length v.items
-        → HasEntry empty numbers.now (slice_index v.items k)) }
-    ensures all { IfOk result (λ v. (c : ℕ) → HasEntry empty numbers.now c → Contains v.items c) }
-    ensures upwards { IfOk result (λ v. IsStrictlyIncreasing v.items) }
+    ensures { IfOk result (λ v. AreColumns empty numbers.now v.items) }
 {
     let mut columns = Vec::new(alloc);
     for (column, number) in numbers.iter().enumerate() {
@@ -91,38 +89,75 @@ impl Places {
         }
     }
 
-    /// Places the row at the least displacement at which none of its entries meets an owned place, and answers that. The error
-    /// says that memory was refused.
-    pub(crate) fn place(
+    /// Places the row, whose columns with an entry these are, at the least displacement at which none of its entries meets an
+    /// owned place, and answers that. At none below the start none does. The error says that memory was refused.
+    fn place_from(
         &mut self,
+        start: usize,
         row: usize,
         numbers: &[usize],
         empty: usize,
+        columns: &[usize],
     ) -> Result<usize, AllocError>
         requires placed { IsPlaced row self.old }
         requires room { length self.old.list.items + length numbers.now < 2 ^ 63 }
+        requires columns { AreColumns empty numbers.now columns.now }
+        requires start { (d : ℕ) → d < start → ¬ (MeetsNone self.old.owned.items columns.now d) }
         ensures numbers { IfOk result (λ d.
             row_of self.new.list.items empty (length numbers.now) row d ≡ numbers.now) }
         ensures others { OnOk result ((q p : ℕ) → q ≢ row
             → number_at self.new.list.items empty q p ≡ number_at self.old.list.items empty q p) }
         ensures fits { IfOk result (Fits self.old.list.items empty numbers.now) }
         ensures least { IfOk result (λ d. (k : ℕ) → k < d
-            → ¬ (Fits self.old.list.items empty numbers.now k)) }
+            → ¬ (MeetsNone self.old.owned.items columns.now k)) }
         ensures placed { OnOk result (IsPlaced (row + 1) self.new) }
+        ensures owned { OnOk result ((p : ℕ) → IsOwned self.old.owned.items p → IsOwned self.new.owned.items p) }
         ensures within { IfOk result (λ d. d ≤ length self.old.list.items) }
         ensures long { OnOk result
             (length self.new.list.items ≤ length self.old.list.items + length numbers.now) }
     {
-        let columns = columns_of(*self.list.allocator(), numbers, empty)?;
         let Some(last) = columns.last().copied() else {
             return Ok(0);
         };
-        let displacement = least_displacement(self.owned.as_slice(), columns.as_slice(), 0);
+        let displacement = least_displacement(self.owned.as_slice(), columns, start);
         let end = displacement + last + 1;
         reach(&mut self.list, end, None)?;
         reach(&mut self.owned, end / WORD + 1, 0)?;
         put_entries(self.list.as_mut_slice(), row, displacement, numbers, empty);
-        own_columns(self.owned.as_mut_slice(), columns.as_slice(), displacement);
+        own_columns(self.owned.as_mut_slice(), columns, displacement);
         Ok(displacement)
     }
+}
+
+/// Places the row, whose entries then stand in the list, at the least displacement at which none of them meets an owned place,
+/// and answers that. By their columns the starts say where the last row of these columns stands: none is below that. The
+/// error says that memory was refused.
+pub(crate) fn place_row(
+    places: &mut Places,
+    starts: &mut BTreeMap<Vec<usize>, usize>,
+    row: usize,
+    numbers: &[usize],
+    empty: usize,
+) -> Result<usize, AllocError>
+    requires placed { IsPlaced row places.old }
+    requires starts { AreStarts starts.old places.old.owned.items }
+    requires room { length places.old.list.items + length numbers.now < 2 ^ 63 }
+    ensures numbers { IfOk result (λ d.
+        row_of places.new.list.items empty (length numbers.now) row d ≡ numbers.now) }
+    ensures others { OnOk result ((q p : ℕ) → q ≢ row
+        → number_at places.new.list.items empty q p ≡ number_at places.old.list.items empty q p) }
+    ensures fits { IfOk result (Fits places.old.list.items empty numbers.now) }
+    ensures least { IfOk result (λ d. (k : ℕ) → k < d → ¬ (Fits places.old.list.items empty numbers.now k)) }
+    ensures placed { OnOk result (IsPlaced (row + 1) places.new) }
+    ensures starts { OnOk result
+        (AreStarts starts.new places.new.owned.items) }
+    ensures within { IfOk result (λ d. d ≤ length places.old.list.items) }
+    ensures long { OnOk result
+        (length places.new.list.items ≤ length places.old.list.items + length numbers.now) }
+{
+    let columns = columns_of(*places.list.allocator(), numbers, empty)?;
+    let start = starts.get(&columns).copied().unwrap_or(0);
+    let displacement = places.place_from(start, row, numbers, empty, columns.as_slice())?;
+    starts.insert(columns, displacement)?;
+    Ok(displacement)
 }
