@@ -9,8 +9,10 @@ pub mod EqualItemSets
 pub mod SymbolsBehindDots
 pub mod PassedOn
 pub mod ProductionsOfRule
-pub mod ExpandedItems
-pub mod RoomToGain
+pub mod RowsAdded
+pub mod MarkedProductions
+pub mod VisitedItems
+pub mod VisitsLeft
 pub mod ClosingUnderway
 -- gotos
 pub mod GotoUnderway

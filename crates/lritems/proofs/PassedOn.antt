@@ -1,37 +1,41 @@
 -- the tokens that an item passes on, as a walk over the symbols finds them
-use Rattle.std.proofs.Common.{◌≡◌, ℕ, zero, suc, ◌<◌, Bool, true, false, cond, List, [], ◌∷◌, length, replicate, set, length-set, refl, sym, ap, ◌∙◌, arith, ◌⊎◌, inl, inr}
-use Rattle.std.specs.Prelude.{IsTrue}
-use Rattle.std.proofs.lemmas.List.{length-replicate}
+use Rattle.std.proofs.Common.{◌≡◌, ◌≢◌, ℕ, zero, suc, ◌<◌, ◌≤◌, Option, None, Some, Bool, true, false, cond, List, [], ◌∷◌, length, replicate, set, length-set, refl, sym, ap, ◌∙◌, arith, ◌⊎◌, inl, inr}
+use Rattle.std.specs.Prelude.{IsTrue, IfSome, ◌↔◌, ◌||◌}
 use Rattle.lrspec.specs.grammars.Grammar.{Symbol, Rule, Token, Grammar, token_count, AreBodySymbols}
 use Rattle.lrspec.specs.grammars.First as first
 use Rattle.lrspec.specs.grammars.First.{AllNullable, Begins}
-use Rattle.lrbits.specs.Bits.{bit, union}
+use Rattle.lrbits.specs.Bits.{bit, union, unset}
 use Rattle.lrgrammar.specs.Firsts.{Firsts, firsts_of, AreFirstsOf}
-use Rattle.lritems.specs.Expansion.{ArePassedOn}
-use Rattle.lrbits.proofs.Unions.{length-union}
-use Rattle.lrbits.proofs.Unions.{bit_of_union}
+use Rattle.lritems.specs.Rows.{HasToken, room_of, HasGrown, ArePassedOn}
+use Rattle.lrbits.proofs.Unions.{length-union, union_grows, bit_of_union}
+use Rattle.lrbits.proofs.UnsetBits.{unset_falls, set_again}
 use Rattle.lritems.proofs.JoinedLookaheads.{or_cases, or_left, or_right}
 
+-- the bits together with others, if there are any
+abbrev pub union_if : List Bool → Option (List Bool) → List Bool
+union_if acc None = acc
+union_if acc (Some v) = union acc v
+
 -- what a walk over the symbols `y` makes of the bits `acc`
-abbrev pub passed : Firsts → List Bool → List Symbol → List Bool → List Bool
-passed f ctx [] acc = union acc ctx
+abbrev pub passed : Firsts → Option (List Bool) → List Symbol → List Bool → List Bool
+passed f ctx [] acc = union_if acc ctx
 passed f ctx (Token t ∷ y) acc = set acc t true
 passed f ctx (Rule r ∷ y) acc = cond (bit f.nullable r) (passed f ctx y (union acc (firsts_of f r))) (union acc (firsts_of f r))
 
 -- a bit that is set stays set
-set_keeps : (v : List Bool) (i t : ℕ) → IsTrue (bit v t) → IsTrue (bit (set v i true) t)
+pub set_keeps : (v : List Bool) (i t : ℕ) → IsTrue (bit v t) → IsTrue (bit (set v i true) t)
 set_keeps [] i t h = h
 set_keeps (b ∷ v) zero zero h = refl
 set_keeps (b ∷ v) zero (suc t) h = h
 set_keeps (b ∷ v) (suc i) zero h = h
 set_keeps (b ∷ v) (suc i) (suc t) h = set_keeps v i t h
 
-set_here : (v : List Bool) (i : ℕ) → i < length v → IsTrue (bit (set v i true) i)
+pub set_here : (v : List Bool) (i : ℕ) → i < length v → IsTrue (bit (set v i true) i)
 set_here [] i h = absurd (omega arith)
 set_here (b ∷ v) zero h = refl
 set_here (b ∷ v) (suc i) h = set_here v i (omega arith)
 
-set_from : (v : List Bool) (i t : ℕ) → IsTrue (bit (set v i true) t) → (t ≡ i) ⊎ IsTrue (bit v t)
+pub set_from : (v : List Bool) (i t : ℕ) → IsTrue (bit (set v i true) t) → (t ≡ i) ⊎ IsTrue (bit v t)
 set_from [] i t h = inr h
 set_from (b ∷ v) zero zero h = inl refl
 set_from (b ∷ v) zero (suc t) h = inr h
@@ -47,6 +51,26 @@ union_right v w t e h = rw (bit_of_union v w e t) (or_right (bit v t) (bit w t) 
 union_from : (v w : List Bool) (t : ℕ) → length w ≡ length v → IsTrue (bit (union v w) t) → IsTrue (bit v t) ⊎ IsTrue (bit w t)
 union_from v w t e h = or_cases (bit v t) (bit w t) (rw (bit_of_union v w e t) at h)
 
+length_union_if : (v : List Bool) (o : Option (List Bool)) → length (union_if v o) ≡ length v
+length_union_if v None = refl
+length_union_if v (Some w) = length-union v w
+
+union_if_left :
+    (v : List Bool) (o : Option (List Bool)) (n t : ℕ) → length v ≡ n → IfSome o (λ w. length w ≡ n) → IsTrue (bit v t) → IsTrue (bit (union_if v o) t)
+union_if_left v None n t e l h = h
+union_if_left v (Some w) n t e l h = union_left v w t (l ∙ sym e) h
+
+union_if_right :
+    (v : List Bool) (o : Option (List Bool)) (n t : ℕ) → length v ≡ n → IfSome o (λ w. length w ≡ n) → HasToken o t → IsTrue (bit (union_if v o) t)
+union_if_right v None n t e l h = absurd h
+union_if_right v (Some w) n t e l h = union_right v w t (l ∙ sym e) h
+
+union_if_from :
+    (v : List Bool) (o : Option (List Bool)) (n t : ℕ) → length v ≡ n → IfSome o (λ w. length w ≡ n) → IsTrue (bit (union_if v o) t)
+    → IsTrue (bit v t) ⊎ HasToken o t
+union_if_from v None n t e l h = inl h
+union_if_from v (Some w) n t e l h = union_from v w t (l ∙ sym e) h
+
 cond_both : (b : Bool) (v w : List Bool) (t : ℕ) → IsTrue (bit v t) → IsTrue (bit w t) → IsTrue (bit (cond b v w) t)
 cond_both true v w t h k = h
 cond_both false v w t h k = k
@@ -59,14 +83,14 @@ length_cond : (b : Bool) (v w : List Bool) (n : ℕ) → length v ≡ n → leng
 length_cond true v w n h k = h
 length_cond false v w n h k = k
 
-length_passed : (f : Firsts) (ctx : List Bool) (y : List Symbol) (acc : List Bool) → length (passed f ctx y acc) ≡ length acc
-length_passed f ctx [] acc = length-union acc ctx
+length_passed : (f : Firsts) (ctx : Option (List Bool)) (y : List Symbol) (acc : List Bool) → length (passed f ctx y acc) ≡ length acc
+length_passed f ctx [] acc = length_union_if acc ctx
 length_passed f ctx (Token t ∷ y) acc = length-set acc t true
 length_passed f ctx (Rule r ∷ y) acc =
     length_cond (bit f.nullable r) (passed f ctx y (union acc (firsts_of f r))) (union acc (firsts_of f r)) (length acc)
     (length_passed f ctx y (union acc (firsts_of f r)) ∙ length-union acc (firsts_of f r)) (length-union acc (firsts_of f r))
 
-module _ (g : Grammar) (f : Firsts) (ctx : List Bool) (of : AreFirstsOf g f) (len : length ctx ≡ token_count g) where
+module _ (g : Grammar) (f : Firsts) (ctx : Option (List Bool)) (of : AreFirstsOf g f) (len : IfSome ctx (λ w. length w ≡ token_count g)) where
   row : (r : ℕ) (acc : List Bool) → r < length g.rule_names → length acc ≡ token_count g → length (firsts_of f r) ≡ length acc
   row r acc h e = of.bits r h ∙ sym e
 
@@ -76,7 +100,7 @@ module _ (g : Grammar) (f : Firsts) (ctx : List Bool) (of : AreFirstsOf g f) (le
   -- bits that are set stay set
   passed_keeps :
       (y : List Symbol) (acc : List Bool) (t : ℕ) → AreBodySymbols g y → length acc ≡ token_count g → IsTrue (bit acc t) → IsTrue (bit (passed f ctx y acc) t)
-  passed_keeps [] acc t s e h = union_left acc ctx t (len ∙ sym e) h
+  passed_keeps [] acc t s e h = union_if_left acc ctx (token_count g) t e len h
   passed_keeps (Token u ∷ y) acc t s e h = set_keeps acc u t h
   passed_keeps (Rule r ∷ y) acc t s e h =
       let more : IsTrue (bit (union acc (firsts_of f r)) t) = union_left acc (firsts_of f r) t (row r acc s.0.1 e) h in
@@ -97,9 +121,9 @@ module _ (g : Grammar) (f : Firsts) (ctx : List Bool) (of : AreFirstsOf g f) (le
 
   -- and those of the item where the symbols are nullable
   passed_inherit :
-      {y : List Symbol} (t : ℕ) (acc : List Bool) → AreBodySymbols g y → length acc ≡ token_count g → AllNullable g y → IsTrue (bit ctx t)
+      {y : List Symbol} (t : ℕ) (acc : List Bool) → AreBodySymbols g y → length acc ≡ token_count g → AllNullable g y → HasToken ctx t
       → IsTrue (bit (passed f ctx y acc) t)
-  passed_inherit t acc s e first.AllNullable.none h = union_right acc ctx t (len ∙ sym e) h
+  passed_inherit t acc s e first.AllNullable.none h = union_if_right acc ctx (token_count g) t e len h
   passed_inherit t acc s e (first.AllNullable.more {r = r} {y = y} n a) h =
       let null : bit f.nullable r ≡ true = (of.is_nullable r).1 n in
       rw null (passed_inherit t (union acc (firsts_of f r)) s.1 (row_union r acc e) a h)
@@ -109,8 +133,8 @@ module _ (g : Grammar) (f : Firsts) (ctx : List Bool) (of : AreFirstsOf g f) (le
 
   passed_past :
       (r : ℕ) (y : List Symbol) (acc : List Bool) (t : ℕ) → length (firsts_of f r) ≡ length acc → bit f.nullable r ≡ true
-      → IsTrue (bit (union acc (firsts_of f r)) t) ⊎ Begins g y t ⊎ (AllNullable g y × IsTrue (bit ctx t))
-      → IsTrue (bit acc t) ⊎ Begins g (Rule r ∷ y) t ⊎ (AllNullable g (Rule r ∷ y) × IsTrue (bit ctx t))
+      → IsTrue (bit (union acc (firsts_of f r)) t) ⊎ Begins g y t ⊎ (AllNullable g y × HasToken ctx t)
+      → IsTrue (bit acc t) ⊎ Begins g (Rule r ∷ y) t ⊎ (AllNullable g (Rule r ∷ y) × HasToken ctx t)
   passed_past r y acc t l n (inl h) = elim (union_from acc (firsts_of f r) t l h) [ inl j ↦ inl j | inr j ↦ inr (inl (row_begins r t y j)) ]
   passed_past r y acc t l n (inr (inl h)) = inr (inl (first.Begins.past ((of.is_nullable r).0 n) h))
   passed_past r y acc t l n (inr (inr h)) = inr (inr (first.AllNullable.more ((of.is_nullable r).0 n) h.0, h.1))
@@ -118,8 +142,8 @@ module _ (g : Grammar) (f : Firsts) (ctx : List Bool) (of : AreFirstsOf g f) (le
   -- and no others
   passed_from :
       (y : List Symbol) (acc : List Bool) (t : ℕ) → AreBodySymbols g y → length acc ≡ token_count g → IsTrue (bit (passed f ctx y acc) t)
-      → IsTrue (bit acc t) ⊎ Begins g y t ⊎ (AllNullable g y × IsTrue (bit ctx t))
-  passed_from [] acc t s e h = elim (union_from acc ctx t (len ∙ sym e) h) [ inl k ↦ inl k | inr k ↦ inr (inr (first.AllNullable.none, k)) ]
+      → IsTrue (bit acc t) ⊎ Begins g y t ⊎ (AllNullable g y × HasToken ctx t)
+  passed_from [] acc t s e h = elim (union_if_from acc ctx (token_count g) t e len h) [ inl k ↦ inl k | inr k ↦ inr (inr (first.AllNullable.none, k)) ]
   passed_from (Token u ∷ y) acc t s e h = elim (set_from acc u t h) [ inl k ↦ inr (inl (rw k first.Begins.here)) | inr k ↦ inl k ]
   passed_from (Rule r ∷ y) acc t s e h =
       elim (cond_cases (bit f.nullable r) (passed f ctx y (union acc (firsts_of f r))) (union acc (firsts_of f r)) t h) [
@@ -127,46 +151,103 @@ module _ (g : Grammar) (f : Firsts) (ctx : List Bool) (of : AreFirstsOf g f) (le
         | inr k ↦ elim (union_from acc (firsts_of f r) t (row r acc s.0.1 e) k) [ inl j ↦ inl j | inr j ↦ inr (inl (row_begins r t y j)) ]
       ]
 
-  -- the walk begins with no bit set
-  pub are_passed_on : (y : List Symbol) (acc : List Bool) → AreBodySymbols g y → length acc ≡ length ctx → ((t : ℕ) → bit acc t ≡ false) → ArePassedOn g y ctx (passed f ctx y acc)
-  are_passed_on y acc s e clear = record {
+  -- the walk adds what is passed on
+  are_passed_on : (y : List Symbol) (acc : List Bool) → AreBodySymbols g y → length acc ≡ token_count g → ArePassedOn g y ctx (Some acc) (passed f ctx y acc)
+  are_passed_on y acc s e = record {
     len = length_passed f ctx y acc ∙ e;
-    begins = λ t b. passed_begins acc s (e ∙ len) b;
-    inherit = λ t a h. passed_inherit t acc s (e ∙ len) a h;
-    from = λ t h. elim (passed_from y acc t s (e ∙ len) h) [ inl k ↦ let c = clear t in absurd cc | inr k ↦ k ];
+    kept = λ t h. passed_keeps y acc t s e h;
+    begins = λ t b. passed_begins acc s e b;
+    inherit = λ t a h. passed_inherit t acc s e a h;
+    from = λ t h. passed_from y acc t s e h;
   }
 
--- bits of which none is set
-pub none_set : (n m : ℕ) (v : List Bool) → v ≡ replicate n false → n ≡ m → (length v ≡ m) × ((t : ℕ) → bit v t ≡ false)
-none_set n m v e s = rw (e, s) (length-replicate m false, clear m)
+-- what the walk ends with is what is passed on
+pub made_passed_on :
+    (g : Grammar) (f : Firsts) (ctx : Option (List Bool)) → AreFirstsOf g f → IfSome ctx (λ w. length w ≡ token_count g) → (y : List Symbol) (acc ahead : List Bool)
+    → AreBodySymbols g y → length acc ≡ token_count g → ahead ≡ passed f ctx y acc → ArePassedOn g y ctx (Some acc) ahead
+made_passed_on g f ctx of len y acc ahead s e h = rw h (are_passed_on g f ctx of len y acc s e)
+
+-- where no bit was set, no row was there
+pub made_from_none :
+    (g : Grammar) (y : List Symbol) (ctx : Option (List Bool)) (n : ℕ) (acc new : List Bool) → acc ≡ replicate n false → ArePassedOn g y ctx (Some acc) new
+    → ArePassedOn g y ctx None new
+made_from_none g y ctx n acc new e m = record {
+  len = m.len;
+  kept = λ t h. absurd h;
+  begins = m.begins;
+  inherit = m.inherit;
+  from = λ t h. elim (m.from t h) [ inl k ↦ let c : bit acc t ≡ false = rw e (clear n t) in absurd cc | inr k ↦ inr k ];
+}
   where
     clear : (k t : ℕ) → bit (replicate k false) t ≡ false
     clear zero t = refl
     clear (suc k) zero = refl
     clear (suc k) (suc t) = clear k t
 
+-- a row that is made is more than none
+pub made_grown : (k : ℕ) (new : List Bool) → length new ≡ k → HasGrown k true None new
+made_grown k new e = omega (arith, unset_le new, e)
+  where
+    unset_le : (v : List Bool) → unset v ≤ length v
+    unset_le [] = omega arith
+    unset_le (true ∷ v) = omega (arith, unset_le v)
+    unset_le (false ∷ v) = omega (arith, unset_le v)
+
+-- ---- what has changed
+
+pub grown_union : (k : ℕ) (b : Bool) (v w new : List Bool) → new ≡ union v w → (IsTrue b ↔ (new ≢ v)) → HasGrown k b (Some v) new
+grown_union k true v w new e h = elim (union_grows v w) [ inl s ↦ absurd (h.0 refl (e ∙ s)) | inr l ↦ rw e l ]
+grown_union k false v w new e h = elim (union_grows v w) [
+  | inl s ↦ rw e (ap (λ x. Some x) (sym s))
+  | inr l ↦
+      let t : false ≡ true = h.1 (λ s. let n : unset (union v w) ≡ unset v = rw (← e) (ap unset s) in omega (arith, l, n)) in
+      absurd cc
+]
+
+pub grown_set : (k : ℕ) (b : Bool) (v new : List Bool) (i : ℕ) → i < length v → new ≡ set v i true → (IsTrue b ↔ (bit v i ≢ true)) → HasGrown k b (Some v) new
+grown_set k true v new i l e h = rw e (unset_falls v i l (unset_bit (bit v i) (h.0 refl)))
+  where
+    unset_bit : (x : Bool) → (x ≢ true) → x ≡ false
+    unset_bit true n = absurd (n refl)
+    unset_bit false n = refl
+grown_set k false v new i l e h = rw e (ap (λ x. Some x) (sym (set_again v i (was (bit v i) h.1))))
+  where
+    was : (x : Bool) → ((x ≢ true) → false ≡ true) → x ≡ true
+    was true n = refl
+    was false n = let t : false ≡ true = n (λ e. cc) in absurd cc
+
+-- changes one after another
+pub grown_then :
+    (k : ℕ) (a b : Bool) (o : Option (List Bool)) (v w : List Bool) → HasGrown k a o v → HasGrown k b (Some v) w → HasGrown k (a || b) o w
+grown_then k true true o v w h j = omega (arith, h, j)
+grown_then k true false o v w h j = let e : unset v ≡ unset w = ap (room_of k) j in omega (arith, h, e)
+grown_then k false true o v w h j = rw h j
+grown_then k false false o v w h j = h ∙ j
+
+-- with the later one first
+pub grown_before :
+    (k : ℕ) (a b : Bool) (o : Option (List Bool)) (v w : List Bool) → HasGrown k a o v → HasGrown k b (Some v) w → HasGrown k (b || a) o w
+grown_before k true true o v w h j = omega (arith, h, j)
+grown_before k true false o v w h j = let e : unset v ≡ unset w = ap (room_of k) j in omega (arith, h, e)
+grown_before k false true o v w h j = rw h j
+grown_before k false false o v w h j = h ∙ j
+
 -- turns of the walk
 pub turn_past :
-    (f : Firsts) (ctx acc new total : List Bool) (left more : List Symbol) (r : ℕ) → passed f ctx left acc ≡ total → left ≡ Rule r ∷ more
+    (f : Firsts) (ctx : Option (List Bool)) (acc new total : List Bool) (left more : List Symbol) (r : ℕ) → passed f ctx left acc ≡ total → left ≡ Rule r ∷ more
     → bit f.nullable r ≡ true → new ≡ union acc (firsts_of f r) → passed f ctx more new ≡ total
 turn_past f ctx acc new total left more r h e n m = rw m ((rw n refl) ∙ ap (λ z. passed f ctx z acc) (sym e) ∙ h)
 
 pub turn_stop :
-    (f : Firsts) (ctx acc new total : List Bool) (left more : List Symbol) (r : ℕ) → passed f ctx left acc ≡ total → left ≡ Rule r ∷ more
+    (f : Firsts) (ctx : Option (List Bool)) (acc new total : List Bool) (left more : List Symbol) (r : ℕ) → passed f ctx left acc ≡ total → left ≡ Rule r ∷ more
     → bit f.nullable r ≡ false → new ≡ union acc (firsts_of f r) → new ≡ total
 turn_stop f ctx acc new total left more r h e n m = m ∙ (rw n refl) ∙ ap (λ z. passed f ctx z acc) (sym e) ∙ h
 
 pub turn_token :
-    (f : Firsts) (ctx acc new total : List Bool) (left more : List Symbol) (t : ℕ) → passed f ctx left acc ≡ total → left ≡ Token t ∷ more
+    (f : Firsts) (ctx : Option (List Bool)) (acc new total : List Bool) (left more : List Symbol) (t : ℕ) → passed f ctx left acc ≡ total → left ≡ Token t ∷ more
     → new ≡ set acc t true → new ≡ total
 turn_token f ctx acc new total left more t h e m = m ∙ ap (λ z. passed f ctx z acc) (sym e) ∙ h
 
 pub turn_end :
-    (f : Firsts) (ctx acc new total : List Bool) (left : List Symbol) → passed f ctx left acc ≡ total → left ≡ [] → new ≡ union acc ctx → new ≡ total
+    (f : Firsts) (ctx : Option (List Bool)) (acc new total : List Bool) (left : List Symbol) → passed f ctx left acc ≡ total → left ≡ [] → new ≡ union_if acc ctx → new ≡ total
 turn_end f ctx acc new total left h e m = m ∙ ap (λ z. passed f ctx z acc) (sym e) ∙ h
-
--- what the walk ends with is what is passed on
-pub made_passed_on :
-    (g : Grammar) (f : Firsts) (ctx : List Bool) → AreFirstsOf g f → length ctx ≡ token_count g → (y : List Symbol) (acc ahead : List Bool) → AreBodySymbols g y
-    → length acc ≡ length ctx → ((t : ℕ) → bit acc t ≡ false) → ahead ≡ passed f ctx y acc → ArePassedOn g y ctx ahead
-made_passed_on g f ctx of len y acc ahead s e clear h = rw h (are_passed_on g f ctx of len y acc s e clear)

@@ -1,35 +1,17 @@
--- lookaheads that are put in at each production of a rule
-use Rattle.std.proofs.Common.{◌≡◌, ◌≢◌, ℕ, zero, suc, ◌+◌, ◌<◌, ◌≤◌, Bool, true, false, cond, List, ◌∷◌, length, map, get_or, refl, sym, ap, ◌∙◌, arith, inl, inr, ⊎_elim, Option, None, Some}
+-- the productions of a rule, one after another
+use Rattle.std.proofs.Common.{◌≡◌, ◌≢◌, ℕ, zero, suc, ◌+◌, ◌<◌, ◌≤◌, Bool, true, false, cond, List, ◌∷◌, length, map, get_or, refl, sym, ap, ◌∙◌, arith, ◌⊎◌, inl, inr, ⊎_elim, Option, None, Some}
 use Rattle.std.specs.Prelude.{filter, slice_get}
 use Rattle.std.specs.List.{range_with_len}
 use Rattle.std.proofs.lemmas.Bool.{cases_eq, eqb-true, eq-eqb}
 use Rattle.std.proofs.lemmas.List.{get_or-map, length-map}
 use Rattle.lrspec.specs.grammars.Grammar.{Grammar, Production, IsOfRule, IsProductionOf, is_of_rule, productions_of}
-use Rattle.lrspec.specs.grammars.ItemSets.{Items}
 use Rattle.lrspec.proofs.grammars.BodyFacts.{below_of_production}
-use Rattle.lritems.specs.Expansion.{ArePut, Keeps}
-use Rattle.lritems.proofs.PutLookaheads.{put_none, put_next}
 
 -- `q` is one of the first `n` of a list of productions
 abbrev pub IsAmongFirst : ℕ → List ℕ → ℕ → Type 0
 IsAmongFirst n ps q = (k : ℕ) × (k < n) × (k < length ps) × (get_or ps k 0 ≡ q)
 
--- one production more
-pub put_this :
-    (ps : List ℕ) (i p : ℕ) (ahead : List Bool) (old mid new before todo : Items) → ArePut (IsAmongFirst i ps) ahead old mid before
-    → ArePut (λ q. q ≡ p) ahead mid new todo → Keeps before todo → i < length ps → get_or ps i 0 ≡ p → ArePut (IsAmongFirst (i + 1) ps) ahead old new todo
-put_this ps i p ahead old mid new before todo a b k l e =
-    put_next (IsAmongFirst i ps) (λ q. q ≡ p) (IsAmongFirst (i + 1) ps) ahead old mid new before todo a b k
-    (λ q s.
-    ⊎_elim (λ (x : s.0 ≡ i). inr (sym s.3 ∙ rw x e)) (λ (n : s.0 ≢ i). let lt : s.0 < i = omega (arith, s.1, n) in inl (s.0, lt, s.2, s.3)) (cases_eq s.0 i))
-    (λ q s. let lt : s.0 < i + 1 = omega (arith, s.1) in (s.0, lt, s.2, s.3))
-    (λ q x. let lt : i < i + 1 = omega arith in (i, lt, l, e ∙ sym x))
-
--- no production at first
-pub put_no_more : (ps : List ℕ) (ahead : List Bool) (old todo : Items) → ArePut (IsAmongFirst 0 ps) ahead old old todo
-put_no_more ps ahead old todo = put_none (IsAmongFirst 0 ps) ahead old todo (λ q s. let n : s.0 < 0 = s.1 in absurd (omega (arith, n)))
-
-of_rule_from_test : (o : Option Production) (r : ℕ) → is_of_rule o r ≡ true → IsOfRule o r
+pub of_rule_from_test : (o : Option Production) (r : ℕ) → is_of_rule o r ≡ true → IsOfRule o r
 of_rule_from_test None r h = cc
 of_rule_from_test (Some p) r h = eqb-true p.rule r h
 
@@ -72,28 +54,33 @@ range_place f a (suc n) q h l t =
     place_later true s = (suc s.0, omega (arith, s.1), s.2)
     place_later false s = s
 
--- all productions of the rule at last
-pub put_every :
-    (g : Grammar) (ps : List ℕ) (r n : ℕ) (ahead : List Bool) (old mid todo : Items) → ps ≡ productions_of g r → length ps ≤ n → ArePut (IsAmongFirst n ps) ahead old mid todo
-    → ArePut (λ q. IsProductionOf g q r) ahead old mid todo
-put_every g ps r n ahead old mid todo e l a =
-    put_next (IsAmongFirst n ps) (λ q. ⊥) (λ q. IsProductionOf g q r) ahead old mid mid todo todo a
-    (put_none (λ q. ⊥) ahead mid todo (λ q h. h)) (λ p d h. h)
-    (λ q h. inl (place q h))
-    (λ q s. of_rule_from_test (slice_get g.productions q) r (passes q s))
-    (λ q h. absurd h)
-  where
-    place : (q : ℕ) → IsProductionOf g q r → IsAmongFirst n ps q
-    place q h =
-        let s = range_place (λ q. is_of_rule (slice_get g.productions q) r) 0 (length g.productions) q (omega arith) (omega (arith, below_of_production g q r h)) (test_from_of_rule (slice_get g.productions q) r h) in
-        let lt : s.0 < length ps = rw e s.1 in
-        (s.0, omega (arith, lt, l), lt, rw e s.2)
+-- the productions of a rule are those of the list
+pub among_productions : (g : Grammar) (ps : List ℕ) (r n q : ℕ) → ps ≡ productions_of g r → length ps ≤ n → IsProductionOf g q r → IsAmongFirst n ps q
+among_productions g ps r n q e l h =
+    let s = range_place (λ q. is_of_rule (slice_get g.productions q) r) 0 (length g.productions) q (omega arith) (omega (arith, below_of_production g q r h)) (test_from_of_rule (slice_get g.productions q) r h) in
+    let lt : s.0 < length ps = rw e s.1 in
+    (s.0, omega (arith, lt, l), lt, rw e s.2)
 
-    passes : (q : ℕ) → IsAmongFirst n ps q → is_of_rule (slice_get g.productions q) r ≡ true
-    passes q s =
-        let lt = rw e at s.2 in
-        let here = rw e at s.3 in
-        rw (← here) (range_passes (λ q. is_of_rule (slice_get g.productions q) r) 0 (length g.productions) s.0 lt)
+pub production_among : (g : Grammar) (ps : List ℕ) (r n q : ℕ) → ps ≡ productions_of g r → IsAmongFirst n ps q → IsProductionOf g q r
+production_among g ps r n q e s =
+    let lt = rw e at s.2 in
+    let here = rw e at s.3 in
+    of_rule_from_test (slice_get g.productions q) r
+    (rw (← here) (range_passes (λ q. is_of_rule (slice_get g.productions q) r) 0 (length g.productions) s.0 lt))
+
+-- the first of a list, and the next one
+pub among_next : (n : ℕ) (ps : List ℕ) (p q : ℕ) → get_or ps n 0 ≡ p → IsAmongFirst (n + 1) ps q → IsAmongFirst n ps q ⊎ (q ≡ p)
+among_next n ps p q e s =
+    ⊎_elim (λ (x : s.0 ≡ n). inr (sym s.3 ∙ rw x e)) (λ (x : s.0 ≢ n). let lt : s.0 < n = omega (arith, s.1, x) in inl (s.0, lt, s.2, s.3)) (cases_eq s.0 n)
+
+pub among_more : (n : ℕ) (ps : List ℕ) (q : ℕ) → IsAmongFirst n ps q → IsAmongFirst (n + 1) ps q
+among_more n ps q s = let lt : s.0 < n + 1 = omega (arith, s.1) in (s.0, lt, s.2, s.3)
+
+pub among_here : (n : ℕ) (ps : List ℕ) (p q : ℕ) → n < length ps → get_or ps n 0 ≡ p → q ≡ p → IsAmongFirst (n + 1) ps q
+among_here n ps p q l e h = let lt : n < n + 1 = omega arith in (n, lt, l, e ∙ sym h)
+
+pub among_none : (ps : List ℕ) (q : ℕ) → IsAmongFirst 0 ps q → ⊥
+among_none ps q s = let n : s.0 < 0 = s.1 in absurd (omega (arith, n))
 
 -- a production of the list is one of the grammar
 pub production_below :

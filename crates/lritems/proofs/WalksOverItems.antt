@@ -1,15 +1,11 @@
 -- walks over the items of a map
-use Rattle.std.proofs.Common.{◌≡◌, ℕ, suc, ◌<◌, Bool, true, false, cond, ◌&&◌, List, [], ◌∷◌, ◌++◌, length, Some, refl, sym, ◌∙◌, arith, ◌⊎◌, inl, inr, ⊎_elim, get_or}
-use Rattle.std.specs.Prelude.{◌==◌}
-use Rattle.std.specs.Option.{IsSome}
+use Rattle.std.proofs.Common.{◌≡◌, ℕ, suc, ◌<◌, Bool, List, [], ◌∷◌, length, Some, sym, ◌∙◌, arith, ◌⊎◌, inl, inr, ⊎_elim, get_or}
 use Rattle.std.specs.declared.cmp.Ordering.{Ordering}
 use Rattle.std.specs.Ordering.{nat_cmp}
 use Rattle.std.specs.Map.{lookup}
 use Rattle.std.specs.BTreeMap.{is_at}
-use Rattle.std.proofs.lemmas.List.{map-append}
 use Rattle.lrspec.specs.grammars.Grammar.{Grammar}
 use Rattle.lrspec.specs.grammars.ItemSets.{Items, item_at, HasItem, FitsAt, Fits}
-use Rattle.lritems.specs.Expansion.{IsWithout}
 use Rattle.lritems.specs.ItemsOf.{items_of}
 use Rattle.lritems.proofs.ItemKeys.{Key, key_cmp, item_here, same_or_apart, apart_test}
 
@@ -31,26 +27,6 @@ first_or_rest p d ctx rest i e h = elim (same_or_apart i e p d) [
   | inl s ↦ inl (sym s.0, sym s.1)
   | inr f ↦ inr (rw (apart_test i e p d f) at h)
 ]
-
--- an item of a list is the last, or among the others
-last_or_others : (p d : ℕ) (ctx : List Bool) (others : Items) (i e : ℕ) → HasItem (others ++ ((p, d), ctx) ∷ []) i e → ((i ≡ p) × (e ≡ d)) ⊎ HasItem others i e
-last_or_others p d ctx [] i e h = first_or_rest p d ctx [] i e h
-last_or_others p d ctx (x ∷ xs) i e h = go ((i == x.0.0) && (e == x.0.1)) refl (last_or_others p d ctx xs i e) h
-  where
-    go :
-        (b : Bool) → ((i == x.0.0) && (e == x.0.1)) ≡ b → (HasItem (xs ++ ((p, d), ctx) ∷ []) i e → ((i ≡ p) × (e ≡ d)) ⊎ HasItem xs i e)
-        → IsSome (cond b (Some x.1) (item_at (xs ++ ((p, d), ctx) ∷ []) i e)) → ((i ≡ p) × (e ≡ d)) ⊎ HasItem (x ∷ xs) i e
-    go true t r k = inr (rw t refl)
-    go false t r k = elim (r k) [ inl s ↦ inl s | inr n ↦ inr (rw t n) ]
-
--- what is left without the last item
-pub without_last :
-    {T : Type 0} (number : T → ℕ) (e : Key T × List Bool) (es fs : List (Key T × List Bool)) → es ≡ fs ++ e ∷ []
-    → IsWithout (number e.0.0.0) (number e.0.1.0) (items_of number es) (items_of number fs)
-without_last number e es fs s i d h =
-    let k : HasItem (items_of number (fs ++ e ∷ [])) i d = rw s at h in
-    let n : items_of number (fs ++ e ∷ []) ≡ items_of number fs ++ ((number e.0.0.0, number e.0.1.0), e.1) ∷ [] = map-append _ fs (e ∷ []) in
-    last_or_others (number e.0.0.0) (number e.0.1.0) e.1 (items_of number fs) i d (rw n at k)
 
 -- one item more fits
 pub checked_turn :

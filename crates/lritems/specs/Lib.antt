@@ -1,7 +1,8 @@
 -- item sets as plain data
 pub mod ItemsOf
 -- closing
-pub mod Expansion
+pub mod Rows
+pub mod Visits
 -- gotos
 pub mod Gotos
 -- merging

@@ -12,7 +12,7 @@ ghost use Rattle.lrgrammar.specs.Firsts.{AreFirstsOf};
 ghost use Rattle.lritems.specs.ItemsOf.{set_of, look_up, joined, Agree};
 ghost use Rattle.lrspec.specs.grammars.StartState.{IsStartCore, IsCanonicalStart};
 
-use crate::closing::{End, expand, take_item};
+use crate::closing::close_counted;
 use crate::items::{dot_behind, item_fits};
 use crate::printing::push_items;
 use lrgrammar::firsts::YaccFirsts;
@@ -85,14 +85,7 @@ impl<T: IndexStorage> Itemset<T> {
         ensures start { IfOk result (λ s. IsStartCore grm.now (set_of T.number self.now)
             → IsCanonicalStart grm.now (set_of T.number s)) }
     {
-        let mut closed = self.clone()?;
-        let mut todo = self.clone()?;
-        // From both ends in turn: rules may stand below or above those in whose bodies they come first.
-        let mut end = End::Front;
-        while let Some((pidx, dot)) = take_item(&mut todo, end) {
-            expand(&mut closed, &mut todo, grm, firsts, pidx, dot)?;
-            end = end.other();
-        }
+        let (closed, _visits) = close_counted(self, grm, firsts)?;
         Ok(closed)
     }
 

@@ -8,3 +8,4 @@ mod items;
 pub mod itemset;
 pub mod merging;
 pub mod printing;
+mod rows;
