@@ -1,5 +1,5 @@
 -- the tokens that an item passes on, as a walk over the symbols finds them
-use Rattle.std.proofs.Common.{◌≡◌, ◌≢◌, ℕ, zero, suc, ◌<◌, ◌≤◌, Option, None, Some, Bool, true, false, cond, List, [], ◌∷◌, length, replicate, set, length-set, refl, sym, ap, ◌∙◌, arith, ◌⊎◌, inl, inr}
+use Rattle.std.proofs.Common.{◌≡◌, ◌≢◌, ℕ, zero, suc, ◌<◌, ◌≤◌, Option, None, Some, Bool, true, false, cond, List, [], ◌∷◌, length, set, length-set, refl, sym, ap, ◌∙◌, arith, ◌⊎◌, inl, inr}
 use Rattle.std.specs.Prelude.{IsTrue, IfSome, ◌↔◌, ◌||◌}
 use Rattle.lrspec.specs.grammars.Grammar.{Symbol, Rule, Token, Grammar, token_count, AreBodySymbols}
 use Rattle.lrspec.specs.grammars.First as first
@@ -166,23 +166,6 @@ pub made_passed_on :
     (g : Grammar) (f : Firsts) (ctx : Option (List Bool)) → AreFirstsOf g f → IfSome ctx (λ w. length w ≡ token_count g) → (y : List Symbol) (acc ahead : List Bool)
     → AreBodySymbols g y → length acc ≡ token_count g → ahead ≡ passed f ctx y acc → ArePassedOn g y ctx (Some acc) ahead
 made_passed_on g f ctx of len y acc ahead s e h = rw h (are_passed_on g f ctx of len y acc s e)
-
--- where no bit was set, no row was there
-pub made_from_none :
-    (g : Grammar) (y : List Symbol) (ctx : Option (List Bool)) (n : ℕ) (acc new : List Bool) → acc ≡ replicate n false → ArePassedOn g y ctx (Some acc) new
-    → ArePassedOn g y ctx None new
-made_from_none g y ctx n acc new e m = record {
-  len = m.len;
-  kept = λ t h. absurd h;
-  begins = m.begins;
-  inherit = m.inherit;
-  from = λ t h. elim (m.from t h) [ inl k ↦ let c : bit acc t ≡ false = rw e (clear n t) in absurd cc | inr k ↦ inr k ];
-}
-  where
-    clear : (k t : ℕ) → bit (replicate k false) t ≡ false
-    clear zero t = refl
-    clear (suc k) zero = refl
-    clear (suc k) (suc t) = clear k t
 
 -- a row that is made is more than none
 pub made_grown : (k : ℕ) (new : List Bool) → length new ≡ k → HasGrown k true None new

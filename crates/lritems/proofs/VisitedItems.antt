@@ -1,21 +1,17 @@
 -- what a visit of an item makes of the rows
-use Rattle.std.proofs.Common.{◌≡◌, ◌≢◌, ℕ, zero, suc, ◌+◌, ◌<◌, ◌≤◌, Bool, true, false, List, [], ◌∷◌, Option, None, Some, length, get_or, set, length-set, get_or-set_same, get_or-set_other, add-one, refl, sym, ap, ◌∙◌, arith, replicate, ◌⊎◌, inl, inr, ⊎_elim}
+use Rattle.std.proofs.Common.{◌≡◌, ◌≢◌, ℕ, zero, suc, ◌+◌, ◌<◌, Bool, true, false, List, [], ◌∷◌, Option, None, Some, length, get_or, set, length-set, get_or-set_same, get_or-set_other, add-one, refl, sym, ap, ◌∙◌, arith, replicate, ◌⊎◌, inl, inr, ⊎_elim}
 use Rattle.std.specs.Prelude.{IsTrue, IfSome}
 use Rattle.std.specs.Option.{IsSome}
 use Rattle.std.proofs.lemmas.Bool.{cases_eq}
 use Rattle.std.proofs.lemmas.List.{length-replicate}
-use Rattle.lrspec.specs.grammars.Grammar.{Symbol, Rule, Grammar, IsGrammar, rest, body_of, token_count, IsProductionOf}
+use Rattle.lrspec.specs.grammars.Grammar.{Symbol, Rule, Grammar, IsGrammar, rest, body_of, IsProductionOf}
 use Rattle.lrspec.specs.grammars.First.{AllNullable}
 use Rattle.lrspec.specs.grammars.ItemSets.{IsBefore}
-use Rattle.lrspec.proofs.grammars.BodyFacts.{below_of_drop, rest_next, symbol_at_dot}
+use Rattle.lrspec.proofs.grammars.BodyFacts.{rest_next, symbol_at_dot}
 use Rattle.lrbits.specs.Bits.{bit}
 use Rattle.lritems.specs.Rows.{Rows, row_at, HasToken, ArePassedOn, HasGrown, AreRows}
 use Rattle.lritems.specs.Visits.{HasNone, AreMarkedIf, IsPassedOn, PassesOn, IsVisited, AreShaped}
 use Rattle.lritems.proofs.ClosingUnderway.{one_rule}
-
--- the place behind a rule is within the body
-pub place_within : (g : Grammar) (p d r e : ℕ) → IsBefore g p d (Rule r) → e ≡ d + 1 → e ≤ length (body_of g p)
-place_within g p d r e b i = let h : suc d ≤ length (body_of g p) = below_of_drop (body_of g p) d (Rule r) b.0 b.1 in omega (arith, h, i)
 
 -- the rest of the body behind a rule
 pub behind_rule : (g : Grammar) (p d r e : ℕ) → (b : IsBefore g p d (Rule r)) → e ≡ d + 1 → rest g p e ≡ b.0
@@ -52,10 +48,6 @@ marked_from :
     (c : Bool) (g : Grammar) (r : ℕ) (old new : List Bool) → AreMarkedIf c g r old new → (q : ℕ) → IsTrue (bit new q) → IsTrue (bit old q) ⊎ IsProductionOf g q r
 marked_from true g r old new m q h = m.from q h
 marked_from false g r old new m q h = inl (rw m at h)
-
-pub marked_len : (c : Bool) (g : Grammar) (r : ℕ) (old new : List Bool) → AreMarkedIf c g r old new → length new ≡ length old
-marked_len true g r old new m = m.len
-marked_len false g r old new m = ap length m
 
 -- a row that has changed has its productions marked
 grown_marked :
@@ -215,31 +207,6 @@ module _ (rows : Rows) (b r : ℕ) (below : b < length rows) where
 pub bits_if : (o : Option (List Bool)) (n : ℕ) → ((v : List Bool) → o ≡ Some v → length v ≡ n) → IfSome o (λ v. length v ≡ n)
 bits_if None n h = tt
 bits_if (Some v) n h = h v refl
-
-pub bits_taken : (g : Grammar) (rows : Rows) (b : ℕ) → AreRows g rows → b < length rows → (r : ℕ) → IfSome (row_at (set rows b None) r) (λ v. length v ≡ token_count g)
-bits_taken g rows b a l r = ⊎_elim
-    (λ (e : r ≡ b). rw (e, get_or-set_same) tt)
-    (λ (n : r ≢ b). rw get_or-set_other (bits_if (row_at rows r) (token_count g) (a.bits r)))
-    (cases_eq r b)
-
--- a written row keeps the shape
-pub shaped_row :
-    (g : Grammar) (rows : Rows) (b : ℕ) (v todo after : List Bool) (c : Bool) → AreShaped g rows todo → b < length rows → length v ≡ token_count g
-    → AreMarkedIf c g b todo after → AreShaped g (set rows b (Some v)) after
-shaped_row g rows b v todo after c a l e m = record {
-  of_rules = record {
-    rules = length-set rows b (Some v) ∙ a.of_rules.rules;
-    bits = λ r w h. ⊎_elim
-        (λ (s : r ≡ b).
-        let j : row_at (set rows b (Some v)) b ≡ Some w = rw s at h in
-        let i : Some v ≡ Some w = sym (get_or-set_same rows b (Some v) None l) ∙ j in
-        let same : v ≡ w = cc in
-        rw (← same) e)
-        (λ (n : r ≢ b). a.of_rules.bits r w (rw get_or-set_other at h))
-        (cases_eq r b);
-  };
-  of_productions = marked_len c g b todo after m ∙ a.of_productions;
-}
 
 -- no rule has a row, and no production is to be done
 pub clear_rows : (n r : ℕ) → row_at (replicate n None) r ≡ None
