@@ -7,8 +7,23 @@ use crate::fixtures::{
     SUMS_AND_PRODUCTS_WITH_LEVELS, SUMS_WITH_A_LEVEL, TERMS_AND_FACTORS, THREE_REDUCTIONS,
     TOLD_APART_LATE,
 };
-use crate::tables::conflicts;
+use crate::tables::{conflicts, is_told};
+use lrgrammar::idx::IndexStorage;
+use std::alloc::Global;
+use std::process::Abort;
 use std::test::Fail;
+
+/// The table of the text has these conflicts.
+fn has_conflicts<T: IndexStorage>(
+    rt: &impl Abort,
+    alloc: Global,
+    text: &str,
+    wanted: &str,
+) -> Result<(), Fail> {
+    let told = conflicts::<T>(alloc, text)?;
+    is_told(rt, text, told.as_str(), wanted);
+    Ok(())
+}
 
 #[test]
 fn no_conflicts(rt: HostRuntime) -> Result<(), Fail> {
@@ -23,8 +38,7 @@ fn no_conflicts(rt: HostRuntime) -> Result<(), Fail> {
         A_COLLECTED_STATE,
         NEVER_ENDING,
     ] {
-        let told = conflicts::<u32>(rt.alloc(), text)?;
-        assert_eq!(rt; told.as_str(), "none", "{text}");
+        has_conflicts::<u32>(&rt, rt.alloc(), text, "none")?;
     }
     Ok(())
 }
@@ -48,8 +62,7 @@ fn listed_conflicts(rt: HostRuntime) -> Result<(), Fail> {
         (SUMS_AND_PRODUCTS, "0, 4 (0,0,5) (1,0,5) (0,1,6) (1,1,6)"),
         (SUMS_WITH_A_LEVEL, "0, 3 (1,0,5) (0,1,6) (1,1,6)"),
     ] {
-        let told = conflicts::<u32>(rt.alloc(), text)?;
-        assert_eq!(rt; told.as_str(), wanted, "{text}");
+        has_conflicts::<u32>(&rt, rt.alloc(), text, wanted)?;
     }
     Ok(())
 }
@@ -57,9 +70,6 @@ fn listed_conflicts(rt: HostRuntime) -> Result<(), Fail> {
 #[test]
 fn conflicts_of_both_kinds(rt: HostRuntime) -> Result<(), Fail> {
     let wanted = "1 (1,2,4,1), 1 (1,2,1)";
-    let small = conflicts::<u8>(rt.alloc(), SHIFT_AND_TWO_REDUCTIONS)?;
-    assert_eq!(rt; small.as_str(), wanted);
-    let large = conflicts::<u32>(rt.alloc(), SHIFT_AND_TWO_REDUCTIONS)?;
-    assert_eq!(rt; large.as_str(), wanted);
-    Ok(())
+    has_conflicts::<u8>(&rt, rt.alloc(), SHIFT_AND_TWO_REDUCTIONS, wanted)?;
+    has_conflicts::<u32>(&rt, rt.alloc(), SHIFT_AND_TWO_REDUCTIONS, wanted)
 }

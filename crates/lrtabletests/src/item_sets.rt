@@ -1,12 +1,13 @@
 //! Closures and gotos of the worked grammars, and what adding, copying and comparing answer.
 
-ghost use Rattle.std.specs.Prelude.{IfOk};
+ghost use Rattle.std.specs.Prelude.{◌≡◌, length, IfOk};
 ghost use Rattle.lrspec.specs.grammars.ItemSets.{Fits};
 ghost use Rattle.lrtable.specs.ItemSets.{set_of};
 
 use crate::fixtures::{
     EMPTY_RULE, NESTED_STATES, NO_SENTENCE, ROUND, RULE_WITHOUT_A_TREE, THROUGH_NULLABLES,
 };
+use crate::tables::is_told;
 use lrgrammar::grammar::YaccGrammar;
 use lrgrammar::idx::{IndexStorage, PIdx, SIdx, Symbol};
 use lrgrammar::vob::Vob;
@@ -31,37 +32,47 @@ fn bits<T: IndexStorage>(
     Ok(bits)
 }
 
-/// The item set with one item.
+/// The item set with one item, which looks at the tokens with these names.
 fn one_item<T: IndexStorage>(
+    rt: &impl Abort,
     alloc: Global,
     grm: &YaccGrammar<T>,
     prod: usize,
     dot: usize,
-    looks: &Vob,
+    looks: &str,
 ) -> Result<Itemset<T>, Fail> {
     let pidx = PIdx(T::from_usize(prod).ok_or("a production")?);
     let dot = SIdx(T::from_usize(dot).ok_or("a dot")?);
+    let looks = bits(rt, alloc, grm, looks)?;
     let mut set = Itemset::new(alloc, grm);
-    set.add(pidx, dot, looks)?;
+    set.add(pidx, dot, &looks)?;
     Ok(set)
+}
+
+/// The closure of an item set of the grammar.
+fn closure_of<T: IndexStorage>(grm: &YaccGrammar<T>, given: &Itemset<T>) -> Result<Itemset<T>, Fail>
+    ensures { IfOk result (λ s. Fits grm.now (set_of T.number s)) }
+{
+    if !given.fits(grm) {
+        return Err(Fail::from("an item of the grammar"));
+    }
+    let firsts = grm.firsts()?;
+    Ok(given.close(grm, &firsts)?)
 }
 
 /// The closure of one item.
 fn closed<T: IndexStorage>(
+    rt: &impl Abort,
     alloc: Global,
     grm: &YaccGrammar<T>,
     prod: usize,
     dot: usize,
-    looks: &Vob,
+    looks: &str,
 ) -> Result<Itemset<T>, Fail>
     ensures { IfOk result (λ s. Fits grm.now (set_of T.number s)) }
 {
-    let firsts = grm.firsts()?;
-    let given = one_item(alloc, grm, prod, dot, looks)?;
-    if !given.fits(grm) {
-        return Err(Fail::from("an item of the grammar"));
-    }
-    Ok(given.close(grm, &firsts)?)
+    let given = one_item(rt, alloc, grm, prod, dot, looks)?;
+    closure_of(grm, &given)
 }
 
 /// The text of the closure of one item of the grammar.
@@ -74,8 +85,8 @@ fn closed_text<T: IndexStorage>(
     looks: &str,
 ) -> Result<String, Fail> {
     let grm = YaccGrammar::<T>::from_text(alloc, text)?;
-    let looks = bits(rt, alloc, &grm, looks)?;
-    Ok(closed(alloc, &grm, prod, dot, &looks)?.pp(&grm)?)
+    let closed = closed(rt, alloc, &grm, prod, dot, looks)?;
+    Ok(closed.pp(&grm)?)
 }
 
 #[test]
@@ -138,7 +149,7 @@ fn closures(rt: HostRuntime) -> Result<(), Fail> {
         ),
     ] {
         let told = closed_text::<u32>(&rt, alloc, text, prod, dot, looks)?;
-        assert_eq!(rt; told.as_str(), wanted, "{text}");
+        is_told(&rt, text, told.as_str(), wanted);
     }
     Ok(())
 }
@@ -146,8 +157,34 @@ fn closures(rt: HostRuntime) -> Result<(), Fail> {
 #[test]
 fn closure_by_bytes(rt: HostRuntime) -> Result<(), Fail> {
     let told = closed_text::<u8>(&rt, rt.alloc(), EMPTY_RULE, 1, 0, "$")?;
-    assert_eq!(rt; told.as_str(), "[S -> ., {'$'}]\n[^ -> . S, {'$'}]");
+    is_told(
+        &rt,
+        EMPTY_RULE,
+        told.as_str(),
+        "[S -> ., {'$'}]\n[^ -> . S, {'$'}]",
+    );
     Ok(())
+}
+
+/// The rule or else the token of that name.
+fn symbol<T: IndexStorage>(grm: &YaccGrammar<T>, name: &str) -> Result<Symbol<T>, Fail> {
+    if let Some(rule) = grm.rule_idx(name) {
+        return Ok(Symbol::Rule(rule));
+    }
+    Ok(Symbol::Token(grm.token_idx(name).ok_or("a symbol")?))
+}
+
+/// The text of the goto of a closure over the symbol of that name.
+fn goto_of<T: IndexStorage>(
+    grm: &YaccGrammar<T>,
+    closed: &Itemset<T>,
+    name: &str,
+) -> Result<String, Fail>
+    requires { Fits grm.now (set_of T.number closed.now) }
+{
+    let symbol = symbol(grm, name)?;
+    let moved = closed.goto(grm, &symbol)?;
+    Ok(moved.pp(grm)?)
 }
 
 /// The text of the goto of the closure of one item of the nested states, over the rule or else the
@@ -161,27 +198,18 @@ fn goto_text<T: IndexStorage>(
     name: &str,
 ) -> Result<String, Fail> {
     let grm = YaccGrammar::<T>::from_text(alloc, NESTED_STATES)?;
-    let looks = bits(rt, alloc, &grm, looks)?;
-    let symbol = match grm.rule_idx(name) {
-        Some(rule) => Symbol::Rule(rule),
-        None => Symbol::Token(grm.token_idx(name).ok_or("a symbol")?),
-    };
-    let closed = closed(alloc, &grm, prod, dot, &looks)?;
-    Ok(closed.goto(&grm, &symbol)?.pp(&grm)?)
+    let closed = closed(rt, alloc, &grm, prod, dot, looks)?;
+    goto_of(&grm, &closed, name)
 }
 
 #[test]
 fn gotos(rt: HostRuntime) -> Result<(), Fail> {
     let small = goto_text::<u8>(&rt, rt.alloc(), 5, 0, "$", "S")?;
-    assert_eq!(rt;
-        small.as_str(),
-        "[S -> S . 'b', {'b', '$'}]\n[^ -> S ., {'$'}]"
-    );
+    let wanted = "[S -> S . 'b', {'b', '$'}]\n[^ -> S ., {'$'}]";
+    is_told(&rt, "S", small.as_str(), wanted);
     let large = goto_text::<u32>(&rt, rt.alloc(), 1, 1, "b $", "a")?;
-    assert_eq!(rt;
-        large.as_str(),
-        "[A -> 'a' . S 'c', {'a'}]\n[A -> 'a' ., {'a'}]\n[A -> 'a' . S 'b', {'a'}]"
-    );
+    let wanted = "[A -> 'a' . S 'c', {'a'}]\n[A -> 'a' ., {'a'}]\n[A -> 'a' . S 'b', {'a'}]";
+    is_told(&rt, "a", large.as_str(), wanted);
     Ok(())
 }
 
@@ -193,48 +221,59 @@ fn item_fits<T: IndexStorage>(
     dot: usize,
 ) -> Result<bool, Fail> {
     let grm = YaccGrammar::<T>::from_text(alloc, NO_SENTENCE)?;
-    let looks = bits(rt, alloc, &grm, "")?;
-    Ok(one_item(alloc, &grm, prod, dot, &looks)?.fits(&grm))
+    let item = one_item(rt, alloc, &grm, prod, dot, "")?;
+    Ok(item.fits(&grm))
 }
 
 #[test]
 fn fitting_items(rt: HostRuntime) -> Result<(), Fail> {
     for (prod, dot, fits) in [(1, 1, true), (1, 2, false), (2, 0, false)] {
-        assert_eq!(rt; item_fits::<u8>(&rt, rt.alloc(), prod, dot)?, fits);
+        assert!(rt;
+            item_fits::<u8>(&rt, rt.alloc(), prod, dot)? == fits,
+            "{prod} {dot}"
+        );
     }
     Ok(())
 }
 
-/// What adding answers for a new item, and for it once more.
-fn added_again<T: IndexStorage>(rt: &impl Abort, alloc: Global) -> Result<(), Fail> {
-    let grm = YaccGrammar::<T>::from_text(alloc, NO_SENTENCE)?;
+/// What adding the start item answers with these lookaheads, and then with those; and how many items there are then.
+fn added_twice<T: IndexStorage>(
+    alloc: Global,
+    grm: &YaccGrammar<T>,
+    these: &Vob,
+    those: &Vob,
+) -> Result<(bool, bool, usize), Fail>
+    requires { length these.now ≡ length those.now }
+{
     let zero = SIdx(T::from_usize(0).ok_or("a dot")?);
-    let looks = Vob::from_elem(alloc, true, usize::from(grm.tokens_len()))?;
-    let mut set = Itemset::new(alloc, &grm);
-    assert!(rt; set.add(grm.start_prod(), zero, &looks)?);
-    assert!(rt; !set.add(grm.start_prod(), zero, &looks)?);
-    assert_eq!(rt; set.items.len(), 1);
-    Ok(())
+    let mut set = Itemset::new(alloc, grm);
+    let is_new = set.add(grm.start_prod(), zero, these)?;
+    let is_more = set.add(grm.start_prod(), zero, those)?;
+    Ok((is_new, is_more, set.items.len()))
 }
 
-/// What adding answers for lookaheads more.
-fn added_looks<T: IndexStorage>(rt: &impl Abort, alloc: Global) -> Result<(), Fail> {
+/// The same where the first lookaheads are all there or all missing, and the second are all there.
+fn added<T: IndexStorage>(alloc: Global, first: bool) -> Result<(bool, bool, usize), Fail> {
     let grm = YaccGrammar::<T>::from_text(alloc, NO_SENTENCE)?;
-    let zero = SIdx(T::from_usize(0).ok_or("a dot")?);
-    let mut looks = Vob::from_elem(alloc, false, usize::from(grm.tokens_len()))?;
-    let mut set = Itemset::new(alloc, &grm);
-    set.add(grm.start_prod(), zero, &looks)?;
-    looks.set_all(true);
-    assert!(rt; set.add(grm.start_prod(), zero, &looks)?);
-    assert_eq!(rt; set.items.len(), 1);
+    let these = Vob::from_elem(alloc, first, usize::from(grm.tokens_len()))?;
+    let those = Vob::from_elem(alloc, true, usize::from(grm.tokens_len()))?;
+    added_twice(alloc, &grm, &these, &those)
+}
+
+/// What adding answers for a new item, and for it once more; and what for lookaheads more.
+fn adding<T: IndexStorage>(rt: &impl Abort, alloc: Global) -> Result<(), Fail> {
+    for (first, changed) in [(true, false), (false, true)] {
+        let (is_new, is_more, items) = added::<T>(alloc, first)?;
+        assert!(rt; is_new && is_more == changed && items == 1, "{first}");
+    }
     Ok(())
 }
 
 /// Which item sets are equal.
 fn compared<T: IndexStorage>(rt: &impl Abort, alloc: Global) -> Result<(), Fail> {
     let grm = YaccGrammar::<T>::from_text(alloc, NO_SENTENCE)?;
-    let none = one_item(alloc, &grm, 1, 0, &bits(rt, alloc, &grm, "")?)?;
-    let some = one_item(alloc, &grm, 1, 0, &bits(rt, alloc, &grm, "a")?)?;
+    let none = one_item(rt, alloc, &grm, 1, 0, "")?;
+    let some = one_item(rt, alloc, &grm, 1, 0, "a")?;
     assert!(rt; none == none.clone()?);
     assert!(rt; none != some);
     Ok(())
@@ -243,10 +282,8 @@ fn compared<T: IndexStorage>(rt: &impl Abort, alloc: Global) -> Result<(), Fail>
 #[test]
 fn adding_and_comparing(rt: HostRuntime) -> Result<(), Fail> {
     let alloc = rt.alloc();
-    added_again::<u8>(&rt, alloc)?;
-    added_again::<u32>(&rt, alloc)?;
-    added_looks::<u8>(&rt, alloc)?;
-    added_looks::<u32>(&rt, alloc)?;
+    adding::<u8>(&rt, alloc)?;
+    adding::<u32>(&rt, alloc)?;
     compared::<u8>(&rt, alloc)?;
     compared::<u32>(&rt, alloc)
 }

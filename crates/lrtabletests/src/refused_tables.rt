@@ -1,30 +1,39 @@
 //! Grammars that have no table.
 
 use crate::fixtures::one_long_body;
-use crate::tables::grammar_and_table;
+use crate::sizes::sizes;
 use lrgrammar::grammar::YaccGrammar;
 use lrgrammar::idx::PIdx;
 use lrtable::{BuildError, Minimiser, StateTableError, StateTableErrorKind, from_yacc};
+use std::alloc::Global;
 use std::test::Fail;
 
 #[test]
 fn the_most_states(rt: HostRuntime) -> Result<(), Fail> {
     let text = one_long_body(rt.alloc(), 251)?;
-    let (_grm, graph, _table) = grammar_and_table::<u8>(rt.alloc(), text.as_str())?;
-    assert_eq!(rt; usize::from(graph.all_states_len()), 253);
+    let [states, _edges] = sizes::<u8>(rt.alloc(), text.as_str())?;
+    assert!(rt; states == 253);
     Ok(())
+}
+
+/// Why the grammar of the text has no table, if it has none.
+fn refusal(alloc: Global, text: &str) -> Result<Option<BuildError<u32>>, Fail> {
+    let grm = YaccGrammar::<u32>::from_text(alloc, text)?;
+    Ok(from_yacc(alloc, &grm, Minimiser::Pager).err())
+}
+
+/// Whether a body of that length has too many states for `u8` indices.
+fn is_too_large(alloc: Global, length: usize) -> Result<bool, Fail> {
+    let text = one_long_body(alloc, length)?;
+    let grm = YaccGrammar::<u8>::from_text(alloc, text.as_str())?;
+    let built = from_yacc(alloc, &grm, Minimiser::Pager);
+    Ok(matches!(built, Err(BuildError::TooLarge)))
 }
 
 #[test]
 fn too_many_states(rt: HostRuntime) -> Result<(), Fail> {
     for length in [252, 253, 254, 255] {
-        let text = one_long_body(rt.alloc(), length)?;
-        let grm = YaccGrammar::<u8>::from_text(rt.alloc(), text.as_str())?;
-        let refused = matches!(
-            from_yacc(rt.alloc(), &grm, Minimiser::Pager),
-            Err(BuildError::TooLarge)
-        );
-        assert!(rt; refused, "{length}");
+        assert!(rt; is_too_large(rt.alloc(), length)?, "{length}");
     }
     Ok(())
 }
@@ -38,13 +47,11 @@ fn accept_and_reduce(rt: HostRuntime) -> Result<(), Fail> {
         ("%% S: S | ;", 0, 2),
         ("%% S: S | S | ;", 0, 3),
     ] {
-        let grm = YaccGrammar::<u32>::from_text(rt.alloc(), text)?;
-        let error = from_yacc(rt.alloc(), &grm, Minimiser::Pager).err();
         let conflict = BuildError::Table(StateTableError {
             kind: StateTableErrorKind::AcceptReduceConflict(Some(PIdx(least))),
             pidx: PIdx(start),
         });
-        assert!(rt; error == Some(conflict), "{text}");
+        assert!(rt; refusal(rt.alloc(), text)? == Some(conflict), "{text}");
     }
     Ok(())
 }

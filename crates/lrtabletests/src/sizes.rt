@@ -5,10 +5,47 @@ use crate::fixtures::{
     NEVER_ENDING, NO_SENTENCE, NONASSOC, PAGERS_EXAMPLE, ROUND_WITHOUT_TOKENS, RULE_WITHOUT_A_TREE,
     TERMS_AND_FACTORS, TOLD_APART_LATE, many_tokens,
 };
-use crate::tables::grammar_and_table;
 use lrgrammar::grammar::YaccGrammar;
-use lrtable::{Minimiser, from_yacc_counted};
+use lrgrammar::idx::IndexStorage;
+use lrtable::{Minimiser, from_yacc, from_yacc_counted};
+use std::alloc::Global;
+use std::process::Abort;
 use std::test::Fail;
+
+/// The numbers are those that are wanted.
+fn are_told(rt: &impl Abort, of: &str, told: &[usize], wanted: &[usize]) {
+    assert_eq!(rt; told, wanted, "{of}");
+}
+
+/// How many states and edges the graph of the grammar has.
+fn sizes_of<T: IndexStorage>(alloc: Global, grm: &YaccGrammar<T>) -> Result<[usize; 2], Fail> {
+    match from_yacc(alloc, grm, Minimiser::Pager) {
+        Ok((graph, _table)) => {
+            let states = usize::from(graph.all_states_len());
+            Ok([states, graph.all_edges_len()])
+        }
+        Err(_) => Err(Fail::from("a graph")),
+    }
+}
+
+/// How many states and edges the graph of the text has.
+pub fn sizes<T: IndexStorage>(alloc: Global, text: &str) -> Result<[usize; 2], Fail> {
+    let grm = YaccGrammar::<T>::from_text(alloc, text)?;
+    sizes_of(alloc, &grm)
+}
+
+/// How many states and edges the graph of the text has, how many states were made, and how often one was closed.
+fn counted(alloc: Global, text: &str) -> Result<([usize; 3], u128), Fail> {
+    let grm = YaccGrammar::<u32>::from_text(alloc, text)?;
+    match from_yacc_counted(alloc, &grm, Minimiser::Pager) {
+        Ok((graph, _table, counts)) => {
+            let states = usize::from(graph.all_states_len());
+            let built = [states, graph.all_edges_len(), counts.made];
+            Ok((built, counts.closings))
+        }
+        Err(_) => Err(Fail::from("a graph")),
+    }
+}
 
 #[test]
 fn states(rt: HostRuntime) -> Result<(), Fail> {
@@ -18,8 +55,8 @@ fn states(rt: HostRuntime) -> Result<(), Fail> {
         (NONASSOC, 5),
         (FOUR_LEVELS, 11),
     ] {
-        let (_grm, graph, _table) = grammar_and_table::<u32>(rt.alloc(), text)?;
-        assert_eq!(rt; usize::from(graph.all_states_len()), states, "{text}");
+        let [found, _edges] = sizes::<u32>(rt.alloc(), text)?;
+        are_told(&rt, text, &[found], &[states]);
     }
     Ok(())
 }
@@ -34,9 +71,8 @@ fn states_and_edges(rt: HostRuntime) -> Result<(), Fail> {
         (ROUND_WITHOUT_TOKENS, 4, 3),
         (NEVER_ENDING, 5, 5),
     ] {
-        let (_grm, graph, _table) = grammar_and_table::<u32>(rt.alloc(), text)?;
-        assert_eq!(rt; usize::from(graph.all_states_len()), states, "{text}");
-        assert_eq!(rt; graph.all_edges_len(), edges, "{text}");
+        let found = sizes::<u32>(rt.alloc(), text)?;
+        are_told(&rt, text, &found, &[states, edges]);
     }
     Ok(())
 }
@@ -48,36 +84,31 @@ fn states_edges_and_closings(rt: HostRuntime) -> Result<(), Fail> {
         (A_COLLECTED_STATE, 21, 22, 22, 29),
         (PAGERS_EXAMPLE, 23, 27, 23, 38),
     ] {
-        let grm = YaccGrammar::<u32>::from_text(rt.alloc(), text)?;
-        let (graph, _table, counts) = from_yacc_counted(rt.alloc(), &grm, Minimiser::Pager)
-            .ok()
-            .ok_or("a table")?;
-        let built = [
-            usize::from(graph.all_states_len()),
-            graph.all_edges_len(),
-            counts.made,
-        ];
-        assert_eq!(rt; built, [states, edges, made], "{text}");
-        assert_eq!(rt; counts.closings, closings, "{text}");
+        let (built, closed) = counted(rt.alloc(), text)?;
+        are_told(&rt, text, &built, &[states, edges, made]);
+        assert!(rt; closed == closings, "{text}");
     }
     Ok(())
 }
 
+/// How many tokens there are, and how many states the graph has, where the text names so many.
+fn tokens_and_states(alloc: Global, count: usize) -> Result<[usize; 2], Fail> {
+    let text = many_tokens(alloc, count)?;
+    let grm = YaccGrammar::<u8>::from_text(alloc, text.as_str())?;
+    let [states, _edges] = sizes_of(alloc, &grm)?;
+    Ok([usize::from(grm.tokens_len()), states])
+}
+
 #[test]
 fn the_most_tokens(rt: HostRuntime) -> Result<(), Fail> {
-    let text = many_tokens(rt.alloc(), 254)?;
-    let (grm, graph, _table) = grammar_and_table::<u8>(rt.alloc(), text.as_str())?;
-    assert_eq!(rt; usize::from(grm.tokens_len()), 255);
-    assert_eq!(rt; usize::from(graph.all_states_len()), 3);
+    let found = tokens_and_states(rt.alloc(), 254)?;
+    are_told(&rt, "tokens", &found, &[255, 3]);
     Ok(())
 }
 
 #[test]
 fn closings_of_hidden_left_recursion(rt: HostRuntime) -> Result<(), Fail> {
-    let grm = YaccGrammar::<u32>::from_text(rt.alloc(), HIDDEN_LEFT_RECURSION)?;
-    let (_graph, _table, counts) = from_yacc_counted(rt.alloc(), &grm, Minimiser::Pager)
-        .ok()
-        .ok_or("a table")?;
-    assert_eq!(rt; counts.closings, 10);
+    let (_built, closings) = counted(rt.alloc(), HIDDEN_LEFT_RECURSION)?;
+    assert!(rt; closings == 10);
     Ok(())
 }

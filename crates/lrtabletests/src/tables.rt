@@ -1,28 +1,26 @@
 //! What tables say, as short texts that tests compare.
 
-ghost use Rattle.std.specs.Prelude.{IfOk};
-ghost use Rattle.lrspec.specs.merging.Graph.{IsGraphOf};
-ghost use Rattle.lrspec.specs.tables.Table.{lists_of};
-ghost use Rattle.lrspec.specs.tables.Conflicts.{AreEntriesOf};
-
 use lrgrammar::grammar::YaccGrammar;
-use lrgrammar::idx::IndexStorage;
+use lrgrammar::idx::{IndexStorage, PIdx};
 use lrtable::statetable::{Conflicts, CoreReducesIterator, StateActionsIterator};
-use lrtable::{Action, Minimiser, StIdx, StateGraph, StateTable, from_yacc};
+use lrtable::{Action, Minimiser, StIdx, StateTable, from_yacc};
 use std::alloc::{AllocError, Global};
+use std::process::Abort;
 use std::test::Fail;
 
-/// The grammar of the text, its graph and its table.
+/// What is told is what is wanted.
+pub fn is_told(rt: &impl Abort, of: &str, told: &str, wanted: &str) {
+    assert_eq!(rt; told, wanted, "{of}");
+}
+
+/// The grammar of the text and its table.
 pub fn grammar_and_table<T: IndexStorage>(
     alloc: Global,
     text: &str,
-) -> Result<(YaccGrammar<T>, StateGraph<T>, StateTable<T>), Fail>
-    ensures graph { IfOk result (λ r. IsGraphOf r.0 r.1) }
-    ensures entries { IfOk result (λ r. AreEntriesOf r.0 (lists_of r.2)) }
-{
+) -> Result<(YaccGrammar<T>, StateTable<T>), Fail> {
     let grm = YaccGrammar::<T>::from_text(alloc, text)?;
     match from_yacc(alloc, &grm, Minimiser::Pager) {
-        Ok((graph, table)) => Ok((grm, graph, table)),
+        Ok((_graph, table)) => Ok((grm, table)),
         Err(_) => Err(Fail::from("a table")),
     }
 }
@@ -32,13 +30,19 @@ fn state<T: IndexStorage>(number: usize) -> Result<StIdx<T>, Fail> {
     Ok(StIdx(T::from_usize(number).ok_or("a state")?))
 }
 
-/// An action: `s` and the state for a shift, `r` and the production for a reduction.
-fn action_text<T: IndexStorage>(alloc: Global, action: Action<T>) -> Result<String, AllocError> {
+/// Adds an action: `s` and the state for a shift, `r` and the production for a reduction.
+fn push_action<T: IndexStorage>(told: &mut String, action: Action<T>) -> Result<(), AllocError> {
     match action {
-        Action::Shift(to) => format!(in alloc; " s{}", usize::from(to)),
-        Action::Reduce(by) => format!(in alloc; " r{}", usize::from(by)),
-        Action::Accept => String::from_str(alloc, " accept"),
-        Action::Error => String::from_str(alloc, " error"),
+        Action::Shift(to) => {
+            let to = usize::from(to);
+            write!(told, " s{to}")
+        }
+        Action::Reduce(by) => {
+            let by = usize::from(by);
+            write!(told, " r{by}")
+        }
+        Action::Accept => told.push_str(" accept"),
+        Action::Error => told.push_str(" error"),
     }
 }
 
@@ -54,9 +58,20 @@ pub fn actions<T: IndexStorage>(
     let mut told = String::new(alloc);
     for name in names.split_whitespace() {
         let token = grm.token_idx(name).unwrap_or(grm.eof_token_idx());
-        told.push_str(action_text(alloc, table.action(from, token))?.as_str())?;
+        push_action(&mut told, table.action(from, token))?;
     }
     Ok(told)
+}
+
+/// Adds the state; `-` where there is none.
+fn push_goto<T: IndexStorage>(told: &mut String, to: Option<StIdx<T>>) -> Result<(), AllocError> {
+    match to {
+        Some(to) => {
+            let to = usize::from(to);
+            write!(told, " {to}")
+        }
+        None => told.push_str(" -"),
+    }
 }
 
 /// Where the rules of these names lead from the state; `-` where one leads nowhere.
@@ -70,94 +85,138 @@ pub fn gotos<T: IndexStorage>(
     let from = state(from)?;
     let mut told = String::new(alloc);
     for name in names.split_whitespace() {
-        match table.goto(from, grm.rule_idx(name).ok_or("a rule")?) {
-            Some(to) => told.push_str(format!(in alloc; " {}", usize::from(to))?.as_str())?,
-            None => told.push_str(" -")?,
-        }
+        let rule = grm.rule_idx(name).ok_or("a rule")?;
+        push_goto(&mut told, table.goto(from, rule))?;
     }
     Ok(told)
 }
 
 /// Adds the numbers of the tokens that the iterator gives.
 fn push_tokens<T: IndexStorage>(
-    alloc: Global,
     told: &mut String,
     tokens: StateActionsIterator<'_, T>,
 ) -> Result<(), AllocError> {
     for token in tokens {
-        told.push_str(format!(in alloc; " {}", usize::from(token))?.as_str())?;
+        let number = usize::from(token);
+        write!(told, " {number}")?;
     }
     Ok(())
 }
 
 /// Adds the numbers of the productions by which the state reduces.
 fn push_reduces<T: IndexStorage>(
-    alloc: Global,
     told: &mut String,
     prods: CoreReducesIterator<'_, T>,
 ) -> Result<(), AllocError> {
     for prod in prods {
-        told.push_str(format!(in alloc; " {}", usize::from(prod))?.as_str())?;
+        let number = usize::from(prod);
+        write!(told, " {number}")?;
     }
     Ok(())
 }
 
-/// The tokens on which the state acts and those that it shifts, the productions by which it reduces, and whether it reduces by
-/// one and does nothing else.
+/// Adds the tokens on which the state acts and those that it shifts, the productions by which it reduces, and whether it reduces
+/// by one and does nothing else.
+fn push_row<T: IndexStorage>(
+    told: &mut String,
+    table: &StateTable<T>,
+    from: StIdx<T>,
+) -> Result<(), AllocError> {
+    told.push_str("acts")?;
+    push_tokens(told, table.state_actions(from))?;
+    told.push_str(", shifts")?;
+    push_tokens(told, table.state_shifts(from))?;
+    told.push_str(", reduces")?;
+    push_reduces(told, table.core_reduces(from))?;
+    if table.reduce_only_state(from) {
+        told.push_str(" only")?;
+    }
+    Ok(())
+}
+
+/// What is told of the state of that number.
 pub fn row<T: IndexStorage>(
     alloc: Global,
     table: &StateTable<T>,
     from: usize,
 ) -> Result<String, Fail> {
     let from = state(from)?;
-    let mut told = String::from_str(alloc, "acts")?;
-    push_tokens(alloc, &mut told, table.state_actions(from))?;
-    told.push_str(", shifts")?;
-    push_tokens(alloc, &mut told, table.state_shifts(from))?;
-    told.push_str(", reduces")?;
-    push_reduces(alloc, &mut told, table.core_reduces(from))?;
-    if table.reduce_only_state(from) {
-        told.push_str(" only")?;
-    }
+    let mut told = String::new(alloc);
+    push_row(&mut told, table, from)?;
     Ok(told)
 }
 
-/// The reduce/reduce conflicts, by numbers.
-fn reduce_reduce<T: IndexStorage>(
-    alloc: Global,
-    conflicts: &Conflicts<T>,
-) -> Result<String, AllocError> {
+/// Adds the numbers of the productions.
+fn push_prods<T: IndexStorage>(told: &mut String, prods: &[PIdx<T>]) -> Result<(), AllocError> {
+    for prod in prods {
+        let number = usize::from(*prod);
+        write!(told, " {number}")?;
+    }
+    Ok(())
+}
+
+/// The numbers of the productions of the rule of that name.
+pub fn prods_of_rule(alloc: Global, text: &str, name: &str) -> Result<String, Fail> {
+    let grm = YaccGrammar::<u32>::from_text(alloc, text)?;
+    let rule = grm.rule_idx(name).ok_or("a rule")?;
     let mut told = String::new(alloc);
+    push_prods(&mut told, grm.rule_to_prods(rule))?;
+    Ok(told)
+}
+
+/// Adds the reduce/reduce conflicts, by numbers.
+fn push_reduce_reduce<T: IndexStorage>(
+    told: &mut String,
+    conflicts: &Conflicts<T>,
+) -> Result<(), AllocError> {
     for (token, prod, other, state) in conflicts.rr_conflicts() {
         let (token, prod) = (usize::from(*token), usize::from(*prod));
         let (other, state) = (usize::from(*other), usize::from(*state));
-        told.push_str(format!(in alloc; " ({token},{prod},{other},{state})")?.as_str())?;
+        write!(told, " ({token},{prod},{other},{state})")?;
     }
-    Ok(told)
+    Ok(())
 }
 
-/// The shift/reduce conflicts, by numbers.
-fn shift_reduce<T: IndexStorage>(
-    alloc: Global,
+/// Adds the shift/reduce conflicts, by numbers.
+fn push_shift_reduce<T: IndexStorage>(
+    told: &mut String,
     conflicts: &Conflicts<T>,
-) -> Result<String, AllocError> {
-    let mut told = String::new(alloc);
+) -> Result<(), AllocError> {
     for (token, prod, state) in conflicts.sr_conflicts() {
         let (token, prod) = (usize::from(*token), usize::from(*prod));
         let state = usize::from(*state);
-        told.push_str(format!(in alloc; " ({token},{prod},{state})")?.as_str())?;
+        write!(told, " ({token},{prod},{state})")?;
+    }
+    Ok(())
+}
+
+/// Adds how many conflicts there are between reductions, and which, and the same of shifts.
+fn push_conflicts<T: IndexStorage>(
+    told: &mut String,
+    conflicts: &Conflicts<T>,
+) -> Result<(), AllocError> {
+    let (rr, sr) = (conflicts.rr_len(), conflicts.sr_len());
+    write!(told, "{rr}")?;
+    push_reduce_reduce(told, conflicts)?;
+    write!(told, ", {sr}")?;
+    push_shift_reduce(told, conflicts)
+}
+
+/// The conflicts of the table.
+fn conflicts_of<T: IndexStorage>(
+    alloc: Global,
+    table: &StateTable<T>,
+) -> Result<String, AllocError> {
+    let mut told = String::new(alloc);
+    match table.conflicts() {
+        Some(conflicts) => push_conflicts(&mut told, conflicts)?,
+        None => told.push_str("none")?,
     }
     Ok(told)
 }
 
-/// The conflicts of the table of the text: how many there are between reductions, and which, and the same of shifts.
+/// The conflicts of the table of the text.
 pub fn conflicts<T: IndexStorage>(alloc: Global, text: &str) -> Result<String, Fail> {
-    let (_grm, _graph, table) = grammar_and_table::<T>(alloc, text)?;
-    let Some(conflicts) = table.conflicts() else {
-        return Ok(String::from_str(alloc, "none")?);
-    };
-    let between = reduce_reduce(alloc, conflicts)?;
-    let against = shift_reduce(alloc, conflicts)?;
-    let (rr, sr) = (conflicts.rr_len(), conflicts.sr_len());
-    Ok(format!(in alloc; "{rr}{}, {sr}{}", between.as_str(), against.as_str())?)
+    let (_grm, table) = grammar_and_table::<T>(alloc, text)?;
+    Ok(conflicts_of(alloc, &table)?)
 }
