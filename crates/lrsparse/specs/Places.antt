@@ -1,5 +1,6 @@
 -- the list in which the entries of a matrix stand, each from its row's displacement on
-use Rattle.std.specs.Prelude.{◌≡◌, ◌≢◌, ℕ, ◌+◌, ◌<◌, ◌==◌, List, [], ◌∷◌, ◌++◌, Option, None, Some, IsSome, IfSome, ◌↔◌, ◌*◌, ◌≤◌, if◌then◌else◌, length, map, slice_index, slice_index_or, Contains}
+use Rattle.std.specs.Prelude.{◌≡◌, ◌≢◌, ◌↔◌, ℕ, ◌+◌, ◌*◌, ◌<◌, ◌≤◌, ◌==◌, if◌then◌else◌, Option, None, Some, IsSome, IfSome}
+use Rattle.std.specs.Prelude.{List, [], ◌∷◌, ◌++◌, length, map, Contains, slice_index, slice_index_or}
 use Rattle.std.specs.List.{range_with_len}
 use Rattle.std.specs.List.Sorted.{IsStrictlyIncreasing}
 use Rattle.std.specs.BTreeMap.{BTreeMap, get}
@@ -44,9 +45,11 @@ pub record IsPlaced (row : ℕ) (places : Places) : Type 0 where
 abbrev pub columns_cmp : Vec ℕ Global → Vec ℕ Global → Ordering
 columns_cmp a b = slice_cmp nat_cmp a.items b.items
 
--- where the search for a row of the same columns may begin: at no displacement below does none of them meet an owned place
+-- where the search for a row of the same columns may begin: at each displacement below, some of them meets an owned place
 abbrev pub AreStarts : BTreeMap (Vec ℕ Global) ℕ → List ℕ → Type 0
-AreStarts starts words = (columns : Vec ℕ Global) (d k : ℕ) → get columns_cmp starts columns ≡ Some d → k < d → ¬ (MeetsNone words columns.items k)
+AreStarts starts words =
+    (columns : Vec ℕ Global) (d k : ℕ)
+    → get columns_cmp starts columns ≡ Some d → k < d → ¬ (MeetsNone words columns.items k)
 
 -- the number that the row has in a place: the empty one where it doesn't own it
 abbrev pub number_of : ℕ → ℕ → Option Entry → ℕ

@@ -13,8 +13,8 @@ use std::alloc::{AllocError, Global};
 use std::collections::BTreeMap;
 use std::marker::Model;
 
-/// A matrix of numbers, in most of whose cells one number stands. The other cells are entries, which stand in one list: those of
-/// a row from its displacement on, each as far behind it as its column says, beside the row that owns the place.
+/// A matrix of numbers, in most of whose cells one number stands. The other cells are entries, which stand in one list: those
+/// of a row from its displacement on, each as far behind it as its column says, beside the row that owns the place.
 #[derive(Drop)]
 pub struct SparseVec {
     list: Vec<Option<Entry>>,

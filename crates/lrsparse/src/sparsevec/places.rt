@@ -1,6 +1,6 @@
 //! The list in which the entries of a matrix stand, and where its rows are placed.
 
-ghost use Rattle.std.specs.Prelude.{◌≡◌, ◌≢◌, ◌≤◌, ◌<◌, ◌+◌, ℕ, List, Option, length, slice_index, slice_index_or, IsTrue, ◌↔◌, Contains, IfOk, OnOk, max, ◌^◌};
+ghost use Rattle.std.specs.Prelude.{◌≡◌, ◌≢◌, ◌≤◌, ◌<◌, ◌+◌, ◌^◌, ℕ, length, max, slice_index_or, IfOk, OnOk};
 ghost use Rattle.lrsparse.specs.Owned.{IsOwned, MeetsNone};
 ghost use Rattle.lrsparse.specs.Places.{AreColumns, AreStarts, HasEntry, Fits, IsPlaced, number_at, row_of};
 
@@ -45,7 +45,8 @@ fn put_entries(
 )
     requires { (c : ℕ) → HasEntry empty numbers.now c → displacement + c < length list.old }
     ensures put { (c : ℕ) → HasEntry empty numbers.now c
-        → slice_index_or list.new (displacement + c) None ≡ Some (record { row = row; number = slice_index_or numbers.now c empty }) }
+        → slice_index_or list.new (displacement + c) None
+        ≡ Some (record { row = row; number = slice_index_or numbers.now c empty }) }
     ensures kept { (p : ℕ) → ((c : ℕ) → HasEntry empty numbers.now c → p ≢ displacement + c)
         → slice_index_or list.new p None ≡ slice_index_or list.old p None }
 {
