@@ -23,6 +23,8 @@ mod numbers;
 mod places;
 mod rows;
 mod targets;
+#[cfg(test)]
+mod tests;
 
 use crate::statetable::accept_reduce::accept_reduce;
 pub use crate::statetable::action::Action;
