@@ -124,9 +124,12 @@ impl<T: IndexStorage> StateTable<T> {
         let rows = rows_of(alloc, grm, sg)?;
         let tokens_len = usize::from(grm.tokens_len());
         let rules_len = usize::from(grm.rules_len());
+        // The list of gotos, of which few are there, is gone before the matrix of actions is made.
+        let gotos = matrix_of(alloc, rows.gotos, rules_len)?;
+        let actions = matrix_of(alloc, rows.actions, tokens_len)?;
         Ok(StateTable {
-            actions: matrix_of(alloc, rows.actions, tokens_len)?,
-            gotos: matrix_of(alloc, rows.gotos, rules_len)?,
+            actions,
+            gotos,
             tokens_len,
             core_reduces: rows.core_reduces,
             reduce_only: rows.reduce_only,

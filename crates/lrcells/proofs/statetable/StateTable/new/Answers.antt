@@ -4,24 +4,24 @@ use Rattle.lrcells.proofs.MadeTable.{IsKeptOf, whole_actions, whole_gotos, made_
 use Rattle.lrcells.proofs.statetable.StateTable.new.Given as given
 use Rattle.lrcells.proofs.statetable.StateTable.new.Goals as goal
 
-pub matrix_of-requires : goal.matrix_of-requires
-matrix_of-requires g c =
-    (whole_actions _ _ _ _ _ _ c.in_ok-rows.ensures (c.from-tokens_len.ensures ∙ c.tokens_len.ensures.value))
-
 pub matrix_of-requires-2 : goal.matrix_of-requires-2
 matrix_of-requires-2 g c =
+    (whole_actions _ _ _ _ _ _ c.in_ok-rows.ensures (c.from-tokens_len.ensures ∙ c.tokens_len.ensures.value))
+
+pub matrix_of-requires : goal.matrix_of-requires
+matrix_of-requires g c =
     (whole_gotos _ _ _ _ _ _ c.in_ok-rows.ensures (c.from-rules_len.ensures ∙ c.rules_len.ensures.value))
 
 pub invariant_of-result : goal.invariant_of-result
 invariant_of-result g c =
     let number = g.T.IndexStorage.number in
     let most = g.T.IndexStorage.MAX in
-    let kept : IsKeptOf number c.args.grm.now c.in_ok-rows.rows c.in_ok-matrix_of.field-0 c.in_ok-matrix_of-2.field-0 c.unless_none.result =
+    let kept : IsKeptOf number c.args.grm.now c.in_ok-rows.rows c.in_ok-actions.actions c.in_ok-gotos.gotos c.unless_none.result =
     record {
-      tokens = c.in_ok-matrix_of.ensures.cols ∙ (c.from-tokens_len.ensures ∙ c.tokens_len.ensures.value);
-      cells = c.in_ok-matrix_of.ensures.cells;
-      rules = c.in_ok-matrix_of-2.ensures.cols ∙ (c.from-rules_len.ensures ∙ c.rules_len.ensures.value);
-      edges = c.in_ok-matrix_of-2.ensures.cells;
+      tokens = c.in_ok-actions.ensures.cols ∙ (c.from-tokens_len.ensures ∙ c.tokens_len.ensures.value);
+      cells = c.in_ok-actions.ensures.cells;
+      rules = c.in_ok-gotos.ensures.cols ∙ (c.from-rules_len.ensures ∙ c.rules_len.ensures.value);
+      edges = c.in_ok-gotos.ensures.cells;
       none = c.unless_none.ensures.none;
       lists = c.unless_none.ensures.lists;
     }
@@ -29,7 +29,7 @@ invariant_of-result g c =
     let below : length c.args.sg.now ≤ most = omega (arith, c.all_states_len.ensures, c.from.ensures, c.if-from-MAX.false) in
     let sizes = c.tokens_len.ensures.sizes in
     let rows = c.in_ok-rows.ensures in (
-      sym c.in_ok-matrix_of.ensures.cols,
+      sym c.in_ok-actions.ensures.cols,
       made_cells number _ _ _ _ _ _ rows kept most c.requires.graph sizes below,
       made_gotos number _ _ _ _ _ _ rows kept most c.requires.graph below,
       made_kept number _ _ _ _ _ _ rows kept,
@@ -37,12 +37,12 @@ invariant_of-result g c =
     )
 
 kept : (g : given.Over) (c : goal.After-unless_none g)
-    → IsKeptOf g.T.IndexStorage.number c.args.grm.now c.in_ok-rows.rows c.in_ok-matrix_of.field-0 c.in_ok-matrix_of-2.field-0 c.unless_none.result
+    → IsKeptOf g.T.IndexStorage.number c.args.grm.now c.in_ok-rows.rows c.in_ok-actions.actions c.in_ok-gotos.gotos c.unless_none.result
 kept g c = record {
-  tokens = c.in_ok-matrix_of.ensures.cols ∙ (c.from-tokens_len.ensures ∙ c.tokens_len.ensures.value);
-  cells = c.in_ok-matrix_of.ensures.cells;
-  rules = c.in_ok-matrix_of-2.ensures.cols ∙ (c.from-rules_len.ensures ∙ c.rules_len.ensures.value);
-  edges = c.in_ok-matrix_of-2.ensures.cells;
+  tokens = c.in_ok-actions.ensures.cols ∙ (c.from-tokens_len.ensures ∙ c.tokens_len.ensures.value);
+  cells = c.in_ok-actions.ensures.cells;
+  rules = c.in_ok-gotos.ensures.cols ∙ (c.from-rules_len.ensures ∙ c.rules_len.ensures.value);
+  edges = c.in_ok-gotos.ensures.cells;
   none = c.unless_none.ensures.none;
   lists = c.unless_none.ensures.lists;
 }
