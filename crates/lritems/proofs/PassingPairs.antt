@@ -49,6 +49,11 @@ module _
         })
         h.0
 
+-- two items that share a token in the first item set pass
+pub passes_sharing :
+    (a b : Items) (p d q e : ℕ) (ai aj : List Bool) → item_at a p d ≡ Some ai → item_at a q e ≡ Some aj → Intersect ai aj → Passes a b p d q e
+passes_sharing a b p d q e ai aj x y m = inr (inl (m.0, rw x m.1, rw y m.2))
+
 -- item sets that clash are not weakly compatible
 pub clash_refutes : (a b : Items) → Clash a b → IsWeaklyCompatible a b → ⊥
 clash_refutes a b c w =

@@ -4,7 +4,7 @@ use Rattle.lrspec.specs.grammars.ItemSets.{HasItem}
 use Rattle.lrspec.specs.merging.WeakCompatibility.{Passes}
 use Rattle.lritems.specs.ItemsOf.{items_of}
 use Rattle.lritems.proofs.ItemKeys.{item_here}
-use Rattle.lritems.proofs.PassingPairs.{checked_next, passes_here, clash_here}
+use Rattle.lritems.proofs.PassingPairs.{checked_next, passes_here, passes_sharing, clash_here}
 use Rattle.lritems.proofs.WalksOverItems.{found_all}
 use Rattle.lritems.proofs.merging.passes_with_all.Goals as goal
 
@@ -41,6 +41,21 @@ loop-other-preserved-else-not-pair_passes g c =
     let passes = passes_here a b (number c.args.key.now.0.0) (number c.args.key.now.1.0)
     (number c.in-Some.other.now.0.0) (number c.in-Some.other.now.1.0) c.args.a_i.now c.in-Some.a_j.now c.args.b_i.now c.in-Some-get.b_j.now
     c.requires.first found.0 c.requires.second (sym here ∙ sym c.in-Some-get.ensures.value) (c.pair_passes.ensures.yes c.if-not-pair_passes.false) in
+    record {
+      found = found.1;
+      checked = checked_next (λ q e. HasItem b q e → Passes a b (number c.args.key.now.0.0) (number c.args.key.now.1.0) q e) a _ _ _ _ checked (λ _. passes);
+    }
+
+pub loop-other-preserved-then-intersects : goal.loop-other-preserved-then-intersects
+loop-other-preserved-then-intersects g c =
+    let number = g.T.IndexStorage.number in
+    let a = items_of number c.args.a.now.items.entries in
+    let b = items_of number c.args.b.now.items.entries in
+    let found = rw c.in-Some.ensures.steps at c.loop-other.invariant.found in
+    let checked = rw c.in-Some.ensures.steps at c.loop-other.invariant.checked in
+    let passes = passes_sharing a b (number c.args.key.now.0.0) (number c.args.key.now.1.0)
+    (number c.in-Some.other.now.0.0) (number c.in-Some.other.now.1.0) c.args.a_i.now c.in-Some.a_j.now
+    c.requires.first found.0 (c.intersects.ensures.shared.0 c.if-intersects.true) in
     record {
       found = found.1;
       checked = checked_next (λ q e. HasItem b q e → Passes a b (number c.args.key.now.0.0) (number c.args.key.now.1.0) q e) a _ _ _ _ checked (λ _. passes);
