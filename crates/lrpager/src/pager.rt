@@ -23,8 +23,6 @@ mod candidates;
 mod collecting;
 mod draft;
 mod placing;
-#[cfg(test)]
-mod tests;
 
 use crate::pager::candidates::Candidates;
 use crate::pager::collecting::collect;

@@ -1,0 +1,25 @@
+//! What the construction of the worked grammars takes.
+
+use crate::grammars::{
+    A_COLLECTED_STATE, HIDDEN_LEFT_RECURSION, LR1_AND_NOT_LALR1, NESTED_STATES, PAGERS_EXAMPLE,
+};
+use lrgrammar::grammar::YaccGrammar;
+use lrpager::pager::{BuildCounts, build};
+use std::test::Fail;
+
+#[test]
+fn states_made_and_closed(rt: HostRuntime) -> Result<(), Fail> {
+    for (text, states, made, closings) in [
+        (PAGERS_EXAMPLE, 23, 23, 38),
+        (LR1_AND_NOT_LALR1, 14, 14, 14),
+        (A_COLLECTED_STATE, 21, 22, 29),
+        (HIDDEN_LEFT_RECURSION, 7, 7, 10),
+        (NESTED_STATES, 10, 10, 13),
+    ] {
+        let grm = YaccGrammar::<u32>::from_text(rt.alloc(), text)?;
+        let (graph, counts) = build(&grm)?;
+        assert_eq!(rt; usize::from(graph.all_states_len()), states, "{text}");
+        assert_eq!(rt; counts, BuildCounts { made, closings }, "{text}");
+    }
+    Ok(())
+}
