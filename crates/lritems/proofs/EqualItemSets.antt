@@ -16,7 +16,7 @@ use Rattle.lrgrammar.specs.declared.idx.SIdx.{SIdx}
 use Rattle.lrbits.proofs.EqualBits.{same_bits}
 use Rattle.lrspec.specs.grammars.ItemSets.{item_at}
 use Rattle.lritems.specs.ItemsOf.{items_of, Agree}
-use Rattle.lritems.proofs.ItemKeys.{Key, key_cmp, item_here}
+use Rattle.lrclosing.proofs.ItemKeys.{Key, key_cmp, item_here}
 
 module _
     {T : Type 0} (number : T → ℕ) (cmp : T → T → Ordering) (ordered : (x y : T) → cmp x y ≡ nat_cmp (number x) (number y))

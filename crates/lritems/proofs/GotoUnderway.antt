@@ -10,8 +10,8 @@ use Rattle.lrspec.proofs.grammars.BodyFacts.{below_of_drop}
 use Rattle.lrspec.proofs.grammars.Closures.{has_of_looks}
 use Rattle.lrbits.specs.Bits.{bit}
 use Rattle.lritems.specs.ItemsOf.{joined, HaveBits}
-use Rattle.lritems.proofs.JoinedLookaheads.{some_of}
-use Rattle.lritems.proofs.PutLookaheads.{put_bits, put_has, put_items, put_kept, put_from_item, put_from_look, put_more}
+use Rattle.lrclosing.proofs.JoinedLookaheads.{some_of}
+use Rattle.lrclosing.proofs.PutLookaheads.{put_bits, put_has, put_items, put_kept, put_from_item, put_from_look, put_more}
 
 -- on the way to the goto of `a` on `x`: what isn't among `rest` has been moved
 pub record IsMoving (g : Grammar) (a : Items) (x : Symbol) (rest b : Items) : Type 0 where

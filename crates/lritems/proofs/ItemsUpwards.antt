@@ -8,7 +8,7 @@ use Rattle.std.proofs.lemmas.List.{length-map, get_or-map}
 use Rattle.std.proofs.lemmas.Map.Keys.{Less-from_sorted}
 use Rattle.lrspec.specs.grammars.ItemSets.{AreUpwards}
 use Rattle.lritems.specs.ItemsOf.{items_of}
-use Rattle.lritems.proofs.ItemKeys.{Key, key_cmp}
+use Rattle.lrclosing.proofs.ItemKeys.{Key, key_cmp}
 
 precedes_from_less : (a b c d : ℕ) → ordering_then (nat_cmp a b) (nat_cmp c d) ≡ Less → (a < b) ⊎ ((a ≡ b) × (c < d))
 precedes_from_less a b c d h = grind (arith, nat_tests)

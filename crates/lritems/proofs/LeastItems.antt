@@ -11,9 +11,9 @@ use Rattle.lrspec.specs.grammars.ItemSets.{Items, item_at, HasItem}
 use Rattle.lrspec.specs.merging.WeakCompatibility.{SameItems}
 use Rattle.lritems.specs.ItemsOf.{items_of}
 use Rattle.lritems.specs.LeastItem.{is_up_to, lesser, least_item}
-use Rattle.lritems.proofs.ItemKeys.{Key, key_cmp, item_here, key_at}
-use Rattle.lritems.proofs.JoinedLookaheads.{some_of}
-use Rattle.lritems.proofs.WalksOverItems.{first_or_rest}
+use Rattle.lrclosing.proofs.ItemKeys.{Key, key_cmp, item_here, key_at}
+use Rattle.lrclosing.proofs.JoinedLookaheads.{some_of}
+use Rattle.lrclosing.proofs.WalksOverItems.{first_or_rest}
 
 -- up to an item: before it, or it
 abbrev pub IsUpTo : ℕ × ℕ → ℕ → ℕ → Type 0

@@ -1,19 +1,6 @@
--- items as keys, and their lookaheads
-pub mod ItemKeys
-pub mod WalksOverItems
+-- item sets, and their lookaheads
 pub mod ChangedItems
-pub mod JoinedLookaheads
-pub mod PutLookaheads
 pub mod EqualItemSets
--- closing
-pub mod SymbolsBehindDots
-pub mod PassedOn
-pub mod ProductionsOfRule
-pub mod RowsAdded
-pub mod MarkedProductions
-pub mod VisitedItems
-pub mod VisitsLeft
-pub mod ClosingUnderway
 -- gotos
 pub mod GotoUnderway
 pub mod SymbolKeys

@@ -9,10 +9,10 @@ use Rattle.lrspec.proofs.grammars.Closures.{has_of_looks}
 use Rattle.lrbits.specs.Bits.{bit, union}
 use Rattle.lritems.specs.ItemsOf.{joined, HaveBits, Agree}
 use Rattle.lritems.specs.Merging.{Gains}
-use Rattle.lritems.proofs.ItemKeys.{same_or_apart}
-use Rattle.lritems.proofs.JoinedLookaheads.{some_of}
-use Rattle.lritems.proofs.WalksOverItems.{first_or_rest}
-use Rattle.lritems.proofs.PutLookaheads.{put_bits, put_items, put_kept, put_from_item, put_from_look, put_more}
+use Rattle.lrclosing.proofs.ItemKeys.{same_or_apart}
+use Rattle.lrclosing.proofs.JoinedLookaheads.{some_of}
+use Rattle.lrclosing.proofs.WalksOverItems.{first_or_rest}
+use Rattle.lrclosing.proofs.PutLookaheads.{put_bits, put_items, put_kept, put_from_item, put_from_look, put_more}
 
 -- on the way to the union of `a` and `b`: `c` is `a` with what `b` has outside of `rest`
 pub record IsMerging (n : ℕ) (a b rest c : Items) (changed : Bool) : Type 0 where

@@ -5,7 +5,7 @@ use Rattle.lrspec.specs.merging.WeakCompatibility.{Apart, Meet, Passes, IsWeakly
 use Rattle.lrspec.proofs.grammars.Closures.{has_of_looks}
 use Rattle.lrbits.specs.Bits.{Intersect}
 use Rattle.lritems.specs.Merging.{BitsPass, BitsClash}
-use Rattle.lritems.proofs.WalksOverItems.{first_or_rest}
+use Rattle.lrclosing.proofs.WalksOverItems.{first_or_rest}
 
 -- two items of `a` and of `b`, by their bits in both
 module _

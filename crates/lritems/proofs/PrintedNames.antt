@@ -6,7 +6,7 @@ use Rattle.std.proofs.lemmas.List.{take-map, drop-map}
 use Rattle.std.proofs.lemmas.Option.{unwrap_or-slice_get, get_or_from_slice_get}
 use Rattle.lrspec.specs.grammars.Grammar.{Symbol, Production, Grammar, IsOfRule, IsProductionOf, IsBodySymbol, AreBodySymbols, rule_of, rule_or_zero}
 use Rattle.lrspec.specs.texts.PrintedTexts.{rule_name}
-use Rattle.lritems.proofs.SymbolsBehindDots.{symbols_behind}
+use Rattle.lrclosing.proofs.SymbolsBehindDots.{symbols_behind}
 
 -- what is read of an element of a list, or of something else where there is none
 pub read_or : {X Y : Type 0} (f : X → Y) (ys : List Y) (i : ℕ) (o : Option X) (d x : X) → x ≡ unwrap_or o d → option_map f o ≡ slice_get ys i → f x ≡ get_or ys i (f d)

@@ -14,7 +14,7 @@ use Rattle.lrgrammar.specs.SymbolLaws.{symbol_cmp}
 use Rattle.lrgrammar.specs.Symbols.{symbol_of}
 use Rattle.lrspec.specs.grammars.Grammar as math
 use Rattle.lrspec.specs.merging.Graph.{same_symbol, edge_at}
-use Rattle.lritems.proofs.ItemKeys.{cmp_eq}
+use Rattle.lrclosing.proofs.ItemKeys.{cmp_eq}
 
 -- symbols that test as the same are
 pub symbol_from_test : (x y : math.Symbol) → same_symbol x y ≡ true → x ≡ y

@@ -1,14 +1,10 @@
--- item sets as plain data, and the lookaheads of an item
-use Rattle.std.specs.Prelude.{◌≡◌, ℕ, Bool, List, map, Option, None, Some, length}
+-- item sets as plain data
+use Rattle.std.specs.Prelude.{◌≡◌, ℕ, Bool, List, Option}
 use Rattle.lritems.specs.declared.itemset.Itemset.{Itemset}
 use Rattle.lrgrammar.specs.declared.idx.PIdx.{PIdx}
 use Rattle.lrgrammar.specs.declared.idx.SIdx.{SIdx}
-use Rattle.lrbits.specs.Bits.{union}
 use Rattle.lrspec.specs.grammars.ItemSets.{Items, item_at}
-
--- the items of a map, each by the numbers of its production and its dot
-abbrev pub items_of : {T X : Type 0} → (T → ℕ) → List ((PIdx T × SIdx T) × X) → List ((ℕ × ℕ) × X)
-items_of number es = map (λ e. ((number e.0.0.0, number e.0.1.0), e.1)) es
+pub use Rattle.lrclosing.specs.ItemsOf.{items_of, joined, HaveBits}
 
 -- the items of an item set, each by the numbers of its production and its dot
 abbrev pub set_of : {T : Type 0} → (T → ℕ) → Itemset T → Items
@@ -17,15 +13,6 @@ set_of number s = items_of number s.items.entries
 -- the bits of an item in an item set, if it is there
 abbrev pub look_up : {T : Type 0} → (T → ℕ) → Itemset T → PIdx T → SIdx T → Option (List Bool)
 look_up number s pidx dot = item_at (set_of number s) (number pidx.0) (number dot.0)
-
--- the lookaheads of an item together with more; those alone for an item that isn't there
-abbrev pub joined : Option (List Bool) → List Bool → List Bool
-joined None ctx = ctx
-joined (Some old) ctx = union old ctx
-
--- each item has `n` bits
-abbrev pub HaveBits : ℕ → Items → Type 0
-HaveBits n a = (p d : ℕ) (v : List Bool) → item_at a p d ≡ Some v → length v ≡ n
 
 -- both item sets have the same items with the same bits
 abbrev pub Agree : Items → Items → Type 0

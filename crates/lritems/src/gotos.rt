@@ -6,8 +6,8 @@ ghost use Rattle.lrgrammar.specs.Symbols.{symbol_of};
 ghost use Rattle.lritems.specs.ItemsOf.{set_of};
 ghost use Rattle.lritems.specs.Gotos.{AreGotosOf, gotos_of, places_of, ArePlacesOf, HasGotoAt, IsMadeReady, IsPutAt};
 
-use crate::items::step_over;
 use crate::itemset::{Ctx, Itemset};
+use lrclosing::items::step_over;
 use lrgrammar::grammar::YaccGrammar;
 use lrgrammar::idx::{IndexStorage, PIdx, SIdx, Symbol};
 use std::alloc::AllocError;

@@ -12,19 +12,16 @@ ghost use Rattle.lrgrammar.specs.Firsts.{AreFirstsOf};
 ghost use Rattle.lritems.specs.ItemsOf.{set_of, look_up, joined, Agree};
 ghost use Rattle.lrspec.specs.grammars.StartState.{IsStartCore, IsCanonicalStart};
 
-use crate::closing::close_counted;
-use crate::items::{dot_behind, item_fits};
 use crate::printing::push_items;
+use lrclosing::closing::close_counted;
+pub use lrclosing::items::Ctx;
+use lrclosing::items::{dot_behind, items_fit};
 use lrgrammar::firsts::YaccFirsts;
 use lrgrammar::grammar::YaccGrammar;
 use lrgrammar::idx::{IndexStorage, PIdx, SIdx, Symbol};
-use lrgrammar::vob::Vob;
 use std::alloc::{AllocError, Global};
 use std::collections::BTreeMap;
 use std::default::Emptied;
-
-/// The lookaheads of an item: one bit a token.
-pub type Ctx = Vob;
 
 /// Items by production and dot, each with its lookaheads.
 #[derive(Debug, Drop)]
@@ -85,8 +82,8 @@ impl<T: IndexStorage> Itemset<T> {
         ensures start { IfOk result (λ s. IsStartCore grm.now (set_of T.number self.now)
             → IsCanonicalStart grm.now (set_of T.number s)) }
     {
-        let (closed, _visits) = close_counted(self, grm, firsts)?;
-        Ok(closed)
+        let (items, _visits) = close_counted(&self.items, grm, firsts)?;
+        Ok(Itemset { items })
     }
 
     /// The items before the symbol, each with its dot moved over it and its lookaheads. The error says that memory was
@@ -112,12 +109,7 @@ impl<T: IndexStorage> Itemset<T> {
     pub fn fits(&self, grm: &YaccGrammar<T>) -> bool
         ensures { IsTrue result ↔ Fits grm.now (set_of T.number self.now) }
     {
-        for (key, ctx) in &self.items {
-            if !item_fits(grm, key.0, key.1, ctx) {
-                return false;
-            }
-        }
-        true
+        items_fit(&self.items, grm)
     }
 
     /// The texts of the items by production and then dot, joined by line feeds: `[S -> 'a' . B, {'b', '$'}]`.

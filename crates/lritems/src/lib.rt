@@ -1,11 +1,8 @@
-//! LR(1) item sets over a grammar's index types.
+//! LR(1) item sets over a grammar's index types: their closures and gotos, merging, and their texts. The closure rule
+//! itself is in the crate below.
 #![tactic(auto)]
 
-mod ahead;
-mod closing;
 pub mod gotos;
-mod items;
 pub mod itemset;
 pub mod merging;
 pub mod printing;
-mod rows;

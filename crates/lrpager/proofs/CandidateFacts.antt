@@ -10,7 +10,7 @@ use Rattle.std.specs.BTreeMap.{is_at}
 use Rattle.lrspec.specs.grammars.ItemSets.{item_at}
 use Rattle.lrspec.specs.merging.WeakCompatibility.{Apart}
 use Rattle.lritems.specs.ItemsOf.{items_of}
-use Rattle.lritems.proofs.ItemKeys.{Key, key_cmp, item_here, item_there}
+use Rattle.lrclosing.proofs.ItemKeys.{Key, key_cmp, item_here, item_there}
 use Rattle.lrpager.specs.CandidatesOf.{lists_of, list_or_empty, listed_at}
 
 -- a stored list, empty where there is none

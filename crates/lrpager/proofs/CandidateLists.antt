@@ -10,7 +10,7 @@ use Rattle.std.proofs.lemmas.List.Quantifiers.{all_pairs_push}
 use Rattle.std.proofs.lemmas.Bool.{cases_lt, cases_eq}
 use Rattle.lrspec.specs.grammars.ItemSets.{Items, HasItem}
 use Rattle.lrspec.specs.merging.WeakCompatibility.{SameItems, Apart, Clash, IsUnion}
-use Rattle.lritems.proofs.ItemKeys.{same_or_apart}
+use Rattle.lrclosing.proofs.ItemKeys.{same_or_apart}
 use Rattle.lrpager.specs.Construction.{Draft, draft_core, core_at}
 use Rattle.lrpager.specs.CandidatesOf.{Lists, listed_at, IsFirstItem, AreCandidates}
 use Rattle.lrgrammar.specs.declared.idx.PIdx.{PIdx}

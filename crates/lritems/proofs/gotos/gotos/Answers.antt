@@ -2,7 +2,7 @@ use Rattle.std.proofs.Common.{refl}
 use Rattle.lritems.proofs.GotosUnderway.{begin_gotos, end_gotos, skip_gotos, put_gotos}
 use Rattle.lritems.proofs.GotoPlaces.{below_of_at, places_put}
 use Rattle.lritems.proofs.SymbolsShown.{shows_none, shows_one}
-use Rattle.lritems.proofs.WalksOverItems.{found_all, first_or_rest}
+use Rattle.lrclosing.proofs.WalksOverItems.{found_all, first_or_rest}
 use Rattle.lritems.proofs.gotos.gotos.Goals as goal
 
 pub loop-key-init : goal.loop-key-init

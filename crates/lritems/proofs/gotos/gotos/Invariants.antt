@@ -2,7 +2,7 @@ use Rattle.std.proofs.Common.{◌≡◌, [], map}
 use Rattle.lritems.specs.ItemsOf.{items_of}
 use Rattle.lritems.specs.Gotos.{gotos_of, places_of, ArePlacesOf, symbols_shown}
 use Rattle.lritems.proofs.GotosUnderway.{AreMoving}
-use Rattle.lritems.proofs.WalksOverItems.{FoundAll}
+use Rattle.lrclosing.proofs.WalksOverItems.{FoundAll}
 use Rattle.lritems.proofs.gotos.gotos.Given as goal
 
 abbrev pub invariant-loop-key : goal.invariant-loop-key

@@ -1,5 +1,5 @@
 use Rattle.std.proofs.Common.{◌∙◌, sym, ap, Some}
-use Rattle.lritems.proofs.ItemKeys.{item_here, item_there}
+use Rattle.lrclosing.proofs.ItemKeys.{item_here, item_there}
 use Rattle.lritems.proofs.GotoPlaces.{put_in_goto}
 use Rattle.lritems.proofs.gotos.put_at.Goals as goal
 

@@ -2,9 +2,9 @@ use Rattle.std.proofs.Common.{◌≡◌, ◌∙◌, sym, ap, true, false, inr, r
 use Rattle.std.specs.Option.{is_some}
 use Rattle.lrspec.specs.grammars.ItemSets.{HasItem}
 use Rattle.lritems.specs.ItemsOf.{items_of}
-use Rattle.lritems.proofs.ItemKeys.{item_here}
+use Rattle.lrclosing.proofs.ItemKeys.{item_here}
 use Rattle.lritems.proofs.PassingPairs.{checked_next}
-use Rattle.lritems.proofs.WalksOverItems.{found_all}
+use Rattle.lrclosing.proofs.WalksOverItems.{found_all}
 use Rattle.lritems.proofs.merging.has_all.Goals as goal
 
 pub loop-key-init : goal.loop-key-init

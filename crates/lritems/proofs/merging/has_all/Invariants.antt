@@ -1,7 +1,7 @@
 use Rattle.std.proofs.Common.{ℕ, ◌⊎◌}
 use Rattle.lrspec.specs.grammars.ItemSets.{HasItem}
 use Rattle.lritems.specs.ItemsOf.{items_of}
-use Rattle.lritems.proofs.WalksOverItems.{FoundAll}
+use Rattle.lrclosing.proofs.WalksOverItems.{FoundAll}
 use Rattle.lritems.proofs.merging.has_all.Given as goal
 
 abbrev pub invariant-loop-key : goal.invariant-loop-key

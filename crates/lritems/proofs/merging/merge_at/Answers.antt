@@ -1,5 +1,5 @@
 use Rattle.std.proofs.Common.{◌∙◌, sym, Some, refl}
-use Rattle.lritems.proofs.ItemKeys.{item_here, item_there}
+use Rattle.lrclosing.proofs.ItemKeys.{item_here, item_there}
 use Rattle.lritems.proofs.ChangedItems.{some_changed}
 use Rattle.lritems.proofs.merging.merge_at.Goals as goal
 

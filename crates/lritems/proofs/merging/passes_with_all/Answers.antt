@@ -3,9 +3,9 @@ use Rattle.std.specs.Option.{is_some}
 use Rattle.lrspec.specs.grammars.ItemSets.{HasItem}
 use Rattle.lrspec.specs.merging.WeakCompatibility.{Passes}
 use Rattle.lritems.specs.ItemsOf.{items_of}
-use Rattle.lritems.proofs.ItemKeys.{item_here}
+use Rattle.lrclosing.proofs.ItemKeys.{item_here}
 use Rattle.lritems.proofs.PassingPairs.{checked_next, passes_here, passes_sharing, clash_here}
-use Rattle.lritems.proofs.WalksOverItems.{found_all}
+use Rattle.lrclosing.proofs.WalksOverItems.{found_all}
 use Rattle.lritems.proofs.merging.passes_with_all.Goals as goal
 
 pub loop-other-init : goal.loop-other-init

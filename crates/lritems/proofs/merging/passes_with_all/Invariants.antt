@@ -2,7 +2,7 @@ use Rattle.std.proofs.Common.{ℕ, ◌⊎◌}
 use Rattle.lrspec.specs.grammars.ItemSets.{HasItem}
 use Rattle.lrspec.specs.merging.WeakCompatibility.{Passes}
 use Rattle.lritems.specs.ItemsOf.{items_of}
-use Rattle.lritems.proofs.WalksOverItems.{FoundAll}
+use Rattle.lrclosing.proofs.WalksOverItems.{FoundAll}
 use Rattle.lritems.proofs.merging.passes_with_all.Given as goal
 
 abbrev pub invariant-loop-other : goal.invariant-loop-other

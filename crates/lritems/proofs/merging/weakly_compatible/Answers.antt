@@ -3,9 +3,9 @@ use Rattle.std.specs.Option.{is_some}
 use Rattle.lrspec.specs.grammars.ItemSets.{HasItem}
 use Rattle.lritems.specs.ItemsOf.{items_of}
 use Rattle.lritems.specs.Merging.{PassesWithAll}
-use Rattle.lritems.proofs.ItemKeys.{item_here}
+use Rattle.lrclosing.proofs.ItemKeys.{item_here}
 use Rattle.lritems.proofs.PassingPairs.{checked_next, clash_refutes}
-use Rattle.lritems.proofs.WalksOverItems.{found_all}
+use Rattle.lrclosing.proofs.WalksOverItems.{found_all}
 use Rattle.lritems.proofs.merging.weakly_compatible.Goals as goal
 
 pub loop-key-init : goal.loop-key-init

@@ -3,7 +3,7 @@ use Rattle.lrspec.specs.grammars.ItemSets.{HasItem}
 use Rattle.lrspec.specs.merging.WeakCompatibility.{SameItems}
 use Rattle.lritems.specs.ItemsOf.{items_of}
 use Rattle.lritems.specs.Merging.{PassesWithAll}
-use Rattle.lritems.proofs.WalksOverItems.{FoundAll}
+use Rattle.lrclosing.proofs.WalksOverItems.{FoundAll}
 use Rattle.lritems.proofs.merging.weakly_compatible.Given as goal
 
 abbrev pub invariant-loop-key : goal.invariant-loop-key

@@ -1,7 +1,7 @@
 use Rattle.std.proofs.Common.{refl}
 use Rattle.lritems.specs.ItemsOf.{items_of}
 use Rattle.lritems.proofs.MergingUnderway.{begin_merging, end_merging, fits_of_merging, there_to_merge, turn_changed, turn_same}
-use Rattle.lritems.proofs.WalksOverItems.{found_all}
+use Rattle.lrclosing.proofs.WalksOverItems.{found_all}
 use Rattle.lritems.proofs.merging.weakly_merge.Goals as goal
 
 pub loop-key-init : goal.loop-key-init

@@ -2,7 +2,7 @@ use Rattle.std.proofs.Common.{ℕ}
 use Rattle.lrspec.specs.merging.WeakCompatibility.{SameItems}
 use Rattle.lritems.specs.ItemsOf.{items_of, HaveBits}
 use Rattle.lritems.proofs.MergingUnderway.{IsMerging}
-use Rattle.lritems.proofs.WalksOverItems.{FoundAll}
+use Rattle.lrclosing.proofs.WalksOverItems.{FoundAll}
 use Rattle.lritems.proofs.merging.weakly_merge.Given as goal
 
 abbrev pub invariant-loop-key : goal.invariant-loop-key

@@ -2,7 +2,7 @@ use Rattle.std.proofs.Common.{◌≡◌, ℕ, Bool, List, rules, ap, refl, ◌++
 use Rattle.std.specs.String.{string_bytes}
 use Rattle.lrspec.specs.texts.PrintedTexts.{item_text}
 use Rattle.lritems.specs.ItemsOf.{items_of}
-use Rattle.lritems.proofs.WalksOverItems.{found_all}
+use Rattle.lrclosing.proofs.WalksOverItems.{found_all}
 use Rattle.lritems.proofs.ItemsUpwards.{upwards_from_sorted}
 use Rattle.lritems.proofs.JoinedTexts.{left_at_first, joined_turn}
 use Rattle.lritems.proofs.printing.push_items.Goals as goal

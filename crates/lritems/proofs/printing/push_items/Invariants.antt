@@ -6,7 +6,7 @@ use Rattle.std.specs.String.{string_bytes}
 use Rattle.lrspec.specs.texts.PrintedTexts.{item_text}
 use Rattle.lritems.specs.ItemsOf.{items_of}
 use Rattle.lritems.proofs.JoinedTexts.{left_to_join}
-use Rattle.lritems.proofs.WalksOverItems.{FoundAll}
+use Rattle.lrclosing.proofs.WalksOverItems.{FoundAll}
 use Rattle.lritems.proofs.printing.push_items.Given as goal
 
 abbrev pub invariant-loop-key : goal.invariant-loop-key

@@ -1,6 +1,6 @@
 use Rattle.std.proofs.Common.{◌∙◌, option_map}
 use Rattle.lritems.specs.ItemsOf.{set_of}
-use Rattle.lritems.proofs.ItemKeys.{item_here}
+use Rattle.lrclosing.proofs.ItemKeys.{item_here}
 use Rattle.lrcells.proofs.CompleteTurns.{accepted_found, bits_found}
 use Rattle.lrcells.proofs.statetable.completes.accepted.Goals as goal
 

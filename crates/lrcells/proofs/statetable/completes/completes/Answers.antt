@@ -2,7 +2,7 @@ use Rattle.std.proofs.Common.{◌≡◌, length, refl, inl, inr}
 use Rattle.std.proofs.lemmas.List.Elements.{All-nil, All-push}
 use Rattle.lrspec.specs.grammars.Grammar.{token_count}
 use Rattle.lritems.specs.ItemsOf.{items_of}
-use Rattle.lritems.proofs.WalksOverItems.{found_all}
+use Rattle.lrclosing.proofs.WalksOverItems.{found_all}
 use Rattle.lrcells.specs.StateRows.{complete_items}
 use Rattle.lrcells.proofs.CompleteTurns.{complete_turn, passed_turn, left_out, equal_by_test, differ_by_test, denied}
 use Rattle.lrcells.proofs.statetable.completes.completes.Goals as goal

@@ -2,7 +2,7 @@ use Rattle.std.proofs.Common.{◌≡◌, ◌++◌, length, map}
 use Rattle.std.specs.List.{All}
 use Rattle.lrspec.specs.grammars.Grammar.{token_count}
 use Rattle.lritems.specs.ItemsOf.{items_of}
-use Rattle.lritems.proofs.WalksOverItems.{FoundAll}
+use Rattle.lrclosing.proofs.WalksOverItems.{FoundAll}
 use Rattle.lrcells.specs.StateRows.{complete_items}
 use Rattle.lrcells.proofs.statetable.completes.completes.Given as goal
 

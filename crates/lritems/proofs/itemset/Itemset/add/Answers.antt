@@ -1,6 +1,6 @@
 use Rattle.std.proofs.Common.{◌∙◌, sym, Some, refl}
-use Rattle.lritems.proofs.ItemKeys.{item_here, item_there}
-use Rattle.lritems.proofs.JoinedLookaheads.{none_there}
+use Rattle.lrclosing.proofs.ItemKeys.{item_here, item_there}
+use Rattle.lrclosing.proofs.JoinedLookaheads.{none_there}
 use Rattle.lritems.proofs.ChangedItems.{some_changed, none_changed}
 use Rattle.lritems.proofs.itemset.Itemset.add.Goals as goal
 

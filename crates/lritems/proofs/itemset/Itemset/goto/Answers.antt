@@ -1,6 +1,6 @@
 use Rattle.std.proofs.Common.{refl}
 use Rattle.lrgrammar.specs.Symbols.{symbol_of}
-use Rattle.lritems.proofs.WalksOverItems.{found_all, first_or_rest}
+use Rattle.lrclosing.proofs.WalksOverItems.{found_all, first_or_rest}
 use Rattle.lritems.proofs.GotoUnderway.{begin_moving, end_moving, skip_moving, move_moving, fits_to_add}
 use Rattle.lritems.proofs.itemset.Itemset.goto.Goals as goal
 

@@ -1,6 +1,6 @@
 use Rattle.lrgrammar.specs.Symbols.{symbol_of}
 use Rattle.lritems.specs.ItemsOf.{items_of}
-use Rattle.lritems.proofs.WalksOverItems.{FoundAll}
+use Rattle.lrclosing.proofs.WalksOverItems.{FoundAll}
 use Rattle.lritems.proofs.GotoUnderway.{IsMoving}
 use Rattle.lritems.proofs.itemset.Itemset.goto.Given as goal
 

@@ -1,6 +1,6 @@
 use Rattle.std.proofs.Common.{sym}
 use Rattle.std.proofs.lemmas.Map.Entries.{entries_from_clone}
-use Rattle.lritems.proofs.ItemKeys.{same_key}
+use Rattle.lrclosing.proofs.ItemKeys.{same_key}
 use Rattle.lritems.proofs.itemset.ItemsetClone.clone.Goals as goal
 
 pub returns : goal.returns

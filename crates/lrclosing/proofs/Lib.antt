@@ -1,0 +1,14 @@
+-- items as keys, and their lookaheads
+pub mod ItemKeys
+pub mod WalksOverItems
+pub mod JoinedLookaheads
+pub mod PutLookaheads
+-- closing
+pub mod SymbolsBehindDots
+pub mod PassedOn
+pub mod ProductionsOfRule
+pub mod RowsAdded
+pub mod MarkedProductions
+pub mod VisitedItems
+pub mod VisitsLeft
+pub mod ClosingUnderway

@@ -1,0 +1,84 @@
+//! What an item passes on to the productions of the rule behind its dot.
+
+ghost use Rattle.std.specs.Prelude.{◌≡◌, ◌<◌, ◌≤◌, length, IfOk, IfSome, Some};
+ghost use Rattle.std.specs.Option.{option_copied};
+ghost use Rattle.lrspec.specs.grammars.Grammar as math;
+ghost use Rattle.lrgrammar.specs.Firsts.{AreFirstsOf};
+ghost use Rattle.lrclosing.specs.Rows.{ArePassedOn, HasGrown};
+
+use crate::items::Ctx;
+use lrgrammar::firsts::YaccFirsts;
+use lrgrammar::grammar::YaccGrammar;
+use lrgrammar::idx::{IndexStorage, PIdx, Symbol};
+use lrgrammar::vob::Vob;
+use std::alloc::AllocError;
+
+/// Sets the tokens that an item passes on to the productions of the rule before place `from`: those that begin the
+/// rest of its body, and where that is nullable those of `ctx`, if there are any. Answers whether that changed a bit.
+fn pass_on<T: IndexStorage>(
+    row: &mut Vob,
+    grm: &YaccGrammar<T>,
+    firsts: &YaccFirsts<T>,
+    pidx: PIdx<T>,
+    from: usize,
+    ctx: Option<&Ctx>,
+) -> bool
+    requires of { AreFirstsOf grm.now firsts.now }
+    requires production { T.number pidx.0 < length grm.now.productions }
+    requires place { from ≤ length (math.body_of grm.now (T.number pidx.0)) }
+    requires len { length row.old ≡ math.token_count grm.now }
+    requires ctx_len { IfSome (option_copied ctx) (λ v. length v ≡ math.token_count grm.now) }
+    ensures passed { ArePassedOn grm.now (math.rest grm.now (T.number pidx.0) from)
+        (option_copied ctx.entry) (Some row.old) row.new }
+    ensures changed { HasGrown (math.token_count grm.now) result (Some row.old) row.new }
+{
+    let mut changed = false;
+    for symbol in &grm.prod(pidx)[from..] {
+        match symbol {
+            Symbol::Token(token) => {
+                return row.set(token.0.to_usize(), true) | changed;
+            }
+            Symbol::Rule(rule) => {
+                changed |= row.or(firsts.firsts(*rule));
+                if !firsts.is_epsilon_set(*rule) {
+                    return changed;
+                }
+            }
+        }
+    }
+    match ctx {
+        Some(own) => row.or(own) | changed,
+        None => changed,
+    }
+}
+
+/// The row of a rule with what an item before the rule passes on, and whether that changed the row or made it.
+pub(crate) fn passed_on<T: IndexStorage>(
+    row: Option<Vob>,
+    grm: &YaccGrammar<T>,
+    firsts: &YaccFirsts<T>,
+    pidx: PIdx<T>,
+    from: usize,
+    ctx: Option<&Ctx>,
+) -> Result<(Vob, bool), AllocError>
+    requires of { AreFirstsOf grm.now firsts.now }
+    requires production { T.number pidx.0 < length grm.now.productions }
+    requires place { from ≤ length (math.body_of grm.now (T.number pidx.0)) }
+    requires len { IfSome row (λ v. length v ≡ math.token_count grm.now) }
+    requires ctx_len { IfSome (option_copied ctx) (λ v. length v ≡ math.token_count grm.now) }
+    ensures passed { IfOk result (λ x. ArePassedOn grm.now
+        (math.rest grm.now (T.number pidx.0) from) (option_copied ctx.entry) row x.0) }
+    ensures changed { IfOk result (λ x. HasGrown (math.token_count grm.now) x.1 row x.0) }
+{
+    match row {
+        Some(mut old) => {
+            let changed = pass_on(&mut old, grm, firsts, pidx, from, ctx);
+            Ok((old, changed))
+        }
+        None => {
+            let mut made = Vob::from_elem(grm.allocator(), false, grm.tokens_len().0.to_usize())?;
+            pass_on(&mut made, grm, firsts, pidx, from, ctx);
+            Ok((made, true))
+        }
+    }
+}

@@ -1,5 +1,0 @@
-use Rattle.lritems.proofs.MarkedProductions.{below_of_bit}
-use Rattle.lritems.proofs.closing.take_next.Goals as goal
-
-pub set-requires : goal.set-requires
-set-requires g c = below_of_bit _ _ c.in_ok-place.ensures.is_set
