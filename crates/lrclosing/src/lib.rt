@@ -1,5 +1,5 @@
-//! Closing: which items a map of items needs besides its own, with what lookaheads, after the closure rule. Also what
-//! concerns a single item. Item sets, which have a type of their own, are in the crate above.
+//! Closing items: what the closure rule adds to a map of items with lookaheads, and what concerns a single item. Item
+//! sets, a type over such maps, are in the crate above.
 #![tactic(auto)]
 
 mod ahead;

@@ -21,6 +21,7 @@ fn put<T: IndexStorage>(closed: &mut Items<T>, pidx: PIdx<T>, ahead: &Ctx) -> Re
 {
     let key = (pidx, SIdx(T::from_usize(0).unwrap()));
     let own = ahead.clone()?;
+    // One look-up for an item that isn't there, as most aren't.
     if let Some(mut old) = closed.insert(key, own)? {
         old.or(ahead);
         closed.insert(key, old)?;
