@@ -1,29 +1,8 @@
--- numbers of actions and gotos, and tables that are kept in matrices
-pub mod KeptNumbers
+-- tables that are kept in matrices
 pub mod MatrixCells
 pub mod StoredTables
 pub mod TableRows
 pub mod TokensTaken
--- the reductions of a closed state
-pub mod ReductionsOf
-pub mod CompleteTurns
-pub mod LeastReductions
-pub mod LeastContests
--- cells, gotos and conflicts of one state
-pub mod RowTurns
-pub mod LeastListed
-pub mod FilledPlaces
-pub mod EdgeTargets
-pub mod LookingTokens
-pub mod ContestSteps
-pub mod ContestsOfState
--- rows, state after state
-pub mod IndexedRows
-pub mod ReducedRows
-pub mod RowsByOne
-pub mod NextRows
-pub mod NumbersInTurn
-pub mod StatesInTurn
 -- tables of finished rows
 pub mod FlattenedRows
 pub mod TableOfRows

@@ -1,8 +1,7 @@
 -- the table that is made of the rows of all states: it is that of the graph, and keeps what a table keeps
-use Rattle.std.proofs.Common.{◌≡◌, ℕ, ◌+◌, ◌*◌, ◌<◌, ◌≤◌, List, [], ◌∷◌, Option, None, Some, length, map, refl, sym, subst, ap, ◌∙◌, ◌↔◌, IsTrue, arith}
-use Rattle.std.specs.Prelude.{MatchOption, IfSome, slice_index_or}
+use Rattle.std.proofs.Common.{◌≡◌, ℕ, ◌*◌, ◌≤◌, List, [], ◌∷◌, Option, None, Some, length, map, refl, sym, subst, ap, ◌∙◌, arith}
+use Rattle.std.specs.Prelude.{MatchOption, IfSome}
 use Rattle.std.specs.List.{flat_map, range_with_len, All}
-use Rattle.std.proofs.lemmas.List.{length-map, nil_from_length}
 use Rattle.lrspec.specs.grammars.Grammar.{Grammar, IsGrammar, token_count}
 use Rattle.lrspec.specs.merging.Graph.{Graph, IsGraphOf}
 use Rattle.lrspec.specs.tables.Table.{Table, Lists, lists_of, AcceptsAndReduces, IsTableOf}
@@ -10,14 +9,14 @@ use Rattle.lrspec.specs.tables.Rows.{ReducesApart}
 use Rattle.lrspec.specs.tables.Conflicts.{AreEntriesOf}
 use Rattle.lrgrammar.specs.GrammarSizes.{IsWithin}
 use Rattle.lrsparse.specs.Matrix.{Matrix, HasRows}
-use Rattle.lrcells.specs.StateRows.{action_row, goto_row}
-use Rattle.lrcells.specs.StoredActions.{action_numbered, goto_numbered, IsIndexed}
-use Rattle.lrcells.specs.StoredLists.{pairs_of, mixes_of}
+use Rattle.lrrows.specs.StateRows.{action_row, goto_row}
+use Rattle.lrrows.specs.StoredActions.{action_numbered, goto_numbered, IsIndexed}
+use Rattle.lrrows.specs.StoredLists.{pairs_of, mixes_of}
 use Rattle.lrcells.specs.StoredTable.{table_of, lists_or_none, AreCells, AreGotos, AreKeptOfRows, AreKept}
-use Rattle.lrcells.specs.RowsOf.{AreRowsOf}
-use Rattle.lrcells.specs.declared.statetable.rows.Rows.{Rows}
+use Rattle.lrrows.specs.RowsOf.{AreRowsOf}
+use Rattle.lrrows.specs.declared.rows.Rows.{Rows}
 use Rattle.lrcells.proofs.FlattenedRows.{length_of_rows, all_of_rows}
-use Rattle.lrcells.proofs.IndexedRows.{indexed_action_row, indexed_goto_row}
+use Rattle.lrrows.proofs.IndexedRows.{indexed_action_row, indexed_goto_row}
 use Rattle.lrcells.proofs.TableOfRows.{HasRowsOf, length_of_action_row, length_of_goto_row, inside_made, made_of_graph, reduced_by, reduces_only}
 use Rattle.lrspec.proofs.tables.ReductionsApart.{reduces_apart}
 use Rattle.lrspec.proofs.tables.ConflictEntries.{entries_in_range}

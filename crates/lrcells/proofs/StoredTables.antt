@@ -10,7 +10,7 @@ use Rattle.std.proofs.lemmas.Option.{slice_get_within, slice_get-get_or, get_or_
 use Rattle.std.proofs.Math.Nat.{mul-le-mul_right}
 use Rattle.lrspec.specs.tables.Table.{Error, Lists, action_of, goto_of}
 use Rattle.lrsparse.specs.Matrix.{Matrix, value_at}
-use Rattle.lrcells.specs.StoredActions.{action_numbered, goto_numbered}
+use Rattle.lrrows.specs.StoredActions.{action_numbered, goto_numbered}
 use Rattle.lrcells.specs.StoredTable.{rows_of, table_of}
 
 -- rows beyond the number of rows and cells beyond the number of columns have the default, and the others what their

@@ -1,5 +1,5 @@
 -- the table whose matrices have the rows of the states of a graph is that of the graph
-use Rattle.std.proofs.Common.{◌≡◌, ◌≢◌, ℕ, false, ltb, ◌+◌, ◌*◌, ◌<◌, ◌≤◌, List, [], Option, None, Some, length, map, refl, sym, subst, ap, ◌∙◌, ◌⊎◌, inl, inr, ◌↔◌, arith, get_or}
+use Rattle.std.proofs.Common.{◌≡◌, ◌≢◌, ℕ, false, ltb, ◌+◌, ◌*◌, ◌<◌, ◌≤◌, List, Option, length, refl, sym, subst, ap, ◌∙◌, ◌⊎◌, inl, inr, ◌↔◌, arith, get_or}
 use Rattle.std.specs.List.{flat_map, range_with_len}
 use Rattle.std.proofs.lemmas.List.FromFn.{get_or-map-range_with_len, length-map-range_with_len}
 use Rattle.std.proofs.lemmas.Bool.{cases_lt, le-ltb}
@@ -8,11 +8,11 @@ use Rattle.lrspec.specs.merging.Graph.{Graph, edge}
 use Rattle.lrspec.specs.tables.Table.{Action, Reduce, Error, Table, Lists, action_of, goto_of, cell_of, reduce_reduce_of, shift_reduce_of, AcceptsAndReduces, IsTableOf}
 use Rattle.lrspec.specs.tables.Rows.{AreAllWith, AreReducedBy, ReducesOnly}
 use Rattle.lrsparse.specs.Matrix.{Matrix}
-use Rattle.lrcells.specs.StoredActions.{action_number, action_numbered, goto_number, goto_numbered}
-use Rattle.lrcells.specs.StoredTable.{rows_of, lists_or_none, table_of}
-use Rattle.lrcells.specs.StateRows.{action_row, goto_row}
-use Rattle.lrcells.specs.RowsOf.{HasCell, ReduceByOne}
-use Rattle.lrcells.proofs.KeptNumbers.{numbered_action, numbered_goto}
+use Rattle.lrrows.specs.StoredActions.{action_number, action_numbered, goto_number, goto_numbered}
+use Rattle.lrcells.specs.StoredTable.{lists_or_none, table_of}
+use Rattle.lrrows.specs.StateRows.{action_row, goto_row}
+use Rattle.lrrows.specs.RowsOf.{HasCell, ReduceByOne}
+use Rattle.lrrows.proofs.KeptNumbers.{numbered_action, numbered_goto}
 use Rattle.lrcells.proofs.StoredTables.{action_there, action_none, action_past, goto_there}
 use Rattle.lrcells.proofs.FlattenedRows.{length_of_rows, cell_of_rows}
 

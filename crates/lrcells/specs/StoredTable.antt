@@ -4,10 +4,11 @@ use Rattle.std.specs.List.{All, range_with_len}
 use Rattle.std.specs.declared.vec.Vec.{Vec}
 use Rattle.std.specs.declared.alloc.Global.{Global}
 use Rattle.lrgrammar.specs.declared.idx.PIdx.{PIdx}
-use Rattle.lrspec.specs.tables.Table.{Action, Table, Lists}
+use Rattle.lrspec.specs.tables.Table.{Table, Lists}
 use Rattle.lrspec.specs.tables.Rows.{AreReducedBy, ReducesOnly}
 use Rattle.lrsparse.specs.Matrix.{Matrix}
-use Rattle.lrcells.specs.StoredActions.{action_numbered, goto_numbered, IsIndexed}
+use Rattle.lrrows.specs.StoredLists.{numbers_of}
+use Rattle.lrrows.specs.StoredActions.{action_numbered, goto_numbered, IsIndexed}
 
 -- the first `n` rows of a matrix, where `f` tells what each number says
 abbrev pub rows_of : {X : Type 0} → (ℕ → X) → ℕ → Matrix → List (List X)
@@ -30,10 +31,6 @@ table_of n actions gotos conflicts =
       reduce_reduce = (lists_or_none conflicts).reduce_reduce;
       shift_reduce = (lists_or_none conflicts).shift_reduce;
     }
-
--- the numbers of stored productions
-abbrev pub numbers_of : {T : Type 0} → (T → ℕ) → List (PIdx T) → List ℕ
-numbers_of number ps = map (λ p. number p.0) ps
 
 -- there are `n` rows of cells, which say states and productions up to the greatest index
 pub record AreCells (most n : ℕ) (actions : Matrix) : Type 0 where

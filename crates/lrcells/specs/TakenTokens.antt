@@ -3,7 +3,7 @@ use Rattle.std.specs.Prelude.{◌≡◌, ℕ, ◌+◌, ◌-◌, ◌<◌, Bool, f
 use Rattle.std.specs.List.{range_with_len}
 use Rattle.lrspec.specs.tables.Table.{Action, Shift, Reduce, Accept, Error}
 use Rattle.lrsparse.specs.Matrix.{Matrix, value_at}
-use Rattle.lrcells.specs.StoredActions.{action_numbered}
+use Rattle.lrrows.specs.StoredActions.{action_numbered}
 
 -- whether an action is taken: each shift, and where not only these are, each reduction and accepting
 abbrev pub takes : Bool → Action → Bool

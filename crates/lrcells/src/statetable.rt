@@ -8,35 +8,25 @@ ghost use Rattle.lrspec.specs.tables.Conflicts.{AreEntriesOf};
 ghost use Rattle.lrspec.specs.tables.Exactness.{ListsNothing};
 ghost use Rattle.lrspec.specs.tables.Rows.{AreActingTokens, AreShiftedTokens, AreReducedBy, ReducesOnly, ReducesApart};
 ghost use Rattle.lrsparse.specs.Matrix.{HasRows};
-ghost use Rattle.lrcells.specs.StoredActions.{action_of};
+ghost use Rattle.lrrows.specs.StoredActions.{action_of};
 ghost use Rattle.lrcells.specs.Refusals.{IsTableRefusal};
-ghost use Rattle.lrcells.specs.RowsOf.{AreRowsOf};
 
-mod accept_reduce;
-mod action;
-mod cells;
-mod completes;
 mod conflicts;
-mod contests;
 mod iterators;
-mod numbers;
-mod places;
-mod rows;
-mod targets;
 #[cfg(test)]
 mod tests;
 
-use crate::statetable::accept_reduce::accept_reduce;
-pub use crate::statetable::action::Action;
 pub use crate::statetable::conflicts::Conflicts;
 pub use crate::statetable::iterators::{CoreReducesIterator, StateActionsIterator};
-use crate::statetable::numbers::{action_of_number, goto_of_number};
-use crate::statetable::rows::Rows;
 use lrgrammar::grammar::YaccGrammar;
 use lrgrammar::idx::{IndexStorage, PIdx, RIdx, StIdx, TIdx};
 use lrgraphs::BuildError;
 use lrgraphs::stategraph::StateGraph;
 pub use lrgraphs::statetable::{StateTableError, StateTableErrorKind};
+use lrrows::accept_reduce::accept_reduce;
+pub use lrrows::action::Action;
+use lrrows::numbers::{action_of_number, goto_of_number};
+use lrrows::rows::rows_of;
 use lrsparse::sparsevec::SparseVec;
 use std::alloc::{AllocError, Global};
 use std::marker::Model;
@@ -69,23 +59,6 @@ impl<T: IndexStorage> Model for StateTable<T> {
         (table_of (length t.core_reduces.items) t.actions t.gotos t.conflicts)
         t.core_reduces.items t.reduce_only.items
         × AreKept t.conflicts };
-}
-
-/// What a table has of the states of the graph.
-fn rows_of<T: IndexStorage>(
-    alloc: Global,
-    grm: &YaccGrammar<T>,
-    sg: &StateGraph<T>,
-) -> Result<Rows<T>, AllocError>
-    requires graph { IsGraphOf grm.now sg.now }
-    requires states { length sg.now ≤ T.MAX }
-    ensures { IfOk result (λ r. AreRowsOf T.number grm.now sg.now (length sg.now) r) }
-{
-    let mut rows = Rows::new(alloc);
-    for stidx in sg.iter_stidxs() {
-        rows.push(grm, sg, stidx)?;
-    }
-    Ok(rows)
 }
 
 /// The matrix of these cells, of which most are 0; the list itself is let go of.

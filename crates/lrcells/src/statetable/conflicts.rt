@@ -6,7 +6,7 @@ ghost use Rattle.std.specs.String.{string_bytes};
 ghost use Rattle.lrspec.specs.grammars.Grammar as math;
 ghost use Rattle.lrspec.specs.texts.PrintedTexts as printed;
 ghost use Rattle.lrspec.specs.texts.PrintedTexts.{conflicts_text, reduce_reduce_text, shift_reduce_text};
-ghost use Rattle.lrcells.specs.StoredLists.{pair_of, pairs_of, mix_of, mixes_of};
+ghost use Rattle.lrrows.specs.StoredLists.{pair_of, pairs_of, mix_of, mixes_of};
 ghost use Rattle.lrspec.specs.tables.Conflicts.{AreEntriesOf};
 
 use lrgrammar::grammar::YaccGrammar;
@@ -27,7 +27,7 @@ impl<T: IndexStorage> Model for Conflicts<T> {
 
     ghost Value = { Lists };
 
-    ghost use Rattle.lrcells.specs.StoredLists.{pairs_of, mixes_of};
+    ghost use Rattle.lrrows.specs.StoredLists.{pairs_of, mixes_of};
 
     ghost view = { λ c. record {
       reduce_reduce = pairs_of T.number c.reduce_reduce.items;

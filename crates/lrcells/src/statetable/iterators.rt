@@ -4,12 +4,12 @@ ghost use Rattle.std.specs.Prelude.{◌≡◌, ℕ, ◌≤◌, List, map};
 ghost use Rattle.std.specs.List.{All};
 ghost use Rattle.std.specs.Iterator.{YieldsFirstBy, item_count};
 ghost use Rattle.lrsparse.specs.Matrix.{value_at};
-ghost use Rattle.lrcells.specs.StoredActions.{action_numbered, IsIndexed};
+ghost use Rattle.lrrows.specs.StoredActions.{action_numbered, IsIndexed};
 ghost use Rattle.lrcells.specs.TakenTokens.{takes_cell, tokens_taken, IsFirstTaken};
 
-use crate::statetable::action::Action;
-use crate::statetable::numbers::action_of_number;
 use lrgrammar::idx::{IndexStorage, PIdx, TIdx};
+use lrrows::action::Action;
+use lrrows::numbers::action_of_number;
 use lrsparse::sparsevec::SparseVec;
 use std::marker::{Model, PhantomData};
 

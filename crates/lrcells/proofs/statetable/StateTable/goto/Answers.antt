@@ -1,7 +1,7 @@
 use Rattle.std.proofs.Common.{◌≡◌, ◌≤◌, Some, None, IfSome, length, sym, ◌∙◌}
 use Rattle.lrspec.specs.tables.Table.{goto_of}
 use Rattle.lrsparse.specs.Matrix.{value_at}
-use Rattle.lrcells.specs.StoredActions.{goto_numbered}
+use Rattle.lrrows.specs.StoredActions.{goto_numbered}
 use Rattle.lrcells.proofs.MatrixCells.{read_among}
 use Rattle.lrcells.proofs.StoredTables.{goto_read, goto_none}
 use Rattle.lrcells.proofs.statetable.StateTable.goto.Goals as goal

@@ -1,4 +1,4 @@
-use Rattle.std.proofs.Common.{◌≡◌, ◌∙◌, ◌≤◌, ℕ, length, sym, arith}
+use Rattle.std.proofs.Common.{◌∙◌, ◌≤◌, ℕ, length, sym, arith}
 use Rattle.lrspec.specs.tables.Table.{AcceptsAndReduces}
 use Rattle.lrcells.proofs.MadeTable.{IsKeptOf, whole_actions, whole_gotos, made_cells, made_gotos, made_kept, made_some, made_table, made_apart, made_entries}
 use Rattle.lrcells.proofs.statetable.StateTable.new.Given as given

@@ -2,7 +2,7 @@ use Rattle.std.proofs.Common.{◌≡◌}
 use Rattle.std.specs.String.{string_bytes}
 use Rattle.lrspec.specs.texts.PrintedTexts.{token_name}
 use Rattle.lritems.proofs.PrintedNames.{read_or}
-use Rattle.lrcells.specs.StoredLists.{mix_of}
+use Rattle.lrrows.specs.StoredLists.{mix_of}
 use Rattle.lrcells.proofs.HeadedTexts.{shift_pieces}
 use Rattle.lrcells.proofs.statetable.conflicts.shift_reduce_line.Goals as goal
 

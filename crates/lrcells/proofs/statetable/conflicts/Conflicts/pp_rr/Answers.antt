@@ -1,8 +1,7 @@
-use Rattle.std.proofs.Common.{◌≡◌, ◌≤◌, ◌++◌, [], length, rules, arith}
+use Rattle.std.proofs.Common.{◌≡◌, ◌≤◌, [], length, rules, arith}
 use Rattle.std.specs.Prelude.{codes}
-use Rattle.std.specs.String.{string_bytes}
 use Rattle.lrspec.specs.texts.PrintedTexts.{reduce_reduce_line}
-use Rattle.lrcells.specs.StoredLists.{pair_of}
+use Rattle.lrrows.specs.StoredLists.{pair_of}
 use Rattle.lrcells.proofs.HeadedTexts.{image_listed, line_more, headed_some}
 use Rattle.lrcells.proofs.statetable.conflicts.Conflicts.pp_rr.Goals as goal
 

@@ -3,7 +3,7 @@ use Rattle.std.specs.Prelude.{codes}
 use Rattle.std.specs.List.{flat_map}
 use Rattle.std.specs.String.{string_bytes}
 use Rattle.lrspec.specs.texts.PrintedTexts.{reduce_reduce_line}
-use Rattle.lrcells.specs.StoredLists.{pairs_of}
+use Rattle.lrrows.specs.StoredLists.{pairs_of}
 use Rattle.lrcells.proofs.statetable.conflicts.Conflicts.pp_rr.Given as goal
 
 abbrev pub invariant-loop-entry : goal.invariant-loop-entry

@@ -1,6 +1,0 @@
-use Rattle.std.specs.Prelude.{option_map}
-use Rattle.lrcells.proofs.LeastContests.{IsContestBefore}
-use Rattle.lrcells.proofs.statetable.accept_reduce.accept_reduce.Given as goal
-
-abbrev pub invariant-loop-stidx : goal.invariant-loop-stidx
-invariant-loop-stidx g l = IsContestBefore l.grm l.sg (option_map (λ p. g.T.IndexStorage.number p.0) l.least) l.stidx-iterator

@@ -1,5 +1,0 @@
-use Rattle.lrcells.proofs.StatesInTurn.{AreRowsBefore}
-use Rattle.lrcells.proofs.statetable.rows_of.Given as goal
-
-abbrev pub invariant-loop-stidx : goal.invariant-loop-stidx
-invariant-loop-stidx g l = AreRowsBefore g.T.IndexStorage.number l.grm l.sg l.stidx-iterator l.rows

@@ -1,0 +1,22 @@
+-- numbers of actions and gotos
+pub mod KeptNumbers
+-- the reductions of a closed state
+pub mod ReductionsOf
+pub mod CompleteTurns
+pub mod LeastReductions
+pub mod LeastContests
+-- cells, gotos and conflicts of one state
+pub mod RowTurns
+pub mod LeastListed
+pub mod FilledPlaces
+pub mod EdgeTargets
+pub mod LookingTokens
+pub mod ContestSteps
+pub mod ContestsOfState
+-- rows, state after state
+pub mod IndexedRows
+pub mod ReducedRows
+pub mod RowsByOne
+pub mod NextRows
+pub mod NumbersInTurn
+pub mod StatesInTurn

@@ -1,0 +1,93 @@
+-- each edge on a rule brings its target to the place of the rule
+use Rattle.std.proofs.Common.{◌≡◌, ◌≤◌, ◌∙◌, ◌∷◌, ℕ, Option, None, length, get_or, replicate, refl, ap, arith, rules}
+use Rattle.std.proofs.lemmas.List.{get_or-replicate}
+use Rattle.lrspec.specs.grammars.Grammar.{Rule, Token}
+use Rattle.lrspec.specs.merging.Graph.{edge, edge_at}
+use Rattle.lrgrammar.specs.declared.idx.StIdx.{StIdx}
+use Rattle.lrgraphs.specs.GraphOf.{edges_of}
+use Rattle.lrrows.proofs.EdgeTargets.{nowhere, rule_passed, rule_turn}
+use Rattle.lrrows.proofs.FilledPlaces.{written_back, filling_none, filled_all}
+use Rattle.lrrows.proofs.targets.rule_targets.Goals as goal
+use Rattle.lrrows.proofs.targets.rule_targets.Goals.{then-from+in-None, else-from}
+
+pub loop-symbol-init : goal.loop-symbol-init
+loop-symbol-init g c =
+    let number = g.T.IndexStorage.number in
+    let n = length c.args.grm.now.rule_names in
+    let whole : ℕ → Option ℕ = λ r. edge c.args.sg.now (number c.args.stidx.0) (Rule r) in
+    let i = c.into_iter-symbol-iterator.ensures.into_iter_gives in
+    let many : length c.in_ok-targets.targets.items ≡ n = search rules in
+    let items : c.in_ok-targets.targets.items ≡ replicate n None = search rules in
+    record {
+      many = many;
+      filling =
+          rw (i.0, c.edges-symbol-items.ensures)
+          (filling_none (λ u. number u.0) n whole c.in_ok-targets.targets.items
+          (λ r l. ap (λ os. get_or os r None) items ∙ get_or-replicate n r None None l));
+    }
+
+pub loop-symbol-preserved-in-Rule : goal.loop-symbol-preserved-in-Rule
+loop-symbol-preserved-in-Rule g c =
+    let number = g.T.IndexStorage.number in
+    let n = length c.args.grm.now.rule_names in
+    let whole : ℕ → Option ℕ = λ r. edge c.args.sg.now (number c.args.stidx.0) (Rule r) in
+    let old = c.loop-symbol.targets in
+    let new = c.fill.new.places in
+    let back = written_back old.len new old.items (omega arith) (omega arith) in
+    let many : length new ≡ n = omega arith in
+    let left = edges_of number (λ (u : StIdx g.row.T.Denot). number u.0) in
+    let target = c.in-Some.target.now in
+    let first : left c.loop-symbol.symbol-iterator ≡ (Rule c.from-in-Rule.result, number target.0) ∷ left c.next.new.self =
+    rw (c.in-Some.ensures.steps, c.in-Rule.is, c.from-in-Rule.ensures) refl in
+    rw back
+    (record {
+      many = many;
+      filling =
+          rule_turn (λ u. number u.0) n (left c.loop-symbol.symbol-iterator) (left c.next.new.self) whole
+          old.items new c.from-in-Rule.result target c.loop-symbol.invariant.many
+          (record {
+            here = rw c.as_mut_slice.ensures.value at c.fill.ensures.here;
+            others = rw c.as_mut_slice.ensures.value at c.fill.ensures.others;
+          })
+          first c.loop-symbol.invariant.filling;
+    })
+
+pub loop-symbol-preserved : goal.loop-symbol-preserved
+loop-symbol-preserved g c =
+    let number = g.T.IndexStorage.number in
+    let n = length c.args.grm.now.rule_names in
+    let whole : ℕ → Option ℕ = λ r. edge c.args.sg.now (number c.args.stidx.0) (Rule r) in
+    let left = edges_of number (λ (u : StIdx g.row.T.Denot). number u.0) in
+    let token = number c.in_default.field-0.0 in
+    let target = number c.in-Some.target.now.0 in
+    let first : left c.loop-symbol.symbol-iterator ≡ (Token token, target) ∷ left c.next.new.self =
+    rw (c.in-Some.ensures.steps, c.in_default.is) refl in
+    record {
+      many = c.loop-symbol.invariant.many;
+      filling =
+          rule_passed (λ u. number u.0) n (left c.loop-symbol.symbol-iterator) (left c.next.new.self) whole
+          c.loop-symbol.targets.items token target first c.loop-symbol.invariant.filling;
+    }
+
+pub returns : goal.returns
+returns g c =
+    let number = g.T.IndexStorage.number in
+    let n = length c.args.grm.now.rule_names in
+    let whole : ℕ → Option ℕ = λ r. edge c.args.sg.now (number c.args.stidx.0) (Rule r) in
+    elim c.if-from.branch [
+      | then-from+in-None w ↦
+          let left = edges_of number (λ (u : StIdx g.row.T.Denot). number u.0) w.loop-symbol.symbol-iterator in
+          rw w.targets-is
+          (filled_all (λ u. number u.0) w.loop-symbol.targets.items n (λ r. edge_at left (Rule r)) whole
+          (λ r. rw w.in-None.ensures.steps.0 refl) w.loop-symbol.invariant.filling w.loop-symbol.invariant.many)
+      | else-from w ↦
+          let many : length c.in_ok-targets.targets.items ≡ n = search rules in
+          let items : c.in_ok-targets.targets.items ≡ replicate n None = search rules in
+          let past : length c.args.sg.now ≤ number c.args.stidx.0 = omega arith in
+          rw w.targets-is
+          (filled_all (λ u. number u.0) c.in_ok-targets.targets.items n whole whole
+          (λ r. nowhere c.args.sg.now (number c.args.stidx.0) (Rule r) past)
+          (filling_none (λ u. number u.0) n whole c.in_ok-targets.targets.items
+          (λ r l. ap (λ os. get_or os r None) items ∙ get_or-replicate n r None None l))
+          many)
+    ]

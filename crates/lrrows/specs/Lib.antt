@@ -1,0 +1,7 @@
+-- the files of definitions
+pub mod StoredActions
+pub mod StoredLists
+pub mod StateRows
+pub mod Contests
+pub mod ReducingRows
+pub mod RowsOf

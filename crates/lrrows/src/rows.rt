@@ -1,0 +1,165 @@
+//! The rows of a table, made state after state.
+
+ghost use Rattle.std.specs.Prelude.{◌≡◌, ℕ, ◌+◌, ◌<◌, ◌≤◌, IsTrue, ◌↔◌, List, Contains, length, map, OnOk, IfOk};
+ghost use Rattle.std.specs.List.{All};
+ghost use Rattle.lrspec.specs.merging.Graph.{Graph, IsGraphOf};
+ghost use Rattle.lrspec.specs.grammars.Grammar.{Grammar};
+ghost use Rattle.lrspec.specs.tables.Table as table;
+ghost use Rattle.lrspec.specs.tables.Rows.{AreAllWith};
+ghost use Rattle.lrrows.specs.ReducingRows.{ReducesByOne};
+ghost use Rattle.lrrows.specs.RowsOf.{AreRowsOf};
+ghost use Rattle.lrrows.specs.StoredActions.{action_numbered, IsIndexed, NeitherShiftsNorAccepts};
+ghost use Rattle.lrrows.specs.StoredLists.{numbers_of};
+
+use crate::action::Action;
+use crate::cells::{push_actions, push_gotos};
+use crate::completes::{accepted, completes, least_by_token};
+use crate::contests::{push_reduce_reduce, push_shift_reduce};
+use crate::numbers::action_of_number;
+use lrgrammar::grammar::YaccGrammar;
+use lrgrammar::idx::{IndexStorage, PIdx, StIdx, TIdx};
+use lrgraphs::stategraph::StateGraph;
+use std::alloc::{AllocError, Global};
+use std::collections::BTreeSet;
+
+/// What a table has of the states so far.
+#[derive(Drop)]
+pub struct Rows<T: IndexStorage> {
+    pub actions: Vec<usize>,
+    pub gotos: Vec<usize>,
+    pub core_reduces: Vec<Vec<PIdx<T>>>,
+    pub reduce_only: Vec<bool>,
+    pub reduce_reduce: Vec<(TIdx<T>, PIdx<T>, PIdx<T>, StIdx<T>)>,
+    pub shift_reduce: Vec<(TIdx<T>, PIdx<T>, StIdx<T>)>,
+}
+
+impl<T: IndexStorage> Rows<T> {
+    /// No states.
+    fn new(alloc: Global) -> Rows<T>
+        ensures { (g : Grammar) (h : Graph) → AreRowsOf T.number g h 0 result }
+    {
+        Rows {
+            actions: Vec::new(alloc),
+            gotos: Vec::new(alloc),
+            core_reduces: Vec::new(alloc),
+            reduce_only: Vec::new(alloc),
+            reduce_reduce: Vec::new(alloc),
+            shift_reduce: Vec::new(alloc),
+        }
+    }
+
+    /// Adds what the table has of the state.
+    fn push(
+        &mut self,
+        grm: &YaccGrammar<T>,
+        sg: &StateGraph<T>,
+        stidx: StIdx<T>,
+    ) -> Result<(), AllocError>
+        requires graph { IsGraphOf grm.now sg.now }
+        requires below { T.number stidx.0 < length sg.now }
+        requires states { length sg.now ≤ T.MAX }
+        requires rows { AreRowsOf T.number grm.now sg.now (T.number stidx.0) self.old }
+        ensures { OnOk result
+            (AreRowsOf T.number grm.now sg.now (T.number stidx.0 + 1) self.new) }
+    {
+        let closed = sg.closed_state(stidx);
+        let complete = completes(grm, closed)?;
+        let least = least_by_token(grm, complete.as_slice())?;
+        push_actions(
+            &mut self.actions,
+            grm,
+            sg,
+            stidx,
+            least.as_slice(),
+            accepted(grm, closed),
+        )?;
+        let row_begin = self.actions.len() - usize::from(grm.tokens_len());
+        let row = &self.actions.as_slice()[row_begin..];
+        let reduces = reduces_of::<T>(grm.allocator(), row)?;
+        self.reduce_only
+            .push(reduces_by_one(reduces.as_slice(), row))?;
+        self.core_reduces.push(reduces)?;
+        push_gotos(&mut self.gotos, grm, sg, stidx)?;
+        push_reduce_reduce(
+            &mut self.reduce_reduce,
+            stidx,
+            least.as_slice(),
+            complete.as_slice(),
+        )?;
+        push_shift_reduce(&mut self.shift_reduce, grm, sg, stidx, least.as_slice())
+    }
+}
+
+/// The productions by which the row reduces.
+fn reduced<T: IndexStorage>(alloc: Global, row: &[usize]) -> Result<BTreeSet<PIdx<T>>, AllocError>
+    requires { All (λ c. IsIndexed T.MAX (action_numbered c)) row.now }
+    ensures { IfOk result (λ found. (p : ℕ) → Contains (numbers_of T.number found.keys) p
+        ↔ Contains (map action_numbered row.now) (table.Action.Reduce p)) }
+{
+    let mut found = BTreeSet::new(alloc);
+    for number in row {
+        if let Action::Reduce(pidx) = action_of_number::<T>(*number) {
+            found.insert(pidx)?;
+        }
+    }
+    Ok(found)
+}
+
+/// The productions upwards by which the row reduces.
+fn reduces_of<T: IndexStorage>(alloc: Global, row: &[usize]) -> Result<Vec<PIdx<T>>, AllocError>
+    requires { All (λ c. IsIndexed T.MAX (action_numbered c)) row.now }
+    ensures { IfOk result (λ v.
+        AreAllWith (λ p. Contains (map action_numbered row.now) (table.Action.Reduce p))
+        (numbers_of T.number v.items)) }
+{
+    let found = reduced::<T>(alloc, row)?;
+    let mut reduces = Vec::new(alloc);
+    for pidx in &found {
+        reduces.push(*pidx)?;
+    }
+    Ok(reduces)
+}
+
+/// Whether the row reduces by one production, and else errs; `reduces` are those by which it reduces.
+fn reduces_by_one<T: IndexStorage>(reduces: &[PIdx<T>], row: &[usize]) -> bool
+    requires indexed { All (λ c. IsIndexed T.MAX (action_numbered c)) row.now }
+    requires reduces { AreAllWith
+        (λ p. Contains (map action_numbered row.now) (table.Action.Reduce p))
+        (numbers_of T.number reduces.now) }
+    ensures { IsTrue result ↔ ReducesByOne (map action_numbered row.now) }
+{
+    reduces.len() == 1 && reduces_alone::<T>(row)
+}
+
+/// Whether the row neither shifts nor accepts.
+fn reduces_alone<T: IndexStorage>(row: &[usize]) -> bool
+    requires { All (λ c. IsIndexed T.MAX (action_numbered c)) row.now }
+    ensures { IsTrue result ↔ All (λ c. NeitherShiftsNorAccepts (action_numbered c)) row.now }
+{
+    for number in row {
+        if matches!(
+            action_of_number::<T>(*number),
+            Action::Shift(_) | Action::Accept
+        ) {
+            return false;
+        }
+    }
+    true
+}
+
+/// What a table has of the states of the graph.
+pub fn rows_of<T: IndexStorage>(
+    alloc: Global,
+    grm: &YaccGrammar<T>,
+    sg: &StateGraph<T>,
+) -> Result<Rows<T>, AllocError>
+    requires graph { IsGraphOf grm.now sg.now }
+    requires states { length sg.now ≤ T.MAX }
+    ensures { IfOk result (λ r. AreRowsOf T.number grm.now sg.now (length sg.now) r) }
+{
+    let mut rows = Rows::new(alloc);
+    for stidx in sg.iter_stidxs() {
+        rows.push(grm, sg, stidx)?;
+    }
+    Ok(rows)
+}
