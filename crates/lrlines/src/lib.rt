@@ -4,8 +4,6 @@
 mod answering;
 mod devices;
 mod errors;
-#[cfg(test)]
-mod tests;
 mod words;
 
 pub use crate::answering::{LineAnswers, answer_lines};

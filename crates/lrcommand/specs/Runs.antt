@@ -1,0 +1,56 @@
+-- what a run answers, and why it ends before its lines do
+use Rattle.std.specs.Prelude.{ℕ, List, Option}
+use Rattle.std.specs.Io.KnownBytes.{Appends, IsAtEnd}
+use Rattle.std.specs.Option.{IsSomeAnd}
+use Rattle.lrspec.specs.grammars.Grammar.{Grammar}
+use Rattle.lrspec.specs.tables.Table.{Table}
+use Rattle.lrspec.specs.texts.Devices.{ConsumesSome, AppendsBeginning}
+use Rattle.lrspec.specs.texts.Lines.{answer_text}
+use Rattle.lrspec.specs.texts.MachineLines.{line_answer}
+use Rattle.lrtable.specs.Refusals.{IsBuildRefusal}
+use Rattle.lrcommand.specs.declared.faults.Fault.{Fault}
+use Rattle.lrcommand.specs.declared.faults.Fault.TheVariants.{Build, Lines}
+use Rattle.lrcommand.specs.Answers.{max_index, MeansGrammar, IsMergedTable, AcceptsAlone, IsTextFault}
+
+-- the bytes are a grammar text, and this is the table of its grammar
+pub record HasTable (bytes : List ℕ) (g : Grammar) (b : Table) : Type 0 where
+  pub means : MeansGrammar bytes g
+  pub table : IsMergedTable g b
+  pub accepts : AcceptsAlone g
+
+-- the bytes are a grammar text, the grammar has a table, and the fact holds of how the machine
+-- answers a line in at most so many steps
+abbrev pub HasMachine : Option (List ℕ) → ℕ → ((List ℕ → List ℕ) → Type 0) → Type 0
+HasMachine bytes steps P =
+    IsSomeAnd bytes (λ bs.
+    (g : Grammar) × (b : Table) × HasTable bs g b × P (line_answer g b steps))
+
+-- a reader that had these bytes was read to its end, and what a writer holds grew by the answers to
+-- all lines that were read
+abbrev pub AnswersAll :
+    (List ℕ → List ℕ) → Option (List ℕ) → Option (List ℕ) → Option (List ℕ) → Type 0
+AnswersAll answer bytes old new =
+    (left : Option (List ℕ)) × IsAtEnd left
+    × ConsumesSome bytes left (λ read. Appends old new (answer_text answer read))
+
+-- something was read of a reader that had these bytes, and what a writer holds grew by a beginning
+-- of the answers to that
+abbrev pub AnswersBeginning :
+    (List ℕ → List ℕ) → Option (List ℕ) → Option (List ℕ) → Option (List ℕ) → Type 0
+AnswersBeginning answer bytes old new =
+    (left : Option (List ℕ))
+    × ConsumesSome bytes left (λ read. AppendsBeginning old new (answer_text answer read))
+
+-- why the bytes of that name give no table: the first of these causes
+abbrev pub IsTableFault : Option (List ℕ) → Option (List ℕ) → Fault → Type 0
+IsTableFault bytes name (Build e) =
+    IsSomeAnd bytes (λ bs.
+    (g : Grammar) × MeansGrammar bs g × IsBuildRefusal (λ n. n) max_index g e)
+IsTableFault bytes name e = IsTextFault bytes name e
+
+-- why a run with the bytes of that name ends before its lines do: there is no table, or else a
+-- fault of the lines
+abbrev pub IsRunFault : Option (List ℕ) → Option (List ℕ) → Fault → Type 0
+IsRunFault bytes name (Lines e) =
+    IsSomeAnd bytes (λ bs. (g : Grammar) × (b : Table) × HasTable bs g b)
+IsRunFault bytes name e = IsTableFault bytes name e

@@ -1,0 +1,12 @@
+//! The commands of the program `lrt`: from its arguments to its exit status, over devices that the caller gives.
+#![tactic(auto)]
+
+mod answers;
+mod commands;
+mod faults;
+mod requests;
+mod running;
+
+pub use crate::commands::command;
+pub use crate::faults::Fault;
+pub use crate::requests::{Command, Listing, Request, Source, USAGE, requested};

@@ -1,0 +1,267 @@
+//! Statuses and lines of the program.
+
+use lrcommand::command;
+use std::alloc::{AllocError, Global};
+use std::io;
+use std::process::Abort;
+use std::test::Fail;
+
+const ASSIGNMENTS: &str = "%% S: L '=' R | R; L: '*' R | 'id'; R: L;";
+
+const START: &str = "[S -> . L '=' R, {'$'}]\n[S -> . R, {'$'}]\n[L -> . '*' R, {'=', '$'}]\n\
+    [L -> . 'id', {'=', '$'}]\n[R -> . L, {'$'}]\n[^ -> . S, {'$'}]\n";
+
+const USAGE: &str = "usage: lrt start|core|closed|conflicts FILE | lrt run FILE STEPS\n";
+
+/// The arguments of a line of words.
+fn words(alloc: Global, line: &str) -> Result<Vec<String>, AllocError> {
+    let mut words = Vec::new(alloc);
+    for word in line.split_ascii_whitespace() {
+        words.push(String::from_str(alloc, word)?)?;
+    }
+    Ok(words)
+}
+
+/// The command of these words has that status, and writes and tells so much.
+fn answers(
+    rt: &impl Abort,
+    alloc: Global,
+    line: &str,
+    file: Option<&[u8]>,
+    status: u8,
+    out: &str,
+    faults: &str,
+) -> Result<(), Fail> {
+    let args = words(alloc, line)?;
+    let (found, wrote, told) = command(
+        alloc,
+        args.as_slice(),
+        file,
+        io::empty(),
+        Vec::new(alloc),
+        Vec::new(alloc),
+    );
+    assert_eq!(rt; found, status, "{line}");
+    assert_eq!(rt; wrote.as_slice(), out.as_bytes(), "{line}");
+    assert_eq!(rt; told.as_slice(), faults.as_bytes(), "{line}");
+    Ok(())
+}
+
+#[test]
+fn start_states(rt: HostRuntime) -> Result<(), Fail> {
+    let text = Some(ASSIGNMENTS.as_bytes());
+    answers(&rt, rt.alloc(), "start a.y", text, 0, START, "")?;
+    answers(&rt, rt.alloc(), "", text, 0, START, "")
+}
+
+#[test]
+fn state_graphs(rt: HostRuntime) -> Result<(), Fail> {
+    let text = Some(b"%start S %% S: 'a';".as_slice());
+    let core = "0: [^ -> . S, {'$'}]\n   'a' -> 1\n   S -> 2\n1: [S -> 'a' ., {'$'}]\n\
+        2: [^ -> S ., {'$'}]\n";
+    let closed = "0: [S -> . 'a', {'$'}]\n   [^ -> . S, {'$'}]\n   'a' -> 1\n   S -> 2\n\
+        1: [S -> 'a' ., {'$'}]\n2: [^ -> S ., {'$'}]\n";
+    answers(&rt, rt.alloc(), "core a.y", text, 0, core, "")?;
+    answers(&rt, rt.alloc(), "closed a.y", text, 0, closed, "")
+}
+
+#[test]
+fn conflicts(rt: HostRuntime) -> Result<(), Fail> {
+    let dangling = Some(b"%% S: 'if' S | 'if' S 'else' S | 'x';".as_slice());
+    let listed = "Shift/Reduce conflicts:\n\
+        \x20  State 4: Shift(\"else\") / Reduce(S: \"if\" \"S\")\n";
+    let none = "no conflicts\n";
+    let accepting = Some(b"%% D: D;".as_slice());
+    let told = "lrt: Accept/reduce conflict\n";
+    answers(&rt, rt.alloc(), "conflicts a.y", dangling, 0, listed, "")?;
+    let text = Some(ASSIGNMENTS.as_bytes());
+    answers(&rt, rt.alloc(), "conflicts a.y", text, 0, none, "")?;
+    answers(&rt, rt.alloc(), "conflicts a.y", accepting, 1, "", told)?;
+    answers(&rt, rt.alloc(), "core a.y", accepting, 1, "", told)
+}
+
+#[test]
+fn wrong_usage(rt: HostRuntime) -> Result<(), Fail> {
+    let text = Some(ASSIGNMENTS.as_bytes());
+    for line in [
+        "start",
+        "start a.y b.y",
+        "starting a.y",
+        "cores a.y",
+        "closed",
+        "conflict a.y",
+        "begin a.y",
+        "run a.y",
+        "run a.y +1",
+        "run a.y 18446744073709551616",
+    ] {
+        answers(&rt, rt.alloc(), line, text, 2, "", USAGE)?;
+        answers(&rt, rt.alloc(), line, None, 2, "", USAGE)?;
+    }
+    Ok(())
+}
+
+#[test]
+fn no_digits(rt: HostRuntime) -> Result<(), Fail> {
+    let alloc = rt.alloc();
+    let mut args = words(alloc, "run a.y")?;
+    args.push(String::new(alloc))?;
+    let (status, _, told) = command(
+        alloc,
+        args.as_slice(),
+        Some(ASSIGNMENTS.as_bytes()),
+        io::empty(),
+        Vec::new(alloc),
+        Vec::new(alloc),
+    );
+    assert_eq!(rt; status, 2);
+    assert_eq!(rt; told.as_slice(), USAGE.as_bytes());
+    Ok(())
+}
+
+#[test]
+fn lines(rt: HostRuntime) -> Result<(), Fail> {
+    let alloc = rt.alloc();
+    let args = words(alloc, "run a.y 007")?;
+    let (status, wrote, _) = command(
+        alloc,
+        args.as_slice(),
+        Some(b"%% S: S 'a' | 'b';".as_slice()),
+        b"b a\nb b\nx\nb a a a".as_slice(),
+        Vec::new(alloc),
+        Vec::new(alloc),
+    );
+    let text = "accept 5: S.1 S.0\nreject 2\nunknown x\nunfinished 7\n";
+    assert_eq!(rt; status, 0);
+    assert_eq!(rt; wrote.as_slice(), text.as_bytes());
+    Ok(())
+}
+
+#[test]
+fn files_without_a_text(rt: HostRuntime) -> Result<(), Fail> {
+    let bytes = Some(b"\xff".as_slice());
+    answers(
+        &rt,
+        rt.alloc(),
+        "start a.y",
+        None,
+        1,
+        "",
+        "lrt: cannot read a.y\n",
+    )?;
+    answers(
+        &rt,
+        rt.alloc(),
+        "",
+        None,
+        1,
+        "",
+        "lrt: cannot read standard input\n",
+    )?;
+    answers(
+        &rt,
+        rt.alloc(),
+        "start a.y",
+        bytes,
+        1,
+        "",
+        "lrt: a.y is not UTF-8\n",
+    )?;
+    answers(
+        &rt,
+        rt.alloc(),
+        "",
+        bytes,
+        1,
+        "",
+        "lrt: standard input is not UTF-8\n",
+    )
+}
+
+#[test]
+fn refused_texts(rt: HostRuntime) -> Result<(), Fail> {
+    for (text, faults) in [
+        ("%% S", "lrt: syntax error at byte 4\n"),
+        ("%% S: x;", "lrt: unknown symbol x\n"),
+        (
+            "%left '+' '+' %% S: ;",
+            "lrt: token + has two precedences\n",
+        ),
+        ("%%", "lrt: no start rule\n"),
+    ] {
+        answers(
+            &rt,
+            rt.alloc(),
+            "start a.y",
+            Some(text.as_bytes()),
+            1,
+            "",
+            faults,
+        )?;
+    }
+    Ok(())
+}
+
+/// That this output cannot be written is the fault told.
+fn cannot_write<W: io::Write + Drop>(
+    rt: &impl Abort,
+    alloc: Global,
+    line: &str,
+    out: W,
+) -> Result<(), Fail> {
+    let args = words(alloc, line)?;
+    let text = Some(ASSIGNMENTS.as_bytes());
+    let (status, _, told) = command(
+        alloc,
+        args.as_slice(),
+        text,
+        io::empty(),
+        out,
+        Vec::new(alloc),
+    );
+    assert_eq!(rt; status, 1);
+    assert_eq!(rt;
+        told.as_slice(),
+        b"lrt: cannot write standard output\n".as_slice()
+    );
+    Ok(())
+}
+
+/// Takes no byte.
+#[derive(Drop)]
+struct Stuck;
+
+impl io::Write for Stuck {
+    fn write(&mut self, _part: &[u8]) -> io::Result<usize> {
+        Ok(0)
+    }
+
+    fn flush(&mut self) -> io::Result<()> {
+        Ok(())
+    }
+}
+
+/// Takes all bytes, and loses them when it is flushed.
+#[derive(Drop)]
+struct Unflushed;
+
+impl io::Write for Unflushed {
+    fn write(&mut self, part: &[u8]) -> io::Result<usize> {
+        Ok(part.len())
+    }
+
+    fn flush(&mut self) -> io::Result<()> {
+        Err(io::Error::from(io::ErrorKind::WriteZero))
+    }
+}
+
+#[test]
+fn output_that_takes_nothing(rt: HostRuntime) -> Result<(), Fail> {
+    cannot_write(&rt, rt.alloc(), "start a.y", Stuck)
+}
+
+#[test]
+fn output_whose_flush_fails(rt: HostRuntime) -> Result<(), Fail> {
+    cannot_write(&rt, rt.alloc(), "start a.y", Unflushed)?;
+    cannot_write(&rt, rt.alloc(), "run a.y 5", Unflushed)
+}
