@@ -4,15 +4,15 @@ use Rattle.lrspec.specs.grammars.Grammar.{Symbol, Grammar, IsGrammar}
 use Rattle.lrspec.specs.grammars.ItemSets.{Items, HasItem}
 use Rattle.lrspec.specs.grammars.StartState.{IsStartCore}
 use Rattle.lrspec.proofs.merging.ReachedStates.{item_of_rooted, moved_symbol}
-use Rattle.lrpager.specs.Construction.{Draft, start_states, edge_from}
-use Rattle.lrpager.specs.Counts.{unclosed, weight}
-use Rattle.lrpager.specs.Invariant.{Holds, HasGotos}
-use Rattle.lrpager.specs.Closing.{StartsWith}
-use Rattle.lrpager.specs.CandidatesOf.{Lists, listed_at, IsFirstItem, AreCandidates}
+use Rattle.lrplacing.specs.Construction.{Draft, edge_from}
+use Rattle.lrplacing.specs.Counts.{unclosed, weight}
+use Rattle.lrplacing.specs.Invariant.{Holds, HasGotos}
+use Rattle.lrpager.specs.Closing.{start_states, StartsWith}
+use Rattle.lrplacing.specs.CandidatesOf.{Lists, listed_at, IsFirstItem, AreCandidates}
 use Rattle.lrspec.specs.merging.WeakCompatibility.{Apart}
 use Rattle.lrpager.proofs.ClosedStates.{start_holds, start_gotos}
-use Rattle.lrpager.proofs.CountFacts.{start_counts}
-use Rattle.lrpager.proofs.CandidateLists.{candidates_made}
+use Rattle.lrplacing.proofs.CountFacts.{start_counts}
+use Rattle.lrplacing.proofs.CandidateLists.{candidates_made}
 
 module _ {g : Grammar} {ss : List Draft} (s : StartsWith g ss) where
   pub begins_length : length ss ≡ 1

@@ -3,9 +3,10 @@ use Rattle.std.proofs.Common.{◌≡◌, ◌≢◌, ℕ, zero, suc, ◌+◌, ◌
 use Rattle.std.proofs.lemmas.Bool.{cases_eq}
 use Rattle.lrspec.specs.grammars.Grammar.{Grammar}
 use Rattle.lrspec.specs.grammars.ItemSets.{Items}
-use Rattle.lrpager.specs.Construction.{Draft, draft_core, draft_closed, core_at, closed_at, Closes}
-use Rattle.lrpager.specs.Counts.{unclosed, looks_count, weight}
-use Rattle.lrpager.proofs.CountFacts.{open_count, unclosed_cons, weight_cons}
+use Rattle.lrplacing.specs.Construction.{Draft, draft_core, draft_closed, core_at, closed_at}
+use Rattle.lrplacing.specs.Counts.{unclosed, looks_count, weight}
+use Rattle.lrpager.specs.Closing.{Closes}
+use Rattle.lrplacing.proofs.CountFacts.{open_count, unclosed_cons, weight_cons}
 
 -- the same cores weigh the same
 pub weight_same :

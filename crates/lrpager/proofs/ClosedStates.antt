@@ -8,9 +8,10 @@ use Rattle.lrspec.specs.grammars.StartState.{IsStartCore}
 use Rattle.lrspec.proofs.grammars.Closures.{contained_itself}
 use Rattle.lrspec.proofs.merging.RootedCores.{start_rooted}
 use Rattle.lrspec.proofs.merging.SharingKept.{start_shared}
-use Rattle.lrpager.specs.Construction.{Draft, core_at, closed_at, edge_from, draft_core, draft_closed, start_states, Closes}
-use Rattle.lrpager.specs.Invariant.{HasSharing, LeadsToItems, HasChain, Holds, HasGotos}
-use Rattle.lrpager.proofs.GrowingItemSets.{same_itself}
+use Rattle.lrplacing.specs.Construction.{Draft, core_at, closed_at, edge_from, draft_core, draft_closed}
+use Rattle.lrplacing.specs.Invariant.{HasSharing, LeadsToItems, HasChain, Holds, HasGotos}
+use Rattle.lrpager.specs.Closing.{start_states, Closes}
+use Rattle.lrplacing.proofs.GrowingItemSets.{same_itself}
 
 module _ (core : Items) where
   start_alone : (k : ℕ) (c : Items) → closed_at (start_states core) k ≡ Some c → ⊥

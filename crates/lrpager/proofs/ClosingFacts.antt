@@ -4,21 +4,21 @@ use Rattle.std.specs.Prelude.{slice_get}
 use Rattle.lrspec.specs.grammars.Grammar.{Symbol, Grammar, IsGrammar}
 use Rattle.lrspec.specs.grammars.ItemSets.{Items, Fits, IsClosure}
 use Rattle.lrspec.specs.merging.Graph.{edge_at}
-use Rattle.lrpager.specs.Construction.{Draft, core_at, closed_at, Closes, PlacesAll}
-use Rattle.lrpager.specs.Counts.{unclosed, weight}
-use Rattle.lrpager.specs.Invariant.{Holds, HasGotos, AllMayBePlaced}
-use Rattle.lrpager.specs.CandidatesOf.{Lists, AreCandidates}
-use Rattle.lrpager.specs.Closing.{ClosesTo}
-use Rattle.lrpager.proofs.DraftLists.{core_found, edge_found, core_put, closed_put, edge_put}
-use Rattle.lrpager.proofs.CandidateLists.{candidates_kept, same_cores}
+use Rattle.lrplacing.specs.Construction.{Draft, core_at, closed_at, PlacesAll}
+use Rattle.lrplacing.specs.Counts.{unclosed, weight}
+use Rattle.lrplacing.specs.Invariant.{Holds, HasGotos, AllMayBePlaced}
+use Rattle.lrplacing.specs.CandidatesOf.{Lists, AreCandidates}
+use Rattle.lrpager.specs.Closing.{Closes, ClosesTo}
+use Rattle.lrplacing.proofs.DraftLists.{core_found, edge_found, core_put, closed_put, edge_put}
+use Rattle.lrplacing.proofs.CandidateLists.{candidates_kept, same_cores}
 use Rattle.lrpager.proofs.ClosedStates.{closes_holds, closes_core}
 use Rattle.lrpager.proofs.ClosedCounts.{closes_counted, closes_made}
-use Rattle.lrpager.proofs.PlacedGotos.{goto_may_be_placed}
-use Rattle.lrpager.proofs.PlacedWeight.{places_all_counted}
-use Rattle.lrpager.proofs.PlacedCounts.{places_all_made}
-use Rattle.lrpager.proofs.ConstructionTurns.{leaves_fit, turn_holds, turn_gotos}
-use Rattle.lrpager.proofs.ChainGrowth.{places_chain}
-use Rattle.lrpager.proofs.PlacingTurns.{gotos_at_hand, all_may_be_placed}
+use Rattle.lrplacing.proofs.PlacedGotos.{goto_may_be_placed}
+use Rattle.lrplacing.proofs.PlacedWeight.{places_all_counted}
+use Rattle.lrplacing.proofs.PlacedCounts.{places_all_made}
+use Rattle.lrpager.proofs.ConstructionTurns.{turn_holds, turn_gotos}
+use Rattle.lrplacing.proofs.ChainGrowth.{places_chain}
+use Rattle.lrplacing.proofs.PlacingTurns.{leaves_fit, gotos_at_hand, all_may_be_placed}
 
 set_elsewhere : (ss : List Draft) (i : ℕ) (s : Draft) (j : ℕ) → j ≢ i → slice_get (set ss i s) j ≡ slice_get ss j
 set_elsewhere [] i s j n = refl

@@ -8,10 +8,10 @@ use Rattle.std.proofs.lemmas.List.{take_all}
 use Rattle.std.proofs.lemmas.List.Sums.{count_by_more_no, sum_by_push, sum_by-take-le, count_by-le-length}
 use Rattle.lrspec.specs.grammars.Grammar.{Symbol}
 use Rattle.lrspec.specs.merging.Graph.{State, Graph, core_or_none, closed_or_none, edges_or_none, core_of, closed_of, edge, edge_at}
-use Rattle.lrpager.specs.Construction as construction
-use Rattle.lrpager.specs.Construction.{Draft, draft_core, draft_closed, draft_edges, core_at, closed_at, edge_from, AreMarked, new_number}
-use Rattle.lrpager.specs.Invariant.{AreClosed, IsCollected}
-use Rattle.lrpager.specs.Collecting.{LeadToStates, IsMarked, HaveDistinctTargets, IsRenumbered}
+use Rattle.lrpager.specs.Collecting as collecting
+use Rattle.lrplacing.specs.Construction.{Draft, draft_core, draft_closed, draft_edges, core_at, closed_at, edge_from}
+use Rattle.lrplacing.specs.Invariant.{AreClosed}
+use Rattle.lrpager.specs.Collecting.{AreMarked, new_number, IsCollected, LeadToStates, IsMarked, HaveDistinctTargets, IsRenumbered}
 use Rattle.lrpager.proofs.NewNumbers.{marked_below, new_number_after, new_number_increases, new_number_below, new_number_taken}
 
 -- the state `n` of the graph has the core and the closed state of the state `k`, and its edges by new numbers
@@ -175,5 +175,5 @@ number_most marks k =
 -- the start state is collected
 pub some_collected : {ss : List Draft} {marks : List Bool} {h : Graph} → AreMarked ss marks → IsCollected ss marks h → 0 < length h
 some_collected marked collected =
-    let start = collected.below 0 (marked.marked [] 0 construction.Walks.start) in
+    let start = collected.below 0 (marked.marked [] 0 collecting.Walks.start) in
     omega (arith, start)

@@ -12,9 +12,10 @@ use Rattle.lrspec.proofs.grammars.Closures.{has_of_looks, moved_mono}
 use Rattle.lrspec.proofs.merging.StatesHoldWhatStands.{value_of_some, graph_of_rooted}
 use Rattle.lrspec.proofs.merging.ReachedStates.{item_of_rooted, reached_of_gotos}
 use Rattle.lrspec.proofs.tables.ConflictsAreContested.{invents_no_conflict}
-use Rattle.lrpager.specs.Construction as construction
-use Rattle.lrpager.specs.Construction.{Draft, core_at, edge_from, Walks, AreMarked, new_number}
-use Rattle.lrpager.specs.Invariant.{Holds, HasGotos, IsCollected}
+use Rattle.lrpager.specs.Collecting as collecting
+use Rattle.lrplacing.specs.Construction.{Draft, core_at, edge_from}
+use Rattle.lrplacing.specs.Invariant.{Holds, HasGotos}
+use Rattle.lrpager.specs.Collecting.{Walks, AreMarked, new_number, IsCollected}
 use Rattle.lrpager.proofs.CollectedStates.{each_state, closure_of_marked, closes_cores, collected_shared, collected_rooted, lists_lead}
 
 -- an edge by its new number comes from one by its old
@@ -55,7 +56,7 @@ module _ (g : Grammar) (ss : List Draft) (marks : List Bool) (h : Graph) (holds 
   old_edge k u x m e =
       let (v, is, number) = renumbered new (edge_from ss k x) u (sym (collected.edges k x m) ∙ e) in
       let (w, walk) = marked.reached k m in
-      record { to = v; is = is; mark = marked.marked (w ++ x ∷ []) v (construction.Walks.follow x walk is); number = number }
+      record { to = v; is = is; mark = marked.marked (w ++ x ∷ []) v (collecting.Walks.follow x walk is); number = number }
 
   -- it leads to a state with an item, which came from an item before its symbol
   before_of_edge : (k : ℕ) (x : Symbol) → IsMarked k → IsSome (edge h (new k) x) → HasBefore (new k) x

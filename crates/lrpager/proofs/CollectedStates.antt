@@ -11,9 +11,10 @@ use Rattle.lrspec.specs.merging.Graph as graph
 use Rattle.lrspec.specs.merging.Graph.{Graph, core_of, closed_of, Leads, AreShared, CoresCross}
 use Rattle.lrspec.proofs.merging.StatesHoldWhatStands.{AreRooted, CloseCores}
 use Rattle.lrspec.proofs.merging.SameCores.{cross_back}
-use Rattle.lrpager.specs.Construction as construction
-use Rattle.lrpager.specs.Construction.{Draft, core_at, edge_from, Walks, AreMarked, new_number}
-use Rattle.lrpager.specs.Invariant.{HasSharing, Holds, IsCollected}
+use Rattle.lrpager.specs.Collecting as collecting
+use Rattle.lrplacing.specs.Construction.{Draft, core_at, edge_from}
+use Rattle.lrplacing.specs.Invariant.{HasSharing, Holds}
+use Rattle.lrpager.specs.Collecting.{Walks, AreMarked, new_number, IsCollected}
 use Rattle.lrpager.proofs.NewNumbers.{mark_count, marked_below, new_number_start, new_number_below, new_number_taken}
 use Rattle.std.proofs.lemmas.List.Sums.{count_by-le-length}
 
@@ -34,7 +35,7 @@ module _ (g : Grammar) (ss : List Draft) (marks : List Bool) (h : Graph) (holds 
   below_of_marked k m = let l = marked_below marks k m in omega (arith, l, marked.length_is)
 
   start_marked : IsMarked 0
-  start_marked = marked.marked [] 0 construction.Walks.start
+  start_marked = marked.marked [] 0 collecting.Walks.start
 
   -- the closed state of a marked state is the closure of its core
   pub closure_of_marked : (k : ℕ) → IsMarked k → IsClosure g (core_at ss k) (closed_of h (new k))
@@ -88,8 +89,8 @@ module _ (g : Grammar) (ss : List Draft) (marks : List Bool) (h : Graph) (holds 
 
   -- each walk to a state leads to its new number
   walk_leads : {w : List Symbol} {k : ℕ} → Walks ss w k → Leads h w (new k)
-  walk_leads construction.Walks.start = subst (Leads h []) (sym (new_number_start marks)) graph.Leads.start
-  walk_leads (construction.Walks.follow {w = w} {k = k} {u = u} x walk e) =
+  walk_leads collecting.Walks.start = subst (Leads h []) (sym (new_number_start marks)) graph.Leads.start
+  walk_leads (collecting.Walks.follow {w = w} {k = k} {u = u} x walk e) =
       graph.Leads.follow x (walk_leads walk) (collected.edges k x (marked.marked w k walk) ∙ ap (option_map new) e)
 
   -- so a list leads to each

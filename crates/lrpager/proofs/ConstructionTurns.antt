@@ -2,36 +2,23 @@
 use Rattle.std.proofs.Common.{◌≡◌, ◌≢◌, ℕ, ◌<◌, List, Some, length, refl, ap, inl, inr, arith}
 use Rattle.std.proofs.lemmas.Bool.{cases_eq}
 use Rattle.lrspec.specs.grammars.Grammar.{Symbol, Grammar, IsGrammar}
-use Rattle.lrspec.specs.grammars.ItemSets.{Items, HasItem, Fits, IsGoto, IsBefore}
+use Rattle.lrspec.specs.grammars.ItemSets.{Items, HasItem, IsGoto, IsBefore}
 use Rattle.lrspec.proofs.grammars.ListMembers.{Among}
-use Rattle.lrpager.specs.Construction as con
-use Rattle.lrpager.specs.Construction.{Draft, core_at, closed_at, Closes, Grows, Places, PlacesAll}
-use Rattle.lrpager.specs.Invariant.{MayBePlaced, HasChain, Holds, LeadsOver, HasGotos}
-use Rattle.lrpager.proofs.DraftFacts.{closed_below}
-use Rattle.lrpager.proofs.PlacedCores.{length_grown, closed_before}
-use Rattle.lrpager.proofs.PlacedStates.{places_holds, may_be_placed_kept}
+use Rattle.lrplacing.specs.Construction as con
+use Rattle.lrplacing.specs.Construction.{Draft, closed_at, Places, PlacesAll}
+use Rattle.lrplacing.specs.Invariant.{MayBePlaced, HasChain, Holds, LeadsOver, HasGotos}
+use Rattle.lrpager.specs.Closing.{Closes}
+use Rattle.lrplacing.proofs.DraftFacts.{closed_below}
+use Rattle.lrplacing.proofs.PlacedCores.{length_grown, closed_before}
+use Rattle.lrplacing.proofs.PlacedStates.{places_holds, may_be_placed_kept}
+use Rattle.lrplacing.proofs.PlacingTurns.{LeavesFit}
 use Rattle.lrpager.proofs.ClosedStates.{closes_holds, closes_gotos}
-use Rattle.lrpager.proofs.PlacedGotos.{AreGotosOf, goto_may_be_placed, places_gotos, leads_over_placed, leads_over_still}
+use Rattle.lrplacing.proofs.PlacedGotos.{AreGotosOf, goto_may_be_placed, places_gotos, leads_over_placed, leads_over_still}
 
 -- wherever a goto of the state `from` is placed there is a chain
 abbrev pub LeavesChain : Grammar → ℕ → Type 0
 LeavesChain g from =
     (ss ts : List Draft) (x : Symbol) (a : Items) (k : ℕ) → Holds g ss → MayBePlaced g ss from x a → Places ss from x a k ts → HasChain g ts
-
--- and the core that took it in fits the grammar
-abbrev pub LeavesFit : Grammar → ℕ → Type 0
-LeavesFit g from =
-    (ss ts : List Draft) (x : Symbol) (a : Items) (k : ℕ) → Holds g ss → MayBePlaced g ss from x a → Places ss from x a k ts → Fits g (core_at ts k)
-
--- which it does where growing cores go on to fit
-pub leaves_fit :
-    {g : Grammar} (from : ℕ) → ((ss ts : List Draft) (k : ℕ) (a : Items) → Grows ss ts k a → Fits g (core_at ss k) → Fits g (core_at ts k))
-    → LeavesFit g from
-leaves_fit from grown ss ts x a k h goes m =
-    elim m.how [
-      | inl n ↦ let inside : k < length ss = omega (arith, n.length_is, m.taken) in grown ss ts k a n (h.fits k inside)
-      | inr n ↦ rw n.core goes.fits
-    ]
 
 -- each goto of the list may be placed
 abbrev pub AllMayBePlaced : Grammar → List Draft → ℕ → List (Symbol × Items) → Type 0

@@ -1,29 +1,12 @@
 -- the lemma files
-pub mod CandidateFacts
-pub mod GrowingItemSets
-pub mod DraftFacts
-pub mod PlacedCores
-pub mod PlacedStates
 pub mod ClosedStates
-pub mod PlacedGotos
 pub mod ConstructionTurns
-pub mod CoreGrowth
-pub mod ChainGrowth
-pub mod SumFacts
-pub mod LooksCount
-pub mod CountFacts
 pub mod ClosedCounts
-pub mod PlacedCounts
-pub mod PlacedWeight
 pub mod SizeCauses
 pub mod SizeBounds
 pub mod NewNumbers
 pub mod CollectedStates
 pub mod CollectedGraph
-pub mod DraftLists
-pub mod CandidateLists
-pub mod PlacingFacts
-pub mod PlacingTurns
 pub mod ClosingFacts
 pub mod Beginnings
 pub mod EdgeWalk
@@ -32,5 +15,4 @@ pub mod MarksAdded
 pub mod ReachedMarks
 pub mod RenumberedEdges
 pub mod DistinctTargets
-pub mod FirstOfList
 pub mod NextStates

@@ -5,7 +5,7 @@ use Rattle.std.specs.Prelude.{slice_index_or, count_by}
 use Rattle.std.proofs.lemmas.Bool.{cases_lt, cases_eq}
 use Rattle.std.proofs.lemmas.List.{take-take}
 use Rattle.std.proofs.lemmas.List.Sums.{sum_by-cons, sum_by-take-le, count_by_more_yes}
-use Rattle.lrpager.specs.Construction.{new_number}
+use Rattle.lrpager.specs.Collecting.{new_number}
 
 -- how many marks there are
 abbrev pub mark_count : List Bool → ℕ

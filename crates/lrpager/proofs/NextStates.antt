@@ -2,8 +2,8 @@
 use Rattle.std.proofs.Common.{◌≡◌, ℕ, List, Option, None, Some, refl, arith}
 use Rattle.std.specs.Prelude.{MatchOption}
 use Rattle.std.specs.Option.{IsSome}
-use Rattle.lrpager.specs.Construction.{Draft, closed_at}
-use Rattle.lrpager.specs.Invariant.{AreClosed}
+use Rattle.lrplacing.specs.Construction.{Draft, closed_at}
+use Rattle.lrplacing.specs.Invariant.{AreClosed}
 use Rattle.lrpager.specs.Choices.{IsUnclosed, NoneUnclosedFrom, IsFirstUnclosedFrom, IsNextUnclosed}
 use Rattle.lrpager.specs.Choices as choice
 

@@ -4,9 +4,9 @@ use Rattle.std.proofs.lemmas.List.{length-replicate}
 use Rattle.std.specs.Prelude.{slice_get}
 use Rattle.lrspec.specs.grammars.Grammar.{Symbol}
 use Rattle.lrspec.proofs.grammars.ListMembers.{Among}
-use Rattle.lrpager.specs.Construction as construction
-use Rattle.lrpager.specs.Construction.{Draft, draft_edges, edge_from, Walks, AreMarked}
-use Rattle.lrpager.specs.Collecting.{IsMarked, HasTarget, MarksOnly}
+use Rattle.lrpager.specs.Collecting as collecting
+use Rattle.lrplacing.specs.Construction.{Draft, draft_edges, edge_from}
+use Rattle.lrpager.specs.Collecting.{Walks, AreMarked, IsMarked, HasTarget, MarksOnly}
 use Rattle.lrpager.proofs.MarksAdded.{among_more, among_last, among_pushed}
 
 -- the start state is marked, marked states are reached, and the edges of each are still to be followed or lead to marked ones
@@ -29,7 +29,7 @@ pub marking_start :
 marking_start ss none marks todo e m start = record {
   length_is = m.length_is ∙ (ap length e ∙ length-replicate (length ss) false);
   start = start;
-  reached = λ k i. elim (m.only k i) [ inl old ↦ absurd (fresh k old) | inr (z, w) ↦ rw z (([]), construction.Walks.start) ];
+  reached = λ k i. elim (m.only k i) [ inl old ↦ absurd (fresh k old) | inr (z, w) ↦ rw z (([]), collecting.Walks.start) ];
   waiting = λ k i. elim (m.noted k i) [ inl j ↦ absurd j | inr n ↦ n ];
   followed = λ k u x i h. elim (m.only k i) [ inl old ↦ absurd (fresh k old) | inr (z, w) ↦ inl w ];
 }
@@ -47,7 +47,7 @@ marking_turn ss marks new k before todo rest es i pop is m marked = record {
   start = m.still 0 i.start;
   reached = λ j n. elim (m.only j n) [
     | inl old ↦ i.reached j old
-    | inr ((x, e), w) ↦ let (v, walk) = i.reached k (i.waiting k (rw pop (among_last k todo))) in (v ++ x ∷ [], construction.Walks.follow x walk (rw is at e))
+    | inr ((x, e), w) ↦ let (v, walk) = i.reached k (i.waiting k (rw pop (among_last k todo))) in (v ++ x ∷ [], collecting.Walks.follow x walk (rw is at e))
   ];
   waiting = λ j a. elim (m.noted j a) [ inl b ↦ m.still j (i.waiting j (rw pop (among_more j todo (k ∷ []) b))) | inr n ↦ n ];
   followed = λ j u x n e. elim (m.only j n) [ inl old ↦ go j u x old e (i.followed j u x old e) | inr (_, w) ↦ inl w ];
@@ -65,8 +65,8 @@ pub marking_end : (ss : List Draft) (marks : List Bool) (todo : List ℕ) → Is
 marking_end ss marks todo i e = record { length_is = i.length_is; reached = i.reached; marked = walk_marked }
   where
     walk_marked : (w : List Symbol) (k : ℕ) → Walks ss w k → IsMarked marks k
-    walk_marked _ _ construction.Walks.start = i.start
-    walk_marked _ _ (construction.Walks.follow {w = w} {k = k} {u = u} x walk h) =
+    walk_marked _ _ collecting.Walks.start = i.start
+    walk_marked _ _ (collecting.Walks.follow {w = w} {k = k} {u = u} x walk h) =
         elim (i.followed k u x (walk_marked w k walk) h) [ inl a ↦ let none : Among k [] = rw e at a in absurd none | inr m ↦ m ]
 
 -- the next state to be followed is one of the states

@@ -5,9 +5,9 @@ use Rattle.std.proofs.lemmas.List.Sums.{sum_by-cons}
 use Rattle.std.proofs.Math.Nat.{mul-le-mul}
 use Rattle.lrspec.specs.grammars.Grammar.{Production, Grammar, token_count, body_or_none, item_count}
 use Rattle.lrgrammar.specs.GrammarSizes.{IsWithin}
-use Rattle.lrpager.specs.Construction.{Draft}
-use Rattle.lrpager.specs.Counts.{unclosed, weight}
-use Rattle.lrpager.proofs.CountFacts.{weight_most}
+use Rattle.lrplacing.specs.Construction.{Draft}
+use Rattle.lrplacing.specs.Counts.{unclosed, weight}
+use Rattle.lrplacing.proofs.CountFacts.{weight_most}
 
 places_most :
     (ps : List Production) (m : ℕ) → ((k : ℕ) → length (body_or_none (slice_get ps k)) ≤ m) → sum_by (λ p. length p.body + 1) ps ≤ length ps * (m + 1)

@@ -7,17 +7,14 @@ use Rattle.lrspec.specs.grammars.StartState.{IsStartCore}
 use Rattle.lrspec.specs.merging.Chains.{IsChain, HasCauseOfSize}
 use Rattle.lrspec.proofs.merging.ChainFacts.{marked_of, chain_part, length_marked}
 use Rattle.lrspec.proofs.merging.SharingKept.{start_shared}
-use Rattle.lrpager.specs.Construction.{Draft, core_at, Closes}
-use Rattle.lrpager.specs.Invariant.{HasChain, Holds}
-use Rattle.lrpager.proofs.CoreGrowth.{GrowsInto, into_equal}
-use Rattle.lrpager.proofs.ChainGrowth.{chain_stays}
+use Rattle.lrplacing.specs.Construction.{Draft, core_at}
+use Rattle.lrplacing.specs.Invariant.{HasChain, Holds}
+use Rattle.lrpager.specs.Closing.{Closes}
+use Rattle.lrplacing.proofs.CoreGrowth.{GrowsInto, into_equal}
+use Rattle.lrplacing.proofs.ChainGrowth.{chain_stays}
 use Rattle.lrpager.proofs.ClosedCounts.{closes_core}
 
--- there is a chain of exactly as many item sets as states
-pub chain_of_states : {g : Grammar} (ss : List Draft) → HasChain g ss → (chain : List Items) × IsChain g chain × (length chain ≡ length ss)
-chain_of_states ss c = (c.chain, c.is_chain, c.length_is)
-
--- and one of exactly as many as states are marked
+-- there is a chain of exactly as many item sets as states are marked
 pub chain_of_marked :
     {g : Grammar} (ss : List Draft) (marks : List Bool) → HasChain g ss → length marks ≡ length ss
     → (chain : List Items) × IsChain g chain × (length chain ≡ count_by (λ b. b) marks)

@@ -1,9 +1,20 @@
 -- collecting the states that are reached: marking them, and numbering them anew
-use Rattle.std.specs.Prelude.{◌≡◌, ℕ, ◌+◌, ◌<◌, Bool, false, cond, IsTrue, List, [], ◌∷◌, Some, length, option_map, slice_index, slice_index_or, ◌⊎◌}
+use Rattle.std.specs.Prelude.{◌≡◌, ℕ, ◌+◌, ◌<◌, Bool, false, cond, IsTrue, List, [], ◌∷◌, ◌++◌, Some, length, option_map, count_by, slice_index, slice_index_or, take, ◌⊎◌}
 use Rattle.lrspec.specs.grammars.Grammar.{Symbol}
 use Rattle.lrspec.proofs.grammars.ListMembers.{Among}
-use Rattle.lrspec.specs.merging.Graph.{State, edge_at}
-use Rattle.lrpager.specs.Construction.{Draft, edge_from, new_number}
+use Rattle.lrspec.specs.merging.Graph.{State, Graph, core_of, closed_of, edge, edge_at}
+use Rattle.lrplacing.specs.Construction.{Draft, core_at, closed_at, edge_from}
+
+-- following edges from the start state ends in the state
+pub data Walks (ss : List Draft) : List Symbol → ℕ → Type 0 where
+  start : Walks ss [] 0
+  follow : {w : List Symbol} {k u : ℕ} (x : Symbol) → Walks ss w k → edge_from ss k x ≡ Some u → Walks ss (w ++ x ∷ []) u
+
+-- a state is marked exactly where it is reached
+pub record AreMarked (ss : List Draft) (marks : List Bool) : Type 0 where
+  pub length_is : length marks ≡ length ss
+  pub reached : (k : ℕ) → IsTrue (slice_index_or marks k false) → (w : List Symbol) × Walks ss w k
+  pub marked : (w : List Symbol) (k : ℕ) → Walks ss w k → IsTrue (slice_index_or marks k false)
 
 -- edges of states lead to states
 abbrev pub LeadToStates : List Draft → Type 0
@@ -35,6 +46,10 @@ pub record MarksOnly (P : ℕ → Type 0) (old : List Bool) (todo : List ℕ) (n
 
 -- ---- numbering anew
 
+-- the new number of the state `k`: how many states before it are marked
+abbrev pub new_number : List Bool → ℕ → ℕ
+new_number marks k = count_by (λ b. b) (take k marks)
+
 -- the list has the new number of each state
 pub record AreNewNumbers (marks : List Bool) (numbers : List ℕ) : Type 0 where
   pub length_is : length numbers ≡ length marks
@@ -54,3 +69,13 @@ pub record IsRenumbered (f : ℕ → ℕ) (d : Draft) (s : State) : Type 0 where
   pub core : s.core ≡ d.core
   pub closed : d.closed ≡ Some s.closed
   pub edges : AreRenumbered f d.edges s.edges
+
+-- the graph has the marked states in their order, with their new numbers; `marks` has a mark or none for each state
+pub record IsCollected (ss : List Draft) (marks : List Bool) (h : Graph) : Type 0 where
+  pub below : (k : ℕ) → IsTrue (slice_index_or marks k false) → new_number marks k < length h
+  pub cores : (k : ℕ) → IsTrue (slice_index_or marks k false) → core_of h (new_number marks k) ≡ core_at ss k
+  pub closed : (k : ℕ) → IsTrue (slice_index_or marks k false) → Some (closed_of h (new_number marks k)) ≡ closed_at ss k
+  pub edges :
+      (k : ℕ) (x : Symbol) → IsTrue (slice_index_or marks k false)
+      → edge h (new_number marks k) x ≡ option_map (new_number marks) (edge_from ss k x)
+  pub only : (s : ℕ) → s < length h → (k : ℕ) × IsTrue (slice_index_or marks k false) × (new_number marks k ≡ s)

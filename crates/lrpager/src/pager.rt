@@ -8,26 +8,20 @@ ghost use Rattle.lrspec.specs.grammars.StartState.{IsStartCore};
 ghost use Rattle.lrgrammar.specs.Firsts.{AreFirstsOf};
 ghost use Rattle.lrgrammar.specs.GrammarSizes.{IsWithin};
 ghost use Rattle.lritems.specs.ItemsOf.{set_of};
-ghost use Rattle.lrpager.specs.Construction.{core_at, closed_at};
+ghost use Rattle.lrplacing.specs.Construction.{core_at, closed_at};
 ghost use Rattle.lrpager.specs.Choices.{NoneUnclosedFrom, IsFirstUnclosedFrom, IsNextUnclosed, ClosesAll};
-ghost use Rattle.lrpager.specs.Counts.{unclosed, weight};
-ghost use Rattle.lrpager.specs.Invariant.{Holds, HasGotos, AreClosed};
-ghost use Rattle.lrpager.specs.CandidatesOf.{AreCandidates};
+ghost use Rattle.lrplacing.specs.Counts.{unclosed, weight};
+ghost use Rattle.lrplacing.specs.Invariant.{Holds, HasGotos, AreClosed};
+ghost use Rattle.lrplacing.specs.CandidatesOf.{AreCandidates};
 ghost use Rattle.lrpager.specs.Closing.{ClosesTo, StartsWith};
 ghost use Rattle.lrspec.specs.merging.Graph.{IsGraphOf, AreShared, InventsNoConflict, CoresCross};
-ghost use Rattle.lrpager.specs.Chains.{HasChainOf, HasChainOfExactly};
-ghost use Rattle.lrpager.specs.Refusals.{IsLargeOnly};
+ghost use Rattle.lrplacing.specs.Chains.{HasChainOf, HasChainOfExactly};
+ghost use Rattle.lrplacing.specs.Refusals.{IsLargeOnly};
 ghost use Rattle.lritems.specs.Gotos.{gotos_of};
 
-mod candidates;
 mod collecting;
-mod draft;
-mod placing;
 
-use crate::pager::candidates::Candidates;
 use crate::pager::collecting::collect;
-use crate::pager::draft::Draft;
-use crate::pager::placing::place_all;
 use lrgrammar::firsts::YaccFirsts;
 use lrgrammar::grammar::YaccGrammar;
 use lrgrammar::idx::{IndexStorage, SIdx, Symbol};
@@ -36,6 +30,9 @@ use lrgraphs::{BuildError, StateGraph};
 use lritems::gotos::gotos;
 use lritems::itemset::Itemset;
 use lritems::merging::first_item;
+use lrplacing::candidates::Candidates;
+use lrplacing::draft::Draft;
+use lrplacing::placing::place_all;
 use std::alloc::AllocError;
 
 /// The core of the start state: the start production at dot 0, looking at the end token.

@@ -5,17 +5,17 @@ ghost use Rattle.std.specs.BTreeMap.{btree_map_len};
 ghost use Rattle.std.specs.List.{All};
 ghost use Rattle.lrspec.specs.grammars.Grammar as math;
 ghost use Rattle.lrspec.specs.merging.Graph.{IsInOrder};
-ghost use Rattle.lrpager.specs.Construction.{draft_edges, edge_from, AreMarked};
-ghost use Rattle.lrpager.specs.Invariant.{AreClosed, IsCollected};
+ghost use Rattle.lrplacing.specs.Construction.{draft_edges, edge_from};
+ghost use Rattle.lrplacing.specs.Invariant.{AreClosed};
 ghost use Rattle.lrgraphs.specs.GraphOf.{edges_of, state_of, graph_of};
-ghost use Rattle.lrpager.specs.Refusals.{IsLargeOnly};
-ghost use Rattle.lrpager.specs.Collecting.{LeadToStates, IsMarked, HasTarget, MarksOnly, AreNewNumbers, HaveDistinctTargets, AreRenumbered, IsRenumbered};
+ghost use Rattle.lrplacing.specs.Refusals.{IsLargeOnly};
+ghost use Rattle.lrpager.specs.Collecting.{AreMarked, IsCollected, LeadToStates, IsMarked, HasTarget, MarksOnly, AreNewNumbers, HaveDistinctTargets, AreRenumbered, IsRenumbered};
 
-use crate::pager::draft::Draft;
 use lrgrammar::idx::{IndexStorage, StIdx, Symbol};
 use lrgrammar::vob::Vob;
 use lrgraphs::BuildError;
 use lrgraphs::stategraph::{State, StateGraph};
+use lrplacing::draft::Draft;
 use std::alloc::{AllocError, Global};
 use std::collections::BTreeMap;
 

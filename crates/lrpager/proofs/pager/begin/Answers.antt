@@ -1,9 +1,9 @@
 use Rattle.std.proofs.Common.{◌∙◌, sym, ap}
 use Rattle.std.specs.Prelude.{option_map}
 use Rattle.lritems.specs.ItemsOf.{set_of}
-use Rattle.lrpager.specs.CandidatesOf.{IsFirstItem}
+use Rattle.lrplacing.specs.CandidatesOf.{IsFirstItem}
 use Rattle.lrpager.proofs.Beginnings.{draft_alone, start_item, start_candidates}
-use Rattle.lrpager.proofs.CandidateLists.{some_first}
+use Rattle.lrplacing.proofs.CandidateLists.{some_first}
 use Rattle.lrpager.proofs.pager.begin.Goals as goal
 
 pub unwrap-requires : goal.unwrap-requires

@@ -2,7 +2,7 @@ use Rattle.std.proofs.Common.{arith}
 use Rattle.lrpager.proofs.Beginnings.{begins_length, begins_holds, begins_gotos, begins_unclosed, one_symbol}
 use Rattle.lrpager.proofs.CollectedStates.{collected_shared, collected_crosses, collected_no_more}
 use Rattle.lrpager.proofs.CollectedGraph.{collected_graph, collected_invents_no_conflict}
-use Rattle.lrpager.proofs.SizeCauses.{chain_of_states}
+use Rattle.lrplacing.proofs.ChainGrowth.{chain_of_states}
 use Rattle.lrpager.proofs.SizeBounds.{closings_bound_fits}
 use Rattle.lrpager.proofs.pager.build.Goals as goal
 

@@ -1,6 +1,6 @@
 use Rattle.std.proofs.Common.{sym, ◌∙◌}
 use Rattle.lritems.specs.ItemsOf.{set_of}
-use Rattle.lrpager.proofs.DraftLists.{core_found}
+use Rattle.lrplacing.proofs.DraftLists.{core_found}
 use Rattle.lrpager.proofs.ClosingFacts.{closes_by}
 use Rattle.lrpager.proofs.pager.close.Goals as goal
 

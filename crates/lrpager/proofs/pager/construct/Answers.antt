@@ -1,7 +1,7 @@
 use Rattle.std.proofs.Common.{◌+◌, arith}
 use Rattle.lrpager.specs.Choices as choice
 use Rattle.lrpager.proofs.ClosedCounts.{closes_counted}
-use Rattle.lrpager.proofs.CountFacts.{none_unclosed_of_closed}
+use Rattle.lrplacing.proofs.CountFacts.{none_unclosed_of_closed}
 use Rattle.lrpager.proofs.NextStates.{next_is_unclosed}
 use Rattle.lrpager.proofs.SizeBounds.{closings_fit, closings_most, weight_within}
 use Rattle.lrpager.proofs.ClosingFacts.{closed_holds, closed_gotos, closed_candidates, turned_holds, turned_gotos, turned_made, turned_counted}

@@ -1,10 +1,10 @@
 use Rattle.std.proofs.Common.{◌*◌, ◌+◌, ◌-◌, ◌≤◌, ℕ, List, length}
 use Rattle.lrspec.specs.grammars.Grammar.{item_count, token_count}
-use Rattle.lrpager.specs.Construction.{Draft}
+use Rattle.lrplacing.specs.Construction.{Draft}
 use Rattle.lrpager.specs.Choices.{ClosesAll}
-use Rattle.lrpager.specs.Counts.{unclosed, weight}
-use Rattle.lrpager.specs.Invariant.{Holds, HasGotos}
-use Rattle.lrpager.specs.CandidatesOf.{AreCandidates}
+use Rattle.lrplacing.specs.Counts.{unclosed, weight}
+use Rattle.lrplacing.specs.Invariant.{Holds, HasGotos}
+use Rattle.lrplacing.specs.CandidatesOf.{AreCandidates}
 use Rattle.lrpager.proofs.pager.construct.Given as goal
 
 abbrev pub invariant-loop-i : goal.invariant-loop-i

@@ -1,5 +1,5 @@
 use Rattle.std.proofs.Common.{◌≡◌, ℕ, ◌<◌, ◌≤◌, length, get_or}
-use Rattle.lrpager.specs.Construction.{new_number}
+use Rattle.lrpager.specs.Collecting.{new_number}
 use Rattle.lrpager.proofs.pager.collecting.new_numbers.Given as goal
 
 abbrev pub invariant-loop-k : goal.invariant-loop-k

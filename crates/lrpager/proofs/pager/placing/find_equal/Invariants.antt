@@ -1,7 +1,0 @@
-use Rattle.std.proofs.Common.{take}
-use Rattle.lritems.specs.ItemsOf.{set_of}
-use Rattle.lrpager.specs.Choices.{HoldsOfNone, IsEqual}
-use Rattle.lrpager.proofs.pager.placing.find_equal.Given as goal
-
-abbrev pub invariant-loop-k : goal.invariant-loop-k
-invariant-loop-k g l = HoldsOfNone (IsEqual l.drafts (set_of g.T.IndexStorage.number l.goto)) (take l.k-index l.candidates)

@@ -1,0 +1,19 @@
+-- the lemma files
+pub mod CandidateFacts
+pub mod GrowingItemSets
+pub mod DraftFacts
+pub mod PlacedCores
+pub mod PlacedStates
+pub mod PlacedGotos
+pub mod CoreGrowth
+pub mod ChainGrowth
+pub mod SumFacts
+pub mod LooksCount
+pub mod CountFacts
+pub mod PlacedCounts
+pub mod PlacedWeight
+pub mod DraftLists
+pub mod CandidateLists
+pub mod PlacingFacts
+pub mod PlacingTurns
+pub mod FirstOfList

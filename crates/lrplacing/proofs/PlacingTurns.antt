@@ -1,0 +1,87 @@
+-- what the placing of one goto leaves for the next ones
+use Rattle.std.proofs.Common.{ℕ, ◌<◌, ◌≤◌, List, [], ◌∷◌, length, refl, ap, inl, inr, arith}
+use Rattle.lrspec.specs.grammars.Grammar.{Symbol, Grammar, token_count}
+use Rattle.lrspec.specs.grammars.ItemSets.{Items, HasItem, Fits}
+use Rattle.lrspec.proofs.grammars.ListMembers.{Among}
+use Rattle.lrplacing.specs.Construction.{Draft, core_at, Grows, Places}
+use Rattle.lrplacing.specs.Invariant.{MayBePlaced, AllMayBePlaced, Holds}
+use Rattle.lrplacing.specs.Chains.{HasChainOf}
+use Rattle.lritems.specs.Merging.{HaveEquallyManyBits}
+use Rattle.lritems.specs.Gotos.{AreGotosOf, AreGotosToPlace, HasGotoOn}
+use Rattle.lrplacing.proofs.PlacedGotos as placed
+use Rattle.lrplacing.proofs.PlacedStates.{places_holds, may_be_placed_kept}
+use Rattle.lrplacing.proofs.ChainGrowth.{chain_of_states, places_chain}
+
+-- a goto that may be placed has an item
+pub item_of_goto : {g : Grammar} {ss : List Draft} {from : ℕ} {x : Symbol} {a : Items} → MayBePlaced g ss from x a → (p : ℕ) × (d : ℕ) × HasItem a p d
+item_of_goto m = let w = m.sharing.1.some in (m.sharing.1.cores w.0 w.1).some
+
+-- and as many bits as each core
+pub bits_of_goto :
+    {g : Grammar} {ss : List Draft} {from : ℕ} {x : Symbol} {a : Items} → Holds g ss → MayBePlaced g ss from x a
+    → (k : ℕ) → k < length ss → HaveEquallyManyBits (core_at ss k) a
+bits_of_goto {g} holds m k b = (token_count g, λ p d v e. (holds.fits k b p d v e).bits, λ p d v e. (m.fits p d v e).bits)
+
+-- wherever a goto of the state `from` is placed, the core that took it in fits the grammar
+abbrev pub LeavesFit : Grammar → ℕ → Type 0
+LeavesFit g from =
+    (ss ts : List Draft) (x : Symbol) (a : Items) (k : ℕ) → Holds g ss → MayBePlaced g ss from x a → Places ss from x a k ts → Fits g (core_at ts k)
+
+-- which it does where growing cores go on to fit
+pub leaves_fit :
+    {g : Grammar} (from : ℕ) → ((ss ts : List Draft) (k : ℕ) (a : Items) → Grows ss ts k a → Fits g (core_at ss k) → Fits g (core_at ts k))
+    → LeavesFit g from
+leaves_fit from grown ss ts x a k h goes m =
+    elim m.how [
+      | inl n ↦ let inside : k < length ss = omega (arith, n.length_is, m.taken) in grown ss ts k a n (h.fits k inside)
+      | inr n ↦ rw n.core goes.fits
+    ]
+
+-- the invariant holds on
+pub held_on :
+    {g : Grammar} {old new : List Draft} {from : ℕ} {x : Symbol} {a : Items} {k : ℕ} → Places old from x a k new → Holds g old → from < length old
+    → MayBePlaced g old from x a → Holds g new
+held_on {g} {old} {new} {from} {x} {a} {k} m holds b may =
+    places_holds m holds b may (leaves_fit from (λ ss ts j c w f. w.fits_kept g f) old new x a k holds may m) (places_chain g old new from k x a holds may m)
+
+-- and the other gotos may still be placed
+pub still_may_be_placed :
+    (g : Grammar) {old new : List Draft} {from : ℕ} {x : Symbol} {a : Items} {k : ℕ} → Places old from x a k new → from < length old
+    → (gs : List (Symbol × Items)) → AllMayBePlaced g old from gs → AllMayBePlaced g new from gs
+still_may_be_placed g m b [] h = tt
+still_may_be_placed g m b (e ∷ es) h = (may_be_placed_kept m b h.0, still_may_be_placed g m b es h.1)
+
+-- so many states make a chain of as many item sets
+pub chain_of_most : {g : Grammar} (ss : List Draft) (most : ℕ) → Holds g ss → most ≤ length ss → HasChainOf g most
+chain_of_most ss most holds b = let c = chain_of_states ss holds.chain in (c.0, c.1, omega (arith, c.2))
+
+-- ---- the gotos of a closed state
+
+module _ (g : Grammar) (c : Items) where
+  each_is : (gs : List (Symbol × Items)) → AreGotosToPlace g c gs → (x : Symbol) (a : Items) → Among {X = Symbol × Items} (x, a) gs → placed.IsGotoOf g c x a
+  each_is [] h x a i = absurd i
+  each_is (e ∷ es) h x a i =
+      elim i [
+        | inl same ↦ rw (ap (λ f. f.0) same, ap (λ f. f.1) same) (record { goto = h.0.is_goto; fits = h.0.fits; some = h.0.before })
+        | inr later ↦ each_is es h.1 x a later
+      ]
+
+  among_gotos : (gs : List (Symbol × Items)) (x : Symbol) → HasGotoOn gs x → (a : Items) × Among {X = Symbol × Items} (x, a) gs
+  among_gotos [] x i = absurd i
+  among_gotos (e ∷ es) x i =
+      elim i [
+        | inl same ↦ (e.1, inl (rw same refl))
+        | inr later ↦ let found = among_gotos es x later in (found.0, inr found.1)
+      ]
+
+  -- the gotos at hand, as the lemmas on placing them want them
+  pub gotos_at_hand : (gs : List (Symbol × Items)) → AreGotosOf g c gs → placed.AreGotosOf g c gs
+  gotos_at_hand gs h = record { each = λ x a i. each_is gs h.each x a i; all = λ p d x i b. among_gotos gs x (h.all p d x i b) }
+
+  -- each of them may be placed
+  pub all_may_be_placed :
+      (ss : List Draft) (from : ℕ) (gs : List (Symbol × Items)) → ((x : Symbol) (a : Items) → placed.IsGotoOf g c x a → MayBePlaced g ss from x a)
+      → AreGotosToPlace g c gs → AllMayBePlaced g ss from gs
+  all_may_be_placed ss from [] f h = tt
+  all_may_be_placed ss from (e ∷ es) f h =
+      (f e.0 e.1 (record { goto = h.0.is_goto; fits = h.0.fits; some = h.0.before }), all_may_be_placed ss from es f h.1)
