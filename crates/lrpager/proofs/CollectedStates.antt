@@ -12,7 +12,7 @@ use Rattle.lrspec.specs.merging.Graph.{Graph, core_of, closed_of, Leads, AreShar
 use Rattle.lrspec.proofs.merging.StatesHoldWhatStands.{AreRooted, CloseCores}
 use Rattle.lrspec.proofs.merging.SameCores.{cross_back}
 use Rattle.lrpager.specs.Collecting as collecting
-use Rattle.lrplacing.specs.Construction.{Draft, core_at, edge_from}
+use Rattle.lrplacing.specs.Construction.{Draft, core_at}
 use Rattle.lrplacing.specs.Invariant.{HasSharing, Holds}
 use Rattle.lrpager.specs.Collecting.{Walks, AreMarked, new_number, IsCollected}
 use Rattle.lrpager.proofs.NewNumbers.{mark_count, marked_below, new_number_start, new_number_below, new_number_taken}
