@@ -68,7 +68,7 @@ pub fn dot_behind<T: IndexStorage>(
 }
 
 /// The rule behind the dot, if a rule stands there.
-pub fn rule_behind<T: IndexStorage>(
+pub(crate) fn rule_behind<T: IndexStorage>(
     grm: &YaccGrammar<T>,
     pidx: PIdx<T>,
     dot: SIdx<T>,
