@@ -8,7 +8,8 @@ use Rattle.lrspec.specs.tables.Table.{Table, Lists, lists_of, AcceptsAndReduces,
 use Rattle.lrspec.specs.tables.Rows.{ReducesApart}
 use Rattle.lrspec.specs.tables.Conflicts.{AreEntriesOf}
 use Rattle.lrgrammar.specs.GrammarSizes.{IsWithin}
-use Rattle.lrsparse.specs.Matrix.{Matrix, HasRows}
+use Rattle.lrsparse.specs.Matrix.{Matrix}
+use Rattle.lrsparse.specs.Building.{so_far}
 use Rattle.lrrows.specs.StateRows.{action_row, goto_row}
 use Rattle.lrrows.specs.StoredActions.{action_numbered, goto_numbered, IsIndexed}
 use Rattle.lrrows.specs.StoredLists.{pairs_of, mixes_of}
@@ -25,21 +26,10 @@ use Rattle.lrspec.proofs.tables.ConflictEntries.{entries_in_range}
 abbrev pub lists_of_rows : {T : Type 0} → (T → ℕ) → Rows T → Lists
 lists_of_rows number r = record { reduce_reduce = pairs_of number r.reduce_reduce.items; shift_reduce = mixes_of number r.shift_reduce.items }
 
--- the rows of `n` states are whole rows of cells
-pub whole_actions : {T : Type 0} (number : T → ℕ) (g : Grammar) (h : Graph) (n cols : ℕ) (r : Rows T) → AreRowsOf number g h n r → cols ≡ token_count g → HasRows cols (length r.actions.items)
-whole_actions number g h n cols r rows e =
-    (n, ap length rows.actions ∙ (length_of_rows (action_row g h) (token_count g) (length_of_action_row g h) n ∙ ap (λ k. n * k) (sym e)))
-
-pub whole_gotos : {T : Type 0} (number : T → ℕ) (g : Grammar) (h : Graph) (n cols : ℕ) (r : Rows T) → AreRowsOf number g h n r → cols ≡ length g.rule_names → HasRows cols (length r.gotos.items)
-whole_gotos number g h n cols r rows e =
-    (n, ap length rows.gotos ∙ (length_of_rows (goto_row g h) (length g.rule_names) (length_of_goto_row g h) n ∙ ap (λ k. n * k) (sym e)))
-
 -- a table is kept of these rows: its matrices have their cells and gotos, and its conflicts are theirs
-pub record IsKeptOf {T : Type 0} (number : T → ℕ) (g : Grammar) (r : Rows T) (actions gotos : Matrix) (kept : Option Lists) : Type 0 where
-  pub tokens : actions.cols ≡ token_count g
-  pub cells : actions.cells ≡ r.actions.items
-  pub rules : gotos.cols ≡ length g.rule_names
-  pub edges : gotos.cells ≡ r.gotos.items
+pub record IsKeptOf {T : Type 0} (number : T → ℕ) (r : Rows T) (actions gotos : Matrix) (kept : Option Lists) : Type 0 where
+  pub actions_are : actions ≡ so_far r.actions
+  pub gotos_are : gotos ≡ so_far r.gotos
   pub none :
       MatchOption kept ((r.reduce_reduce.items ≡ []) × (r.shift_reduce.items ≡ []))
       (λ c. ¬ ((r.reduce_reduce.items ≡ []) × (r.shift_reduce.items ≡ [])))
@@ -71,7 +61,7 @@ module _ {T : Type 0} (number : T → ℕ) (r : Rows T) where
 
 module _
     {T : Type 0} (number : T → ℕ) (g : Grammar) (h : Graph) (r : Rows T) (actions gotos : Matrix) (kept : Option Lists)
-    (rows : AreRowsOf number g h (length h) r) (is_kept : IsKeptOf number g r actions gotos kept)
+    (rows : AreRowsOf number g h (length h) r) (is_kept : IsKeptOf number r actions gotos kept)
   where
     -- the table
     abbrev made : Table
@@ -80,23 +70,23 @@ module _
     matrices : HasRowsOf g h (length r.core_reduces.items) actions gotos
     matrices = record {
       states = rows.count;
-      tokens = is_kept.tokens;
-      cells = is_kept.cells ∙ (rows.actions ∙ ap (λ k. flat_map (action_row g h) (range_with_len 0 k)) (sym rows.count));
-      rules = is_kept.rules;
-      edges = is_kept.edges ∙ (rows.gotos ∙ ap (λ k. flat_map (goto_row g h) (range_with_len 0 k)) (sym rows.count));
+      tokens = ap (λ (m : Matrix). m.cols) is_kept.actions_are ∙ rows.tokens;
+      cells = ap (λ (m : Matrix). m.cells) is_kept.actions_are ∙ (rows.actions ∙ ap (λ k. flat_map (action_row g h) (range_with_len 0 k)) (sym rows.count));
+      rules = ap (λ (m : Matrix). m.cols) is_kept.gotos_are ∙ rows.rules;
+      edges = ap (λ (m : Matrix). m.cells) is_kept.gotos_are ∙ (rows.gotos ∙ ap (λ k. flat_map (goto_row g h) (range_with_len 0 k)) (sym rows.count));
     }
 
     pub made_cells : (most : ℕ) → IsGraphOf g h → IsWithin most g → length h ≤ most → AreCells most (length r.core_reduces.items) actions
     made_cells most m w l = record {
-      rows = ap length matrices.cells ∙ (length_of_rows (action_row g h) (token_count g) (length_of_action_row g h) (length r.core_reduces.items) ∙ ap (λ k. length r.core_reduces.items * k) (sym is_kept.tokens));
-      columns = omega (arith, is_kept.tokens, w.tokens);
+      rows = ap length matrices.cells ∙ (length_of_rows (action_row g h) (token_count g) (length_of_action_row g h) (length r.core_reduces.items) ∙ ap (λ k. length r.core_reduces.items * k) (sym matrices.tokens));
+      columns = omega (arith, matrices.tokens, w.tokens);
       indexed = subst (All (λ c. IsIndexed most (action_numbered c))) (sym matrices.cells)
           (all_of_rows (λ c. IsIndexed most (action_numbered c)) (action_row g h) 0 (length r.core_reduces.items) (λ s k i. indexed_action_row g h most s m w l));
     }
 
     pub made_gotos : (most : ℕ) → IsGraphOf g h → length h ≤ most → AreGotos most (length r.core_reduces.items) gotos
     made_gotos most m l = record {
-      rows = ap length matrices.edges ∙ (length_of_rows (goto_row g h) (length g.rule_names) (length_of_goto_row g h) (length r.core_reduces.items) ∙ ap (λ k. length r.core_reduces.items * k) (sym is_kept.rules));
+      rows = ap length matrices.edges ∙ (length_of_rows (goto_row g h) (length g.rule_names) (length_of_goto_row g h) (length r.core_reduces.items) ∙ ap (λ k. length r.core_reduces.items * k) (sym matrices.rules));
       indexed = subst (All (λ c. IfSome (goto_numbered c) (λ s. s ≤ most))) (sym matrices.edges)
           (all_of_rows (λ c. IfSome (goto_numbered c) (λ s. s ≤ most)) (goto_row g h) 0 (length r.core_reduces.items) (λ s k i. indexed_goto_row g h most s m l));
     }

@@ -7,7 +7,6 @@ ghost use Rattle.lrspec.specs.tables.Table.{IsTableOf, lists_of, goto_of};
 ghost use Rattle.lrspec.specs.tables.Conflicts.{AreEntriesOf};
 ghost use Rattle.lrspec.specs.tables.Exactness.{ListsNothing};
 ghost use Rattle.lrspec.specs.tables.Rows.{AreActingTokens, AreShiftedTokens, AreReducedBy, ReducesOnly, ReducesApart};
-ghost use Rattle.lrsparse.specs.Matrix.{HasRows};
 ghost use Rattle.lrrows.specs.StoredActions.{action_of};
 ghost use Rattle.lrcells.specs.Refusals.{IsTableRefusal};
 
@@ -28,7 +27,7 @@ pub use lrrows::action::Action;
 use lrrows::numbers::{action_of_number, goto_of_number};
 use lrrows::rows::rows_of;
 use lrsparse::sparsevec::SparseVec;
-use std::alloc::{AllocError, Global};
+use std::alloc::Global;
 use std::marker::Model;
 
 /// The table of a state graph: for each state what it does on each token, and where each rule leads.
@@ -61,15 +60,6 @@ impl<T: IndexStorage> Model for StateTable<T> {
         × AreKept t.conflicts };
 }
 
-/// The matrix of these cells, of which most are 0; the list itself is let go of.
-fn matrix_of(alloc: Global, cells: Vec<usize>, cols: usize) -> Result<SparseVec, AllocError>
-    requires { HasRows cols (length cells.items) }
-    ensures cols { IfOk result (λ m. m.cols ≡ cols) }
-    ensures cells { IfOk result (λ m. m.cells ≡ cells.items) }
-{
-    SparseVec::from(alloc, cells.as_slice(), 0, cols)
-}
-
 impl<T: IndexStorage> StateTable<T> {
     /// The table of the graph, which is one of the grammar. `TooLarge` where the graph has `MAX - 1` states or more; or else
     /// `Table` where a state accepts and reduces at the end of the text.
@@ -96,10 +86,8 @@ impl<T: IndexStorage> StateTable<T> {
         }
         let rows = rows_of(alloc, grm, sg)?;
         let tokens_len = usize::from(grm.tokens_len());
-        let rules_len = usize::from(grm.rules_len());
-        // The list of gotos, of which few are there, is gone before the matrix of actions is made.
-        let gotos = matrix_of(alloc, rows.gotos, rules_len)?;
-        let actions = matrix_of(alloc, rows.actions, tokens_len)?;
+        let actions = rows.actions.finish();
+        let gotos = rows.gotos.finish();
         Ok(StateTable {
             actions,
             gotos,

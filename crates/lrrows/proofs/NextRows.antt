@@ -1,36 +1,40 @@
 -- the rows of one state more
-use Rattle.std.proofs.Common.{◌≡◌, ◌≢◌, ℕ, ◌+◌, ◌-◌, ◌<◌, Bool, IsTrue, Option, List, [], ◌∷◌, ◌++◌, length, map, get_or, take, drop, refl, sym, ap, ◌∙◌, ◌↔◌, ⊎_elim, arith, Contains, add-one, length-append}
+use Rattle.std.proofs.Common.{◌≡◌, ◌≢◌, ℕ, ◌+◌, ◌<◌, Bool, IsTrue, Option, List, [], ◌∷◌, ◌++◌, length, map, get_or, refl, sym, ap, ◌∙◌, ◌↔◌, ⊎_elim, arith, Contains, add-one}
 use Rattle.std.specs.List.{flat_map, range_with_len}
 use Rattle.std.specs.declared.vec.Vec.{Vec}
 use Rattle.std.specs.declared.alloc.Global.{Global}
 use Rattle.std.proofs.lemmas.Bool.{cases_eq}
-use Rattle.std.proofs.lemmas.List.{drop_at, take_rest, get_or_push, get_or_append_left, length_push, length-map, flat_map_more}
+use Rattle.std.proofs.lemmas.List.{get_or_push, get_or_append_left, length_push, length-map, flat_map_more}
 use Rattle.std.proofs.lemmas.List.FromFn.{length-map-range_with_len, get_or-map-range_with_len}
 use Rattle.lrgrammar.specs.declared.idx.PIdx.{PIdx}
 use Rattle.lrgrammar.proofs.Ranges.{range_more}
-use Rattle.lrspec.specs.grammars.Grammar.{Grammar, token_count}
+use Rattle.lrspec.specs.grammars.Grammar.{Rule, Grammar, token_count}
 use Rattle.lrspec.specs.grammars.ItemSets.{Items, AreUpwards, Fits}
-use Rattle.lrspec.specs.merging.Graph.{Graph, closed_of}
+use Rattle.lrspec.specs.merging.Graph.{Graph, closed_of, edge}
 use Rattle.lrspec.specs.tables.Table.{Action, Reduce, Error, cell_of}
 use Rattle.lrspec.specs.tables.Rows.{AreAllWith}
+use Rattle.lrsparse.specs.declared.builder.MatrixBuilder.{MatrixBuilder}
+use Rattle.lrsparse.specs.Building.{so_far, IsBuilt}
 use Rattle.lrrows.specs.declared.rows.Rows.{Rows}
 use Rattle.lrrows.specs.Contests.{reduce_reduce_by}
 use Rattle.lrrows.specs.ReducingRows.{ReducesByOne}
 use Rattle.lrrows.specs.RowsOf.{HasCell, ReduceByOne, AreRowsOf}
 use Rattle.lrrows.specs.StateRows.{action_row, goto_row, complete_items, first_at, least_reductions, reduce_reduce_at, shift_reduce_at}
-use Rattle.lrrows.specs.StoredActions.{action_number, action_numbered}
+use Rattle.lrrows.specs.StoredActions.{action_number, action_numbered, goto_number}
 use Rattle.lrrows.specs.StoredLists.{numbers_of, pairs_of, mixes_of}
 use Rattle.lrrows.proofs.KeptNumbers.{numbered_action}
 use Rattle.lrrows.proofs.LeastReductions.{least_is}
 use Rattle.lrrows.proofs.ContestsOfState.{reduce_reduce_is}
 
--- the last cells are the row that was added
-last_row :
-    {X : Type 0} (xs old row : List X) (n t : ℕ) → xs ≡ old ++ row → n ≡ length xs → t ≡ length row
-    → take (length xs - (n - t)) (drop (n - t) xs) ≡ row
-last_row xs old row n t e l m =
-    let k : length old ≡ n - t = omega (arith, l, m, ap length e, length-append old row) in
-    take_rest xs (n - t) ∙ ap (drop (n - t)) e ∙ drop_at old row (n - t) k
+-- what is added to an empty buffer is all of it
+pub in_buffer : {X : Type 0} (xs ys old row : List X) → xs ≡ ys → ys ≡ old ++ row → old ≡ [] → xs ≡ row
+in_buffer xs ys old row slice added none = slice ∙ (added ∙ ap (λ zs. zs ++ row) none)
+
+-- a matrix has this row more
+pub record IsRowMore (old new : MatrixBuilder) (row : List ℕ) : Type 0 where
+  pub built : IsBuilt new
+  pub cols : (so_far new).cols ≡ (so_far old).cols
+  pub cells : (so_far new).cells ≡ (so_far old).cells ++ row
 
 -- what one more number gives is added to what the numbers gave
 flat_more :
@@ -73,12 +77,8 @@ module _ (g : Grammar) (h : Graph) (s : ℕ) where
   pub row_len : length (action_row g h s) ≡ token_count g
   row_len = length-map-range_with_len (λ t. action_number (cell_of g h s t)) 0 (token_count g)
 
-  -- the last cells are the row of the state, where `t` is the number of tokens
-  pub row_added :
-      (xs cells old : List ℕ) (n t m : ℕ) → xs ≡ cells → cells ≡ old ++ action_row g h s → n ≡ length cells → t ≡ m → m ≡ token_count g
-      → take (length xs - (n - t)) (drop (n - t) xs) ≡ action_row g h s
-  row_added xs cells old n t m slice added len tokens count =
-      last_row xs old (action_row g h s) n t (slice ∙ added) (len ∙ ap length (sym slice)) (tokens ∙ count ∙ sym row_len)
+  pub goto_row_len : length (goto_row g h s) ≡ length g.rule_names
+  goto_row_len = length-map-range_with_len (λ r. goto_number (edge h s (Rule r))) 0 (length g.rule_names)
 
   has_cell : (a : Action) → Contains cells a ↔ HasCell g h s a
   has_cell a = (
@@ -133,8 +133,8 @@ module _ {T : Type 0} (number : T → ℕ) (g : Grammar) (h : Graph) where
   pub next_rows :
       (n : ℕ) (old new : Rows T) (ps : Vec (PIdx T) Global) (b : Bool)
       → AreRowsOf number g h n old
-      → new.actions.items ≡ old.actions.items ++ action_row g h n
-      → new.gotos.items ≡ old.gotos.items ++ goto_row g h n
+      → IsRowMore old.actions new.actions (action_row g h n)
+      → IsRowMore old.gotos new.gotos (goto_row g h n)
       → new.core_reduces.items ≡ old.core_reduces.items ++ ps ∷ []
       → AreAllWith (λ p. Contains (map action_numbered (action_row g h n)) (Reduce p)) (numbers_of number ps.items)
       → new.reduce_only.items ≡ old.reduce_only.items ++ b ∷ []
@@ -146,8 +146,12 @@ module _ {T : Type 0} (number : T → ℕ) (g : Grammar) (h : Graph) where
       let cell = cells_are g h n in
       let one : IsTrue b ↔ ReduceByOne g h n = (λ e. (one_cell g h n).0 (rw cell at (alone.0 e)), λ r. alone.1 (rw cell ((one_cell g h n).1 r))) in
       record {
-        actions = flat_more (action_row g h) n old.actions.items new.actions.items rows.actions actions;
-        gotos = flat_more (goto_row g h) n old.gotos.items new.gotos.items rows.gotos gotos;
+        built_actions = actions.built;
+        tokens = actions.cols ∙ rows.tokens;
+        actions = flat_more (action_row g h) n (so_far old.actions).cells (so_far new.actions).cells rows.actions actions.cells;
+        built_gotos = gotos.built;
+        rules = gotos.cols ∙ rows.rules;
+        gotos = flat_more (goto_row g h) n (so_far old.gotos).cells (so_far new.gotos).cells rows.gotos gotos.cells;
         count = ap length core ∙ length_push old.core_reduces.items ps ∙ ap (λ k. k + 1) rows.count;
         reduces =
             rw core

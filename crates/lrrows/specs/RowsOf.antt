@@ -8,6 +8,7 @@ use Rattle.lrspec.specs.grammars.Grammar.{Grammar, token_count}
 use Rattle.lrspec.specs.merging.Graph.{Graph}
 use Rattle.lrspec.specs.tables.Table.{Action, Reduce, Error, cell_of}
 use Rattle.lrspec.specs.tables.Rows.{AreAllWith}
+use Rattle.lrsparse.specs.Building.{so_far, IsBuilt}
 use Rattle.lrrows.specs.StateRows.{action_row, goto_row, reduce_reduce_at, shift_reduce_at}
 use Rattle.lrrows.specs.StoredLists.{numbers_of, pairs_of, mixes_of}
 use Rattle.lrrows.specs.declared.rows.Rows.{Rows}
@@ -24,8 +25,12 @@ ReduceByOne g h s =
 
 -- the rows are those of the first `n` states
 pub record AreRowsOf {T : Type 0} (number : T → ℕ) (g : Grammar) (h : Graph) (n : ℕ) (r : Rows T) : Type 0 where
-  pub actions : r.actions.items ≡ flat_map (action_row g h) (range_with_len 0 n)
-  pub gotos : r.gotos.items ≡ flat_map (goto_row g h) (range_with_len 0 n)
+  pub built_actions : IsBuilt r.actions
+  pub tokens : (so_far r.actions).cols ≡ token_count g
+  pub actions : (so_far r.actions).cells ≡ flat_map (action_row g h) (range_with_len 0 n)
+  pub built_gotos : IsBuilt r.gotos
+  pub rules : (so_far r.gotos).cols ≡ length g.rule_names
+  pub gotos : (so_far r.gotos).cells ≡ flat_map (goto_row g h) (range_with_len 0 n)
   pub count : length r.core_reduces.items ≡ n
   pub reduces :
       (s : ℕ) (d : Vec (PIdx T) Global) → s < n

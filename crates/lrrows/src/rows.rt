@@ -3,7 +3,6 @@
 ghost use Rattle.std.specs.Prelude.{◌≡◌, ℕ, ◌+◌, ◌<◌, ◌≤◌, IsTrue, ◌↔◌, List, Contains, length, map, OnOk, IfOk};
 ghost use Rattle.std.specs.List.{All};
 ghost use Rattle.lrspec.specs.merging.Graph.{Graph, IsGraphOf};
-ghost use Rattle.lrspec.specs.grammars.Grammar.{Grammar};
 ghost use Rattle.lrspec.specs.tables.Table as table;
 ghost use Rattle.lrspec.specs.tables.Rows.{AreAllWith};
 ghost use Rattle.lrrows.specs.ReducingRows.{ReducesByOne};
@@ -19,14 +18,15 @@ use crate::numbers::action_of_number;
 use lrgrammar::grammar::YaccGrammar;
 use lrgrammar::idx::{IndexStorage, PIdx, StIdx, TIdx};
 use lrgraphs::stategraph::StateGraph;
+use lrsparse::builder::MatrixBuilder;
 use std::alloc::{AllocError, Global};
 use std::collections::BTreeSet;
 
 /// What a table has of the states so far.
 #[derive(Drop)]
 pub struct Rows<T: IndexStorage> {
-    pub actions: Vec<usize>,
-    pub gotos: Vec<usize>,
+    pub actions: MatrixBuilder,
+    pub gotos: MatrixBuilder,
     pub core_reduces: Vec<Vec<PIdx<T>>>,
     pub reduce_only: Vec<bool>,
     pub reduce_reduce: Vec<(TIdx<T>, PIdx<T>, PIdx<T>, StIdx<T>)>,
@@ -35,12 +35,12 @@ pub struct Rows<T: IndexStorage> {
 
 impl<T: IndexStorage> Rows<T> {
     /// No states.
-    fn new(alloc: Global) -> Rows<T>
-        ensures { (g : Grammar) (h : Graph) → AreRowsOf T.number g h 0 result }
+    fn new(alloc: Global, grm: &YaccGrammar<T>) -> Rows<T>
+        ensures { (h : Graph) → AreRowsOf T.number grm.now h 0 result }
     {
         Rows {
-            actions: Vec::new(alloc),
-            gotos: Vec::new(alloc),
+            actions: MatrixBuilder::new(alloc, 0, usize::from(grm.tokens_len())),
+            gotos: MatrixBuilder::new(alloc, 0, usize::from(grm.rules_len())),
             core_reduces: Vec::new(alloc),
             reduce_only: Vec::new(alloc),
             reduce_reduce: Vec::new(alloc),
@@ -48,9 +48,10 @@ impl<T: IndexStorage> Rows<T> {
         }
     }
 
-    /// Adds what the table has of the state.
+    /// Adds what the table has of the state; its rows come into the buffer first, one after the other.
     fn push(
         &mut self,
+        buffer: &mut Vec<usize>,
         grm: &YaccGrammar<T>,
         sg: &StateGraph<T>,
         stidx: StIdx<T>,
@@ -62,24 +63,29 @@ impl<T: IndexStorage> Rows<T> {
         ensures { OnOk result
             (AreRowsOf T.number grm.now sg.now (T.number stidx.0 + 1) self.new) }
     {
+        // `tokens_len` says of the grammar how many productions and tokens it has at most
+        let _ = grm.tokens_len();
         let closed = sg.closed_state(stidx);
         let complete = completes(grm, closed)?;
         let least = least_by_token(grm, complete.as_slice())?;
+        buffer.clear();
         push_actions(
-            &mut self.actions,
+            buffer,
             grm,
             sg,
             stidx,
             least.as_slice(),
             accepted(grm, closed),
         )?;
-        let row_begin = self.actions.len() - usize::from(grm.tokens_len());
-        let row = &self.actions.as_slice()[row_begin..];
+        let row = buffer.as_slice();
         let reduces = reduces_of::<T>(grm.allocator(), row)?;
         self.reduce_only
             .push(reduces_by_one(reduces.as_slice(), row))?;
         self.core_reduces.push(reduces)?;
-        push_gotos(&mut self.gotos, grm, sg, stidx)?;
+        self.actions.push_row(row)?;
+        buffer.clear();
+        push_gotos(buffer, grm, sg, stidx)?;
+        self.gotos.push_row(buffer.as_slice())?;
         push_reduce_reduce(
             &mut self.reduce_reduce,
             stidx,
@@ -157,9 +163,10 @@ pub fn rows_of<T: IndexStorage>(
     requires states { length sg.now ≤ T.MAX }
     ensures { IfOk result (λ r. AreRowsOf T.number grm.now sg.now (length sg.now) r) }
 {
-    let mut rows = Rows::new(alloc);
+    let mut rows = Rows::new(alloc, grm);
+    let mut buffer = Vec::new(alloc);
     for stidx in sg.iter_stidxs() {
-        rows.push(grm, sg, stidx)?;
+        rows.push(&mut buffer, grm, sg, stidx)?;
     }
     Ok(rows)
 }

@@ -1,14 +1,14 @@
 -- the columns of a row against the places that are owned
-use Rattle.std.proofs.Common.{◌≡◌, ◌⊎◌, ◌↔◌, ℕ, zero, suc, ◌+◌, ◌-◌, ◌<◌, ◌≤◌, List, [], ◌∷◌, ◌++◌, Option, None, Some, length, slice_index, Contains, refl, sym, ap, ◌∙◌, inl, inr, arith, get_or}
+use Rattle.std.proofs.Common.{◌≡◌, ◌↔◌, ℕ, zero, suc, ◌+◌, ◌-◌, ◌<◌, ◌≤◌, List, Option, None, Some, length, slice_index, Contains, refl, sym, ◌∙◌, inl, inr, arith, get_or}
 use Rattle.std.specs.Prelude.{IsSome, slice_index_or}
 use Rattle.std.specs.List.{slice_get}
 use Rattle.std.specs.List.Sorted.{IsStrictlyIncreasing}
-use Rattle.std.proofs.lemmas.Bool.{cases_lt, cases_eq}
-use Rattle.std.proofs.lemmas.List.{get_or_past, get_or_default, get_or_push, get_or_append_left, length_push}
+use Rattle.std.proofs.lemmas.Bool.{cases_lt}
+use Rattle.std.proofs.lemmas.List.{get_or_past, get_or_default}
 use Rattle.std.proofs.lemmas.Option.{slice_get_within, get_or_from_slice_get, slice_get-get_or}
 use Rattle.lrsparse.specs.declared.sparsevec.places.Entry.{Entry}
 use Rattle.lrsparse.specs.Owned.{IsOwned, MeetsNone}
-use Rattle.lrsparse.specs.Places.{IsFree, HasEntry, Fits}
+use Rattle.lrsparse.specs.Places.{HasEntry, Fits}
 
 -- an entry stands in a column of the row
 pub entry_within : (empty : ℕ) (numbers : List ℕ) (c : ℕ) → HasEntry empty numbers c → c < length numbers

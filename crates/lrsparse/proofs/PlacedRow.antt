@@ -1,13 +1,11 @@
 -- a row whose entries were put into the list at a displacement at which they fit
-use Rattle.std.proofs.Common.{◌≡◌, ◌≢◌, ◌⊎◌, ℕ, ◌+◌, ◌-◌, ◌<◌, ◌≤◌, ◌==◌, List, Option, None, Some, length, map, refl, sym, ap, ◌∙◌, inl, inr, arith, get_or, eq-eqb}
+use Rattle.std.proofs.Common.{◌≡◌, ◌≢◌, ◌⊎◌, ℕ, ◌+◌, ◌-◌, ◌<◌, List, Option, None, Some, length, refl, sym, ap, ◌∙◌, inl, inr, arith, eq-eqb}
 use Rattle.std.specs.Prelude.{IsSome, IfSome, Contains, ◌↔◌, slice_index, slice_index_or}
-use Rattle.std.specs.List.{range_with_len}
 use Rattle.std.proofs.lemmas.Bool.{cases_lt, cases_eq, ne_eqb}
-use Rattle.std.proofs.lemmas.List.{get_or_past}
 use Rattle.std.proofs.lemmas.List.FromFn.{fill_by_all}
 use Rattle.lrsparse.specs.declared.sparsevec.places.Entry.{Entry}
 use Rattle.lrsparse.specs.Owned.{IsOwned}
-use Rattle.lrsparse.specs.Places.{IsFree, HasEntry, Fits, AreOwnedBelow, number_of, number_at, row_of}
+use Rattle.lrsparse.specs.Places.{HasEntry, Fits, AreOwnedBelow, number_of, number_at, row_of}
 use Rattle.lrsparse.proofs.ColumnsOfRow.{column_place}
 
 -- where a row above this one owns the place, or none does, this one has the empty number

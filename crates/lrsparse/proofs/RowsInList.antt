@@ -1,5 +1,5 @@
 -- the rows that stand in a list, one after another
-use Rattle.std.proofs.Common.{◌≡◌, ◌≢◌, ℕ, zero, suc, ◌+◌, ◌*◌, ◌<◌, ◌≤◌, List, [], ◌∷◌, ◌++◌, Option, None, Some, length, map, refl, sym, ap, ◌∙◌, inl, inr, arith, get_or, append_assoc}
+use Rattle.std.proofs.Common.{◌≡◌, ◌≢◌, ℕ, zero, suc, ◌+◌, ◌*◌, ◌<◌, ◌≤◌, List, [], ◌∷◌, ◌++◌, Option, None, Some, length, map, refl, sym, ap, ◌∙◌, arith, get_or, append_assoc}
 use Rattle.std.proofs.lemmas.List.{append-nil}
 use Rattle.std.specs.Prelude.{slice_index_or}
 use Rattle.std.specs.List.{range_with_len, slice_get}
@@ -94,22 +94,30 @@ module _ (list : List (Option Entry)) (empty cols : ℕ) where
   pub value_past : (ds : List ℕ) (row c : ℕ) → length ds ≤ row → c < cols → value_at (record { cols = cols; cells = rows_from list empty cols 0 ds }) row c ≡ None
   value_past ds row c l h = rw (lt-ltb c cols h) (none_past ds row c l)
 
--- one row more stands in the list, and the cells behind it are left
-pub next_row :
-    (old new : List (Option Entry)) (empty cols row d : ℕ) (ds cells rest front back : List ℕ)
-    → rows_from old empty cols 0 ds ++ rest ≡ cells → rest ≡ front ++ back → length front ≡ cols → row ≡ length ds
-    → row_of new empty (length front) row d ≡ front
+-- one row more stands in the list
+pub row_added :
+    (old new : List (Option Entry)) (empty cols row d : ℕ) (ds numbers : List ℕ)
+    → length numbers ≡ cols → row ≡ length ds → row_of new empty (length numbers) row d ≡ numbers
     → ((q p : ℕ) → q ≢ row → number_at new empty q p ≡ number_at old empty q p)
-    → rows_from new empty cols 0 (ds ++ d ∷ []) ++ back ≡ cells
-next_row old new empty cols row d ds cells rest front back before split wide last there others =
-    let own : row_of new empty cols row d ≡ front = rw wide at there in
-    ap (λ xs. xs ++ back) (rows_more new empty cols 0 d ds row (omega arith)
+    → rows_from new empty cols 0 (ds ++ d ∷ []) ≡ rows_from old empty cols 0 ds ++ numbers
+row_added old new empty cols row d ds numbers wide last there others =
+    let own : row_of new empty cols row d ≡ numbers = rw wide at there in
+    rows_more new empty cols 0 d ds row (omega arith)
     ∙ (ap (λ xs. xs ++ row_of new empty cols row d) (rows_kept old new empty cols row others 0 ds (omega arith))
-    ∙ ap (λ xs. rows_from old empty cols 0 ds ++ xs) own))
-    ∙ (append_assoc (rows_from old empty cols 0 ds) front back
-    ∙ (ap (λ xs. rows_from old empty cols 0 ds ++ xs) (sym split) ∙ before))
+    ∙ ap (λ xs. rows_from old empty cols 0 ds ++ xs) own)
+
+-- the cells of one row fewer are left behind the rows so far
+pub next_row :
+    (old new cells rest front back : List ℕ) → old ++ rest ≡ cells → rest ≡ front ++ back → new ≡ old ++ front → new ++ back ≡ cells
+next_row old new cells rest front back before split more =
+    ap (λ xs. xs ++ back) more ∙ (append_assoc old front back ∙ (ap (λ xs. old ++ xs) (sym split) ∙ before))
 
 -- one row fewer is left
 pub fewer_rows : (cols n m : ℕ) → HasRows cols n → m + cols ≡ n → 0 < n → HasRows cols m
 fewer_rows cols n m (zero, e) h l = absurd (omega arith)
 fewer_rows cols n m (suc q, e) h l = (q, omega arith)
+
+-- there is one row at least where cells are left
+pub row_left : (cols n : ℕ) → HasRows cols n → 0 < n → cols ≤ n
+row_left cols n (zero, e) l = absurd (omega arith)
+row_left cols n (suc q, e) l = omega arith

@@ -2,3 +2,4 @@
 pub mod Matrix
 pub mod Places
 pub mod Owned
+pub mod Building

@@ -1,4 +1,5 @@
 //! Matrices in most of whose cells one number stands.
 #![tactic(auto)]
 
+pub mod builder;
 pub mod sparsevec;

@@ -4,23 +4,23 @@ ghost use Rattle.std.specs.Prelude.{◌≡◌, ◌≤◌, ℕ, ◌*◌, length, 
 ghost use Rattle.lrsparse.specs.Matrix.{value_at, HasRows};
 
 mod owned;
-mod places;
+pub(crate) mod places;
 #[cfg(test)]
 mod tests;
 
-use crate::sparsevec::places::{Entry, Places, entry_at, place_row};
+use crate::builder::MatrixBuilder;
+use crate::sparsevec::places::{Entry, entry_at};
 use std::alloc::{AllocError, Global};
-use std::collections::BTreeMap;
 use std::marker::Model;
 
 /// A matrix of numbers, in most of whose cells one number stands. The other cells are entries, which stand in one list: those
 /// of a row from its displacement on, each as far behind it as its column says, beside the row that owns the place.
 #[derive(Drop)]
 pub struct SparseVec {
-    list: Vec<Option<Entry>>,
-    displacements: Vec<usize>,
-    empty: usize,
-    cols: usize,
+    pub(crate) list: Vec<Option<Entry>>,
+    pub(crate) displacements: Vec<usize>,
+    pub(crate) empty: usize,
+    pub(crate) cols: usize,
 }
 
 impl Model for SparseVec {
@@ -53,28 +53,14 @@ impl SparseVec {
         ensures cols { IfOk result (λ m. m.cols ≡ cols) }
         ensures cells { IfOk result (λ m. m.cells ≡ cells.now) }
     {
-        let mut places = Places::new(alloc);
-        let mut starts = BTreeMap::new(alloc);
-        let mut displacements = Vec::new(alloc);
+        let mut builder = MatrixBuilder::new(alloc, empty, cols);
         let mut rest = cells;
         while !rest.is_empty() {
             let (numbers, behind) = rest.split_at(cols);
-            let displacement = place_row(
-                &mut places,
-                &mut starts,
-                displacements.len(),
-                numbers,
-                empty,
-            )?;
-            displacements.push(displacement)?;
+            builder.push_row(numbers)?;
             rest = behind;
         }
-        Ok(SparseVec {
-            list: places.list,
-            displacements,
-            empty,
-            cols,
-        })
+        Ok(builder.finish())
     }
 
     /// The number in the row and the column; None outside of the matrix.

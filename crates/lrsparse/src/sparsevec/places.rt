@@ -101,7 +101,6 @@ impl Places {
         columns: &[usize],
     ) -> Result<usize, AllocError>
         requires placed { IsPlaced row self.old }
-        requires room { length self.old.list.items + length numbers.now < 2 ^ 63 }
         requires columns { AreColumns empty numbers.now columns.now }
         requires start { (d : ℕ) → d < start → ¬ (MeetsNone self.old.owned.items columns.now d) }
         ensures numbers { IfOk result (λ d.
@@ -114,8 +113,6 @@ impl Places {
         ensures placed { OnOk result (IsPlaced (row + 1) self.new) }
         ensures owned { OnOk result ((p : ℕ) → IsOwned self.old.owned.items p → IsOwned self.new.owned.items p) }
         ensures within { IfOk result (λ d. d ≤ length self.old.list.items) }
-        ensures long { OnOk result
-            (length self.new.list.items ≤ length self.old.list.items + length numbers.now) }
     {
         let Some(last) = columns.last().copied() else {
             return Ok(0);
@@ -142,7 +139,6 @@ pub(crate) fn place_row(
 ) -> Result<usize, AllocError>
     requires placed { IsPlaced row places.old }
     requires starts { AreStarts starts.old places.old.owned.items }
-    requires room { length places.old.list.items + length numbers.now < 2 ^ 63 }
     ensures numbers { IfOk result (λ d.
         row_of places.new.list.items empty (length numbers.now) row d ≡ numbers.now) }
     ensures others { OnOk result ((q p : ℕ) → q ≢ row
@@ -153,8 +149,6 @@ pub(crate) fn place_row(
     ensures starts { OnOk result
         (AreStarts starts.new places.new.owned.items) }
     ensures within { IfOk result (λ d. d ≤ length places.old.list.items) }
-    ensures long { OnOk result
-        (length places.new.list.items ≤ length places.old.list.items + length numbers.now) }
 {
     let columns = columns_of(*places.list.allocator(), numbers, empty)?;
     let start = starts.get(&columns).copied().unwrap_or(0);

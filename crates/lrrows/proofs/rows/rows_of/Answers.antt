@@ -4,7 +4,7 @@ use Rattle.lrrows.proofs.rows.rows_of.Goals as goal
 
 pub loop-stidx-init : goal.loop-stidx-init
 loop-stidx-init g c =
-    before_first _ _ _ _ _ (c.into_iter-stidx-iterator.ensures.into_iter_gives ∙ c.iter_stidxs-stidx-items.ensures) (c.new-rows.ensures c.args.grm.now c.args.sg.now)
+    before_first _ _ _ _ _ (c.into_iter-stidx-iterator.ensures.into_iter_gives ∙ c.iter_stidxs-stidx-items.ensures) (c.new-rows.ensures c.args.sg.now)
 
 pub push-requires-clause-below : goal.push-requires-clause-below
 push-requires-clause-below g c = (next_state _ _ _ _ _ _ _ c.in-Some.ensures.steps c.loop-stidx.invariant).0

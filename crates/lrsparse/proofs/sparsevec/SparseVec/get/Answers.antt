@@ -1,5 +1,4 @@
-use Rattle.std.proofs.Common.{◌≡◌, ◌<◌, ◌∙◌, Option, None, Some, ℕ, length, refl, sym, eq-eqb}
-use Rattle.std.proofs.lemmas.Bool.{ne_eqb}
+use Rattle.std.proofs.Common.{◌≡◌, ◌∙◌, refl, sym}
 use Rattle.lrsparse.specs.Places.{number_of}
 use Rattle.lrsparse.proofs.PlacedRow.{number_of_owner, number_of_other}
 use Rattle.lrsparse.proofs.RowsInList.{value_read, value_past}

@@ -1,5 +1,5 @@
 -- no displacement so far fits
-use Rattle.std.proofs.Common.{◌<◌, ◌≤◌, ◌*◌, ◌-◌, ◌+◌, ℕ, length}
+use Rattle.std.proofs.Common.{◌<◌, ◌*◌, ◌-◌, ◌+◌, ℕ, length}
 use Rattle.lrsparse.specs.Owned.{MeetsNone}
 use Rattle.lrsparse.proofs.sparsevec.owned.least_displacement.Given as goal
 

@@ -1,4 +1,4 @@
-use Rattle.std.proofs.Common.{◌≡◌, ◌∙◌, sym}
+use Rattle.std.proofs.Common.{◌∙◌}
 use Rattle.lrsparse.proofs.ColumnsOfRow.{row_fits}
 use Rattle.lrsparse.proofs.StartsKept.{none_below_start, starts_more}
 use Rattle.lrsparse.proofs.sparsevec.places.place_row.Goals as goal

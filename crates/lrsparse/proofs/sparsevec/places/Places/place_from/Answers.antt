@@ -1,9 +1,9 @@
-use Rattle.std.proofs.Common.{◌≡◌, ◌≢◌, ◌↔◌, ◌⊎◌, ◌≤◌, ◌/◌, ◌-◌, ◌<◌, ◌+◌, ◌∙◌, ℕ, List, ◌++◌, None, Some, length, take, drop, slice_index, slice_index_or, refl, sym, ap, inl, arith}
+use Rattle.std.proofs.Common.{◌≡◌, ◌≢◌, ◌↔◌, ◌⊎◌, ◌≤◌, ◌/◌, ◌-◌, ◌<◌, ◌+◌, ◌^◌, ◌∙◌, ℕ, ◌++◌, None, Some, length, take, drop, slice_index, slice_index_or, refl, sym, ap, inl, arith}
 use Rattle.std.specs.List.{slice_get}
 use Rattle.std.proofs.Math.Seq.{take-append_seam}
 use Rattle.lrsparse.specs.Owned.{IsOwned, MeetsNone}
-use Rattle.lrsparse.specs.Places.{HasEntry, Fits, IsPlaced, row_of}
-use Rattle.lrsparse.proofs.ColumnsOfRow.{fits_row, row_fits, least_within, last_within, column_to_last, entry_to_last, no_entries}
+use Rattle.lrsparse.specs.Places.{HasEntry, Fits, row_of}
+use Rattle.lrsparse.proofs.ColumnsOfRow.{fits_row, least_within, last_within, column_to_last, entry_to_last, no_entries}
 use Rattle.lrsparse.proofs.PlacedRow.{row_placed, others_kept, above_placed, owned_placed}
 use Rattle.lrsparse.proofs.sparsevec.places.Places.place_from.Goals as goal
 
@@ -34,11 +34,18 @@ module _ (c : goal.After-least_displacement-displacement) where
   narrow = last_within c.args.self.now.list.items c.args.self.now.owned.items c.args.columns.now c.args.empty c.args.numbers.now
       c.requires.placed.owned c.requires.columns.entries c.requires.columns.all c.requires.columns.upwards c.in-Some.last was
 
+  -- a list and a slice of numbers are so short
+  room : length c.args.self.now.list.items + length c.args.numbers.now < 2 ^ 63 + 2 ^ 60
+  room =
+      let list = c.args.self.now.list in
+      let row : length c.args.numbers.now < 2 ^ 60 = omega (arith, c.well_formed) in
+      omega (arith, list.ok.0, list.ok.1, list.small, row)
+
 pub overflow_add-end : goal.overflow_add-end
-overflow_add-end c = omega (arith, within c, narrow c, c.requires.room)
+overflow_add-end c = omega (arith, within c, narrow c, room c)
 
 pub overflow_add-end-2 : goal.overflow_add-end-2
-overflow_add-end-2 c = omega (arith, within c, narrow c, c.requires.room)
+overflow_add-end-2 c = omega (arith, within c, narrow c, room c)
 
 pub put_entries-requires : goal.put_entries-requires
 put_entries-requires c = λ k h.
@@ -138,9 +145,6 @@ returns-clause-owned c = rw (whole_words c) (λ p o. (more c p).1 (inl o))
 
 pub returns-clause-within : goal.returns-clause-within
 returns-clause-within c = within_list c
-
-pub returns-clause-long : goal.returns-clause-long
-returns-clause-long c = rw (whole c) (omega (arith, c.put_entries.auto.list, ap length c.as_mut_slice.ensures.value, c.in_ok-reach.ensures.len, within_list c, last_narrow c))
 
 pub returns-clause-placed : goal.returns-clause-placed
 returns-clause-placed c = record {

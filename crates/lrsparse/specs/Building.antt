@@ -1,0 +1,19 @@
+-- matrices that are made row after row
+use Rattle.std.specs.Prelude.{◌+◌, ◌<◌, ◌^◌, length}
+use Rattle.std.specs.List.{All}
+use Rattle.lrsparse.specs.Matrix.{Matrix}
+use Rattle.lrsparse.specs.Places.{AreStarts, IsPlaced, rows_from}
+use Rattle.lrsparse.specs.declared.builder.MatrixBuilder.{MatrixBuilder}
+
+-- the matrix of the rows so far
+abbrev pub so_far : MatrixBuilder → Matrix
+so_far b = record {
+  cols = b.cols;
+  cells = rows_from b.places.list.items b.empty b.cols 0 b.displacements.items;
+}
+
+-- the rows so far are placed, and each of their places has a number
+pub record IsBuilt (b : MatrixBuilder) : Type 0 where
+  pub placed : IsPlaced (length b.displacements.items) b.places
+  pub starts : AreStarts b.starts b.places.owned.items
+  pub sums : All (λ d. d + b.cols < 2 ^ 64) b.displacements.items
