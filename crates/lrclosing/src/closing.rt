@@ -9,9 +9,6 @@ ghost use Rattle.lrclosing.specs.ItemsOf.{items_of};
 ghost use Rattle.lrclosing.specs.Rows.{row_at};
 ghost use Rattle.lrclosing.specs.Visits.{HasNone, AreMarked, AreMarkedIf, IsVisited, AreShaped, IsUnderway, visits_left};
 
-#[cfg(test)]
-mod tests;
-
 use crate::ahead::passed_on;
 use crate::items::{Ctx, Items, rule_behind};
 use crate::rows::with_rows;

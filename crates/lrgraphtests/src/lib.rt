@@ -1,5 +1,5 @@
-//! State graphs of the worked grammars and of large ones, what is printed of them, and each public call of graphs
-//! with ample memory.
+//! State graphs of the worked grammars and of large ones, how many items closings visit, what is printed of graphs, and
+//! each public call of graphs with ample memory.
 #![tactic(auto)]
 
 #[cfg(test)]
@@ -18,6 +18,8 @@ mod limits;
 mod printed;
 #[cfg(test)]
 mod refusals;
+#[cfg(test)]
+mod visits;
 #[cfg(test)]
 mod walks;
 #[cfg(test)]

@@ -1,7 +1,7 @@
 //! How many items a closing visits.
 
-use super::close_counted;
-use crate::items::{Ctx, Items, items_fit};
+use lrclosing::closing::close_counted;
+use lrclosing::items::{Ctx, Items, items_fit};
 use lrgrammar::grammar::YaccGrammar;
 use lrgrammar::idx::{IndexStorage, PIdx, SIdx};
 use lrgrammar::vob::Vob;
