@@ -1,6 +1,7 @@
 -- which of the displacements behind one another some column meets an owned place at
-use Rattle.std.proofs.Common.{◌≡◌, ◌⊎◌, ◌↔◌, ℕ, ◌+◌, ◌*◌, ◌^◌, ◌-◌, ◌<◌, ◌≤◌, List, length, slice_index, bit_or, sym, ap, ◌∙◌, inl, inr, arith}
+use Rattle.std.proofs.Common.{◌≡◌, ◌⊎◌, ◌↔◌, ℕ, ◌+◌, ◌*◌, ◌^◌, ◌-◌, ◌<◌, ◌≤◌, List, length, slice_index, Contains, bit_or, sym, ap, ◌∙◌, inl, inr, arith}
 use Rattle.std.proofs.lemmas.Bool.{cases_lt, cases_eq}
+use Rattle.std.proofs.lemmas.List.{get_or_default}
 use Rattle.std.proofs.lemmas.Nat.Bits.{bit_at_or, bit_at-lt, bit_at_ones}
 use Rattle.std.specs.Int.{bit_at}
 use Rattle.lrsparse.specs.Owned.{IsOwned, MeetsNone}
@@ -44,6 +45,21 @@ module _
           absurd (omega (arith, none.1))
       | inr n ↦ before i h (neither_bit met from i b).0 k (omega arith) o
     ]
+
+-- the same of a column that is one of them, and of no further place
+module _ (words columns : List ℕ) (displacement met from : ℕ) where
+  pub met_far :
+      (column : ℕ) → Contains columns column → ((i : ℕ) → i < 64 → (bit_at from i ≡ 1) ↔ IsOwned words (displacement + column + i))
+      → ((i : ℕ) → i < 64 → bit_at met i ≡ 1 → (k : ℕ) × (k < length columns) × IsOwned words (displacement + i + slice_index columns k))
+      → (i : ℕ) → i < 64 → bit_at (bit_or met from) i ≡ 1 → (k : ℕ) × (k < length columns) × IsOwned words (displacement + i + slice_index columns k)
+  met_far column one places before =
+      let is : slice_index columns one.0 ≡ column = get_or_default columns one.0 0 column one.1 ∙ one.2 in
+      met_more words columns displacement met from one.0 one.1 (λ i h. rw is (places i h)) before
+
+  pub unmet_far :
+      (index : ℕ) → ((i : ℕ) → i < 64 → bit_at met i ≡ 0 → (k : ℕ) → k < index → IsOwned words (displacement + i + slice_index columns k) → ⊥)
+      → (i : ℕ) → i < 64 → bit_at (bit_or met from) i ≡ 0 → (k : ℕ) → k < index → IsOwned words (displacement + i + slice_index columns k) → ⊥
+  unmet_far index before i h b = before i h (neither_bit met from i b).0
 
 -- all are met where every bit is set
 pub none_unmet : (met i : ℕ) → i < 64 → met ≡ 2 ^ 64 - 1 → bit_at met i ≡ 0 → ⊥

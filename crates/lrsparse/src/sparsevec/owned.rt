@@ -1,6 +1,6 @@
 //! The places of a list that rows own, as the bits of words, and the search for a displacement among them.
 
-ghost use Rattle.std.specs.Prelude.{◌≡◌, ◌≤◌, ◌<◌, ◌+◌, ◌-◌, ◌*◌, ◌^◌, ℕ, length, slice_index, ◌↔◌, ◌⊎◌};
+ghost use Rattle.std.specs.Prelude.{◌≡◌, ◌≤◌, ◌<◌, ◌+◌, ◌-◌, ◌*◌, ◌^◌, ℕ, length, slice_index, Contains, ◌↔◌, ◌⊎◌};
 ghost use Rattle.std.specs.Int.{bit_at};
 ghost use Rattle.lrsparse.specs.Owned.{IsOwned, MeetsNone};
 
@@ -26,16 +26,27 @@ fn places_from(words: &[u64], place: usize) -> u64
     low | word_at(words, place / WORD + 1) << (WORD - bit)
 }
 
+/// The column half of them further on than place `k` of the columns, or that at `k` where there is none.
+fn far_column(columns: &[usize], k: usize) -> usize
+    requires { k < length columns.now }
+    ensures { Contains columns.now result }
+{
+    let half = columns.len() / 2;
+    columns.get(half + k).copied().unwrap_or(columns[k])
+}
+
 /// The displacements from this one on, as many as a word has, at which some column meets an owned place; all of them, where
-/// that is found before the last column.
+/// that is found before the last column. Places near one another are often owned alike, so a far column is tried beside
+/// each: mostly few are tried before all displacements are met.
 fn met_from(words: &[u64], columns: &[usize], displacement: usize) -> u64
     requires { (k : ℕ) → k < length columns.now → displacement + slice_index columns.now k < 2 ^ 64 }
     ensures met { (i : ℕ) → i < 64 → bit_at result i ≡ 1 → ¬ (MeetsNone words.now columns.now (displacement + i)) }
     ensures unmet { (i : ℕ) → i < 64 → bit_at result i ≡ 0 → MeetsNone words.now columns.now (displacement + i) }
 {
     let mut met = 0;
-    for column in columns {
-        met |= places_from(words, displacement + *column);
+    for k in 0..columns.len() {
+        met |= places_from(words, displacement + columns[k]);
+        met |= places_from(words, displacement + far_column(columns, k));
         if met == u64::MAX {
             return met;
         }

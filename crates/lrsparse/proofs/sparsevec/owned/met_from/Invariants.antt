@@ -4,12 +4,12 @@ use Rattle.std.specs.Int.{bit_at}
 use Rattle.lrsparse.specs.Owned.{IsOwned}
 use Rattle.lrsparse.proofs.sparsevec.owned.met_from.Given as goal
 
-abbrev pub invariant-loop-column : goal.invariant-loop-column
-invariant-loop-column l = record {
+abbrev pub invariant-loop-k : goal.invariant-loop-k
+invariant-loop-k l = record {
   met :
       (i : ℕ) → i < 64 → bit_at l.met i ≡ 1
       → (k : ℕ) × (k < length l.columns) × IsOwned l.words (l.displacement + i + slice_index l.columns k);
   unmet :
       (i : ℕ) → i < 64 → bit_at l.met i ≡ 0
-      → (k : ℕ) → k < l.column-index → IsOwned l.words (l.displacement + i + slice_index l.columns k) → ⊥;
+      → (k : ℕ) → k < l.k → IsOwned l.words (l.displacement + i + slice_index l.columns k) → ⊥;
 }
