@@ -3,16 +3,14 @@ use Rattle.std.proofs.Common.{◌≡◌, ℕ, zero, suc, Bool, true, false, List
 use Rattle.std.specs.Prelude.{slice_get, slice_set}
 use Rattle.std.specs.Option.{MatchOption}
 use Rattle.lrspec.specs.grammars.Grammar.{Symbol}
-use Rattle.lrspec.specs.grammars.ItemSets.{Items, item_at}
-use Rattle.lrspec.specs.merging.WeakCompatibility.{Apart}
+use Rattle.lrspec.specs.grammars.ItemSets.{Items}
 use Rattle.lrspec.specs.merging.Graph.{edge_at, same_symbol}
 use Rattle.std.proofs.lemmas.List.{map-append, map-set, length-map}
 use Rattle.std.proofs.lemmas.Option.{slice_get-map, slice_get-get_or, slice_get_within}
 use Rattle.lrgrammar.specs.declared.idx.Symbol as code
 use Rattle.lrgrammar.specs.Symbols.{symbol_of}
-use Rattle.lritems.specs.declared.itemset.Itemset.{Itemset}
-use Rattle.lritems.specs.ItemsOf.{set_of}
-use Rattle.lritems.specs.Gotos.{gotos_of, HasGotoOn, HasGotoAt, ArePlacesOf, IsPutAt}
+use Rattle.lritems.specs.declared.gotos.Goto.{Goto}
+use Rattle.lritems.specs.Gotos.{goto_of, gotos_of, HasGotoOn, HasGotoAt, ArePlacesOf, IsPutAt}
 use Rattle.lritems.proofs.SymbolKeys.{symbol_from_test, test_itself}
 
 -- a goto that stands somewhere is in the list
@@ -95,24 +93,20 @@ at_from_places gs ps x k h e = rw e at (h x)
 
 -- an empty goto put at the end
 pub pushed_gotos :
-    {T : Type 0} (number : T → ℕ) (gs hs : List (code.Symbol T × Itemset T)) (x : code.Symbol T) (s : Itemset T) → hs ≡ gs ++ (x, s) ∷ [] → set_of number s ≡ []
+    {T : Type 0} (number : T → ℕ) (gs hs : List (code.Symbol T × Goto T)) (x : code.Symbol T) (a : Goto T) → hs ≡ gs ++ (x, a) ∷ [] → goto_of number a ≡ []
     → gotos_of number hs ≡ gotos_of number gs ++ (symbol_of number x, []) ∷ []
-pushed_gotos number gs hs x s e f = rw e (map-append _ gs ((x, s) ∷ []) ∙ rw f refl)
+pushed_gotos number gs hs x a e f = rw e (map-append _ gs ((x, a) ∷ []) ∙ rw f refl)
 
--- bits put at one item of the goto at a place
+-- an item put at the end of the goto at a place
 pub put_in_goto :
-    {T : Type 0} (number : T → ℕ) (gs : List (code.Symbol T × Itemset T)) (k : ℕ) (e : code.Symbol T × Itemset T) (s : Itemset T) (p d : ℕ) (ctx : List Bool) → k < length gs
-    → e ≡ get_or gs k e → item_at (set_of number s) p d ≡ Some ctx
-    → ((i j : ℕ) → Apart p d i j → item_at (set_of number s) i j ≡ item_at (set_of number e.1) i j)
-    → IsPutAt k p d ctx (gotos_of number gs) (gotos_of number (slice_set gs k (e.0, s)))
-put_in_goto number gs k e s p d ctx below at here others = record {
+    {T : Type 0} (number : T → ℕ) (gs : List (code.Symbol T × Goto T)) (k : ℕ) (e : code.Symbol T × Goto T) (a : Goto T) (p d : ℕ) (ctx : List Bool) → k < length gs
+    → e ≡ get_or gs k e → goto_of number a ≡ goto_of number e.1 ++ ((p, d), ctx) ∷ []
+    → IsPutAt k p d ctx (gotos_of number gs) (gotos_of number (slice_set gs k (e.0, a)))
+put_in_goto number gs k e a p d ctx below at longer = record {
   symbol = symbol_of number e.0;
-  before = set_of number e.1;
-  after = set_of number s;
-  was = slice_get-map (λ f. (symbol_of number f.0, set_of number f.1)) gs k ∙ (rw (slice_get-get_or gs k e below, ← at) refl);
-  is = map-set (λ f. (symbol_of number f.0, set_of number f.1)) gs k (e.0, s);
-  here = here;
-  others = others;
+  before = goto_of number e.1;
+  was = slice_get-map (λ f. (symbol_of number f.0, goto_of number f.1)) gs k ∙ (rw (slice_get-get_or gs k e below, ← at) refl);
+  is = rw (← longer) (map-set (λ f. (symbol_of number f.0, goto_of number f.1)) gs k (e.0, a));
 }
 
 -- one goto alone stands at a place
@@ -124,18 +118,21 @@ same_at gs k x y a h e = e ∙ ap (λ z. Some (z, a)) (symbol_at gs k x y a h e)
 
 -- the place of a goto is below the length
 pub below_of_at :
-    {T : Type 0} (number : T → ℕ) (gs : List (code.Symbol T × Itemset T)) (k : ℕ) (x : Symbol) → HasGotoAt (gotos_of number gs) k x → k < length gs
+    {T : Type 0} (number : T → ℕ) (gs : List (code.Symbol T × Goto T)) (k : ℕ) (x : Symbol) → HasGotoAt (gotos_of number gs) k x → k < length gs
 below_of_at number gs k x h =
     let below : k < length (gotos_of number gs) = slice_get_within (gotos_of number gs) k (x, h.0) h.1 in
     rw length-map at below
 
--- the places stay where bits are put into a goto
+-- the places stay where an item is put into a goto
 pub places_put :
     (gs hs : List (Symbol × Items)) (ps : List (Symbol × ℕ)) (k p d : ℕ) (ctx : List Bool) → ArePlacesOf gs ps → IsPutAt k p d ctx gs hs → ArePlacesOf hs ps
 places_put gs hs ps k p d ctx h put x = rw put.is (go (edge_at ps x) (h x))
   where
+    longer : Items
+    longer = put.before ++ ((p, d), ctx) ∷ []
+
     go :
         (o : Option ℕ) → MatchOption o (HasGotoOn gs x → ⊥) (λ j. HasGotoAt gs j x)
-        → MatchOption o (HasGotoOn (slice_set gs k (put.symbol, put.after)) x → ⊥) (λ j. HasGotoAt (slice_set gs k (put.symbol, put.after)) j x)
-    go None n = λ j. n (on_set gs k x put.symbol put.before put.after put.was j)
-    go (Some j) a = at_set gs k j x put.symbol put.before put.after put.was a
+        → MatchOption o (HasGotoOn (slice_set gs k (put.symbol, longer)) x → ⊥) (λ j. HasGotoAt (slice_set gs k (put.symbol, longer)) j x)
+    go None n = λ j. n (on_set gs k x put.symbol put.before longer put.was j)
+    go (Some j) a = at_set gs k j x put.symbol put.before longer put.was a

@@ -8,7 +8,8 @@ use Rattle.lrspec.specs.merging.WeakCompatibility.{Apart}
 use Rattle.lrspec.proofs.grammars.Closures.{has_of_looks}
 use Rattle.lrbits.specs.Bits.{bit, union}
 use Rattle.lritems.specs.ItemsOf.{joined}
-use Rattle.lritems.specs.Gotos.{HasItemBefore, HasGotoOn, AreOnDistinctSymbols, AreGotosToPlace, AreGotosOf, symbols_shown, HasGotoAt, IsMadeReady, IsPutAt}
+use Rattle.lritems.specs.Gotos.{HasItemBefore, HasGotoOn, AreOnDistinctSymbols, AreGotosToPlace, AreGotosOf, AllUpwards, symbols_shown, HasGotoAt, IsMadeReady, IsPutAt}
+use Rattle.lritems.proofs.ItemsAscending.{AllBefore, pushed_here, pushed_others}
 use Rattle.lritems.proofs.GotoUnderway.{IsMoving, end_moving, skip_moving, move_moving}
 use Rattle.lritems.proofs.GotoPlaces.{on_from_at, on_longer, set_on, on_set, symbol_at, same_at}
 
@@ -45,10 +46,11 @@ begin_gotos g c rest gs e f = rw (e, f) record { each = tt; distinct = tt; all =
 
 -- at the end each is whole
 pub end_gotos :
-    (g : Grammar) (c rest : Items) (gs : List (Symbol × Items)) → AreMoving g c rest gs → symbols_shown g (map (λ e. e.0) gs) rest ≡ symbols_shown g [] c → rest ≡ []
+    (g : Grammar) (c rest : Items) (gs : List (Symbol × Items)) → AreMoving g c rest gs → AllUpwards gs → symbols_shown g (map (λ e. e.0) gs) rest ≡ symbols_shown g [] c → rest ≡ []
     → AreGotosOf g c gs
-end_gotos g c rest gs m o e = record {
+end_gotos g c rest gs m u o e = record {
   each = each gs m.each;
+  upwards = u;
   distinct = m.distinct;
   all = λ p d x h k. ⊎_elim (λ (y : HasGotoOn gs x). y) (λ (y : HasItem rest p d). let n : HasItem [] p d = rw e at y in absurd cc) (m.all p d x h k);
   order = rw e at o;
@@ -185,11 +187,11 @@ ready_gotos g c rest gs hs x m b (inr h) = rw h.1 record {
 pub put_gotos :
     (g : Grammar) (c rest less : Items) (gs hs is : List (Symbol × Items)) (p d e k : ℕ) (ctx : List Bool) (x : Symbol)
     → ((i j : ℕ) → HasItem rest i j → ((i ≡ p) × (j ≡ d)) ⊎ HasItem less i j) → Fits g c → AreMoving g c rest gs → IsBefore g p d x → item_at c p d ≡ Some ctx → e ≡ suc d
-    → IsMadeReady x gs hs → HasGotoAt hs k x → IsPutAt k p e ctx hs is → AreMoving g c less is
-put_gotos g c rest less gs hs is p d e k ctx x turn f m before item next ready at put =
+    → IsMadeReady x gs hs → HasGotoAt hs k x → (put : IsPutAt k p e ctx hs is) → AllBefore put.before (p, e) → AreMoving g c less is
+put_gotos g c rest less gs hs is p d e k ctx x turn f m before item next ready at put behind =
     let has : HasItem c p d = rw item refl in
     let there : slice_get hs k ≡ Some (x, put.before) = same_at hs k x put.symbol put.before at put.was in
     let same : put.symbol ≡ x = symbol_at hs k x put.symbol put.before at put.was in
     rw (put.is, same)
-    (move_gotos g c rest less p d turn ctx f x before item put.before put.after (rw next at put.here) (rw next at put.others) hs k
-    (ready_gotos g c rest gs hs x m (p, d, has, before) ready) there)
+    (move_gotos g c rest less p d turn ctx f x before item put.before (put.before ++ ((p, e), ctx) ∷ []) (rw (← next) (pushed_here put.before p e ctx behind))
+    (rw (← next) (pushed_others put.before p e ctx)) hs k (ready_gotos g c rest gs hs x m (p, d, has, before) ready) there)

@@ -6,12 +6,16 @@ pub mod GotoUnderway
 pub mod SymbolKeys
 pub mod GotoPlaces
 pub mod GotosUnderway
+pub mod GotosUpwards
 pub mod SymbolsShown
 -- merging
 pub mod PassingPairs
 pub mod MergingUnderway
 pub mod LeastItems
--- printing
+-- items that come upwards
 pub mod ItemsUpwards
+pub mod ItemsAscending
+pub mod GotoItems
+-- printing
 pub mod PrintedNames
 pub mod JoinedTexts

@@ -1,5 +1,5 @@
 -- the symbols of gotos come in the order in which the items show them
-use Rattle.std.proofs.Common.{◌≡◌, ℕ, zero, suc, Bool, true, false, List, [], ◌∷◌, Some, map, refl, sym, ap, ◌∙◌, inl, inr}
+use Rattle.std.proofs.Common.{◌≡◌, ℕ, zero, suc, Bool, true, false, List, [], ◌∷◌, ◌++◌, Some, map, refl, sym, ap, ◌∙◌, inl, inr}
 use Rattle.std.specs.Prelude.{◌||◌, slice_get, slice_set}
 use Rattle.std.specs.List.{list_any}
 use Rattle.std.proofs.lemmas.List.{map-append}
@@ -58,4 +58,4 @@ pub shows_one :
 shows_one g p d e k ctx x gs hs is b ready at put =
     let there : slice_get hs k ≡ Some (x, put.before) = same_at hs k x put.symbol put.before at put.was in
     let same : put.symbol ≡ x = symbol_at hs k x put.symbol put.before at put.was in
-    rw (b.1, put.is, same) (sym (shows_ready x b.0 k gs hs ready at) ∙ sym (symbols_set hs k x put.before put.after there))
+    rw (b.1, put.is, same) (sym (shows_ready x b.0 k gs hs ready at) ∙ sym (symbols_set hs k x put.before (put.before ++ ((p, e), ctx) ∷ []) there))

@@ -1,20 +1,28 @@
 -- the gotos of an item set on all symbols, and how they are made
 use Rattle.std.specs.Prelude.{◌≡◌, ℕ, Bool, List, [], ◌∷◌, ◌++◌, Some, map, slice_get, slice_set, if◌then◌else◌, ◌⊎◌, MatchOption}
 use Rattle.std.specs.List.{list_any}
+use Rattle.lrgrammar.specs.declared.idx.PIdx.{PIdx}
+use Rattle.lrgrammar.specs.declared.idx.SIdx.{SIdx}
 use Rattle.lrgrammar.specs.declared.idx.Symbol.{Symbol}
 use Rattle.lrgrammar.specs.Symbols.{symbol_of}
 use Rattle.lrspec.specs.grammars.Grammar as math
 use Rattle.lrspec.specs.grammars.Grammar.{Grammar}
-use Rattle.lrspec.specs.grammars.ItemSets.{Items, item_at, HasItem, Fits, IsBefore, IsGoto}
-use Rattle.lrspec.specs.merging.WeakCompatibility.{Apart}
+use Rattle.lrspec.specs.grammars.ItemSets.{Items, HasItem, Fits, IsBefore, IsGoto, AreUpwards}
 use Rattle.lrspec.specs.merging.Graph.{same_symbol, edge_at}
-use Rattle.lritems.specs.declared.itemset.Itemset.{Itemset}
-use Rattle.lritems.specs.ItemsOf.{set_of}
+use Rattle.lritems.specs.declared.gotos.Goto.{Goto}
+
+-- an item by the numbers of its production and its dot, with bits
+abbrev pub item_of : {T : Type 0} → (T → ℕ) → PIdx T × SIdx T → List Bool → (ℕ × ℕ) × List Bool
+item_of number k v = ((number k.0.0, number k.1.0), v)
+
+-- the items of a goto, each by the numbers of its production and its dot
+abbrev pub goto_of : {T : Type 0} → (T → ℕ) → Goto T → Items
+goto_of number a = map (λ e. ((number e.0.0.0, number e.0.1.0), e.1.now)) a.items.items
 
 -- gotos as plain data, each with its symbol
 abbrev pub gotos_of :
-    {T : Type 0} → (T → ℕ) → List (Symbol T × Itemset T) → List (math.Symbol × Items)
-gotos_of number gs = map (λ e. (symbol_of number e.0, set_of number e.1)) gs
+    {T : Type 0} → (T → ℕ) → List (Symbol T × Goto T) → List (math.Symbol × Items)
+gotos_of number gs = map (λ e. (symbol_of number e.0, goto_of number e.1)) gs
 
 -- the item set has an item before the symbol
 abbrev pub HasItemBefore : Grammar → Items → math.Symbol → Type 0
@@ -51,10 +59,16 @@ abbrev pub AreGotosToPlace : Grammar → Items → List (math.Symbol × Items) �
 AreGotosToPlace g c [] = Unit {0}
 AreGotosToPlace g c (e ∷ es) = IsGotoToPlace g c e.0 e.1 × AreGotosToPlace g c es
 
+-- the items of each goto in the list come upwards
+abbrev pub AllUpwards : List (math.Symbol × Items) → Type 0
+AllUpwards [] = Unit {0}
+AllUpwards (e ∷ es) = AreUpwards e.1 × AllUpwards es
+
 -- the gotos of `c`: one on each symbol before which `c` has an item, in the order in which the
--- items first show the symbols
+-- items first show the symbols, and the items of each goto come upwards
 pub record AreGotosOf (g : Grammar) (c : Items) (gs : List (math.Symbol × Items)) : Type 0 where
   pub each : AreGotosToPlace g c gs
+  pub upwards : AllUpwards gs
   pub distinct : AreOnDistinctSymbols gs
   pub all : (p d : ℕ) (x : math.Symbol) → HasItem c p d → IsBefore g p d x → HasGotoOn gs x
   pub order : map (λ e. e.0) gs ≡ symbols_shown g [] c
@@ -79,13 +93,10 @@ abbrev pub IsMadeReady :
     math.Symbol → List (math.Symbol × Items) → List (math.Symbol × Items) → Type 0
 IsMadeReady x old new = (new ≡ old) ⊎ ((HasGotoOn old x → ⊥) × (new ≡ old ++ (x, []) ∷ []))
 
--- `new` is `old` with the bits at one item of the goto at the place `k`
+-- `new` is `old` with one item more at the end of the goto at the place `k`
 pub record IsPutAt
     (k p d : ℕ) (ctx : List Bool) (old new : List (math.Symbol × Items)) : Type 0 where
   pub symbol : math.Symbol
   pub before : Items
-  pub after : Items
   pub was : slice_get old k ≡ Some (symbol, before)
-  pub is : new ≡ slice_set old k (symbol, after)
-  pub here : item_at after p d ≡ Some ctx
-  pub others : (i e : ℕ) → Apart p d i e → item_at after i e ≡ item_at before i e
+  pub is : new ≡ slice_set old k (symbol, before ++ ((p, d), ctx) ∷ [])

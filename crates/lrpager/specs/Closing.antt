@@ -3,7 +3,7 @@ use Rattle.std.specs.Prelude.{◌≡◌, ◌≢◌, ℕ, ◌<◌, List, [], ◌�
 use Rattle.lrspec.specs.grammars.Grammar.{Symbol, Grammar}
 use Rattle.lrspec.specs.grammars.ItemSets.{Items, Fits, IsClosure}
 use Rattle.lrspec.specs.grammars.StartState.{IsStartCore}
-use Rattle.lrplacing.specs.Construction.{Draft, core_at, closed_at, edge_from}
+use Rattle.lrplacing.specs.Construction.{Draft, core_at, closed_at, edge_from, PlacesAll}
 use Rattle.lritems.specs.Gotos.{AreGotosOf}
 
 -- the state `i`, which was to be closed, was closed; all else stays
@@ -23,6 +23,13 @@ pub record ClosesTo (g : Grammar) (old : List Draft) (i : ℕ) (new : List Draft
   pub closed : Items
   pub closes : Closes g old i closed new
   pub gotos : AreGotosOf g closed gs
+
+-- a turn: the state `i` was closed, and the gotos of its closed state were placed
+pub record IsTurn (g : Grammar) (old : List Draft) (i : ℕ) (new : List Draft) : Type 0 where
+  pub mid : List Draft
+  pub gotos : List (Symbol × Items)
+  pub closes : ClosesTo g old i mid gotos
+  pub places : PlacesAll i mid gotos new
 
 -- the start state alone, which is to be closed
 abbrev pub start_states : Items → List Draft

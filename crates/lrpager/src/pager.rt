@@ -13,18 +13,17 @@ ghost use Rattle.lrpager.specs.Choices.{NoneUnclosedFrom, IsFirstUnclosedFrom, I
 ghost use Rattle.lrplacing.specs.Counts.{unclosed, weight};
 ghost use Rattle.lrplacing.specs.Invariant.{Holds, HasGotos, AreClosed};
 ghost use Rattle.lrplacing.specs.CandidatesOf.{AreCandidates};
-ghost use Rattle.lrpager.specs.Closing.{ClosesTo, StartsWith};
+ghost use Rattle.lrpager.specs.Closing.{IsTurn, StartsWith};
 ghost use Rattle.lrspec.specs.merging.Graph.{IsGraphOf, AreShared, InventsNoConflict, CoresCross};
 ghost use Rattle.lrplacing.specs.Chains.{HasChainOf, HasChainOfExactly};
 ghost use Rattle.lrplacing.specs.Refusals.{IsLargeOnly};
-ghost use Rattle.lritems.specs.Gotos.{gotos_of};
 
 mod collecting;
 
 use crate::pager::collecting::collect;
 use lrgrammar::firsts::YaccFirsts;
 use lrgrammar::grammar::YaccGrammar;
-use lrgrammar::idx::{IndexStorage, SIdx, Symbol};
+use lrgrammar::idx::{IndexStorage, SIdx};
 use lrgrammar::vob::Vob;
 use lrgraphs::{BuildError, StateGraph};
 use lritems::gotos::gotos;
@@ -71,24 +70,32 @@ fn next_unclosed<T: IndexStorage>(drafts: &[Draft<T>], from: usize) -> Option<us
     first_unclosed(drafts, 0)
 }
 
-/// Closes a state, and answers its gotos.
+/// Closes a state, and places its gotos. Where that grows its own core, it is to be closed again.
 fn close<T: IndexStorage>(
     drafts: &mut Vec<Draft<T>>,
+    candidates: &mut Candidates<T>,
     i: usize,
     grm: &YaccGrammar<T>,
     firsts: &YaccFirsts<T>,
-) -> Result<Vec<(Symbol<T>, Itemset<T>)>, AllocError>
+) -> Result<(), BuildError<T>>
     requires below { i < length drafts.old.items }
     requires unclosed { closed_at drafts.old.items i ≡ None }
-    requires fits { Fits grm.now (core_at drafts.old.items i) }
+    requires most { length drafts.old.items ≤ T.MAX }
+    requires holds { Holds grm.now drafts.old.items }
     requires of { AreFirstsOf grm.now firsts.now }
-    ensures { IfOk result (λ gs. ClosesTo grm.now drafts.old.items i drafts.new.items
-        (gotos_of T.number gs.items)) }
+    requires candidates { AreCandidates drafts.old.items candidates.old }
+    ensures turn { OnOk result (IsTurn grm.now drafts.old.items i drafts.new.items) }
+    ensures most { OnOk result (length drafts.new.items ≤ T.MAX) }
+    ensures candidates { OnOk result (AreCandidates drafts.new.items candidates.new) }
+    ensures refused { IfErr result (IsLargeOnly (HasChainOf grm.now T.MAX)) }
 {
     let closed = drafts[i].core().close(grm, firsts)?;
     let successors = gotos(&closed, grm)?;
-    drafts[i].set_closed(closed);
-    Ok(successors)
+    let grew = place_all(drafts, candidates, grm, i, &closed, successors)?;
+    if !grew {
+        drafts[i].set_closed(closed);
+    }
+    Ok(())
 }
 
 /// Closes states and places their gotos until all states are closed, and answers how often a state was closed.
@@ -119,9 +126,8 @@ fn construct<T: IndexStorage>(
     let mut closings: u128 = 0;
     let mut from: usize = 0;
     while let Some(i) = next_unclosed(drafts.as_slice(), from) {
-        let successors = close(drafts, i, grm, firsts)?;
+        close(drafts, candidates, i, grm, firsts)?;
         closings += 1;
-        place_all(drafts, candidates, grm, i, successors)?;
         from = i + 1;
     }
     Ok(closings)

@@ -17,3 +17,4 @@ pub mod CandidateLists
 pub mod PlacingFacts
 pub mod PlacingTurns
 pub mod FirstOfList
+pub mod ClosedLater

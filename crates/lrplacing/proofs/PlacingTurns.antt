@@ -5,7 +5,10 @@ use Rattle.lrspec.specs.grammars.ItemSets.{Items, HasItem, Fits}
 use Rattle.lrspec.proofs.grammars.ListMembers.{Among}
 use Rattle.lrplacing.specs.Construction.{Draft, core_at, Grows, Places}
 use Rattle.lrplacing.specs.Invariant.{MayBePlaced, AllMayBePlaced, Holds}
+use Rattle.lrgraphs.specs.declared.errors.BuildError.{BuildError}
+use Rattle.lrgraphs.specs.declared.errors.BuildError.TheVariants.{Table, TooLarge, Memory}
 use Rattle.lrplacing.specs.Chains.{HasChainOf}
+use Rattle.lrplacing.specs.Refusals.{IsLargeOnly}
 use Rattle.lritems.specs.Merging.{HaveEquallyManyBits}
 use Rattle.lritems.specs.Gotos.{AreGotosOf, AreGotosToPlace, HasGotoOn}
 use Rattle.lrplacing.proofs.PlacedGotos as placed
@@ -54,6 +57,12 @@ still_may_be_placed g m b (e ∷ es) h = (may_be_placed_kept m b h.0, still_may_
 -- so many states make a chain of as many item sets
 pub chain_of_most : {g : Grammar} (ss : List Draft) (most : ℕ) → Holds g ss → most ≤ length ss → HasChainOf g most
 chain_of_most ss most holds b = let c = chain_of_states ss holds.chain in (c.0, c.1, omega (arith, c.2))
+
+-- what a refusal says by one cause it says by another that follows
+pub large_by : {T P Q : Type 0} → (P → Q) → (e : BuildError T) → IsLargeOnly P e → IsLargeOnly Q e
+large_by f (Table t) h = h
+large_by f TooLarge h = f h
+large_by f Memory h = tt
 
 -- ---- the gotos of a closed state
 

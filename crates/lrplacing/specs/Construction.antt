@@ -1,5 +1,5 @@
 -- the states under construction as plain data, and what placing a goto does to them
-use Rattle.std.specs.Prelude.{◌≡◌, ◌≢◌, ℕ, ◌+◌, ◌<◌, ◌==◌, ◌&&◌, if◌then◌else◌, List, [], ◌∷◌, Option, None, Some, length, slice_get, ◌⊎◌}
+use Rattle.std.specs.Prelude.{◌≡◌, ◌≢◌, ℕ, zero, suc, ◌+◌, ◌<◌, Bool, true, false, ◌==◌, ◌&&◌, if◌then◌else◌, List, [], ◌∷◌, Option, None, Some, length, slice_get, ◌⊎◌}
 use Rattle.lrspec.specs.grammars.Grammar.{Symbol, Grammar}
 use Rattle.lrspec.specs.grammars.ItemSets.{Items, LooksIn, Fits}
 use Rattle.lrspec.specs.merging.WeakCompatibility.{SameItems, IsWeaklyCompatible, Clash, IsUnion}
@@ -35,6 +35,22 @@ closed_at ss k = draft_closed (slice_get ss k)
 -- the state to which the edge of `k` on `x` leads, if there is one
 abbrev pub edge_from : List Draft → ℕ → Symbol → Option ℕ
 edge_from ss k x = edge_at (draft_edges (slice_get ss k)) x
+
+-- the states with `c` as the closed state of the state `k`
+abbrev pub with_closed : List Draft → ℕ → Items → List Draft
+with_closed [] k c = []
+with_closed (s ∷ ss) zero c = record { core = s.core; closed = Some c; edges = s.edges } ∷ ss
+with_closed (s ∷ ss) (suc k) c = s ∷ with_closed ss k c
+
+-- so they stand unless the core of the state `k` grew, for which `c` is out of date then
+abbrev pub closed_unless : Bool → List Draft → ℕ → Items → List Draft
+closed_unless true ss k c = ss
+closed_unless false ss k c = with_closed ss k c
+
+-- whether lookaheads came to a core, by which the item set `b` comes of `a`
+abbrev pub HasGrown : Bool → Items → Items → Type 0
+HasGrown grew a b =
+    (grew ≡ true → Gains a b) × (grew ≡ false → (p d t : ℕ) → LooksIn b p d t → LooksIn a p d t)
 
 -- ---- placing a goto
 

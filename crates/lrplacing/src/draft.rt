@@ -8,7 +8,7 @@ ghost use Rattle.lrspec.specs.merging.WeakCompatibility.{SameItems, IsUnion};
 ghost use Rattle.lrspec.specs.merging.Graph.{same_symbol, edge_at};
 ghost use Rattle.lrgrammar.specs.Symbols.{symbol_of};
 ghost use Rattle.lritems.specs.ItemsOf.{set_of};
-ghost use Rattle.lrplacing.specs.Construction.{Gains};
+ghost use Rattle.lrplacing.specs.Construction.{Gains, HasGrown};
 ghost use Rattle.lritems.specs.Merging.{HaveEquallyManyBits};
 
 use lrgrammar::idx::{IndexStorage, Symbol};
@@ -87,8 +87,8 @@ impl<T: IndexStorage> Draft<T> {
         Ok(())
     }
 
-    /// Merges a goto into the core. Where that grew it, the state is to be closed again.
-    pub(crate) fn merge(&mut self, goto: &Itemset<T>)
+    /// Merges a goto into the core, and says whether that grew it: the state is then to be closed again.
+    pub(crate) fn merge(&mut self, goto: &Itemset<T>) -> bool
         requires items { SameItems self.old.core (set_of T.number goto.now) }
         requires bits { HaveEquallyManyBits self.old.core (set_of T.number goto.now) }
         ensures edges { self.new.edges ≡ self.old.edges }
@@ -97,10 +97,13 @@ impl<T: IndexStorage> Draft<T> {
         ensures closed { (((p d t : ℕ) → LooksIn self.new.core p d t → LooksIn self.old.core p d t)
             × (self.new.closed ≡ self.old.closed))
             ⊎ ((self.new.closed ≡ None) × Gains self.old.core self.new.core) }
+        ensures grew { HasGrown result self.old.core self.new.core }
     {
-        if weakly_merge(&mut self.core, goto) {
+        let grew = weakly_merge(&mut self.core, goto);
+        if grew {
             self.unclose();
         }
+        grew
     }
 
     /// Drops the closed state: the state is to be closed again.

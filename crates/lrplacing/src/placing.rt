@@ -1,21 +1,21 @@
 //! Placing gotos.
 
-ghost use Rattle.std.specs.Prelude.{◌≡◌, ◌≢◌, ℕ, ◌+◌, ◌<◌, ◌≤◌, ◌==◌, ◌&&◌, if◌then◌else◌, length, slice_get, slice_index, None, Some, IfOk, IfErr, OnOk, MatchOption, ◌⊎◌};
+ghost use Rattle.std.specs.Prelude.{◌≡◌, ◌≢◌, ℕ, true, IsTrue, ◌↔◌, ◌+◌, ◌<◌, ◌≤◌, ◌==◌, ◌&&◌, if◌then◌else◌, length, slice_get, slice_index, None, Some, IfOk, IfErr, OnOk, MatchOption, ◌⊎◌};
 ghost use Rattle.std.specs.List.{All};
 ghost use Rattle.lrspec.specs.grammars.Grammar as math;
 ghost use Rattle.lrspec.specs.grammars.Grammar.{Grammar};
-ghost use Rattle.lrspec.specs.grammars.ItemSets.{HasItem, LooksIn, Fits};
+ghost use Rattle.lrspec.specs.grammars.ItemSets.{HasItem, LooksIn, Fits, AreUpwards};
 ghost use Rattle.lrspec.specs.merging.WeakCompatibility.{SameItems, IsWeaklyCompatible, Clash, IsUnion};
 ghost use Rattle.lrspec.specs.merging.Graph.{same_symbol};
 ghost use Rattle.lrgrammar.specs.Symbols.{symbol_of};
 ghost use Rattle.lritems.specs.ItemsOf.{set_of};
-ghost use Rattle.lrplacing.specs.Construction.{core_at, closed_at, edge_from, Stays, Gains, Places, PlacesAll};
+ghost use Rattle.lrplacing.specs.Construction.{core_at, closed_at, edge_from, with_closed, closed_unless, HasGrown, Stays, Gains, Places, PlacesAll};
 ghost use Rattle.lrplacing.specs.Invariant.{MayBePlaced, AllMayBePlaced, Holds};
 ghost use Rattle.lrplacing.specs.Chains.{HasChainOf};
 ghost use Rattle.lrplacing.specs.CandidatesOf.{AreCandidates, IsFirstItem, listed_at};
 ghost use Rattle.lrplacing.specs.ChosenPlaces.{HoldsOfNone, IsFirstWith, IsEqual, IsCompatible, IsPlaceOf};
 ghost use Rattle.lrplacing.specs.Refusals.{IsLargeOnly};
-ghost use Rattle.lritems.specs.Gotos.{gotos_of};
+ghost use Rattle.lritems.specs.Gotos.{goto_of, gotos_of, AllUpwards};
 ghost use Rattle.lritems.specs.Merging.{HaveEquallyManyBits};
 
 use crate::candidates::Candidates;
@@ -23,23 +23,25 @@ use crate::draft::Draft;
 use lrgrammar::grammar::YaccGrammar;
 use lrgrammar::idx::{IndexStorage, Symbol};
 use lrgraphs::BuildError;
+use lritems::gotos::Goto;
 use lritems::itemset::Itemset;
-use lritems::merging::{first_item, weakly_compatible};
+use lritems::merging::weakly_compatible;
 use std::alloc::AllocError;
 
 /// The first candidate whose core is equal to the goto.
 fn find_equal<T: IndexStorage>(
     drafts: &[Draft<T>],
     candidates: &[usize],
-    goto: &Itemset<T>,
+    goto: &Goto<T>,
 ) -> Option<usize>
-    requires { All (λ k. k < length drafts.now) candidates.now }
+    requires below { All (λ k. k < length drafts.now) candidates.now }
+    requires upwards { AreUpwards (goto_of T.number goto.now) }
     ensures { MatchOption result
-        (HoldsOfNone (IsEqual drafts.now (set_of T.number goto.now)) candidates.now)
-        (IsFirstWith (IsEqual drafts.now (set_of T.number goto.now)) candidates.now) }
+        (HoldsOfNone (IsEqual drafts.now (goto_of T.number goto.now)) candidates.now)
+        (IsFirstWith (IsEqual drafts.now (goto_of T.number goto.now)) candidates.now) }
 {
     for k in candidates {
-        if *drafts[*k].core() == *goto {
+        if goto.is_equal(drafts[*k].core()) {
             return Some(*k);
         }
     }
@@ -89,8 +91,8 @@ fn link<T: IndexStorage>(
     drafts[from].set_edge(symbol, to)
 }
 
-/// Merges the goto into the core of the state `k`.
-fn merge_at<T: IndexStorage>(drafts: &mut Vec<Draft<T>>, k: usize, goto: &Itemset<T>)
+/// Merges the goto into the core of the state `k`, and says whether that grew it.
+fn merge_at<T: IndexStorage>(drafts: &mut Vec<Draft<T>>, k: usize, goto: &Itemset<T>) -> bool
     requires below { k < length drafts.old.items }
     requires items { SameItems (core_at drafts.old.items k) (set_of T.number goto.now) }
     requires bits { HaveEquallyManyBits (core_at drafts.old.items k) (set_of T.number goto.now) }
@@ -107,6 +109,7 @@ fn merge_at<T: IndexStorage>(drafts: &mut Vec<Draft<T>>, k: usize, goto: &Itemse
         × (closed_at drafts.new.items k ≡ closed_at drafts.old.items k))
         ⊎ ((closed_at drafts.new.items k ≡ None)
         × Gains (core_at drafts.old.items k) (core_at drafts.new.items k)) }
+    ensures grew { HasGrown result (core_at drafts.old.items k) (core_at drafts.new.items k) }
 {
     drafts[k].merge(goto)
 }
@@ -138,6 +141,24 @@ fn make<T: IndexStorage>(
     Ok(number)
 }
 
+/// Where a goto was placed.
+#[derive(Drop)]
+struct Placed {
+    /// The state.
+    state: usize,
+    /// Whether the core of the state grew, which the core of one that was made didn't.
+    grew: bool,
+}
+
+impl Placed {
+    /// Whether the core of this state grew.
+    fn has_grown(&self, state: usize) -> bool
+        ensures { IsTrue result ↔ ((self.now.state ≡ state) × (self.now.grew ≡ true)) }
+    {
+        self.state == state && self.grew
+    }
+}
+
 /// Places a goto: at the first candidate that is equal to it, or else at the first one that can be merged with it, or
 /// else at a new state. Answers the state, to which the edge of `from` on the symbol then leads.
 fn place<T: IndexStorage>(
@@ -145,61 +166,84 @@ fn place<T: IndexStorage>(
     candidates: &mut Candidates<T>,
     from: usize,
     symbol: Symbol<T>,
-    goto: Itemset<T>,
-) -> Result<usize, BuildError<T>>
+    goto: &Goto<T>,
+) -> Result<Placed, BuildError<T>>
     requires from { from < length drafts.old.items }
     requires most { length drafts.old.items ≤ T.MAX }
-    requires some { (p : ℕ) × (d : ℕ) × HasItem (set_of T.number goto) p d }
+    requires some { (p : ℕ) × (d : ℕ) × HasItem (goto_of T.number goto.now) p d }
+    requires upwards { AreUpwards (goto_of T.number goto.now) }
     requires bits { (k : ℕ) → k < length drafts.old.items
-        → HaveEquallyManyBits (core_at drafts.old.items k) (set_of T.number goto) }
+        → HaveEquallyManyBits (core_at drafts.old.items k) (goto_of T.number goto.now) }
     requires candidates { AreCandidates drafts.old.items candidates.old }
-    ensures placed { IfOk result (λ k. Places drafts.old.items from (symbol_of T.number symbol)
-        (set_of T.number goto) k drafts.new.items) }
-    ensures choice { IfOk result (λ k. (p d : ℕ) → IsFirstItem (set_of T.number goto) p d
-        → IsPlaceOf drafts.old.items (listed_at candidates.old p d) (set_of T.number goto)
-        (length drafts.old.items) k) }
+    ensures placed { IfOk result (λ r. Places drafts.old.items from (symbol_of T.number symbol)
+        (goto_of T.number goto.now) r.state drafts.new.items) }
+    ensures grew { IfOk result (λ r. r.state < length drafts.old.items → HasGrown r.grew
+        (core_at drafts.old.items r.state) (core_at drafts.new.items r.state)) }
+    ensures choice { IfOk result (λ r. (p d : ℕ) → IsFirstItem (goto_of T.number goto.now) p d
+        → IsPlaceOf drafts.old.items (listed_at candidates.old p d) (goto_of T.number goto.now)
+        (length drafts.old.items) r.state) }
     ensures most { OnOk result (length drafts.new.items ≤ T.MAX) }
     ensures candidates { OnOk result (AreCandidates drafts.new.items candidates.new) }
     ensures refused { IfErr result (IsLargeOnly (T.MAX ≤ length drafts.old.items)) }
 {
-    let first = first_item(&goto).unwrap();
+    let first = goto.first_item().unwrap();
     let listed = candidates.at(first);
-    if let Some(k) = find_equal(drafts.as_slice(), listed, &goto) {
+    if let Some(k) = find_equal(drafts.as_slice(), listed, goto) {
         link(drafts, from, symbol, k)?;
-        return Ok(k);
+        return Ok(Placed {
+            state: k,
+            grew: false,
+        });
     }
+    let goto = goto.to_itemset(*drafts.allocator())?;
     if let Some(k) = find_compatible(drafts.as_slice(), listed, &goto) {
-        merge_at(drafts, k, &goto);
+        let grew = merge_at(drafts, k, &goto);
         link(drafts, from, symbol, k)?;
-        return Ok(k);
+        return Ok(Placed { state: k, grew });
     }
     let k = make(drafts, goto)?;
     candidates.add(first, k)?;
     link(drafts, from, symbol, k)?;
-    Ok(k)
+    Ok(Placed {
+        state: k,
+        grew: false,
+    })
 }
 
-/// Places the gotos of the state `from`, one after another. The grammar is the one of whose states these are.
+/// Places the gotos of the state `from`, one after another, and says whether its own core grew by that. The state was
+/// to be closed and is not noted as closed yet; the grammar is the one of whose states these are, and the gotos are
+/// those of the closed state.
 pub fn place_all<T: IndexStorage>(
     drafts: &mut Vec<Draft<T>>,
     candidates: &mut Candidates<T>,
     _grm: &YaccGrammar<T>,
     from: usize,
-    gotos: Vec<(Symbol<T>, Itemset<T>)>,
-) -> Result<(), BuildError<T>>
+    _closed: &Itemset<T>,
+    gotos: Vec<(Symbol<T>, Goto<T>)>,
+) -> Result<bool, BuildError<T>>
     requires from { from < length drafts.old.items }
     requires most { length drafts.old.items ≤ T.MAX }
-    requires holds { Holds _grm.now drafts.old.items }
-    requires gotos { AllMayBePlaced _grm.now drafts.old.items from (gotos_of T.number gotos.items) }
+    requires unclosed { closed_at drafts.old.items from ≡ None }
+    requires holds { Holds _grm.now
+        (with_closed drafts.old.items from (set_of T.number _closed.now)) }
+    requires gotos { AllMayBePlaced _grm.now
+        (with_closed drafts.old.items from (set_of T.number _closed.now)) from
+        (gotos_of T.number gotos.items) }
+    requires upwards { AllUpwards (gotos_of T.number gotos.items) }
     requires candidates { AreCandidates drafts.old.items candidates.old }
-    ensures placed { OnOk result (PlacesAll from drafts.old.items
-        (gotos_of T.number gotos.items) drafts.new.items) }
+    ensures placed { IfOk result (λ grew. PlacesAll from
+        (with_closed drafts.old.items from (set_of T.number _closed.now))
+        (gotos_of T.number gotos.entry.items)
+        (closed_unless grew drafts.new.items from (set_of T.number _closed.now))) }
+    ensures from { OnOk result (from < length drafts.new.items) }
     ensures most { OnOk result (length drafts.new.items ≤ T.MAX) }
     ensures candidates { OnOk result (AreCandidates drafts.new.items candidates.new) }
     ensures refused { IfErr result (IsLargeOnly (HasChainOf _grm.now T.MAX)) }
 {
+    let mut grew = false;
     for (symbol, goto) in gotos {
-        place(drafts, candidates, from, symbol, goto)?;
+        let placed = place(drafts, candidates, from, symbol, &goto)?;
+        grew |= placed.has_grown(from);
     }
-    Ok(())
+    Ok(grew)
 }

@@ -1,4 +1,7 @@
 use Rattle.std.proofs.Common.{refl}
+use Rattle.lritems.specs.ItemsOf.{items_of}
+use Rattle.lritems.proofs.ItemsUpwards.{upwards_from_sorted}
+use Rattle.lritems.proofs.GotosUpwards.{begin_growing, skip_growing, behind_there, put_growing}
 use Rattle.lritems.proofs.GotosUnderway.{begin_gotos, end_gotos, skip_gotos, put_gotos}
 use Rattle.lritems.proofs.GotoPlaces.{below_of_at, places_put}
 use Rattle.lritems.proofs.SymbolsShown.{shows_none, shows_one}
@@ -11,6 +14,8 @@ loop-key-init g c =
     record {
       found = rw i.0 (found_all g.T.IndexStorage.number g.T.Ord.cmp g.met.T.IndexStorage.ordered c.args.closed.now.items.entries c.args.closed.now.items.entries i.6);
       moving = begin_gotos c.args.grm.now _ _ _ (rw c.new-gotos.ensures.items refl) (rw i.0 refl);
+      growing = begin_growing (items_of g.T.IndexStorage.number c.args.closed.now.items.entries) _ _ (rw c.new-gotos.ensures.items refl) (rw i.0 refl)
+          (upwards_from_sorted g.T.IndexStorage.number g.T.Ord.cmp g.met.T.IndexStorage.ordered c.args.closed.now.items.entries i.5);
       order = rw (c.new-gotos.ensures.items, i.0) refl;
       places = rw (c.new-gotos.ensures.items, c.new-places.ensures.empty) (λ x h. h);
     }
@@ -27,10 +32,12 @@ pub loop-key-preserved : goal.loop-key-preserved
 loop-key-preserved g c =
     let found = rw c.in-Some.ensures.steps at c.loop-key.invariant.found in
     let moving = rw c.in-Some.ensures.steps at c.loop-key.invariant.moving in
+    let growing = rw c.in-Some.ensures.steps at c.loop-key.invariant.growing in
     let order = rw c.in-Some.ensures.steps at c.loop-key.invariant.order in
     record {
       found = found.1;
       moving = skip_gotos c.args.grm.now _ _ _ _ _ (first_or_rest _ _ c.in-Some.ctx.now _) _ moving c.in_default.ensures.none;
+      growing = skip_growing _ _ _ growing;
       order = rw (shows_none c.args.grm.now _ _ _ c.in_default.ensures.none) at order;
       places = c.loop-key.invariant.places;
     }
@@ -39,14 +46,17 @@ pub loop-key-preserved-in-Continue-branch-2 : goal.loop-key-preserved-in-Continu
 loop-key-preserved-in-Continue-branch-2 g c =
     let found = rw c.in-Some.ensures.steps at c.loop-key.invariant.found in
     let moving = rw c.in-Some.ensures.steps at c.loop-key.invariant.moving in
+    let growing = rw c.in-Some.ensures.steps at c.loop-key.invariant.growing in
     let order = rw c.in-Some.ensures.steps at c.loop-key.invariant.order in
     record {
       found = found.1;
       moving = put_gotos c.args.grm.now _ _ _ _ _ _ _ _ _ _ c.in-Some.ctx.now _ (first_or_rest _ _ c.in-Some.ctx.now _) c.requires moving c.in-Some-step_over.ensures.found found.0
-          c.in-Some-step_over.ensures.moved c.in_ok-place.ensures.made c.in_ok-place.ensures.at c.in_ok-put_at.ensures;
+          c.in-Some-step_over.ensures.moved c.in_ok-place.ensures.made c.in_ok-place.ensures.at c.in_ok-put_at.ensures
+          (behind_there _ _ _ _ _ _ _ _ c.in-Some.ctx.now _ growing c.in-Some-step_over.ensures.moved c.in_ok-place.ensures.made c.in_ok-put_at.ensures);
+      growing = put_growing _ _ _ _ _ _ _ _ c.in-Some.ctx.now _ growing c.in-Some-step_over.ensures.moved c.in_ok-place.ensures.made c.in_ok-put_at.ensures;
       order = rw (shows_one c.args.grm.now _ _ _ _ c.in-Some.ctx.now _ _ _ _ c.in-Some-step_over.ensures.found c.in_ok-place.ensures.made c.in_ok-place.ensures.at c.in_ok-put_at.ensures) at order;
       places = places_put _ _ _ _ _ _ _ c.in_ok-place.ensures.places c.in_ok-put_at.ensures;
     }
 
 pub returns : goal.returns
-returns g c = end_gotos c.args.grm.now _ _ _ c.loop-key.invariant.moving c.loop-key.invariant.order (rw c.in-None.ensures.steps.0 refl)
+returns g c = end_gotos c.args.grm.now _ _ _ c.loop-key.invariant.moving c.loop-key.invariant.growing.upwards c.loop-key.invariant.order (rw c.in-None.ensures.steps.0 refl)

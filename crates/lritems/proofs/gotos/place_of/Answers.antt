@@ -2,16 +2,15 @@ use Rattle.std.proofs.Common.{◌≡◌, ◌∙◌, [], sym, ap, refl, Some, inr
 use Rattle.std.proofs.lemmas.List.{length-map}
 use Rattle.lrgrammar.specs.Symbols.{symbol_of}
 use Rattle.lritems.specs.Gotos.{gotos_of, places_of}
-use Rattle.lritems.proofs.SymbolKeys.{symbol_order, symbol_found, symbol_updated, symbol_kept}
+use Rattle.lritems.proofs.SymbolKeys.{symbol_order, symbol_updated, symbol_kept}
 use Rattle.lritems.proofs.GotoPlaces.{at_from_places, absent_from_places, places_longer, at_end, pushed_gotos}
 use Rattle.lritems.proofs.gotos.place_of.Goals as goal
 
 pub returns-in-Some-clause-at : goal.returns-in-Some-clause-at
 returns-in-Some-clause-at g c =
     let number = g.T.IndexStorage.number in
-    let found = symbol_found number _ c.args.symbol c.args.places.now.entries _ c.get.ensures.value (λ y. search rules) in
     at_from_places (gotos_of number c.args.gotos.now.items) (places_of number c.args.places.now.entries) (symbol_of number c.args.symbol) c.in-Some.place c.requires
-    (sym found ∙ sym c.copied.ensures ∙ c.in-Some.is)
+    (sym c.known_place.ensures ∙ c.in-Some.is)
 
 pub returns-clause-places : goal.returns-clause-places
 returns-clause-places g c =
@@ -39,9 +38,8 @@ returns-clause-at g c =
 pub returns-clause-made : goal.returns-clause-made
 returns-clause-made g c =
     let number = g.T.IndexStorage.number in
-    let found = symbol_found number _ c.args.symbol c.args.places.now.entries _ c.get.ensures.value (λ y. search rules) in
     inr (
       absent_from_places (gotos_of number c.args.gotos.now.items) (places_of number c.args.places.now.entries) (symbol_of number c.args.symbol) c.requires
-          (sym found ∙ sym c.copied.ensures ∙ c.in_default.is),
+          (sym c.known_place.ensures ∙ c.in_default.is),
       pushed_gotos number c.args.gotos.now.items c.push.new.self.items c.args.symbol c.new.result c.in_ok-push.ensures.items c.new.ensures,
     )

@@ -4,7 +4,7 @@ use Rattle.lrpager.proofs.ClosedCounts.{closes_counted}
 use Rattle.lrplacing.proofs.CountFacts.{none_unclosed_of_closed}
 use Rattle.lrpager.proofs.NextStates.{next_is_unclosed}
 use Rattle.lrpager.proofs.SizeBounds.{closings_fit, closings_most, weight_within}
-use Rattle.lrpager.proofs.ClosingFacts.{closed_holds, closed_gotos, closed_candidates, turned_holds, turned_gotos, turned_made, turned_counted}
+use Rattle.lrpager.proofs.ClosingFacts.{turned_holds, turned_gotos, turned_made, turned_counted}
 use Rattle.lrpager.proofs.pager.construct.Goals as goal
 
 pub close-requires-clause-below : goal.close-requires-clause-below
@@ -15,53 +15,39 @@ pub close-requires-clause-unclosed : goal.close-requires-clause-unclosed
 close-requires-clause-unclosed g c =
     let next = next_is_unclosed (rw c.as_slice.ensures.value at c.in-Some.ensures) in next.1
 
-pub close-requires-clause-fits : goal.close-requires-clause-fits
-close-requires-clause-fits g c =
-    let next = next_is_unclosed (rw c.as_slice.ensures.value at c.in-Some.ensures) in
-    c.loop-i.invariant.holds.fits c.in-Some.i next.0
-
 pub overflow_add-closings : goal.overflow_add-closings
 overflow_add-closings g c =
     let i = c.loop-i.invariant in
-    let t = c.in_ok-successors.ensures in
+    let t = c.in_ok-close.ensures.turn in
+    let m = t.closes in
     let fits =
-    closings_fit g.T.IndexStorage.MAX c.args.grm.now c.close.new.drafts.items (c.loop-i.closings + 1) c.requires.sizes g.met.T.IndexStorage.most
-    (omega (arith, t.closes.length_is, i.most))
-    (closes_counted c.args.grm.now c.loop-i.drafts.items c.close.new.drafts.items c.in-Some.i t.closed t.closes c.loop-i.closings i.counted) in
+    closings_fit g.T.IndexStorage.MAX c.args.grm.now t.mid (c.loop-i.closings + 1) c.requires.sizes g.met.T.IndexStorage.most (omega (arith, m.closes.length_is, i.most))
+    (closes_counted c.args.grm.now c.loop-i.drafts.items t.mid c.in-Some.i m.closed m.closes c.loop-i.closings i.counted) in
     omega (arith, fits)
-
-pub place_all-requires-clause-holds : goal.place_all-requires-clause-holds
-place_all-requires-clause-holds g c = closed_holds c.requires.of.shape c.in_ok-successors.ensures c.loop-i.invariant.holds
-
-pub place_all-requires-clause-gotos : goal.place_all-requires-clause-gotos
-place_all-requires-clause-gotos g c = closed_gotos c.requires.of.shape c.in_ok-successors.ensures c.loop-i.invariant.holds
-
-pub place_all-requires-clause-candidates : goal.place_all-requires-clause-candidates
-place_all-requires-clause-candidates g c =
-    closed_candidates c.requires.of.shape c.in_ok-successors.ensures c.loop-i.invariant.holds c.loop-i.invariant.candidates
 
 pub loop-i-smaller : goal.loop-i-smaller
 loop-i-smaller g c =
     let i = c.loop-i.invariant in
-    let t = c.in_ok-successors.ensures in
-    let counted = closes_counted c.args.grm.now c.loop-i.drafts.items c.close.new.drafts.items c.in-Some.i t.closed t.closes c.loop-i.closings i.counted in
-    let within = weight_within c.args.grm.now c.close.new.drafts.items g.T.IndexStorage.MAX (omega (arith, t.closes.length_is, i.most)) in
+    let t = c.in_ok-close.ensures.turn in
+    let m = t.closes in
+    let counted = closes_counted c.args.grm.now c.loop-i.drafts.items t.mid c.in-Some.i m.closed m.closes c.loop-i.closings i.counted in
+    let within = weight_within c.args.grm.now t.mid g.T.IndexStorage.MAX (omega (arith, m.closes.length_is, i.most)) in
     omega (arith, counted, within)
 
 pub loop-i-preserved : goal.loop-i-preserved
 loop-i-preserved g c =
     let i = c.loop-i.invariant in
     let shape = c.requires.of.shape in
-    let t = c.in_ok-successors.ensures in
-    let p = c.in_ok-place_all.ensures in
+    let e = c.in_ok-close.ensures in
+    let t = e.turn in
     record {
-      most = p.most;
-      holds = turned_holds shape t i.holds p.placed;
-      gotos = turned_gotos shape t i.holds p.placed i.gotos;
-      candidates = p.candidates;
-      made = turned_made shape t i.holds p.placed c.loop-i.closings i.made;
-      counted = turned_counted shape t i.holds p.placed c.loop-i.closings i.counted;
-      order = λ us r. i.order us (choice.ClosesAll.more (rw c.as_slice.ensures.value at c.in-Some.ensures) t p.placed r);
+      most = e.most;
+      holds = turned_holds shape t.closes i.holds t.places;
+      gotos = turned_gotos shape t.closes i.holds t.places i.gotos;
+      candidates = e.candidates;
+      made = turned_made shape t.closes i.holds t.places c.loop-i.closings i.made;
+      counted = turned_counted shape t.closes i.holds t.places c.loop-i.closings i.counted;
+      order = λ us r. i.order us (choice.ClosesAll.more (rw c.as_slice.ensures.value at c.in-Some.ensures) t.closes t.places r);
     }
 
 pub returns-clause-order : goal.returns-clause-order

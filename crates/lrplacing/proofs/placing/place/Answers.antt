@@ -1,6 +1,6 @@
 use Rattle.std.proofs.Common.{◌∙◌, ◌<◌, length}
 use Rattle.lrgrammar.specs.Symbols.{symbol_of}
-use Rattle.lritems.specs.ItemsOf.{set_of}
+use Rattle.lritems.specs.Gotos.{goto_of}
 use Rattle.lrplacing.specs.CandidatesOf.{IsFirstItem}
 use Rattle.lrplacing.specs.ChosenPlaces.{IsPlaceOf}
 use Rattle.lrplacing.specs.ChosenPlaces as choice
@@ -9,8 +9,8 @@ use Rattle.lrplacing.proofs.FirstOfList.{first_among}
 use Rattle.lrplacing.proofs.PlacingFacts.{put_places, put_equal, put_merged, put_made}
 use Rattle.lrplacing.proofs.placing.place.Goals as goal
 
-pub find_equal-requires : goal.find_equal-requires
-find_equal-requires g c =
+pub find_equal-requires-clause-below : goal.find_equal-requires-clause-below
+find_equal-requires-clause-below g c =
     let number = g.T.IndexStorage.number in
     rw c.as_slice.ensures.value
     (all_below c.at-listed.result.now (number c.unwrap-first.result.0.0) (number c.unwrap-first.result.1.0) c.requires.candidates c.at-listed.ensures)
@@ -25,12 +25,12 @@ returns-in-Some-clause-placed g c =
     let below = first_among (λ k. k < length old) listed equal in
     let l = c.in_ok-link.ensures in
     put_places c.args.from (symbol_of number c.args.symbol) c.in-Some.k
-    (put_equal old (set_of number c.args.goto) c.in-Some.k below equal.here) l.len l.stays l.edges
+    (put_equal old (goto_of number c.args.goto.now) c.in-Some.k below equal.here) l.len l.stays l.edges
 
 pub returns-in-Some-clause-choice : goal.returns-in-Some-clause-choice
 returns-in-Some-clause-choice g c =
     let number = g.T.IndexStorage.number in
-    let goto = set_of number c.args.goto in
+    let goto = goto_of number c.args.goto.now in
     let old = c.args.drafts.now.items in
     let equal = rw c.as_slice.ensures.value at c.in-Some.ensures in
     at_each_first number (λ ks. IsPlaceOf old ks goto (length old) c.in-Some.k) c.args.candidates.now goto c.at-listed.result.now c.first_item.result c.unwrap-first.result
@@ -48,64 +48,64 @@ find_compatible-requires-clause-below g c =
     (all_below c.at-listed.result.now (number c.unwrap-first.result.0.0) (number c.unwrap-first.result.1.0) c.requires.candidates c.at-listed.ensures)
 
 pub find_compatible-requires-clause-bits : goal.find_compatible-requires-clause-bits
-find_compatible-requires-clause-bits g c = rw c.as_slice-2.ensures.value c.requires.bits
+find_compatible-requires-clause-bits g c = rw (c.as_slice-2.ensures.value, c.in_ok-goto.ensures) c.requires.bits
 
-pub merge_at-requires-clause-bits : goal.merge_at-requires-clause-bits
-merge_at-requires-clause-bits g c =
+pub merge_at-grew-requires-clause-bits : goal.merge_at-grew-requires-clause-bits
+merge_at-grew-requires-clause-bits g c =
     let found = rw c.as_slice-2.ensures.value at c.in-Some-find_compatible.ensures.compatible in
-    c.requires.bits c.in-Some-find_compatible.k found.0
+    rw c.in_ok-goto.ensures (c.requires.bits c.in-Some-find_compatible.k found.0)
 
 pub returns-in-Some-find_compatible-clause-placed : goal.returns-in-Some-find_compatible-clause-placed
 returns-in-Some-find_compatible-clause-placed g c =
     let number = g.T.IndexStorage.number in
-    let found = rw c.as_slice-2.ensures.value at c.in-Some-find_compatible.ensures.compatible in
-    let m = c.merge_at.ensures in
+    let found = rw (c.as_slice-2.ensures.value, c.in_ok-goto.ensures) at c.in-Some-find_compatible.ensures.compatible in
+    let m = c.merge_at-grew.ensures in
     let l = c.in_ok-link-2.ensures in
     put_places c.args.from (symbol_of number c.args.symbol) c.in-Some-find_compatible.k
-    (put_merged c.args.drafts.now.items c.merge_at.new.drafts.items (set_of number c.args.goto) c.in-Some-find_compatible.k found.0 found.1 m.len m.others m.edges m.union
+    (put_merged c.args.drafts.now.items c.merge_at-grew.new.drafts.items (goto_of number c.args.goto.now) c.in-Some-find_compatible.k found.0 found.1 m.len m.others m.edges (rw c.in_ok-goto.ensures at m.union)
     m.fits m.closed)
     l.len l.stays l.edges
 
 pub returns-in-Some-find_compatible-clause-choice : goal.returns-in-Some-find_compatible-clause-choice
 returns-in-Some-find_compatible-clause-choice g c =
     let number = g.T.IndexStorage.number in
-    let goto = set_of number c.args.goto in
+    let goto = goto_of number c.args.goto.now in
     let old = c.args.drafts.now.items in
     let none_equal = rw c.as_slice.ensures.value at c.in_default.ensures in
-    let compatible = rw c.as_slice-2.ensures.value at c.in-Some-find_compatible.ensures.first in
+    let compatible = rw (c.as_slice-2.ensures.value, c.in_ok-goto.ensures) at c.in-Some-find_compatible.ensures.first in
     at_each_first number (λ ks. IsPlaceOf old ks goto (length old) c.in-Some-find_compatible.k) c.args.candidates.now goto c.at-listed.result.now c.first_item.result c.unwrap-first.result
     c.first_item.ensures.least c.unwrap-first.ensures c.at-listed.ensures (choice.IsPlaceOf.compatible none_equal compatible)
 
 pub returns-in-Some-find_compatible-clause-candidates : goal.returns-in-Some-find_compatible-clause-candidates
 returns-in-Some-find_compatible-clause-candidates g c =
-    let m = c.merge_at.ensures in
+    let m = c.merge_at-grew.ensures in
     let l = c.in_ok-link-2.ensures in
     let k = c.in-Some-find_compatible.k in
     let old = c.args.drafts.now.items in
     candidates_kept (l.len ∙ m.len)
-    (λ j b. rw ((l.stays j).core) (merged_items old c.merge_at.new.drafts.items k m.others m.union j))
+    (λ j b. rw ((l.stays j).core) (merged_items old c.merge_at-grew.new.drafts.items k m.others m.union j))
     c.requires.candidates
 
 pub returns-clause-placed : goal.returns-clause-placed
 returns-clause-placed g c =
     let number = g.T.IndexStorage.number in
-    let none = rw c.as_slice-2.ensures.value at c.in_default-find_compatible.ensures.compatible in
+    let none = rw (c.as_slice-2.ensures.value, c.in_ok-goto.ensures) at c.in_default-find_compatible.ensures.compatible in
     let m = c.in_ok-k.ensures in
     let l = c.in_ok-link-3.ensures in
-    let first : IsFirstItem (set_of number c.args.goto) (number c.unwrap-first.result.0.0) (number c.unwrap-first.result.1.0) =
-    first_found number (set_of number c.args.goto) c.first_item.result c.unwrap-first.result c.first_item.ensures.least c.unwrap-first.ensures in
+    let first : IsFirstItem (goto_of number c.args.goto.now) (number c.unwrap-first.result.0.0) (number c.unwrap-first.result.1.0) =
+    first_found number (goto_of number c.args.goto.now) c.first_item.result c.unwrap-first.result c.first_item.ensures.least c.unwrap-first.ensures in
     put_places c.args.from (symbol_of number c.args.symbol) c.in_ok-k.k
-    (put_made c.args.drafts.now.items c.make.new.drafts.items (set_of number c.args.goto) c.in_ok-k.k m.number m.len m.others m.core m.closed m.edges
+    (put_made c.args.drafts.now.items c.make.new.drafts.items (goto_of number c.args.goto.now) c.in_ok-k.k m.number m.len m.others (m.core ∙ c.in_ok-goto.ensures) m.closed m.edges
     (all_clash c.at-listed.result.now (number c.unwrap-first.result.0.0) (number c.unwrap-first.result.1.0) c.requires.candidates first c.at-listed.ensures none))
     l.len l.stays l.edges
 
 pub returns-clause-choice : goal.returns-clause-choice
 returns-clause-choice g c =
     let number = g.T.IndexStorage.number in
-    let goto = set_of number c.args.goto in
+    let goto = goto_of number c.args.goto.now in
     let old = c.args.drafts.now.items in
     let none_equal = rw c.as_slice.ensures.value at c.in_default.ensures in
-    let none_compatible = rw c.as_slice-2.ensures.value at c.in_default-find_compatible.ensures.first in
+    let none_compatible = rw (c.as_slice-2.ensures.value, c.in_ok-goto.ensures) at c.in_default-find_compatible.ensures.first in
     rw c.in_ok-k.ensures.number
     (at_each_first number (λ ks. IsPlaceOf old ks goto (length old) (length old)) c.args.candidates.now goto c.at-listed.result.now c.first_item.result c.unwrap-first.result
     c.first_item.ensures.least c.unwrap-first.ensures c.at-listed.ensures (choice.IsPlaceOf.made none_equal none_compatible))
@@ -116,11 +116,11 @@ returns-clause-candidates g c =
     let m = c.in_ok-k.ensures in
     let a = c.in_ok-add.ensures in
     let l = c.in_ok-link-3.ensures in
-    let first : IsFirstItem (set_of number c.args.goto) (number c.unwrap-first.result.0.0) (number c.unwrap-first.result.1.0) =
-    first_found number (set_of number c.args.goto) c.first_item.result c.unwrap-first.result c.first_item.ensures.least c.unwrap-first.ensures in
+    let first : IsFirstItem (goto_of number c.args.goto.now) (number c.unwrap-first.result.0.0) (number c.unwrap-first.result.1.0) =
+    first_found number (goto_of number c.args.goto.now) c.first_item.result c.unwrap-first.result c.first_item.ensures.least c.unwrap-first.ensures in
     candidates_kept l.len (λ j b. same_cores (l.stays j).core)
-    (candidates_made c.args.drafts.now.items c.make.new.drafts.items c.args.candidates.now c.add.new.self (set_of number c.args.goto) (number c.unwrap-first.result.0.0) (number c.unwrap-first.result.1.0)
-    m.len (λ j b. others_core c.args.drafts.now.items c.make.new.drafts.items m.others j b) m.core first (rw m.number at a.here) a.others c.requires.candidates)
+    (candidates_made c.args.drafts.now.items c.make.new.drafts.items c.args.candidates.now c.add.new.self (goto_of number c.args.goto.now) (number c.unwrap-first.result.0.0) (number c.unwrap-first.result.1.0)
+    m.len (λ j b. others_core c.args.drafts.now.items c.make.new.drafts.items m.others j b) (m.core ∙ c.in_ok-goto.ensures) first (rw m.number at a.here) a.others c.requires.candidates)
 
 pub unwrap-first-requires : goal.unwrap-first-requires
-unwrap-first-requires g c = some_first (set_of g.T.IndexStorage.number c.args.goto) c.first_item.result c.requires.some c.first_item.ensures.none
+unwrap-first-requires g c = some_first (goto_of g.T.IndexStorage.number c.args.goto.now) c.first_item.result c.requires.some c.first_item.ensures.none

@@ -1,0 +1,9 @@
+use Rattle.std.proofs.Common.{ap, ◌∙◌}
+use Rattle.std.specs.Prelude.{slice_get}
+use Rattle.lritems.proofs.GotoItems.{first_found}
+use Rattle.lritems.proofs.gotos.Goto.first_item.Goals as goal
+
+pub returns-clause-least : goal.returns-clause-least
+returns-clause-least g c =
+    first_found g.T.IndexStorage.number (λ r. r.now) c.args.self.now.items.items c.in_ok-key.field-0.now
+    (c.in_ok-key.ensures.value ∙ ap (λ es. slice_get es 0) c.deref.ensures.value) c.requires
