@@ -8,6 +8,7 @@ pub mod SymbolsBehindDots
 pub mod PassedOn
 pub mod ProductionsOfRule
 pub mod RowsAdded
+pub mod SetPlaces
 pub mod MarkedProductions
 pub mod VisitedItems
 pub mod VisitsLeft

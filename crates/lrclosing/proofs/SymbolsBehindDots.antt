@@ -1,6 +1,6 @@
 -- the symbols behind the dot of an item
-use Rattle.std.proofs.Common.{◌≡◌, ℕ, zero, suc, ◌+◌, ◌-◌, ◌<◌, ◌≤◌, List, [], ◌∷◌, length, map, take, drop, get_or, add-one, length-drop, drop-cons, refl, sym, arith}
-use Rattle.std.proofs.lemmas.List.{take_all, drop_all, drop-map}
+use Rattle.std.proofs.Common.{◌≡◌, ℕ, zero, suc, ◌+◌, ◌-◌, ◌<◌, ◌≤◌, List, [], ◌∷◌, length, map, take, drop, get_or, add-one, length-drop, drop-cons, refl, sym, ◌∙◌, arith}
+use Rattle.std.proofs.lemmas.List.{take_all, drop_all, drop-map, length-map}
 use Rattle.lrspec.specs.grammars.Grammar.{Symbol, Grammar, AreBodySymbols}
 
 -- the symbols behind a place
@@ -35,3 +35,15 @@ behind_dot f xs i d e x ys h m k s =
 -- nothing is left at the end
 pub left_none : {X Y : Type 0} (f : X → Y) (xs : List X) (i : ℕ) → length xs ≤ i → map f (drop i xs) ≡ []
 left_none f xs i h = rw (drop_all i xs h) refl
+
+-- a place within a body is one within the list that holds it
+pub within_body : {X Y : Type 0} (f : X → Y) (xs : List X) (ys : List Y) (n : ℕ) → map f xs ≡ ys → n ≤ length ys → n ≤ length xs
+within_body f xs ys n e h = let k : n ≤ length (map f xs) = rw e h in rw length-map at k
+
+-- nothing stands in a body at its end
+pub past_body :
+    {X Y : Type 0} (f : X → Y) (xs : List X) (i d : ℕ) (ys : List Y) → length xs ≤ i → map f xs ≡ ys → i ≡ d → (x : Y) → (zs : List Y) × (drop d ys ≡ x ∷ zs) → ⊥
+past_body f xs i d ys h m k x b =
+    let none : drop d ys ≡ [] = rw (← m, ← k, drop-map f i xs) (left_none f xs i h) in
+    let both : [] ≡ x ∷ b.0 = sym none ∙ b.1 in
+    cc

@@ -1,10 +1,10 @@
 -- what a visit of an item makes of the rows
-use Rattle.std.proofs.Common.{◌≡◌, ◌≢◌, ℕ, zero, suc, ◌+◌, ◌<◌, Bool, true, false, List, [], ◌∷◌, Option, None, Some, length, get_or, set, length-set, get_or-set_same, get_or-set_other, add-one, refl, sym, ap, ◌∙◌, arith, replicate, ◌⊎◌, inl, inr, ⊎_elim}
+use Rattle.std.proofs.Common.{◌≡◌, ◌≢◌, ℕ, zero, suc, ◌+◌, ◌<◌, Bool, true, false, List, [], ◌∷◌, ◌++◌, Option, None, Some, length, get_or, set, length-set, get_or-set_same, get_or-set_other, length-drop, add-one, refl, sym, ap, ◌∙◌, arith, replicate, ◌⊎◌, inl, inr, ⊎_elim}
 use Rattle.std.specs.Prelude.{IsTrue, IfSome}
 use Rattle.std.specs.Option.{IsSome}
 use Rattle.std.proofs.lemmas.Bool.{cases_eq}
 use Rattle.std.proofs.lemmas.List.{length-replicate}
-use Rattle.lrspec.specs.grammars.Grammar.{Symbol, Rule, Grammar, IsGrammar, rest, body_of, IsProductionOf}
+use Rattle.lrspec.specs.grammars.Grammar.{Symbol, Rule, Grammar, IsGrammar, rest, body_of, token_count, IsProductionOf}
 use Rattle.lrspec.specs.grammars.First.{AllNullable}
 use Rattle.lrspec.specs.grammars.ItemSets.{IsBefore}
 use Rattle.lrspec.proofs.grammars.BodyFacts.{rest_next, symbol_at_dot}
@@ -20,6 +20,10 @@ behind_rule g p d r e b i = rw (i, add-one) (rest_next (body_of g p) d (Rule r) 
 -- a rule behind a dot is one of the grammar
 pub rule_below : {g : Grammar} → IsGrammar g → (rows : Rows) → AreRows g rows → (p d r : ℕ) → IsBefore g p d (Rule r) → r < length rows
 rule_below s rows a p d r b = let l = (symbol_at_dot s p d (Rule r) b).1 in omega (arith, l, a.rules)
+
+-- what an item stands before is within the body
+pub before_place : (g : Grammar) (p d : ℕ) (x : Symbol) → IsBefore g p d x → d < length (body_of g p)
+before_place g p d x b = let e : length (rest g p d) ≡ suc (length b.0) = ap length b.1 in omega (arith, e, length-drop d (body_of g p))
 
 -- an item with no rule behind its dot passes nothing on
 pub visited_nothing :
@@ -214,6 +218,14 @@ clear_rows zero r = refl
 clear_rows (suc n) zero = refl
 clear_rows (suc n) (suc r) = clear_rows n r
 
+-- one rule more
+pub clear_more : (rows new : Rows) (n : ℕ) → rows ≡ replicate n None → new ≡ rows ++ (None ∷ []) → new ≡ replicate (n + 1) None
+clear_more rows new n e h = h ∙ rw (e, add-one) (snoc n)
+  where
+    snoc : (k : ℕ) → replicate {A = Option (List Bool)} k None ++ (None ∷ []) ≡ replicate (suc k) None
+    snoc zero = refl
+    snoc (suc k) = ap (λ l. None ∷ l) (snoc k)
+
 pub clear_bits : (n : ℕ) → HasNone (replicate n false)
 clear_bits zero i h = cc
 clear_bits (suc n) zero h = cc
@@ -230,3 +242,35 @@ shaped_clear g n m rows todo e h s t = rw (e, h) (record {
 -- a production that is to be done no more keeps the shape
 pub shaped_taken : (g : Grammar) (rows : Rows) (todo : List Bool) (p : ℕ) → AreShaped g rows todo → AreShaped g rows (set todo p false)
 shaped_taken g rows todo p a = record { of_rules = a.of_rules; of_productions = length-set todo p false ∙ a.of_productions }
+
+marked_len : (c : Bool) (g : Grammar) (r : ℕ) (old after : List Bool) → AreMarkedIf c g r old after → length after ≡ length old
+marked_len true g r old after m = m.len
+marked_len false g r old after m = ap length m
+
+-- a row that is written keeps the shape
+pub shaped_written :
+    (g : Grammar) (rows new : Rows) (r : ℕ) (v todo after : List Bool) (c : Bool) → AreShaped g rows todo → new ≡ set rows r (Some v) → r < length rows
+    → length v ≡ token_count g → AreMarkedIf c g r todo after → AreShaped g new after
+shaped_written g rows new r v todo after c s w below l m = rw w (record {
+  of_rules = record { rules = length-set rows r (Some v) ∙ s.of_rules.rules; bits = bits };
+  of_productions = marked_len c g r todo after m ∙ s.of_productions;
+})
+  where
+    bits : (q : ℕ) (u : List Bool) → row_at (set rows r (Some v)) q ≡ Some u → length u ≡ token_count g
+    bits q u h = ⊎_elim
+        (λ (e : q ≡ r).
+        let k : row_at (set rows r (Some v)) r ≡ Some u = rw e at h in
+        let j : Some v ≡ Some u = sym (get_or-set_same rows r (Some v) None below) ∙ k in
+        let i : v ≡ u = cc in
+        rw (← i) l)
+        (λ (n : q ≢ r). s.of_rules.bits q u (sym (get_or-set_other rows r q (Some v) None n) ∙ h))
+        (cases_eq q r)
+
+-- the bits of a row, while another is taken out
+pub bits_beside :
+    (rows : Rows) (b r n : ℕ) → b < length rows → ((q : ℕ) (v : List Bool) → row_at rows q ≡ Some v → length v ≡ n)
+    → IfSome (row_at (set rows b None) r) (λ v. length v ≡ n)
+bits_beside rows b r n below f = ⊎_elim
+    (λ (e : r ≡ b). rw (e, get_or-set_same rows b None None below) tt)
+    (λ (d : r ≢ b). rw (get_or-set_other rows b r None None d) (bits_if (row_at rows r) n (f r)))
+    (cases_eq r b)

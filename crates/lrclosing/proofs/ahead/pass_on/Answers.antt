@@ -3,7 +3,7 @@ use Rattle.std.specs.Option.{option_copied}
 use Rattle.lrspec.specs.grammars.Grammar as math
 use Rattle.lrbits.specs.Bits.{union}
 use Rattle.lrgrammar.specs.Symbols.{symbol_of}
-use Rattle.lrclosing.proofs.SymbolsBehindDots.{symbols_behind, sliced, left_at, left_none}
+use Rattle.lrclosing.proofs.SymbolsBehindDots.{symbols_behind, sliced, left_at, left_none, within_body}
 use Rattle.lrclosing.proofs.PassedOn.{turn_past, turn_stop, turn_token, turn_end, made_passed_on, grown_union, grown_set, grown_then, grown_before}
 use Rattle.lrclosing.proofs.ahead.pass_on.Goals as goal
 
@@ -88,3 +88,45 @@ returns-in-None-clause-passed g c =
     made_passed_on c.args.grm.now c.args.firsts.now (option_copied c.args.ctx) c.requires.of c.requires.ctx_len (math.rest c.args.grm.now p c.args.from) c.args.row.now _
     (symbols_behind c.args.grm.now c.args.from (math.body_of c.args.grm.now p) (c.prod.ensures.shape.symbols p)) c.requires.len
     (turn_end c.args.firsts.now (option_copied c.args.ctx) c.loop-symbol.row _ _ _ c.loop-symbol.invariant.same left (rw c.in-None.is refl))
+
+pub set-requires : goal.set-requires
+set-requires g c =
+    let number = g.T.IndexStorage.number in
+    let left = left_at (symbol_of number) _ c.loop-symbol.symbol-index c.symbol-item.result _ c.loop-symbol-test.true c.symbol-item.is c.in-Token.is in
+    let symbols = rw left at c.loop-symbol.invariant.symbols in
+    omega (arith, symbols.0, c.to_usize.ensures.number, c.loop-symbol.invariant.len)
+
+pub or-requires : goal.or-requires
+or-requires g c = (rw c.in-Some.is at c.requires.ctx_len) ∙ sym c.loop-symbol.invariant.len
+
+pub slice_bounds-symbol-items-count : goal.slice_bounds-symbol-items-count
+slice_bounds-symbol-items-count g c = within_body (symbol_of g.T.IndexStorage.number) c.prod.result.now _ c.args.from c.prod.ensures.body c.requires.place
+
+pub offset_bounds-prod-from : goal.offset_bounds-prod-from
+offset_bounds-prod-from g c = within_body (symbol_of g.T.IndexStorage.number) c.prod.result.now _ c.args.from c.prod.ensures.body c.requires.place
+
+pub offset_bounds-symbol-items-symbol-index : goal.offset_bounds-symbol-items-symbol-index
+offset_bounds-symbol-items-symbol-index g c = c.loop-symbol.auto.symbol-index-end
+
+pub bounds-symbol-items-symbol-index : goal.bounds-symbol-items-symbol-index
+bounds-symbol-items-symbol-index g c = c.loop-symbol-test.true
+
+pub returns-in-None-clause-changed : goal.returns-in-None-clause-changed
+returns-in-None-clause-changed g c = c.loop-symbol.invariant.grown
+
+pub prod-requires : goal.prod-requires
+prod-requires g c = c.requires.production
+
+pub firsts-requires : goal.firsts-requires
+firsts-requires g c =
+    let number = g.T.IndexStorage.number in
+    let left = left_at (symbol_of number) _ c.loop-symbol.symbol-index c.symbol-item.result _ c.loop-symbol-test.true c.symbol-item.is c.in-Rule.is in
+    let symbols = rw left at c.loop-symbol.invariant.symbols in
+    omega (arith, symbols.0, c.requires.of)
+
+pub or-changed-requires : goal.or-changed-requires
+or-changed-requires g c =
+    let number = g.T.IndexStorage.number in
+    let left = left_at (symbol_of number) _ c.loop-symbol.symbol-index c.symbol-item.result _ c.loop-symbol-test.true c.symbol-item.is c.in-Rule.is in
+    let symbols = rw left at c.loop-symbol.invariant.symbols in
+    rw c.firsts.ensures (c.requires.of.bits _ symbols.0.1) ∙ sym c.loop-symbol.invariant.len
