@@ -274,3 +274,15 @@ bits_beside rows b r n below f = ⊎_elim
     (λ (e : r ≡ b). rw (e, get_or-set_same rows b None None below) tt)
     (λ (d : r ≢ b). rw (get_or-set_other rows b r None None d) (bits_if (row_at rows r) n (f r)))
     (cases_eq r b)
+
+-- what is passed on to a row with no bit set is passed on to none
+pub passed_to_none :
+    (g : Grammar) (y : List Symbol) (ctx : Option (List Bool)) (n : ℕ) (v ahead : List Bool) → v ≡ replicate n false → ArePassedOn g y ctx (Some v) ahead
+    → ArePassedOn g y ctx None ahead
+passed_to_none g y ctx n v ahead e a = record {
+  len = a.len;
+  kept = λ t h. absurd h;
+  begins = a.begins;
+  inherit = a.inherit;
+  from = λ t h. elim (a.from t h) [ inl k ↦ absurd (clear_bits n t (rw e at k)) | inr k ↦ inr k ];
+}

@@ -1,3 +1,4 @@
+use borrow.Author.Count.{falls}
 use Rattle.std.proofs.Common.{◌≡◌, ◌-◌, ◌<◌, ◌∙◌, sym, ap, refl, arith, Some, length, map, take, drop}
 use Rattle.std.specs.Option.{option_copied}
 use Rattle.lrspec.specs.grammars.Grammar as math
@@ -130,3 +131,13 @@ or-changed-requires g c =
     let left = left_at (symbol_of number) _ c.loop-symbol.symbol-index c.symbol-item.result _ c.loop-symbol-test.true c.symbol-item.is c.in-Rule.is in
     let symbols = rw left at c.loop-symbol.invariant.symbols in
     rw c.firsts.ensures (c.requires.of.bits _ symbols.0.1) ∙ sym c.loop-symbol.invariant.len
+
+pub is_epsilon_set-requires : goal.is_epsilon_set-requires
+is_epsilon_set-requires g c =
+    let number = g.T.IndexStorage.number in
+    let left = left_at (symbol_of number) _ c.loop-symbol.symbol-index c.symbol-item.result _ c.loop-symbol-test.true c.symbol-item.is c.in-Rule.is in
+    let symbols = rw left at c.loop-symbol.invariant.symbols in
+    omega (arith, symbols.0, c.requires.of)
+
+pub loop-symbol-smaller : goal.loop-symbol-smaller
+loop-symbol-smaller g c = falls _ _ c.loop-symbol-test.true
