@@ -1,6 +1,7 @@
 -- The lemmas of this crate's proofs.
 -- lists
 pub mod Ranges
+pub mod Turns
 -- grammars
 pub mod ProductionLists
 pub mod LastTokens

@@ -1,5 +1,5 @@
 -- The productions of each rule in lists, one production more at a time.
-use Rattle.std.proofs.Common.{◌≡◌, ◌≢◌, ◌==◌, ℕ, suc, ◌+◌, ◌<◌, cond, List, [], ◌∷◌, ◌++◌, filter, length, map, get_or, Some, ap, sym, ◌∙◌, subst, ⊎_elim, arith}
+use Rattle.std.proofs.Common.{◌≡◌, ◌≢◌, ◌==◌, ℕ, suc, ◌+◌, ◌<◌, cond, List, [], ◌∷◌, ◌++◌, filter, length, map, get_or, Some, refl, ap, sym, ◌∙◌, subst, ⊎_elim, arith}
 use Rattle.std.specs.Prelude.{slice_get, All}
 use Rattle.std.specs.Option.{option_map}
 use Rattle.std.proofs.lemmas.Option.{slice_get-map, slice_get-get_or}
@@ -10,7 +10,7 @@ use Rattle.std.proofs.lemmas.Bool.{cases_eq, false_from_ne_true}
 use Rattle.std.proofs.lemmas.Bool.Decides.{Decides-eqb}
 use Rattle.std.proofs.lemmas.List.{map_push, append-nil}
 use Rattle.std.proofs.lemmas.List.Elements.{filter-append}
-use Rattle.lrspec.specs.grammars.Grammar.{Production, is_of_rule}
+use Rattle.lrspec.specs.grammars.Grammar.{Grammar, Symbol, Production, is_of_rule, body_of, body_or_none, IsOfRule, IsProductionOf}
 use Rattle.lrgrammar.specs.declared.idx.PIdx.{PIdx}
 use Rattle.lrgrammar.specs.StoredGrammar.{numbers_of, AreListsOf}
 use Rattle.lrgrammar.proofs.Ranges.{range_more}
@@ -64,6 +64,15 @@ lists_all number ps rules lists n e are =
 pub production_at : {X : Type 0} (f : X → Production) (xs : List X) (n : ℕ) (x : X) → n < length xs → x ≡ get_or xs n x → slice_get (map f xs) n ≡ Some (f x)
 production_at f xs n x within is =
     slice_get-map f xs n ∙ ap (option_map f) (slice_get-get_or xs n x within) ∙ ap (λ y. Some (f y)) (sym is)
+
+-- the body and the rule of a production in hand
+pub body_at : {X : Type 0} (f : X → Production) (g : Grammar) (xs : List X) (n m : ℕ) (x : X) (ys zs : List Symbol) → n < length xs → x ≡ get_or xs n x → n ≡ m → map f xs ≡ g.productions → ys ≡ zs → (f x).body ≡ zs → ys ≡ body_of g m
+body_at f g xs n m x ys zs within is at same left right =
+    left ∙ sym right ∙ ap body_or_none (sym (production_at f xs n x within is)) ∙ ap (λ k. body_or_none (slice_get (map f xs) k)) at ∙ ap (λ ps. body_or_none (slice_get ps m)) same
+
+pub rule_at : {X : Type 0} (f : X → Production) (g : Grammar) (xs : List X) (n m : ℕ) (x : X) → n < length xs → x ≡ get_or xs n x → n ≡ m → map f xs ≡ g.productions → IsProductionOf g m (f x).rule
+rule_at f g xs n m x within is at same =
+    subst (λ o. IsOfRule o (f x).rule) (sym (production_at f xs n x within is) ∙ ap (λ k. slice_get (map f xs) k) at ∙ ap (λ ps. slice_get ps m) same) refl
 
 -- the same of equal productions and as many rules
 pub lists_along : {T X : Type 0} (number : T → ℕ) (f : X → Production) (xs ys : List X) (n m : ℕ) (lists : List (Vec (PIdx T) Global)) → ys ≡ xs → n ≡ m → AreListsOf number (map f ys) n lists → AreListsOf number (map f xs) m lists
