@@ -1,7 +1,9 @@
--- A turn of a loop over a list, and its end.
-use Rattle.std.proofs.Common.{◌≡◌, ℕ, ◌+◌, ◌<◌, ◌≤◌, Bool, true, ◌&&◌, List, [], ◌∷◌, ◌++◌, length, map, get_or, take, drop, ap, sym, ◌∙◌, subst}
-use Rattle.std.specs.Prelude.{All}
-use Rattle.std.proofs.lemmas.List.{map_more, map_push, take_all, length_push, at_drop_more}
+-- A turn of a loop over a list, its end, and an element of a list.
+use Rattle.std.proofs.Common.{◌≡◌, ℕ, ◌+◌, ◌<◌, ◌≤◌, Bool, true, ◌&&◌, List, [], ◌∷◌, ◌++◌, length, map, get_or, take, drop, Some, ap, sym, ◌∙◌, subst, arith}
+use Rattle.std.specs.Prelude.{All, slice_get}
+use Rattle.std.specs.Option.{option_map}
+use Rattle.std.proofs.lemmas.Option.{slice_get-map, slice_get-get_or}
+use Rattle.std.proofs.lemmas.List.{length-map, map_more, map_push, take_all, length_push, at_drop_more}
 use Rattle.std.proofs.lemmas.List.Elements.{All-push}
 use Rattle.lrspec.specs.grammars.Grammar.{Symbol, Rule, Production, Grammar, AreBodySymbols}
 use Rattle.lrbits.specs.Bits.{bit}
@@ -41,3 +43,12 @@ set_behind v r left next b e t s = sym (ap (all_set v) e ∙ ap (λ k. k && all_
 
 pub symbols_behind : (g : Grammar) (s : Symbol) (left next : List Symbol) → left ≡ s ∷ next → AreBodySymbols g left → AreBodySymbols g next
 symbols_behind g s left next e a = (subst (AreBodySymbols g) e a).1
+
+-- a place in the other list is one in the list
+pub place_within : {X Y : Type 0} (f : X → Y) (xs : List X) (ys : List Y) (n m : ℕ) → map f xs ≡ ys → n ≡ m → m < length ys → n < length xs
+place_within f xs ys n m same at within = omega (arith, ap length same, length-map xs f)
+
+-- an element in hand, as another list has it that is made of the list
+pub element_at : {X Y : Type 0} (f : X → Y) (xs : List X) (n m : ℕ) (x : X) (y : Y) (ys : List Y) → n < length xs → x ≡ get_or xs n x → n ≡ m → y ≡ f x → map f xs ≡ ys → Some y ≡ slice_get ys m
+element_at f xs n m x y ys within is at made same =
+    ap (λ z. Some z) (made ∙ ap f is) ∙ sym (slice_get-map f xs n ∙ ap (option_map f) (slice_get-get_or xs n x within)) ∙ ap (λ k. slice_get (map f xs) k) at ∙ ap (λ zs. slice_get zs m) same

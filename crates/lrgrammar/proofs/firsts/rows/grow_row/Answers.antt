@@ -1,13 +1,10 @@
-use Rattle.std.proofs.Common.{◌≡◌, ℕ, ◌+◌, ◌<◌, ◌||◌, List, ◌∷◌, map, drop, length, get_or, ap, sym, ◌∙◌, arith}
-use Rattle.std.proofs.lemmas.List.{at_drop_more, drop_all}
+use Rattle.std.proofs.Common.{◌+◌, ◌||◌, map, drop, length, ap, sym, ◌∙◌, arith}
+use Rattle.std.proofs.lemmas.List.{drop_all}
 use Rattle.lrspec.specs.grammars.Grammar as math
 use Rattle.lrgrammar.specs.Symbols.{symbol_of}
+use Rattle.lrgrammar.proofs.Turns.{left_is}
 use Rattle.lrgrammar.proofs.BodyWalks.{fits_from_body, below_from_body, walked_none, walked_more, walked_stop, walked_all}
 use Rattle.lrgrammar.proofs.firsts.rows.grow_row.Goals as goal
-
--- the list from the place `i` on is its element there and the rest
-left_is : {X : Type 0} (f : X → math.Symbol) (xs : List X) (i : ℕ) (x : X) → i < length xs → x ≡ get_or xs i x → map f (drop i xs) ≡ f x ∷ map f (drop (i + 1) xs)
-left_is f xs i x h e = at_drop_more (map f) xs i x h ∙ ap (λ z. f z ∷ map f (drop (i + 1) xs)) (sym e)
 
 pub add_symbol-grown-requires-clause-to : goal.add_symbol-grown-requires-clause-to
 add_symbol-grown-requires-clause-to g c =

@@ -1,7 +1,8 @@
-use Rattle.std.proofs.Common.{◌<◌, length, map, refl, ap, arith}
+use Rattle.std.proofs.Common.{length, map, refl, ap, arith}
 use Rattle.std.proofs.lemmas.List.{length-map}
 use Rattle.lrgrammar.specs.Symbols.{symbol_of}
 use Rattle.lrgrammar.specs.StoredGrammar.{production_of}
+use Rattle.lrgrammar.proofs.Turns.{place_within}
 use Rattle.lrgrammar.proofs.ProductionLists.{body_at}
 use Rattle.lrgrammar.proofs.grammar.YaccGrammar.prod.Goals as goal
 
@@ -13,5 +14,6 @@ pub returns-clause-body : goal.returns-clause-body
 returns-clause-body g c =
     let number = g.T.IndexStorage.number in
     let prods = c.self.inside.prods.items in
-    let within : c.to_usize.result < length prods = omega (arith, c.requires, ap (λ m. length m.productions) c.self.view_is, length-map prods (production_of number), c.to_usize.ensures.number) in
-    body_at (production_of number) c.args.self.now prods c.to_usize.result (number c.args.pidx.0) c.index.result.now (map (symbol_of number) c.as_slice.result.now) (map (symbol_of number) c.index.result.now.body.items) within c.index.ensures c.to_usize.ensures.number (ap (λ m. m.productions) c.self.view_is) (ap (map (symbol_of number)) c.as_slice.ensures.value) refl
+    let same = ap (λ m. m.productions) c.self.view_is in
+    let within = place_within (production_of number) prods c.args.self.now.productions c.to_usize.result (number c.args.pidx.0) same c.to_usize.ensures.number c.requires in
+    body_at (production_of number) c.args.self.now prods c.to_usize.result (number c.args.pidx.0) c.index.result.now (map (symbol_of number) c.as_slice.result.now) (map (symbol_of number) c.index.result.now.body.items) within c.index.ensures c.to_usize.ensures.number same (ap (map (symbol_of number)) c.as_slice.ensures.value) refl

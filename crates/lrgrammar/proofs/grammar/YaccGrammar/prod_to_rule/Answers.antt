@@ -1,6 +1,7 @@
-use Rattle.std.proofs.Common.{◌<◌, length, ap, arith}
+use Rattle.std.proofs.Common.{length, ap, arith}
 use Rattle.std.proofs.lemmas.List.{length-map}
 use Rattle.lrgrammar.specs.StoredGrammar.{production_of}
+use Rattle.lrgrammar.proofs.Turns.{place_within}
 use Rattle.lrgrammar.proofs.ProductionLists.{rule_at}
 use Rattle.lrgrammar.proofs.grammar.YaccGrammar.prod_to_rule.Goals as goal
 
@@ -12,5 +13,6 @@ pub returns-clause-rule : goal.returns-clause-rule
 returns-clause-rule g c =
     let number = g.T.IndexStorage.number in
     let prods = c.self.inside.prods.items in
-    let within : c.to_usize.result < length prods = omega (arith, c.requires, ap (λ m. length m.productions) c.self.view_is, length-map prods (production_of number), c.to_usize.ensures.number) in
-    rule_at (production_of number) c.args.self.now prods c.to_usize.result (number c.args.pidx.0) c.index.result.now within c.index.ensures c.to_usize.ensures.number (ap (λ m. m.productions) c.self.view_is)
+    let same = ap (λ m. m.productions) c.self.view_is in
+    let within = place_within (production_of number) prods c.args.self.now.productions c.to_usize.result (number c.args.pidx.0) same c.to_usize.ensures.number c.requires in
+    rule_at (production_of number) c.args.self.now prods c.to_usize.result (number c.args.pidx.0) c.index.result.now within c.index.ensures c.to_usize.ensures.number same
