@@ -1,25 +1,35 @@
 //! What a graph answers of states that aren't there, and the number of a state.
 
 use crate::grammars::TERMS_AND_FACTORS;
-use crate::graphs::{grammar_and_graph, state, symbol};
+use crate::graphs::{grammar_and_graph, target};
+use lrgrammar::grammar::YaccGrammar;
 use lrgrammar::idx::IndexStorage;
+use lrgraphs::StateGraph;
 use std::alloc::Global;
 use std::process::Abort;
 use std::test::Fail;
+
+/// Whether an edge leads from that state on the symbol of that name.
+fn has_edge<T: IndexStorage>(
+    grm: &YaccGrammar<T>,
+    graph: &StateGraph<T>,
+    from: usize,
+    name: &str,
+) -> Result<bool, Fail> {
+    Ok(target(grm, graph, from, name)?.is_some())
+}
 
 /// No edge leads from a state that isn't there, or on a symbol before which no item of the state stands.
 fn edges_that_are_not_there<T: IndexStorage>(rt: &impl Abort, alloc: Global) -> Result<(), Fail> {
     let (grm, graph) = grammar_and_graph::<T>(alloc, TERMS_AND_FACTORS)?;
     for name in ["Expr", "Term", "Factor", "^", "-", "*", "id"] {
-        let on = symbol(&grm, name)?;
         for missing in [4, 9, 10, T::MAX] {
-            assert!(rt;
-                graph.edge(state(missing)?, on).is_none(),
-                "{missing} {name}"
-            );
+            let there = has_edge(&grm, &graph, missing, name)?;
+            assert!(rt; !there, "{missing} {name}");
         }
     }
-    assert!(rt; graph.edge(state(0)?, symbol(&grm, "Expr")?).is_some());
+    let there = has_edge(&grm, &graph, 0, "Expr")?;
+    assert!(rt; there);
     Ok(())
 }
 

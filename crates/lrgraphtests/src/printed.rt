@@ -7,19 +7,29 @@ use std::alloc::Global;
 use std::process::Abort;
 use std::test::Fail;
 
-/// The printed cores and the printed closed states of the graph of the text.
-fn prints<T: IndexStorage>(
+/// The printed cores of the graph of the text.
+fn prints_cores<T: IndexStorage>(
     rt: &impl Abort,
     alloc: Global,
     text: &str,
     cores: &str,
+) -> Result<(), Fail> {
+    let (grm, graph) = grammar_and_graph::<T>(alloc, text)?;
+    assert_eq!(rt; graph.pp_core_states(&grm)?.as_str(), cores);
+    assert_eq!(rt; graph.pp(&grm, true)?.as_str(), cores);
+    Ok(())
+}
+
+/// The printed closed states of the graph of the text.
+fn prints_closed<T: IndexStorage>(
+    rt: &impl Abort,
+    alloc: Global,
+    text: &str,
     closed: &str,
 ) -> Result<(), Fail> {
     let (grm, graph) = grammar_and_graph::<T>(alloc, text)?;
-    assert_eq!(rt; graph.pp_core_states(&grm)?.as_str(), cores, "{text}");
-    assert_eq!(rt; graph.pp(&grm, true)?.as_str(), cores, "{text}");
-    assert_eq!(rt; graph.pp_closed_states(&grm)?.as_str(), closed, "{text}");
-    assert_eq!(rt; graph.pp(&grm, false)?.as_str(), closed, "{text}");
+    assert_eq!(rt; graph.pp_closed_states(&grm)?.as_str(), closed);
+    assert_eq!(rt; graph.pp(&grm, false)?.as_str(), closed);
     Ok(())
 }
 
@@ -48,7 +58,8 @@ fn small_graphs<T: IndexStorage>(rt: &impl Abort, alloc: Global) -> Result<(), F
                 2: [S -> S 'a' ., {'a', '$'}]",
         ),
     ] {
-        prints::<T>(rt, alloc, text, cores, closed)?;
+        prints_cores::<T>(rt, alloc, text, cores)?;
+        prints_closed::<T>(rt, alloc, text, closed)?;
     }
     Ok(())
 }

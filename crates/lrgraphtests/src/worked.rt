@@ -55,6 +55,21 @@ fn has_closed_states<T: IndexStorage>(
     Ok(())
 }
 
+/// The graph of the text has so many states and edges, and begins with state 0.
+fn has_sizes<T: IndexStorage>(
+    rt: &impl Abort,
+    alloc: Global,
+    text: &str,
+    states: usize,
+    edges: usize,
+) -> Result<(), Fail> {
+    let (_grm, graph) = grammar_and_graph::<T>(alloc, text)?;
+    assert_eq!(rt; usize::from(graph.all_states_len()), states, "{text}");
+    assert_eq!(rt; graph.all_edges_len(), edges, "{text}");
+    assert_eq!(rt; usize::from(graph.start_state()), 0);
+    Ok(())
+}
+
 /// The numbers of states and edges.
 fn sizes<T: IndexStorage>(rt: &impl Abort, alloc: Global) -> Result<(), Fail> {
     for (text, states, edges) in [
@@ -69,10 +84,7 @@ fn sizes<T: IndexStorage>(rt: &impl Abort, alloc: Global) -> Result<(), Fail> {
         (BRACKETS, 7, 9),
         (NESTED_STATES, 10, 10),
     ] {
-        let (_grm, graph) = grammar_and_graph::<T>(alloc, text)?;
-        assert_eq!(rt; usize::from(graph.all_states_len()), states, "{text}");
-        assert_eq!(rt; graph.all_edges_len(), edges, "{text}");
-        assert_eq!(rt; usize::from(graph.start_state()), 0, "{text}");
+        has_sizes::<T>(rt, alloc, text, states, edges)?;
     }
     Ok(())
 }
