@@ -36,18 +36,18 @@ closed_at ss k = draft_closed (slice_get ss k)
 abbrev pub edge_from : List Draft → ℕ → Symbol → Option ℕ
 edge_from ss k x = edge_at (draft_edges (slice_get ss k)) x
 
--- the states with `c` as the closed state of the state `k`
+-- the states, of which `k` has the closed state `c`
 abbrev pub with_closed : List Draft → ℕ → Items → List Draft
 with_closed [] k c = []
 with_closed (s ∷ ss) zero c = record { core = s.core; closed = Some c; edges = s.edges } ∷ ss
 with_closed (s ∷ ss) (suc k) c = s ∷ with_closed ss k c
 
--- so they stand unless the core of the state `k` grew, for which `c` is out of date then
+-- the same, but where the core of `k` has grown: it is to be closed again then
 abbrev pub closed_unless : Bool → List Draft → ℕ → Items → List Draft
 closed_unless true ss k c = ss
 closed_unless false ss k c = with_closed ss k c
 
--- whether lookaheads came to a core, by which the item set `b` comes of `a`
+-- `grew` says whether a core that was `a` and is `b` looks at more
 abbrev pub HasGrown : Bool → Items → Items → Type 0
 HasGrown grew a b =
     (grew ≡ true → Gains a b) × (grew ≡ false → (p d t : ℕ) → LooksIn b p d t → LooksIn a p d t)
