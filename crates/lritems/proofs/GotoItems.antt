@@ -1,5 +1,5 @@
 -- the items of a goto that isn't made
-use Rattle.std.proofs.Common.{Ordering, ◌≡◌, ℕ, ◌+◌, ◌<◌, ◌≤◌, Bool, true, false, ◌&&◌, List, [], ◌∷◌, ◌++◌, Some, map, drop, length, get_or, refl, sym, ap, ◌∙◌, append_assoc, add-one, drop-cons, arith}
+use Rattle.std.proofs.Common.{Ordering, ◌≡◌, ℕ, ◌+◌, ◌<◌, ◌≤◌, Bool, true, false, not, ◌&&◌, List, [], ◌∷◌, ◌++◌, Some, map, drop, length, get_or, refl, sym, ap, ◌∙◌, append_assoc, add-one, drop-cons, arith}
 use Rattle.std.specs.Prelude.{slice_get, IsTrue, ◌↔◌}
 use Rattle.std.specs.BTreeMap.{insert_entry}
 use Rattle.std.specs.Ordering.{nat_cmp}
@@ -23,6 +23,34 @@ same_numbers number eq same j k h =
     let b = and_parts (eq j.0.0 k.0.0) (eq j.1.0 k.1.0) (sym h) in
     ((same j.0.0 k.0.0).0 b.0, (same j.1.0 k.1.0).0 b.1)
 
+not_no : (b : Bool) → false ≡ not b → true ≡ b
+not_no true h = refl
+not_no false h = cc
+
+not_yes : (b : Bool) → true ≡ not b → b ≡ true → ⊥
+not_yes true h e = cc
+not_yes false h e = cc
+
+-- the numbers of a key
+abbrev pub numbers_of : {T : Type 0} → (T → ℕ) → Key T → ℕ × ℕ
+numbers_of number k = (number k.0.0, number k.1.0)
+
+-- the numbers of two keys, by the test that says whether they differ
+pub same_pairs :
+    {T : Type 0} (number : T → ℕ) (eq : T → T → Bool) → ((x y : T) → IsTrue (eq x y) ↔ (number x ≡ number y)) → (j k : Key T)
+    → false ≡ not (eq j.0.0 k.0.0 && eq j.1.0 k.1.0) → numbers_of number j ≡ numbers_of number k
+same_pairs number eq same j k h =
+    let n = same_numbers number eq same j k (not_no (eq j.0.0 k.0.0 && eq j.1.0 k.1.0) h) in
+    rw (n.0, n.1) refl
+
+pub other_pairs :
+    {T : Type 0} (number : T → ℕ) (eq : T → T → Bool) → ((x y : T) → IsTrue (eq x y) ↔ (number x ≡ number y)) → (j k : Key T)
+    → true ≡ not (eq j.0.0 k.0.0 && eq j.1.0 k.1.0) → numbers_of number j ≡ numbers_of number k → ⊥
+other_pairs number eq same j k h e =
+    let p : eq j.0.0 k.0.0 ≡ true = (same j.0.0 k.0.0).1 (ap (λ x. x.0) e) in
+    let q : eq j.1.0 k.1.0 ≡ true = (same j.1.0 k.1.0).1 (ap (λ x. x.1) e) in
+    not_yes (eq j.0.0 k.0.0 && eq j.1.0 k.1.0) h (rw (p, q) refl)
+
 -- item sets that are the same agree
 pub agree_from_same : (a b : Items) → a ≡ b → IsTrue true ↔ Agree a b
 agree_from_same a b e = (λ h p d. ap (λ c. item_at c p d) e, λ h. refl)
@@ -33,15 +61,15 @@ apart_from_other a b u w n =
     (λ h. cc, λ h. absurd (n (same_from_agree a b (ascending_from_upwards a u) (ascending_from_upwards b w) h)))
 
 -- a walk in step is at equal items
-pub same_turn : (a b c d : Items) (e f : (ℕ × ℕ) × List Bool) → e ≡ f → ((a ≡ b) ↔ (f ∷ c ≡ e ∷ d)) → (a ≡ b) ↔ (c ≡ d)
+pub same_turn : {X : Type 0} (a b c d : List X) (e f : X) → e ≡ f → ((a ≡ b) ↔ (f ∷ c ≡ e ∷ d)) → (a ≡ b) ↔ (c ≡ d)
 same_turn a b c d e f s h = (λ i. let j : f ∷ c ≡ e ∷ d = h.0 i in cc, λ i. h.1 cc)
 
 -- it is at others
-pub other_turn : (a b c d : Items) (e f : (ℕ × ℕ) × List Bool) → (e ≡ f → ⊥) → ((a ≡ b) ↔ (f ∷ c ≡ e ∷ d)) → a ≡ b → ⊥
+pub other_turn : {X : Type 0} (a b c d : List X) (e f : X) → (e ≡ f → ⊥) → ((a ≡ b) ↔ (f ∷ c ≡ e ∷ d)) → a ≡ b → ⊥
 other_turn a b c d e f n h i = let j : f ∷ c ≡ e ∷ d = h.0 i in n cc
 
 -- or at the end of one alone
-pub early_end : (a b c d : Items) (e : (ℕ × ℕ) × List Bool) → c ≡ [] → ((a ≡ b) ↔ (c ≡ e ∷ d)) → a ≡ b → ⊥
+pub early_end : {X : Type 0} (a b c d : List X) (e : X) → c ≡ [] → ((a ≡ b) ↔ (c ≡ e ∷ d)) → a ≡ b → ⊥
 early_end a b c d e n h i = let j : c ≡ e ∷ d = h.0 i in let k : [] ≡ e ∷ d = sym n ∙ j in cc
 
 pub all_passed : {X : Type 0} (es : List X) (n m : ℕ) → length es + n ≡ m → m ≤ n → es ≡ []

@@ -60,13 +60,13 @@ precedes_then j k l (inl h) (inr i) = inl (omega (arith, h, i))
 precedes_then j k l (inr h) (inl i) = inl (omega (arith, h, i))
 precedes_then j k l (inr h) (inr i) = inr (h.0 ∙ i.0, omega (arith, h.1, i.1))
 
-not_both : (j k : ℕ × ℕ) → Precedes j k → Precedes k j → ⊥
+pub not_both : (j k : ℕ × ℕ) → Precedes j k → Precedes k j → ⊥
 not_both j k (inl h) (inl i) = omega (arith, h, i)
 not_both j k (inl h) (inr i) = omega (arith, h, i)
 not_both j k (inr h) (inl i) = omega (arith, h, i)
 not_both j k (inr h) (inr i) = omega (arith, h, i)
 
-apart_before : (j k : ℕ × ℕ) → Precedes j k → Apart k.0 k.1 j.0 j.1
+pub apart_before : (j k : ℕ × ℕ) → Precedes j k → Apart k.0 k.1 j.0 j.1
 apart_before j k (inl h) s t = omega (arith, h, s)
 apart_before j k (inr h) s t = omega (arith, h, t)
 
@@ -100,29 +100,35 @@ absent_behind : (a : Items) (k : ℕ × ℕ) → AllBehind k a → item_at a k.0
 absent_behind [] k h = refl
 absent_behind (e ∷ es) k h = rw (apart_test k.0 k.1 e.0.0 e.0.1 (apart_behind k e.0 h.0)) (absent_behind es k h.1)
 
-behind_from_has : (a : Items) (k : ℕ × ℕ) (p d : ℕ) → AllBehind k a → HasItem a p d → Precedes k (p, d)
+pub behind_from_has : (a : Items) (k : ℕ × ℕ) (p d : ℕ) → AllBehind k a → HasItem a p d → Precedes k (p, d)
 behind_from_has [] k p d h i = cc
 behind_from_has (e ∷ es) k p d h i = elim (first_or_rest e.0.0 e.0.1 e.1 es p d i) [
   | inl s ↦ rw (s.0, s.1) h.0
   | inr j ↦ behind_from_has es k p d h.1 j
 ]
 
-first_here : (e : (ℕ × ℕ) × List Bool) (es : Items) → item_at (e ∷ es) e.0.0 e.0.1 ≡ Some e.1
+pub first_here : (e : (ℕ × ℕ) × List Bool) (es : Items) → item_at (e ∷ es) e.0.0 e.0.1 ≡ Some e.1
 first_here e es = rw (test_itself e.0.0 e.0.1) refl
 
--- the first items of two that agree are the same
+-- the first items of two are the same where each has that of the other
+pub first_of_both :
+    (e f : (ℕ × ℕ) × List Bool) (es fs : Items) → AllBehind e.0 es → AllBehind f.0 fs → HasItem (f ∷ fs) e.0.0 e.0.1 → HasItem (e ∷ es) f.0.0 f.0.1
+    → (f.0.0 ≡ e.0.0) × (f.0.1 ≡ e.0.1)
+first_of_both e f es fs h k mine theirs = elim (first_or_rest f.0.0 f.0.1 f.1 fs e.0.0 e.0.1 mine) [
+  | inl s ↦ (sym s.0, sym s.1)
+  | inr i ↦ elim (first_or_rest e.0.0 e.0.1 e.1 es f.0.0 f.0.1 theirs) [
+    | inl s ↦ s
+    | inr j ↦ absurd (not_both f.0 e.0 (behind_from_has fs f.0 e.0.0 e.0.1 k i) (behind_from_has es e.0 f.0.0 f.0.1 h j))
+  ]
+]
+
+-- so they are in two that agree
 same_first :
     (e f : (ℕ × ℕ) × List Bool) (es fs : Items) → AllBehind e.0 es → AllBehind f.0 fs → Agree (e ∷ es) (f ∷ fs) → (f.0.0 ≡ e.0.0) × (f.0.1 ≡ e.0.1)
 same_first e f es fs h k a =
     let mine : HasItem (f ∷ fs) e.0.0 e.0.1 = rw (← a e.0.0 e.0.1, first_here e es) refl in
     let theirs : HasItem (e ∷ es) f.0.0 f.0.1 = rw (a f.0.0 f.0.1, first_here f fs) refl in
-    elim (first_or_rest f.0.0 f.0.1 f.1 fs e.0.0 e.0.1 mine) [
-      | inl s ↦ (sym s.0, sym s.1)
-      | inr i ↦ elim (first_or_rest e.0.0 e.0.1 e.1 es f.0.0 f.0.1 theirs) [
-        | inl s ↦ s
-        | inr j ↦ absurd (not_both f.0 e.0 (behind_from_has fs f.0 e.0.0 e.0.1 k i) (behind_from_has es e.0 f.0.0 f.0.1 h j))
-      ]
-    ]
+    first_of_both e f es fs h k mine theirs
 
 -- items that come upwards are the same where they agree
 pub same_from_agree : (a b : Items) → AreAscending a → AreAscending b → Agree a b → a ≡ b

@@ -16,6 +16,7 @@ pub mod LeastItems
 pub mod ItemsUpwards
 pub mod ItemsAscending
 pub mod GotoItems
+pub mod WalksInStep
 -- printing
 pub mod PrintedNames
 pub mod JoinedTexts

@@ -1,5 +1,5 @@
 -- words for weak compatibility by bits, and for what merging changes
-use Rattle.std.specs.Prelude.{ℕ, Bool, List, ◌⊎◌}
+use Rattle.std.specs.Prelude.{◌≡◌, ℕ, Bool, List, map, ◌⊎◌}
 use Rattle.lrspec.specs.grammars.ItemSets.{Items, HasItem, LooksIn}
 use Rattle.lrspec.specs.merging.WeakCompatibility.{Passes}
 use Rattle.lrbits.specs.Bits.{Intersect}
@@ -8,6 +8,10 @@ use Rattle.lritems.specs.ItemsOf.{HaveBits}
 -- all items of both item sets have one number of bits
 abbrev pub HaveEquallyManyBits : Items → Items → Type 0
 HaveEquallyManyBits a b = (n : ℕ) × HaveBits n a × HaveBits n b
+
+-- both lists have the same items in the same order, whatever their bits
+abbrev pub HaveSameKeys : Items → Items → Type 0
+HaveSameKeys a b = map (λ e. e.0) a ≡ map (λ e. e.0) b
 
 -- two items pass, by their bits: those of the first and the second in the one item set, and then
 -- in the other

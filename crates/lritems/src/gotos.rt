@@ -18,7 +18,7 @@ use std::collections::BTreeMap;
 /// A goto that isn't made: its items, upwards, each with its lookaheads in the item set that it is a goto of.
 #[derive(Drop)]
 pub struct Goto<'a, T: IndexStorage> {
-    items: Vec<((PIdx<T>, SIdx<T>), &'a Ctx)>,
+    pub(crate) items: Vec<((PIdx<T>, SIdx<T>), &'a Ctx)>,
 }
 
 /// Whether an item of a goto is an item of an item set, with the same lookaheads.

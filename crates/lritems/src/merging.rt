@@ -2,12 +2,14 @@
 
 ghost use Rattle.std.specs.Prelude.{◌≡◌, ◌≢◌, ℕ, true, false, [], length, Some, IfNone, IfSome, option_map, IsTrue, IsSomeAnd, ◌↔◌};
 ghost use Rattle.lrspec.specs.grammars.Grammar.{Grammar};
-ghost use Rattle.lrspec.specs.grammars.ItemSets.{item_at, HasItem, Fits};
+ghost use Rattle.lrspec.specs.grammars.ItemSets.{item_at, HasItem, Fits, AreUpwards};
 ghost use Rattle.lrspec.specs.merging.WeakCompatibility.{SameItems, Apart, IsWeaklyCompatible, Clash, IsUnion};
 ghost use Rattle.lritems.specs.ItemsOf.{set_of, look_up, joined, HaveBits, Agree};
 ghost use Rattle.lritems.specs.LeastItem.{least_item};
-ghost use Rattle.lritems.specs.Merging.{HaveEquallyManyBits, BitsPass, BitsClash, PassesWithAll, Gains};
+ghost use Rattle.lritems.specs.Gotos.{goto_of};
+ghost use Rattle.lritems.specs.Merging.{HaveEquallyManyBits, HaveSameKeys, BitsPass, BitsClash, PassesWithAll, Gains};
 
+use crate::gotos::Goto;
 use crate::itemset::{Ctx, Itemset};
 use lrgrammar::idx::{IndexStorage, PIdx, SIdx};
 
@@ -23,13 +25,21 @@ pub fn first_item<T: IndexStorage>(set: &Itemset<T>) -> Option<(PIdx<T>, SIdx<T>
     Some((key.0, key.1))
 }
 
-/// Whether each item of `a` is one of `b`.
-fn has_all<T: IndexStorage>(a: &Itemset<T>, b: &Itemset<T>) -> bool
-    ensures { IsTrue result
-        ↔ ((p d : ℕ) → HasItem (set_of T.number a.now) p d → HasItem (set_of T.number b.now) p d) }
+/// Whether a goto has the items of an item set and no others, in the same order, whatever their lookaheads.
+fn has_same_items<T: IndexStorage>(a: &Itemset<T>, b: &Goto<T>) -> bool
+    ensures same { IsTrue result
+        ↔ HaveSameKeys (set_of T.number a.now) (goto_of T.number b.now) }
+    ensures upwards { AreUpwards (set_of T.number a.now) }
 {
-    for (key, _) in &a.items {
-        if !b.items.contains_key(key) {
+    if a.items.len() != b.items.len() {
+        return false;
+    }
+    let mut entries = a.items.iter();
+    for (mine, _) in &b.items {
+        let Some((key, _)) = entries.next() else {
+            return false;
+        };
+        if mine != key {
             return false;
         }
     }
@@ -50,54 +60,59 @@ fn pair_passes(a_i: &Ctx, a_j: &Ctx, b_i: &Ctx, b_j: &Ctx) -> bool
     a_i.intersects(a_j) || b_i.intersects(b_j)
 }
 
-/// Whether an item passes with each item that both item sets have. With itself it does.
-fn passes_with_all<T: IndexStorage>(
-    a: &Itemset<T>,
-    b: &Itemset<T>,
-    key: &(PIdx<T>, SIdx<T>),
-    a_i: &Ctx,
-    b_i: &Ctx,
-) -> bool
-    requires first { look_up T.number a.now key.now.0 key.now.1 ≡ Some a_i.now }
-    requires second { look_up T.number b.now key.now.0 key.now.1 ≡ Some b_i.now }
+/// Whether an item passes with each item, by its lookaheads in the item set and in the goto, which have the same items.
+/// With itself it does.
+fn passes_with_all<T: IndexStorage>(a: &Itemset<T>, b: &Goto<T>, a_i: &Ctx, b_i: &Ctx) -> bool
+    requires items { HaveSameKeys (set_of T.number a.now) (goto_of T.number b.now) }
+    requires upwards { AreUpwards (goto_of T.number b.now) }
     requires bits { HaveBits (length a_i.now) (set_of T.number a.now) }
-    requires other_bits { HaveBits (length a_i.now) (set_of T.number b.now) }
-    ensures yes { IsTrue result
-        → PassesWithAll (set_of T.number a.now) (set_of T.number b.now)
-        (T.number key.now.0.0) (T.number key.now.1.0) }
-    ensures no { result ≡ false → Clash (set_of T.number a.now) (set_of T.number b.now) }
+    requires other_bits { HaveBits (length a_i.now) (goto_of T.number b.now) }
+    requires long { length b_i.now ≡ length a_i.now }
+    ensures yes { IsTrue result → (p d : ℕ)
+        → item_at (set_of T.number a.now) p d ≡ Some a_i.now
+        → item_at (goto_of T.number b.now) p d ≡ Some b_i.now
+        → PassesWithAll (set_of T.number a.now) (goto_of T.number b.now) p d }
+    ensures no { result ≡ false → (p d : ℕ)
+        → item_at (set_of T.number a.now) p d ≡ Some a_i.now
+        → item_at (goto_of T.number b.now) p d ≡ Some b_i.now
+        → Clash (set_of T.number a.now) (goto_of T.number b.now) }
 {
-    for (other, a_j) in &a.items {
-        // Nothing needs to be looked up for items that share a token in `a`, as most do that are many.
+    let mut entries = a.items.iter();
+    for (_, b_j) in &b.items {
+        let Some((_, a_j)) = entries.next() else {
+            return false;
+        };
+        // Items that share a token in `a` pass, as most do that are many.
         if a_i.intersects(a_j) {
             continue;
         }
-        if let Some(b_j) = b.items.get(other) {
-            if !pair_passes(a_i, a_j, b_i, b_j) {
-                return false;
-            }
+        if !pair_passes(a_i, a_j, b_i, b_j) {
+            return false;
         }
     }
     true
 }
 
-/// Whether the item sets may be merged: they have the same items, and of every two items no token of the one in `a`
-/// is one of the other in `b`, or they share a token in `a`, or in `b`.
-pub fn weakly_compatible<T: IndexStorage>(a: &Itemset<T>, b: &Itemset<T>) -> bool
-    requires { HaveEquallyManyBits (set_of T.number a.now) (set_of T.number b.now) }
+/// Whether the goto may be merged into the item set: they have the same items, and of every two items no token of the
+/// one in `a` is one of the other in `b`, or they share a token in `a`, or in `b`.
+pub fn weakly_compatible<T: IndexStorage>(a: &Itemset<T>, b: &Goto<T>) -> bool
+    requires bits { HaveEquallyManyBits (set_of T.number a.now) (goto_of T.number b.now) }
+    requires upwards { AreUpwards (goto_of T.number b.now) }
     ensures compatible { IsTrue result
-        ↔ IsWeaklyCompatible (set_of T.number a.now) (set_of T.number b.now) }
-    ensures clash { result ≡ false → SameItems (set_of T.number a.now) (set_of T.number b.now)
-        → Clash (set_of T.number a.now) (set_of T.number b.now) }
+        ↔ IsWeaklyCompatible (set_of T.number a.now) (goto_of T.number b.now) }
+    ensures clash { result ≡ false → SameItems (set_of T.number a.now) (goto_of T.number b.now)
+        → Clash (set_of T.number a.now) (goto_of T.number b.now) }
 {
-    if !has_all(a, b) || !has_all(b, a) {
+    if !has_same_items(a, b) {
         return false;
     }
-    for (key, a_i) in &a.items {
-        if let Some(b_i) = b.items.get(key) {
-            if !passes_with_all(a, b, key, a_i, b_i) {
-                return false;
-            }
+    let mut entries = a.items.iter();
+    for (_, b_i) in &b.items {
+        let Some((_, a_i)) = entries.next() else {
+            return false;
+        };
+        if !passes_with_all(a, b, a_i, b_i) {
+            return false;
         }
     }
     true
@@ -119,11 +134,13 @@ fn merge_at<T: IndexStorage>(set: &mut Itemset<T>, pidx: PIdx<T>, dot: SIdx<T>, 
     }
 }
 
-/// Makes the item set the union of both, which have the same items, and says whether that changed it. Takes no memory.
-pub fn weakly_merge<T: IndexStorage>(set: &mut Itemset<T>, other: &Itemset<T>) -> bool
-    requires items { SameItems (set_of T.number set.old) (set_of T.number other.now) }
-    requires bits { HaveEquallyManyBits (set_of T.number set.old) (set_of T.number other.now) }
-    ensures union { IsUnion (set_of T.number set.old) (set_of T.number other.now)
+/// Makes the item set its union with the goto, which has the same items, and says whether that changed it. Takes no
+/// memory.
+pub fn weakly_merge<T: IndexStorage>(set: &mut Itemset<T>, other: &Goto<T>) -> bool
+    requires items { SameItems (set_of T.number set.old) (goto_of T.number other.now) }
+    requires bits { HaveEquallyManyBits (set_of T.number set.old) (goto_of T.number other.now) }
+    requires upwards { AreUpwards (goto_of T.number other.now) }
+    ensures union { IsUnion (set_of T.number set.old) (goto_of T.number other.now)
         (set_of T.number set.new) }
     ensures fits { (g : Grammar) → Fits g (set_of T.number set.old)
         → Fits g (set_of T.number set.new) }

@@ -3,15 +3,17 @@
 ghost use Rattle.std.specs.Prelude.{◌≡◌, ℕ, [], Some, None, IsTrue, ◌↔◌, ◌⊎◌, IsSome, OnOk, if◌then◌else◌};
 ghost use Rattle.lrspec.specs.grammars.Grammar as math;
 ghost use Rattle.lrspec.specs.grammars.Grammar.{Grammar};
-ghost use Rattle.lrspec.specs.grammars.ItemSets.{LooksIn, Fits};
+ghost use Rattle.lrspec.specs.grammars.ItemSets.{LooksIn, Fits, AreUpwards};
 ghost use Rattle.lrspec.specs.merging.WeakCompatibility.{SameItems, IsUnion};
 ghost use Rattle.lrspec.specs.merging.Graph.{same_symbol, edge_at};
 ghost use Rattle.lrgrammar.specs.Symbols.{symbol_of};
 ghost use Rattle.lritems.specs.ItemsOf.{set_of};
+ghost use Rattle.lritems.specs.Gotos.{goto_of};
 ghost use Rattle.lrplacing.specs.Construction.{Gains, HasGrown};
 ghost use Rattle.lritems.specs.Merging.{HaveEquallyManyBits};
 
 use lrgrammar::idx::{IndexStorage, Symbol};
+use lritems::gotos::Goto;
 use lritems::itemset::Itemset;
 use lritems::merging::weakly_merge;
 use std::alloc::{AllocError, Global};
@@ -88,12 +90,13 @@ impl<T: IndexStorage> Draft<T> {
     }
 
     /// Merges a goto into the core, and says whether that grew it: the state is then to be closed again.
-    pub(crate) fn merge(&mut self, goto: &Itemset<T>) -> bool
-        requires items { SameItems self.old.core (set_of T.number goto.now) }
-        requires bits { HaveEquallyManyBits self.old.core (set_of T.number goto.now) }
+    pub(crate) fn merge(&mut self, goto: &Goto<T>) -> bool
+        requires items { SameItems self.old.core (goto_of T.number goto.now) }
+        requires bits { HaveEquallyManyBits self.old.core (goto_of T.number goto.now) }
+        requires upwards { AreUpwards (goto_of T.number goto.now) }
         ensures edges { self.new.edges ≡ self.old.edges }
         ensures fits { (g : Grammar) → Fits g self.old.core → Fits g self.new.core }
-        ensures union { IsUnion self.old.core (set_of T.number goto.now) self.new.core }
+        ensures union { IsUnion self.old.core (goto_of T.number goto.now) self.new.core }
         ensures closed { (((p d t : ℕ) → LooksIn self.new.core p d t → LooksIn self.old.core p d t)
             × (self.new.closed ≡ self.old.closed))
             ⊎ ((self.new.closed ≡ None) × Gains self.old.core self.new.core) }

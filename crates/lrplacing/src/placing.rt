@@ -52,19 +52,20 @@ fn find_equal<T: IndexStorage>(
 fn find_compatible<T: IndexStorage>(
     drafts: &[Draft<T>],
     candidates: &[usize],
-    goto: &Itemset<T>,
+    goto: &Goto<T>,
 ) -> Option<usize>
     requires below { All (λ k. k < length drafts.now) candidates.now }
     requires bits { (k : ℕ) → k < length drafts.now
-        → HaveEquallyManyBits (core_at drafts.now k) (set_of T.number goto.now) }
+        → HaveEquallyManyBits (core_at drafts.now k) (goto_of T.number goto.now) }
+    requires upwards { AreUpwards (goto_of T.number goto.now) }
     ensures compatible { MatchOption result
-        (All (λ k. SameItems (core_at drafts.now k) (set_of T.number goto.now)
-        → Clash (core_at drafts.now k) (set_of T.number goto.now)) candidates.now)
+        (All (λ k. SameItems (core_at drafts.now k) (goto_of T.number goto.now)
+        → Clash (core_at drafts.now k) (goto_of T.number goto.now)) candidates.now)
         (λ k. (k < length drafts.now)
-        × IsWeaklyCompatible (core_at drafts.now k) (set_of T.number goto.now)) }
+        × IsWeaklyCompatible (core_at drafts.now k) (goto_of T.number goto.now)) }
     ensures first { MatchOption result
-        (HoldsOfNone (IsCompatible drafts.now (set_of T.number goto.now)) candidates.now)
-        (IsFirstWith (IsCompatible drafts.now (set_of T.number goto.now)) candidates.now) }
+        (HoldsOfNone (IsCompatible drafts.now (goto_of T.number goto.now)) candidates.now)
+        (IsFirstWith (IsCompatible drafts.now (goto_of T.number goto.now)) candidates.now) }
 {
     for k in candidates {
         if weakly_compatible(drafts[*k].core(), goto) {
@@ -92,15 +93,16 @@ fn link<T: IndexStorage>(
 }
 
 /// Merges the goto into the core of the state `k`, and says whether that grew it.
-fn merge_at<T: IndexStorage>(drafts: &mut Vec<Draft<T>>, k: usize, goto: &Itemset<T>) -> bool
+fn merge_at<T: IndexStorage>(drafts: &mut Vec<Draft<T>>, k: usize, goto: &Goto<T>) -> bool
     requires below { k < length drafts.old.items }
-    requires items { SameItems (core_at drafts.old.items k) (set_of T.number goto.now) }
-    requires bits { HaveEquallyManyBits (core_at drafts.old.items k) (set_of T.number goto.now) }
+    requires items { SameItems (core_at drafts.old.items k) (goto_of T.number goto.now) }
+    requires bits { HaveEquallyManyBits (core_at drafts.old.items k) (goto_of T.number goto.now) }
+    requires upwards { AreUpwards (goto_of T.number goto.now) }
     ensures len { length drafts.new.items ≡ length drafts.old.items }
     ensures others { (j : ℕ) → j ≢ k → slice_get drafts.new.items j ≡ slice_get drafts.old.items j }
     ensures edges { (y : math.Symbol)
         → edge_from drafts.new.items k y ≡ edge_from drafts.old.items k y }
-    ensures union { IsUnion (core_at drafts.old.items k) (set_of T.number goto.now)
+    ensures union { IsUnion (core_at drafts.old.items k) (goto_of T.number goto.now)
         (core_at drafts.new.items k) }
     ensures fits { (g : Grammar) → Fits g (core_at drafts.old.items k)
         → Fits g (core_at drafts.new.items k) }
@@ -195,13 +197,13 @@ fn place<T: IndexStorage>(
             grew: false,
         });
     }
-    let goto = goto.to_itemset(*drafts.allocator())?;
-    if let Some(k) = find_compatible(drafts.as_slice(), listed, &goto) {
-        let grew = merge_at(drafts, k, &goto);
+    if let Some(k) = find_compatible(drafts.as_slice(), listed, goto) {
+        let grew = merge_at(drafts, k, goto);
         link(drafts, from, symbol, k)?;
         return Ok(Placed { state: k, grew });
     }
-    let k = make(drafts, goto)?;
+    let core = goto.to_itemset(*drafts.allocator())?;
+    let k = make(drafts, core)?;
     candidates.add(first, k)?;
     link(drafts, from, symbol, k)?;
     Ok(Placed {

@@ -1,86 +1,101 @@
-use Rattle.std.proofs.Common.{◌≡◌, ◌∙◌, sym, ap, true, false, inr, ⊎_elim}
-use Rattle.std.specs.Option.{is_some}
+use Rattle.std.proofs.Common.{ap, inr, ⊎_elim}
 use Rattle.lrspec.specs.grammars.ItemSets.{HasItem}
 use Rattle.lrspec.specs.merging.WeakCompatibility.{Passes}
 use Rattle.lritems.specs.ItemsOf.{items_of}
-use Rattle.lrclosing.proofs.ItemKeys.{item_here}
+use Rattle.lritems.specs.Gotos.{goto_of}
+use Rattle.lritems.proofs.ItemsUpwards.{upwards_from_sorted}
+use Rattle.lritems.proofs.GotoItems.{left_shown, none_left}
 use Rattle.lritems.proofs.PassingPairs.{checked_next, passes_here, passes_sharing, clash_here}
-use Rattle.lrclosing.proofs.WalksOverItems.{found_all}
+use Rattle.lritems.proofs.WalksInStep.{AreNext, begin_in_step, next_in_step, not_early, both_end}
 use Rattle.lritems.proofs.merging.passes_with_all.Goals as goal
 
-pub loop-other-init : goal.loop-other-init
-loop-other-init g c =
-    let i = c.into_iter-other-iterator.ensures.into_iter_gives in
-    record {
-      found = rw i.0 (found_all g.T.IndexStorage.number g.T.Ord.cmp g.met.T.IndexStorage.ordered c.args.a.now.items.entries c.args.a.now.items.entries i.6);
-      checked = λ q e h. inr (rw i.0 h);
+pub loop-b_j-init : goal.loop-b_j-init
+loop-b_j-init g c =
+    let number = g.T.IndexStorage.number in
+    let upwards = upwards_from_sorted number g.T.Ord.cmp g.met.T.IndexStorage.ordered c.args.a.now.items.entries c.iter-entries.ensures.ordered in
+    rw c.iter-entries.ensures.rest record {
+      in_step = begin_in_step _ _ upwards c.requires.upwards c.requires.items;
+      checked = λ q e h. inr h;
     }
+
+pub returns-in_default-clause-no : goal.returns-in_default-clause-no
+returns-in_default-clause-no g c = λ _ _ _ _ _.
+    let number = g.T.IndexStorage.number in
+    let at = c.deref-b_j-items.ensures.value in
+    let left = left_shown number (λ r. r.now) c.args.b.now.items.items c.loop-b_j.b_j-index c.loop-b_j-item.result (rw at at c.loop-b_j-test.true) (rw at at c.loop-b_j-item.is) in
+    absurd (not_early _ _ _ _ _ (rw left at c.loop-b_j.invariant.in_step) (ap (λ es. items_of number es) c.in_default.ensures.steps.0))
+
+pub intersects-requires : goal.intersects-requires
+intersects-requires g c =
+    let number = g.T.IndexStorage.number in
+    let at = c.deref-b_j-items.ensures.value in
+    let left = left_shown number (λ r. r.now) c.args.b.now.items.items c.loop-b_j.b_j-index c.loop-b_j-item.result (rw at at c.loop-b_j-test.true) (rw at at c.loop-b_j-item.is) in
+    let turn = next_in_step _ _ _ _ _ _ (rw (c.in-Some.ensures.steps, left) at c.loop-b_j.invariant.in_step) in
+    c.requires.bits _ _ _ turn.0.here
+
+pub pair_passes-requires-clause-first : goal.pair_passes-requires-clause-first
+pair_passes-requires-clause-first g c =
+    let number = g.T.IndexStorage.number in
+    let at = c.deref-b_j-items.ensures.value in
+    let left = left_shown number (λ r. r.now) c.args.b.now.items.items c.loop-b_j.b_j-index c.loop-b_j-item.result (rw at at c.loop-b_j-test.true) (rw at at c.loop-b_j-item.is) in
+    let turn = next_in_step _ _ _ _ _ _ (rw (c.in-Some.ensures.steps, left) at c.loop-b_j.invariant.in_step) in
+    c.requires.bits _ _ _ turn.0.here
 
 pub pair_passes-requires-clause-third : goal.pair_passes-requires-clause-third
 pair_passes-requires-clause-third g c =
-    let here = item_here g.T.IndexStorage.number g.T.Ord.cmp g.met.T.IndexStorage.ordered c.args.b.now.items.entries c.in-Some.other.now in
-    c.requires.other_bits _ _ _ (sym here ∙ sym c.in-Some-get.ensures.value)
+    let number = g.T.IndexStorage.number in
+    let at = c.deref-b_j-items.ensures.value in
+    let left = left_shown number (λ r. r.now) c.args.b.now.items.items c.loop-b_j.b_j-index c.loop-b_j-item.result (rw at at c.loop-b_j-test.true) (rw at at c.loop-b_j-item.is) in
+    let turn = next_in_step _ _ _ _ _ _ (rw (c.in-Some.ensures.steps, left) at c.loop-b_j.invariant.in_step) in
+    c.requires.other_bits _ _ _ turn.0.there
 
 pub returns-then-not-pair_passes-clause-no : goal.returns-then-not-pair_passes-clause-no
-returns-then-not-pair_passes-clause-no g c = λ _.
+returns-then-not-pair_passes-clause-no g c = λ _ p d x y.
     let number = g.T.IndexStorage.number in
-    let found = rw c.in-Some.ensures.steps at c.loop-other.invariant.found in
-    let here = item_here number g.T.Ord.cmp g.met.T.IndexStorage.ordered c.args.b.now.items.entries c.in-Some.other.now in
-    clash_here (items_of number c.args.a.now.items.entries) (items_of number c.args.b.now.items.entries) (number c.args.key.now.0.0) (number c.args.key.now.1.0)
-    (number c.in-Some.other.now.0.0) (number c.in-Some.other.now.1.0) c.args.a_i.now c.in-Some.a_j.now c.args.b_i.now c.in-Some-get.b_j.now
-    c.requires.first found.0 c.requires.second (sym here ∙ sym c.in-Some-get.ensures.value) (c.pair_passes.ensures.no c.if-not-pair_passes.true)
+    let at = c.deref-b_j-items.ensures.value in
+    let left = left_shown number (λ r. r.now) c.args.b.now.items.items c.loop-b_j.b_j-index c.loop-b_j-item.result (rw at at c.loop-b_j-test.true) (rw at at c.loop-b_j-item.is) in
+    let turn = next_in_step _ _ _ _ _ _ (rw (c.in-Some.ensures.steps, left) at c.loop-b_j.invariant.in_step) in
+    clash_here (items_of number c.args.a.now.items.entries) (goto_of number c.args.b.now) p d _ _ c.args.a_i.now _ c.args.b_i.now _
+    x turn.0.here y turn.0.there (c.pair_passes.ensures.no c.if-not-pair_passes.true)
 
-pub loop-other-preserved-else-not-pair_passes : goal.loop-other-preserved-else-not-pair_passes
-loop-other-preserved-else-not-pair_passes g c =
+pub loop-b_j-preserved-then-intersects : goal.loop-b_j-preserved-then-intersects
+loop-b_j-preserved-then-intersects g c =
     let number = g.T.IndexStorage.number in
     let a = items_of number c.args.a.now.items.entries in
-    let b = items_of number c.args.b.now.items.entries in
-    let found = rw c.in-Some.ensures.steps at c.loop-other.invariant.found in
-    let checked = rw c.in-Some.ensures.steps at c.loop-other.invariant.checked in
-    let here = item_here number g.T.Ord.cmp g.met.T.IndexStorage.ordered c.args.b.now.items.entries c.in-Some.other.now in
-    let passes = passes_here a b (number c.args.key.now.0.0) (number c.args.key.now.1.0)
-    (number c.in-Some.other.now.0.0) (number c.in-Some.other.now.1.0) c.args.a_i.now c.in-Some.a_j.now c.args.b_i.now c.in-Some-get.b_j.now
-    c.requires.first found.0 c.requires.second (sym here ∙ sym c.in-Some-get.ensures.value) (c.pair_passes.ensures.yes c.if-not-pair_passes.false) in
+    let b = goto_of number c.args.b.now in
+    let at = c.deref-b_j-items.ensures.value in
+    let left = left_shown number (λ r. r.now) c.args.b.now.items.items c.loop-b_j.b_j-index c.loop-b_j-item.result (rw at at c.loop-b_j-test.true) (rw at at c.loop-b_j-item.is) in
+    let turn = next_in_step _ _ _ _ _ _ (rw (c.in-Some.ensures.steps, left) at c.loop-b_j.invariant.in_step) in
+    let checked = rw c.in-Some.ensures.steps at c.loop-b_j.invariant.checked in
     record {
-      found = found.1;
-      checked = checked_next (λ q e. HasItem b q e → Passes a b (number c.args.key.now.0.0) (number c.args.key.now.1.0) q e) a _ _ _ _ checked (λ _. passes);
+      in_step = turn.1;
+      checked = checked_next (λ q e. (p d : _) → AreNext a b p d c.args.a_i.now c.args.b_i.now → Passes a b p d q e) a _ _ _ _ checked
+          (λ p d n. passes_sharing a b p d _ _ c.args.a_i.now c.in-Some.a_j.now n.here turn.0.here (c.intersects.ensures.shared.0 c.if-intersects.true));
     }
 
-pub loop-other-preserved-then-intersects : goal.loop-other-preserved-then-intersects
-loop-other-preserved-then-intersects g c =
+pub loop-b_j-preserved : goal.loop-b_j-preserved
+loop-b_j-preserved g c =
     let number = g.T.IndexStorage.number in
     let a = items_of number c.args.a.now.items.entries in
-    let b = items_of number c.args.b.now.items.entries in
-    let found = rw c.in-Some.ensures.steps at c.loop-other.invariant.found in
-    let checked = rw c.in-Some.ensures.steps at c.loop-other.invariant.checked in
-    let passes = passes_sharing a b (number c.args.key.now.0.0) (number c.args.key.now.1.0)
-    (number c.in-Some.other.now.0.0) (number c.in-Some.other.now.1.0) c.args.a_i.now c.in-Some.a_j.now
-    c.requires.first found.0 (c.intersects.ensures.shared.0 c.if-intersects.true) in
+    let b = goto_of number c.args.b.now in
+    let at = c.deref-b_j-items.ensures.value in
+    let left = left_shown number (λ r. r.now) c.args.b.now.items.items c.loop-b_j.b_j-index c.loop-b_j-item.result (rw at at c.loop-b_j-test.true) (rw at at c.loop-b_j-item.is) in
+    let turn = next_in_step _ _ _ _ _ _ (rw (c.in-Some.ensures.steps, left) at c.loop-b_j.invariant.in_step) in
+    let checked = rw c.in-Some.ensures.steps at c.loop-b_j.invariant.checked in
     record {
-      found = found.1;
-      checked = checked_next (λ q e. HasItem b q e → Passes a b (number c.args.key.now.0.0) (number c.args.key.now.1.0) q e) a _ _ _ _ checked (λ _. passes);
-    }
-
-pub loop-other-preserved : goal.loop-other-preserved
-loop-other-preserved g c =
-    let number = g.T.IndexStorage.number in
-    let a = items_of number c.args.a.now.items.entries in
-    let b = items_of number c.args.b.now.items.entries in
-    let found = rw c.in-Some.ensures.steps at c.loop-other.invariant.found in
-    let checked = rw c.in-Some.ensures.steps at c.loop-other.invariant.checked in
-    let here = item_here number g.T.Ord.cmp g.met.T.IndexStorage.ordered c.args.b.now.items.entries c.in-Some.other.now in
-    record {
-      found = found.1;
-      checked = checked_next (λ q e. HasItem b q e → Passes a b (number c.args.key.now.0.0) (number c.args.key.now.1.0) q e) a _ _ _ _ checked
-          (λ y. let v = rw c.in_default.is at c.get.ensures.value in let k : false ≡ true = ap is_some (v ∙ here) ∙ y in cc);
+      in_step = turn.1;
+      checked = checked_next (λ q e. (p d : _) → AreNext a b p d c.args.a_i.now c.args.b_i.now → Passes a b p d q e) a _ _ _ _ checked
+          (λ p d n. passes_here a b p d _ _ c.args.a_i.now c.in-Some.a_j.now c.args.b_i.now _ n.here turn.0.here n.there turn.0.there (c.pair_passes.ensures.yes c.if-not-pair_passes.false));
     }
 
 pub returns-clause-yes : goal.returns-clause-yes
-returns-clause-yes g c = λ _ q e h k.
+returns-clause-yes g c = λ _ p d x y q e h _.
     let number = g.T.IndexStorage.number in
     let a = items_of number c.args.a.now.items.entries in
-    let b = items_of number c.args.b.now.items.entries in
+    let b = goto_of number c.args.b.now in
+    let none = none_left number (λ r. r.now) c.args.b.now.items.items c.loop-b_j.b_j-index (rw c.deref-b_j-items.ensures.value at c.loop-b_j-test.false) in
+    let end = both_end _ _ _ _ c.loop-b_j.invariant.in_step none in
     ⊎_elim
-    (λ (x : HasItem b q e → Passes a b (number c.args.key.now.0.0) (number c.args.key.now.1.0) q e). x k)
-    (λ (x : HasItem (items_of number c.loop-other.other-iterator) q e). let n = rw c.in-None.ensures.steps.0 at x in cc)
-    (c.loop-other.invariant.checked q e h)
+    (λ (f : (i j : _) → AreNext a b i j c.args.a_i.now c.args.b_i.now → Passes a b i j q e). f p d record { here = x; there = y })
+    (λ (k : HasItem (items_of number c.loop-b_j.entries) q e). let n = rw end at k in cc)
+    (c.loop-b_j.invariant.checked q e h)

@@ -1,72 +1,107 @@
-use Rattle.std.proofs.Common.{◌≡◌, ◌∙◌, sym, ap, true, false, inr, refl, ⊎_elim}
-use Rattle.std.specs.Option.{is_some}
+use Rattle.std.proofs.Common.{◌≡◌, ◌∙◌, sym, ap, false, inr, refl, ⊎_elim}
 use Rattle.lrspec.specs.grammars.ItemSets.{HasItem}
 use Rattle.lritems.specs.ItemsOf.{items_of}
+use Rattle.lritems.specs.Gotos.{goto_of}
 use Rattle.lritems.specs.Merging.{PassesWithAll}
-use Rattle.lrclosing.proofs.ItemKeys.{item_here}
+use Rattle.lritems.proofs.GotoItems.{left_shown, none_left}
 use Rattle.lritems.proofs.PassingPairs.{checked_next, clash_refutes}
-use Rattle.lrclosing.proofs.WalksOverItems.{found_all}
+use Rattle.lritems.proofs.WalksInStep.{begin_in_step, next_in_step, not_early, both_end, same_from_keys, keys_from_same, no_from}
 use Rattle.lritems.proofs.merging.weakly_compatible.Goals as goal
 
-pub loop-key-init : goal.loop-key-init
-loop-key-init g c =
-    let i = c.into_iter-key-iterator.ensures.into_iter_gives in
-    record {
-      same = λ p d. (c.has_all.ensures.0 c.if-not-has_all.false p d, c.has_all-else-not-has_all.ensures.0 c.if-not-has_all-2.false p d);
-      found = rw i.0 (found_all g.T.IndexStorage.number g.T.Ord.cmp g.met.T.IndexStorage.ordered c.args.a.now.items.entries c.args.a.now.items.entries i.6);
-      checked = λ p d h. inr (rw i.0 h);
+pub returns-then-not-has_same_items-clause-compatible : goal.returns-then-not-has_same_items-clause-compatible
+returns-then-not-has_same_items-clause-compatible g c =
+    let keys = keys_from_same _ _ c.has_same_items.ensures.upwards c.requires.upwards in
+    no_from _ (λ w. let k : false ≡ _ = sym c.if-not-has_same_items.true ∙ c.has_same_items.ensures.same.1 (keys w.items) in cc)
+
+pub returns-then-not-has_same_items-clause-clash : goal.returns-then-not-has_same_items-clause-clash
+returns-then-not-has_same_items-clause-clash g c = λ _ s.
+    let keys = keys_from_same _ _ c.has_same_items.ensures.upwards c.requires.upwards s in
+    let k : false ≡ _ = sym c.if-not-has_same_items.true ∙ c.has_same_items.ensures.same.1 keys in
+    cc
+
+pub loop-b_i-init : goal.loop-b_i-init
+loop-b_i-init g c =
+    rw c.iter-entries.ensures.rest record {
+      in_step = begin_in_step _ _ c.has_same_items.ensures.upwards c.requires.upwards (c.has_same_items.ensures.same.0 c.if-not-has_same_items.false);
+      checked = λ p d h. inr h;
     }
 
-pub passes_with_all-requires-clause-second : goal.passes_with_all-requires-clause-second
-passes_with_all-requires-clause-second g c =
-    let here = item_here g.T.IndexStorage.number g.T.Ord.cmp g.met.T.IndexStorage.ordered c.args.b.now.items.entries c.in-Some.key.now in
-    sym here ∙ sym c.in-Some-get.ensures.value
+pub returns-in_default-clause-compatible : goal.returns-in_default-clause-compatible
+returns-in_default-clause-compatible g c =
+    let number = g.T.IndexStorage.number in
+    let at = c.deref-b_i-items.ensures.value in
+    let left = left_shown number (λ r. r.now) c.args.b.now.items.items c.loop-b_i.b_i-index c.loop-b_i-item.result (rw at at c.loop-b_i-test.true) (rw at at c.loop-b_i-item.is) in
+    absurd (not_early _ _ _ _ _ (rw left at c.loop-b_i.invariant.in_step) (ap (λ es. items_of number es) c.in_default.ensures.steps.0))
+
+pub returns-in_default-clause-clash : goal.returns-in_default-clause-clash
+returns-in_default-clause-clash g c = λ _ _.
+    let number = g.T.IndexStorage.number in
+    let at = c.deref-b_i-items.ensures.value in
+    let left = left_shown number (λ r. r.now) c.args.b.now.items.items c.loop-b_i.b_i-index c.loop-b_i-item.result (rw at at c.loop-b_i-test.true) (rw at at c.loop-b_i-item.is) in
+    absurd (not_early _ _ _ _ _ (rw left at c.loop-b_i.invariant.in_step) (ap (λ es. items_of number es) c.in_default.ensures.steps.0))
+
+pub passes_with_all-requires : goal.passes_with_all-requires
+passes_with_all-requires g c =
+    let number = g.T.IndexStorage.number in
+    let at = c.deref-b_i-items.ensures.value in
+    let left = left_shown number (λ r. r.now) c.args.b.now.items.items c.loop-b_i.b_i-index c.loop-b_i-item.result (rw at at c.loop-b_i-test.true) (rw at at c.loop-b_i-item.is) in
+    let turn = next_in_step _ _ _ _ _ _ (rw (c.in-Some.ensures.steps, left) at c.loop-b_i.invariant.in_step) in
+    let bits = c.requires.bits in
+    let mine = bits.1 _ _ _ turn.0.here in
+    let other = bits.2 _ _ _ turn.0.there in
+    record {
+      items = c.has_same_items.ensures.same.0 c.if-not-has_same_items.false;
+      upwards = c.requires.upwards;
+      bits = λ p d v e. bits.1 p d v e ∙ sym mine;
+      other_bits = λ p d v e. bits.2 p d v e ∙ sym mine;
+      long = other ∙ sym mine;
+    }
 
 pub returns-then-not-passes_with_all-clause-compatible : goal.returns-then-not-passes_with_all-clause-compatible
 returns-then-not-passes_with_all-clause-compatible g c =
-    (λ h. cc, λ w. absurd (clash_refutes _ _ (c.passes_with_all.ensures.no c.if-not-passes_with_all.true) w))
+    let number = g.T.IndexStorage.number in
+    let at = c.deref-b_i-items.ensures.value in
+    let left = left_shown number (λ r. r.now) c.args.b.now.items.items c.loop-b_i.b_i-index c.loop-b_i-item.result (rw at at c.loop-b_i-test.true) (rw at at c.loop-b_i-item.is) in
+    let turn = next_in_step _ _ _ _ _ _ (rw (c.in-Some.ensures.steps, left) at c.loop-b_i.invariant.in_step) in
+    no_from _ (clash_refutes _ _ (c.passes_with_all.ensures.no c.if-not-passes_with_all.true _ _ turn.0.here turn.0.there))
 
 pub returns-then-not-passes_with_all-clause-clash : goal.returns-then-not-passes_with_all-clause-clash
-returns-then-not-passes_with_all-clause-clash g c = λ _ _. c.passes_with_all.ensures.no c.if-not-passes_with_all.true
+returns-then-not-passes_with_all-clause-clash g c = λ _ _.
+    let number = g.T.IndexStorage.number in
+    let at = c.deref-b_i-items.ensures.value in
+    let left = left_shown number (λ r. r.now) c.args.b.now.items.items c.loop-b_i.b_i-index c.loop-b_i-item.result (rw at at c.loop-b_i-test.true) (rw at at c.loop-b_i-item.is) in
+    let turn = next_in_step _ _ _ _ _ _ (rw (c.in-Some.ensures.steps, left) at c.loop-b_i.invariant.in_step) in
+    c.passes_with_all.ensures.no c.if-not-passes_with_all.true _ _ turn.0.here turn.0.there
 
-pub loop-key-preserved-else-not-passes_with_all : goal.loop-key-preserved-else-not-passes_with_all
-loop-key-preserved-else-not-passes_with_all g c =
+pub loop-b_i-preserved : goal.loop-b_i-preserved
+loop-b_i-preserved g c =
     let number = g.T.IndexStorage.number in
     let a = items_of number c.args.a.now.items.entries in
-    let b = items_of number c.args.b.now.items.entries in
-    let found = rw c.in-Some.ensures.steps at c.loop-key.invariant.found in
-    let checked = rw c.in-Some.ensures.steps at c.loop-key.invariant.checked in
+    let b = goto_of number c.args.b.now in
+    let at = c.deref-b_i-items.ensures.value in
+    let left = left_shown number (λ r. r.now) c.args.b.now.items.items c.loop-b_i.b_i-index c.loop-b_i-item.result (rw at at c.loop-b_i-test.true) (rw at at c.loop-b_i-item.is) in
+    let turn = next_in_step _ _ _ _ _ _ (rw (c.in-Some.ensures.steps, left) at c.loop-b_i.invariant.in_step) in
+    let checked = rw c.in-Some.ensures.steps at c.loop-b_i.invariant.checked in
     record {
-      same = c.loop-key.invariant.same;
-      found = found.1;
-      checked = checked_next (PassesWithAll a b) a _ _ _ _ checked (c.passes_with_all.ensures.yes c.if-not-passes_with_all.false);
+      in_step = turn.1;
+      checked = checked_next (PassesWithAll a b) a _ _ _ _ checked (c.passes_with_all.ensures.yes c.if-not-passes_with_all.false _ _ turn.0.here turn.0.there);
     }
-
-pub loop-key-preserved : goal.loop-key-preserved
-loop-key-preserved g c =
-    let number = g.T.IndexStorage.number in
-    let a = items_of number c.args.a.now.items.entries in
-    let b = items_of number c.args.b.now.items.entries in
-    let found = rw c.in-Some.ensures.steps at c.loop-key.invariant.found in
-    let checked = rw c.in-Some.ensures.steps at c.loop-key.invariant.checked in
-    let here = item_here number g.T.Ord.cmp g.met.T.IndexStorage.ordered c.args.b.now.items.entries c.in-Some.key.now in
-    let v = rw c.in_default.is at c.get.ensures.value in
-    let there : HasItem b (number c.in-Some.key.now.0.0) (number c.in-Some.key.now.1.0) = (c.loop-key.invariant.same _ _).0 (rw found.0 refl) in
-    let k : false ≡ true = ap is_some (v ∙ here) ∙ there in
-    cc
 
 pub returns-clause-compatible : goal.returns-clause-compatible
 returns-clause-compatible g c =
     let number = g.T.IndexStorage.number in
     let a = items_of number c.args.a.now.items.entries in
-    let b = items_of number c.args.b.now.items.entries in (
+    let b = goto_of number c.args.b.now in
+    let none = none_left number (λ r. r.now) c.args.b.now.items.items c.loop-b_i.b_i-index (rw c.deref-b_i-items.ensures.value at c.loop-b_i-test.false) in
+    let end = both_end _ _ _ _ c.loop-b_i.invariant.in_step none in
+    let same = same_from_keys a b (c.has_same_items.ensures.same.0 c.if-not-has_same_items.false) in (
       λ _. record {
-        items = c.loop-key.invariant.same;
+        items = same;
         pairs = λ p d q e _ h k.
             ⊎_elim
-            (λ (x : PassesWithAll a b p d). x q e k ((c.loop-key.invariant.same q e).0 k))
-            (λ (x : HasItem (items_of number c.loop-key.key-iterator) p d). let n = rw c.in-None.ensures.steps.0 at x in cc)
-            (c.loop-key.invariant.checked p d h);
+            (λ (x : PassesWithAll a b p d). x q e k ((same q e).0 k))
+            (λ (x : HasItem (items_of number c.loop-b_i.entries) p d). let n = rw end at x in cc)
+            (c.loop-b_i.invariant.checked p d h);
       },
       λ _. refl,
     )

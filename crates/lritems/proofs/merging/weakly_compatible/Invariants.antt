@@ -1,18 +1,18 @@
-use Rattle.std.proofs.Common.{ℕ, ◌⊎◌}
+use Rattle.std.proofs.Common.{ℕ, drop, ◌⊎◌}
 use Rattle.lrspec.specs.grammars.ItemSets.{HasItem}
-use Rattle.lrspec.specs.merging.WeakCompatibility.{SameItems}
 use Rattle.lritems.specs.ItemsOf.{items_of}
+use Rattle.lritems.specs.Gotos.{goto_of}
 use Rattle.lritems.specs.Merging.{PassesWithAll}
-use Rattle.lrclosing.proofs.WalksOverItems.{FoundAll}
+use Rattle.lritems.proofs.GotoItems.{items_shown}
+use Rattle.lritems.proofs.WalksInStep.{AreInStep}
 use Rattle.lritems.proofs.merging.weakly_compatible.Given as goal
 
-abbrev pub invariant-loop-key : goal.invariant-loop-key
-invariant-loop-key g l =
+abbrev pub invariant-loop-b_i : goal.invariant-loop-b_i
+invariant-loop-b_i g l =
     let number = g.T.IndexStorage.number in
     let a = items_of number l.a.items.entries in
-    let b = items_of number l.b.items.entries in
+    let b = goto_of number l.b in
     record {
-      same : SameItems a b;
-      found : FoundAll number l.a.items.entries l.key-iterator;
-      checked : (p d : ℕ) → HasItem a p d → PassesWithAll a b p d ⊎ HasItem (items_of number l.key-iterator) p d;
+      in_step : AreInStep a b (items_of number l.entries) (items_shown number (λ r. r.now) (drop l.b_i-index l.b.items.items));
+      checked : (p d : ℕ) → HasItem a p d → PassesWithAll a b p d ⊎ HasItem (items_of number l.entries) p d;
     }

@@ -48,21 +48,21 @@ find_compatible-requires-clause-below g c =
     (all_below c.at-listed.result.now (number c.unwrap-first.result.0.0) (number c.unwrap-first.result.1.0) c.requires.candidates c.at-listed.ensures)
 
 pub find_compatible-requires-clause-bits : goal.find_compatible-requires-clause-bits
-find_compatible-requires-clause-bits g c = rw (c.as_slice-2.ensures.value, c.in_ok-goto.ensures) c.requires.bits
+find_compatible-requires-clause-bits g c = rw c.as_slice-2.ensures.value c.requires.bits
 
 pub merge_at-grew-requires-clause-bits : goal.merge_at-grew-requires-clause-bits
 merge_at-grew-requires-clause-bits g c =
     let found = rw c.as_slice-2.ensures.value at c.in-Some-find_compatible.ensures.compatible in
-    rw c.in_ok-goto.ensures (c.requires.bits c.in-Some-find_compatible.k found.0)
+    c.requires.bits c.in-Some-find_compatible.k found.0
 
 pub returns-in-Some-find_compatible-clause-placed : goal.returns-in-Some-find_compatible-clause-placed
 returns-in-Some-find_compatible-clause-placed g c =
     let number = g.T.IndexStorage.number in
-    let found = rw (c.as_slice-2.ensures.value, c.in_ok-goto.ensures) at c.in-Some-find_compatible.ensures.compatible in
+    let found = rw c.as_slice-2.ensures.value at c.in-Some-find_compatible.ensures.compatible in
     let m = c.merge_at-grew.ensures in
     let l = c.in_ok-link-2.ensures in
     put_places c.args.from (symbol_of number c.args.symbol) c.in-Some-find_compatible.k
-    (put_merged c.args.drafts.now.items c.merge_at-grew.new.drafts.items (goto_of number c.args.goto.now) c.in-Some-find_compatible.k found.0 found.1 m.len m.others m.edges (rw c.in_ok-goto.ensures at m.union)
+    (put_merged c.args.drafts.now.items c.merge_at-grew.new.drafts.items (goto_of number c.args.goto.now) c.in-Some-find_compatible.k found.0 found.1 m.len m.others m.edges m.union
     m.fits m.closed)
     l.len l.stays l.edges
 
@@ -72,7 +72,7 @@ returns-in-Some-find_compatible-clause-choice g c =
     let goto = goto_of number c.args.goto.now in
     let old = c.args.drafts.now.items in
     let none_equal = rw c.as_slice.ensures.value at c.in_default.ensures in
-    let compatible = rw (c.as_slice-2.ensures.value, c.in_ok-goto.ensures) at c.in-Some-find_compatible.ensures.first in
+    let compatible = rw c.as_slice-2.ensures.value at c.in-Some-find_compatible.ensures.first in
     at_each_first number (λ ks. IsPlaceOf old ks goto (length old) c.in-Some-find_compatible.k) c.args.candidates.now goto c.at-listed.result.now c.first_item.result c.unwrap-first.result
     c.first_item.ensures.least c.unwrap-first.ensures c.at-listed.ensures (choice.IsPlaceOf.compatible none_equal compatible)
 
@@ -89,13 +89,13 @@ returns-in-Some-find_compatible-clause-candidates g c =
 pub returns-clause-placed : goal.returns-clause-placed
 returns-clause-placed g c =
     let number = g.T.IndexStorage.number in
-    let none = rw (c.as_slice-2.ensures.value, c.in_ok-goto.ensures) at c.in_default-find_compatible.ensures.compatible in
+    let none = rw c.as_slice-2.ensures.value at c.in_default-find_compatible.ensures.compatible in
     let m = c.in_ok-k.ensures in
     let l = c.in_ok-link-3.ensures in
     let first : IsFirstItem (goto_of number c.args.goto.now) (number c.unwrap-first.result.0.0) (number c.unwrap-first.result.1.0) =
     first_found number (goto_of number c.args.goto.now) c.first_item.result c.unwrap-first.result c.first_item.ensures.least c.unwrap-first.ensures in
     put_places c.args.from (symbol_of number c.args.symbol) c.in_ok-k.k
-    (put_made c.args.drafts.now.items c.make.new.drafts.items (goto_of number c.args.goto.now) c.in_ok-k.k m.number m.len m.others (m.core ∙ c.in_ok-goto.ensures) m.closed m.edges
+    (put_made c.args.drafts.now.items c.make.new.drafts.items (goto_of number c.args.goto.now) c.in_ok-k.k m.number m.len m.others (m.core ∙ c.in_ok-core.ensures) m.closed m.edges
     (all_clash c.at-listed.result.now (number c.unwrap-first.result.0.0) (number c.unwrap-first.result.1.0) c.requires.candidates first c.at-listed.ensures none))
     l.len l.stays l.edges
 
@@ -105,7 +105,7 @@ returns-clause-choice g c =
     let goto = goto_of number c.args.goto.now in
     let old = c.args.drafts.now.items in
     let none_equal = rw c.as_slice.ensures.value at c.in_default.ensures in
-    let none_compatible = rw (c.as_slice-2.ensures.value, c.in_ok-goto.ensures) at c.in_default-find_compatible.ensures.first in
+    let none_compatible = rw c.as_slice-2.ensures.value at c.in_default-find_compatible.ensures.first in
     rw c.in_ok-k.ensures.number
     (at_each_first number (λ ks. IsPlaceOf old ks goto (length old) (length old)) c.args.candidates.now goto c.at-listed.result.now c.first_item.result c.unwrap-first.result
     c.first_item.ensures.least c.unwrap-first.ensures c.at-listed.ensures (choice.IsPlaceOf.made none_equal none_compatible))
@@ -120,7 +120,7 @@ returns-clause-candidates g c =
     first_found number (goto_of number c.args.goto.now) c.first_item.result c.unwrap-first.result c.first_item.ensures.least c.unwrap-first.ensures in
     candidates_kept l.len (λ j b. same_cores (l.stays j).core)
     (candidates_made c.args.drafts.now.items c.make.new.drafts.items c.args.candidates.now c.add.new.self (goto_of number c.args.goto.now) (number c.unwrap-first.result.0.0) (number c.unwrap-first.result.1.0)
-    m.len (λ j b. others_core c.args.drafts.now.items c.make.new.drafts.items m.others j b) (m.core ∙ c.in_ok-goto.ensures) first (rw m.number at a.here) a.others c.requires.candidates)
+    m.len (λ j b. others_core c.args.drafts.now.items c.make.new.drafts.items m.others j b) (m.core ∙ c.in_ok-core.ensures) first (rw m.number at a.here) a.others c.requires.candidates)
 
 pub unwrap-first-requires : goal.unwrap-first-requires
 unwrap-first-requires g c = some_first (goto_of g.T.IndexStorage.number c.args.goto.now) c.first_item.result c.requires.some c.first_item.ensures.none
