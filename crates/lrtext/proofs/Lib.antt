@@ -18,5 +18,6 @@ pub mod NumberedNames
 pub mod NamesInMaps
 pub mod MeaningFacts
 pub mod LevelFacts
+pub mod MadeParts
 pub mod NumberedContents
 pub mod TextCauses
