@@ -5,6 +5,7 @@ use Rattle.std.specs.List.{slice_get, enumerate_from}
 use Rattle.std.specs.Option.{option_map}
 use Rattle.std.proofs.lemmas.Option.{slice_get-map, slice_get-get_or, slice_get_past}
 use Rattle.std.proofs.lemmas.Simd.{map-map}
+use Rattle.std.proofs.lemmas.List.{take_all}
 use Rattle.lrtext.specs.declared.meaning.precedences.Leveled.{Leveled}
 use Rattle.lrtext.specs.StoredParts.{precedence_of}
 use Rattle.lrtext.specs.StoredLevels.{leveled_of, leveled_names}
@@ -24,6 +25,10 @@ one_more_line f xs i x old new h here before more =
     ∙ ap (λ n. flat_map names_at_level (enumerate_from 0 (map f (take i xs))) ++ names_at_level (n, f x)) (sym (mapped_length f xs i (omega arith)))
     ∙ sym (precedences_push (map f (take i xs)) (f x))
     ∙ ap (λ ls. flat_map names_at_level (enumerate_from 0 ls)) (ap (λ y. map f (take i xs) ++ f y ∷ []) here ∙ sym (mapped_more f xs i x h))
+
+-- all lines were gone along
+pub all_lines : {X : Type 0} (f : X → Kind × List (List ℕ)) (xs ys : List X) (i : ℕ) (all : List (List ℕ × Precedence)) → length xs ≤ i → xs ≡ ys → all ≡ flat_map names_at_level (enumerate_from 0 (map f (take i xs))) → all ≡ flat_map names_at_level (enumerate_from 0 (map f ys))
+all_lines f xs ys i all over same before = before ∙ ap (λ ls. flat_map names_at_level (enumerate_from 0 (map f ls))) (take_all i xs over ∙ same)
 
 -- one more name that is new
 pub one_more_name : {X : Type 0} (f : X → List ℕ) (xs : List X) (i : ℕ) (d : X) (old new : List (List ℕ)) → i < length xs → old ≡ map f (take i xs) → IsTrue (has_no_repeats (map f (take i xs))) → has_name old (f (get_or xs i d)) ≡ false → new ≡ with_name old (f (get_or xs i d)) → (new ≡ map f (take (i + 1) xs)) × IsTrue (has_no_repeats (map f (take (i + 1) xs)))

@@ -1,5 +1,5 @@
 -- a mapped list, as a loop goes along it
-use Rattle.std.proofs.Common.{◌≡◌, ℕ, suc, ◌+◌, ◌<◌, ◌≤◌, List, [], ◌∷◌, ◌++◌, length, get_or, take, drop, map, sym, ap, ◌∙◌, drop-cons}
+use Rattle.std.proofs.Common.{◌≡◌, ℕ, suc, ◌+◌, ◌<◌, ◌≤◌, List, [], ◌∷◌, ◌++◌, length, get_or, take, drop, map, sym, ap, ◌∙◌, drop-cons, append_assoc}
 use Rattle.std.proofs.lemmas.Grind.{take_at_read}
 use Rattle.std.proofs.lemmas.List.{map-append, length-map, length-take-le, take-append-drop, take_all}
 
@@ -43,3 +43,13 @@ module _ {X Y V M : Type 0} (g : V → M) (h : Y → M) (f : X → Y) (xs : List
 -- all were pushed, and the same
 pub pushed_all : {X Y V M : Type 0} (g : V → M) (h : Y → M) (f : X → Y) (xs : List X) (i : ℕ) (all : List V) → length xs ≤ i → map g all ≡ map h (map f (take i xs)) → map g all ≡ map h (map f xs)
 pushed_all g h f xs i all over before = before ∙ ap (λ ys. map h (map f ys)) (take_all i xs over)
+
+-- one more was pushed behind what was there; the list is another's equal
+pub pushed_behind : {X Y V M : Type 0} (g : V → M) (h : Y → M) (f : X → Y) (ys xs : List X) (i : ℕ) (d : X) (start : List M) (old new : List V) (v : V) → ys ≡ xs → i < length ys → map g old ≡ start ++ map h (map f (take i xs)) → new ≡ old ++ v ∷ [] → g v ≡ h (f (get_or ys i d)) → map g new ≡ start ++ map h (map f (take (i + 1) xs))
+pushed_behind g h f ys xs i d start old new v same lt before more is =
+    ap (map g) more
+    ∙ map-append g old (v ∷ [])
+    ∙ ap (λ ms. ms ++ g v ∷ []) (before ∙ ap (λ zs. start ++ map h (map f (take i zs))) (sym same))
+    ∙ append_assoc start (map h (map f (take i ys))) (g v ∷ [])
+    ∙ ap (λ ms. start ++ ms) (ap (λ m. map h (map f (take i ys)) ++ m ∷ []) is ∙ sym (ap (map h) (mapped_more f ys i d lt) ∙ map-append h (map f (take i ys)) (f (get_or ys i d) ∷ [])))
+    ∙ ap (λ zs. start ++ map h (map f (take (i + 1) zs))) same
