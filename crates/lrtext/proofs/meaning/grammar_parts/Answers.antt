@@ -39,3 +39,13 @@ returns-clause-ok c =
     let prods = c.in_ok-prods.ensures ∙ ap (λ xs. map (production_in rules tokens) (map alternative_of xs)) c.as_slice-3.ensures.value in
     let parts = parts_of (record { rules = c.in_ok-own_names.field-0; tokens = c.in_ok-part_tokens.field-0; prods = c.in_ok-prods.field-0; start = c.start.result }) in
     meant s rules tokens (map leveled_of levels) parts c.in_ok-rules.ensures c.in_ok-tokens.ensures c.in_ok-leveled.ensures (empty_by_first _ (sym c.in_default.ensures)) once (c.in_ok-own_names.ensures ∙ c.names.ensures) given prods c.start.ensures
+
+-- what the calls require
+pub first_unknown-requires : goal.first_unknown-requires
+first_unknown-requires c = record { rules = c.in_ok-rules.ensures; declared = c.in_ok-declared.ensures }
+
+pub tokens-requires : goal.tokens-requires
+tokens-requires c = c.in_ok-rules.ensures
+
+pub part_tokens-requires : goal.part_tokens-requires
+part_tokens-requires c = c.in_ok-numbers.ensures.numbered ∙ ap leveled_names (c.as_slice.ensures.value ∙ sym c.as_slice-2.ensures.value)
