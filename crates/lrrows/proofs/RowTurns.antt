@@ -1,5 +1,6 @@
 -- rows of cells, which grow by a cell at a time
-use Rattle.std.proofs.Common.{◌≡◌, ℕ, ◌+◌, Bool, List, [], ◌∷◌, ◌++◌, map, Option, append_assoc, arith, refl, ◌∙◌}
+use Rattle.std.proofs.Common.{◌≡◌, ℕ, ◌+◌, ◌<◌, ◌≤◌, Bool, List, [], ◌∷◌, ◌++◌, map, Option, None, Some, append_assoc, arith, refl, ap, ◌∙◌}
+use Rattle.std.specs.Option.{MatchOption, IsSome}
 use Rattle.std.specs.List.{range_with_len}
 use Rattle.std.proofs.lemmas.List.FromFn.{map-range_with_len_more}
 use Rattle.lrspec.specs.grammars.Grammar.{Grammar, Token}
@@ -18,3 +19,31 @@ pub cell_found :
     (g : Grammar) (h : Graph) (s t u : ℕ) (o : Option ℕ) (accepts : Bool) (a : Action) → u ≡ t → o ≡ edge h s (Token t)
     → accepts ≡ accepts_at g (closed_of h s) t → a ≡ cell_by g u (reductions g (closed_of h s) t) o accepts → a ≡ cell_of g h s t
 cell_found g h s t u o accepts a same leads accepted cell = cell ∙ rw (leads, accepted, same) refl
+
+-- a row without cells adds nothing
+pub row_begun : (xs : List ℕ) → xs ≡ xs ++ []
+row_begun [] = refl
+row_begun (x ∷ xs) = ap (λ ys. x ∷ ys) (row_begun xs)
+
+-- once there is a cell for each number, of which there are as many as the turns
+pub row_done :
+    (f : ℕ → ℕ) (old cells : List ℕ) (i end k n : ℕ) → i ≤ end → end ≤ i → end ≡ k → k ≡ n → cells ≡ old ++ map f (range_with_len 0 i)
+    → cells ≡ old ++ map f (range_with_len 0 n)
+row_done f old cells i end k n most least e d before = before ∙ ap (λ m. old ++ map f (range_with_len 0 m)) (same i end k n most least e d)
+  where
+    same : (i end k n : ℕ) → i ≤ end → end ≤ i → end ≡ k → k ≡ n → i ≡ n
+    same i end k n most least e d = omega arith
+
+-- the turn is one of as many
+pub turn_below : (x i end k n : ℕ) → x ≡ i → i < end → end ≡ k → k ≡ n → x < n
+turn_below x i end k n s l e d = omega arith
+
+pub turn_upto : (x i end k n : ℕ) → x ≡ i → i < end → end ≡ k → k ≡ n → x ≤ n
+turn_upto x i end k n s l e d = omega arith
+
+-- its number is one that an index keeps
+pub turn_kept :
+    {X : Type 0} (P : X → Type 0) (o : Option X) (most i end k n : ℕ) → MatchOption o (most < i) P → i < end → end ≡ k → k ≡ n → n ≤ most
+    → IsSome o
+turn_kept P None most i end k n m l e d b = absurd (omega arith)
+turn_kept P (Some x) most i end k n m l e d b = refl

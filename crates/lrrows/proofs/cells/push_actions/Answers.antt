@@ -1,11 +1,11 @@
-use Rattle.std.proofs.Common.{◌≡◌, ℕ, ◌<◌, option_map, sym, ap, ◌∙◌, arith, rules}
+use Rattle.std.proofs.Common.{◌≡◌, ℕ, ◌<◌, option_map, refl, sym, ap, ◌∙◌, arith, rules}
 use Rattle.lrspec.specs.grammars.Grammar.{Token, token_count}
 use Rattle.lrspec.specs.merging.Graph.{closed_of, edge}
 use Rattle.lrspec.specs.tables.Table.{bit_or_none, cell_of, reductions}
 use Rattle.lrgrammar.specs.declared.idx.StIdx.{StIdx}
 use Rattle.lrrows.specs.StateRows.{first_of}
 use Rattle.lrrows.specs.StoredActions.{action_of, action_number}
-use Rattle.lrrows.proofs.RowTurns.{row_turn, cell_found}
+use Rattle.lrrows.proofs.RowTurns.{row_turn, cell_found, row_begun, row_done, turn_below, turn_upto, turn_kept}
 use Rattle.lrrows.proofs.LeastListed.{as_many, listed_at, some_first}
 use Rattle.lrrows.proofs.cells.push_actions.Goals as goal
 
@@ -15,7 +15,8 @@ offset_bounds-least-token g c =
     let grm = c.args.grm.now in
     let a = closed_of c.args.sg.now (number c.args.stidx.0) in
     let first = λ (t : ℕ). first_of (reductions grm a t) in
-    omega (arith, as_many (option_map (λ p. number p.0)) first c.args.least.now (token_count grm) c.requires.least)
+    turn_upto c.loop-token.token-counter _ _ _ _ refl c.loop-token-test.true c.from-token-end.ensures
+    (c.tokens_len.ensures.value ∙ sym (as_many (option_map (λ p. number p.0)) first c.args.least.now (token_count grm) c.requires.least))
 
 pub bounds-least-token : goal.bounds-least-token
 bounds-least-token g c =
@@ -23,7 +24,8 @@ bounds-least-token g c =
     let grm = c.args.grm.now in
     let a = closed_of c.args.sg.now (number c.args.stidx.0) in
     let first = λ (t : ℕ). first_of (reductions grm a t) in
-    omega (arith, as_many (option_map (λ p. number p.0)) first c.args.least.now (token_count grm) c.requires.least)
+    turn_below c.loop-token.token-counter _ _ _ _ refl c.loop-token-test.true c.from-token-end.ensures
+    (c.tokens_len.ensures.value ∙ sym (as_many (option_map (λ p. number p.0)) first c.args.least.now (token_count grm) c.requires.least))
 
 pub index-requires : goal.index-requires
 index-requires g c =
@@ -38,7 +40,7 @@ cell-requires-clause-prod g c =
     let grm = c.args.grm.now in
     let a = closed_of c.args.sg.now (number c.args.stidx.0) in
     let t = c.loop-token.token-counter in
-    let l : t < token_count grm = omega arith in
+    let l : t < token_count grm = turn_below t _ _ _ _ refl c.loop-token-test.true c.from-token-end.ensures c.tokens_len.ensures.value in
     let least = c.index-least-token.result in
     some_first (λ p. number p.0) grm a t least
     (ap (option_map (λ p. number p.0)) c.index-least-token.is
@@ -53,7 +55,7 @@ loop-token-preserved g c =
     let s = number c.args.stidx.0 in
     let a = closed_of h s in
     let t = c.loop-token.token-counter in
-    let l : t < token_count grm = omega arith in
+    let l : t < token_count grm = turn_below t _ _ _ _ refl c.loop-token-test.true c.from-token-end.ensures c.tokens_len.ensures.value in
     let same = (rw c.unwrap.ensures at c.from_usize.ensures).1 in
     let least = c.index-least-token.result in
     let first : option_map (λ p. number p.0) least ≡ first_of (reductions grm a t) =
@@ -73,3 +75,24 @@ loop-token-preserved g c =
     row_turn (λ u. action_number (cell_of grm h s u)) c.args.cells.now.items c.loop-token.cells.items c.push.new.self.items t
     c.number_of_action.result c.loop-token.invariant c.in_ok-push.ensures.items
     (c.number_of_action.ensures ∙ ap action_number found)
+
+pub loop-token-init : goal.loop-token-init
+loop-token-init g c = row_begun c.args.cells.now.items
+
+pub unwrap-requires : goal.unwrap-requires
+unwrap-requires g c =
+    turn_kept _ c.from_usize.result g.T.IndexStorage.MAX _ _ _ _ c.from_usize.ensures c.loop-token-test.true c.from-token-end.ensures
+    c.tokens_len.ensures.value c.tokens_len.ensures.sizes.tokens
+
+pub cell-requires-clause-token : goal.cell-requires-clause-token
+cell-requires-clause-token g c =
+    turn_below _ _ _ _ _ (rw c.unwrap.ensures at c.from_usize.ensures).1 c.loop-token-test.true c.from-token-end.ensures
+    c.tokens_len.ensures.value
+
+pub returns : goal.returns
+returns g c =
+    record {
+      row =
+          row_done _ c.args.cells.now.items c.loop-token.cells.items _ _ _ _ c.loop-token.auto.token-counter-end c.loop-token-test.false
+          c.from-token-end.ensures c.tokens_len.ensures.value c.loop-token.invariant;
+    }
