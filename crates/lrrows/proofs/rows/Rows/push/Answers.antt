@@ -88,3 +88,21 @@ returns g c =
     c.in_ok-push.ensures.items (rw row at c.reduces_by_one.ensures)
     (rw (c.as_slice-5.ensures.value, c.as_slice-6.ensures.value, contests) at c.in_ok-push_reduce_reduce.ensures.entries) mixes)
     c.push_shift_reduce.ensures.entries
+
+pub closed_state-closed-requires : goal.closed_state-closed-requires
+closed_state-closed-requires g c = c.requires.below
+
+pub least_by_token-requires : goal.least_by_token-requires
+least_by_token-requires g c = record { bits = rw c.as_slice.ensures.value c.in_ok-complete.ensures.bits }
+
+pub push_actions-requires-clause-accepts : goal.push_actions-requires-clause-accepts
+push_actions-requires-clause-accepts g c = λ t. rw c.closed_state-closed.ensures.items at (c.accepted.ensures.accepts t)
+
+pub push_actions-requires-clause-bits : goal.push_actions-requires-clause-bits
+push_actions-requires-clause-bits g c = c.accepted.ensures.bits
+
+pub push_row-requires-clause-built : goal.push_row-requires-clause-built
+push_row-requires-clause-built g c = c.requires.rows.built_actions
+
+pub push_row-requires-2-clause-built : goal.push_row-requires-2-clause-built
+push_row-requires-2-clause-built g c = c.requires.rows.built_gotos
