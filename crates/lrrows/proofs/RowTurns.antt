@@ -21,18 +21,19 @@ pub cell_found :
 cell_found g h s t u o accepts a same leads accepted cell = cell ∙ rw (leads, accepted, same) refl
 
 -- a row without cells adds nothing
-pub row_begun : (xs : List ℕ) → xs ≡ xs ++ []
+pub row_begun : {X : Type 0} (xs : List X) → xs ≡ xs ++ []
 row_begun [] = refl
 row_begun (x ∷ xs) = ap (λ ys. x ∷ ys) (row_begun xs)
+
+-- after the last turn there were as many
+pub turns_all : (i end k n : ℕ) → i ≤ end → end ≤ i → end ≡ k → k ≡ n → i ≡ n
+turns_all i end k n most least e d = omega arith
 
 -- once there is a cell for each number, of which there are as many as the turns
 pub row_done :
     (f : ℕ → ℕ) (old cells : List ℕ) (i end k n : ℕ) → i ≤ end → end ≤ i → end ≡ k → k ≡ n → cells ≡ old ++ map f (range_with_len 0 i)
     → cells ≡ old ++ map f (range_with_len 0 n)
-row_done f old cells i end k n most least e d before = before ∙ ap (λ m. old ++ map f (range_with_len 0 m)) (same i end k n most least e d)
-  where
-    same : (i end k n : ℕ) → i ≤ end → end ≤ i → end ≡ k → k ≡ n → i ≡ n
-    same i end k n most least e d = omega arith
+row_done f old cells i end k n most least e d before = before ∙ ap (λ m. old ++ map f (range_with_len 0 m)) (turns_all i end k n most least e d)
 
 -- the turn is one of as many
 pub turn_below : (x i end k n : ℕ) → x ≡ i → i < end → end ≡ k → k ≡ n → x < n

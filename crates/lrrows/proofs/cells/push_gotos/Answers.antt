@@ -4,7 +4,7 @@ use Rattle.lrspec.specs.merging.Graph.{edge}
 use Rattle.lrrows.specs.StoredActions.{goto_number}
 use Rattle.lrrows.specs.StoredLists.{targets_of}
 use Rattle.lrrows.proofs.LeastListed.{as_many, listed_at}
-use Rattle.lrrows.proofs.RowTurns.{row_turn}
+use Rattle.lrrows.proofs.RowTurns.{row_turn, row_begun}
 use Rattle.lrrows.proofs.cells.push_gotos.Goals as goal
 
 pub loop-target-preserved : goal.loop-target-preserved
@@ -36,3 +36,6 @@ returns g c =
     let many : length targets ≡ n = as_many (option_map (λ u. number u.0)) (λ r. edge h s (Rule r)) targets n made in
     let all : c.loop-target.target-index ≡ n = omega arith in
     record { row = rw (← all) c.loop-target.invariant }
+
+pub loop-target-init : goal.loop-target-init
+loop-target-init g c = row_begun c.args.cells.now.items

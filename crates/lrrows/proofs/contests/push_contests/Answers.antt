@@ -1,10 +1,11 @@
 -- each token gives its entry, if it has one
-use Rattle.std.proofs.Common.{◌≡◌, ◌++◌, ap, arith}
+use Rattle.std.proofs.Common.{◌≡◌, ◌++◌, ◌∙◌, ap, arith}
 use Rattle.std.specs.List.{filter_map}
 use Rattle.lrspec.specs.texts.PrintedTexts.{set_bits}
 use Rattle.lrspec.proofs.grammars.ListMembers.{Among}
 use Rattle.lrrows.specs.StoredLists.{pair_of, pairs_of, least_of}
 use Rattle.lrrows.proofs.ContestSteps.{contest_on, next_below, rest_below, set_places_are, set_bits_below, contest_added, contest_passed}
+use Rattle.lrrows.proofs.RowTurns.{row_begun}
 use Rattle.lrrows.proofs.contests.push_contests.Goals as goal
 
 pub loop-token-init : goal.loop-token-init
@@ -53,4 +54,12 @@ loop-token-preserved g c =
           contest_passed (λ p. number p.0) (pair_of number) c.args.least.now (number c.args.stidx.0) (number c.args.pidx.0) _ _ _ _ _ _ _
           c.in-Some.ensures.steps (next_below _ _ _ _ c.in-Some.ensures.steps c.loop-token.invariant.below) c.index-least-token.is
           c.contest_on.ensures.entry c.in_default.is c.loop-token.invariant.added;
+    }
+
+pub returns : goal.returns
+returns g c =
+    record {
+      entries =
+          row_begun (pairs_of g.T.IndexStorage.number c.loop-token.conflicts.items)
+          ∙ rw c.in-None.ensures.steps.0 at c.loop-token.invariant.added;
     }
