@@ -1,7 +1,8 @@
 -- rows of cells, which grow by a cell at a time
-use Rattle.std.proofs.Common.{◌≡◌, ℕ, ◌+◌, ◌<◌, ◌≤◌, Bool, List, [], ◌∷◌, ◌++◌, map, Option, None, Some, append_assoc, arith, refl, ap, ◌∙◌}
+use Rattle.std.proofs.Common.{◌≡◌, ℕ, ◌+◌, ◌<◌, ◌≤◌, Bool, List, [], ◌∷◌, ◌++◌, length, map, take, get_or, Option, None, Some, append_assoc, arith, refl, sym, ap, ◌∙◌}
 use Rattle.std.specs.Option.{MatchOption, IsSome}
-use Rattle.std.specs.List.{range_with_len}
+use Rattle.std.specs.List.{flat_map, range_with_len}
+use Rattle.std.proofs.lemmas.List.{flat_map_more, map-append, take_more}
 use Rattle.std.proofs.lemmas.List.FromFn.{map-range_with_len_more}
 use Rattle.lrspec.specs.grammars.Grammar.{Grammar, Token}
 use Rattle.lrspec.specs.merging.Graph.{Graph, closed_of, edge}
@@ -48,3 +49,11 @@ pub turn_kept :
     → IsSome o
 turn_kept P None most i end k n m l e d b = absurd (omega arith)
 turn_kept P (Some x) most i end k n m l e d b = refl
+
+-- what the next element gives is added to what those before it gave
+pub listed_turn :
+    {X Y Z : Type 0} (xs : List X) (f : X → Y) (h : Y → List Z) (i : ℕ) (x : X) (old cells new : List Z) → i < length xs → x ≡ get_or xs i x
+    → cells ≡ old ++ flat_map h (map f (take i xs)) → new ≡ cells ++ h (f x) → new ≡ old ++ flat_map h (map f (take (i + 1) xs))
+listed_turn xs f h i x old cells new l at before added =
+    let more : take (i + 1) xs ≡ take i xs ++ x ∷ [] = take_more xs i x l ∙ ap (λ y. take i xs ++ y ∷ []) (sym at) in
+    rw (more, map-append f (take i xs) (x ∷ [])) (added ∙ ap (λ z. z ++ h (f x)) before ∙ flat_map_more h old (map f (take i xs)) (f x))
