@@ -6,4 +6,5 @@ pub mod StackLists
 pub mod MachineSteps
 pub mod NamedTokens
 pub mod SearchedPlaces
+pub mod PushedReductions
 pub mod ReducedProductions
