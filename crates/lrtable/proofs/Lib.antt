@@ -6,5 +6,6 @@ pub mod StackLists
 pub mod MachineSteps
 pub mod NamedTokens
 pub mod SearchedPlaces
+pub mod PushedOutcomes
 pub mod PushedReductions
 pub mod ReducedProductions
