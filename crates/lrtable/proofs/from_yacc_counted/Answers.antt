@@ -30,3 +30,33 @@ pub returns-clause-exact : goal.returns-clause-exact
 returns-clause-exact g c =
     exact_table c.args.grm.now c.in_ok-graph.graph c.tokens_len.ensures.shape c.in_ok-graph.ensures.graph c.in_ok-graph.ensures.shared
     c.in_ok-table.table c.in_ok-table.ensures.table
+
+pub returns-clause-graph : goal.returns-clause-graph
+returns-clause-graph g c = c.in_ok-graph.ensures.graph
+
+pub returns-clause-shared : goal.returns-clause-shared
+returns-clause-shared g c = c.in_ok-graph.ensures.shared
+
+pub returns-clause-conflicts : goal.returns-clause-conflicts
+returns-clause-conflicts g c = c.in_ok-graph.ensures.conflicts
+
+pub returns-clause-crossing : goal.returns-clause-crossing
+returns-clause-crossing g c = c.in_ok-graph.ensures.crossing
+
+pub returns-clause-states : goal.returns-clause-states
+returns-clause-states g c = c.in_ok-graph.ensures.states
+
+pub returns-clause-made : goal.returns-clause-made
+returns-clause-made g c = c.in_ok-graph.ensures.made
+
+pub returns-clause-closed : goal.returns-clause-closed
+returns-clause-closed g c = c.in_ok-graph.ensures.closed
+
+pub returns-clause-closings : goal.returns-clause-closings
+returns-clause-closings g c = c.in_ok-graph.ensures.closings
+
+pub returns-clause-fits : goal.returns-clause-fits
+returns-clause-fits g c = c.in_ok-graph.ensures.fits
+
+pub returns-clause-chain : goal.returns-clause-chain
+returns-clause-chain g c = c.in_ok-graph.ensures.chain
