@@ -2,3 +2,4 @@
 mod AnsweredLines
 mod AskingArguments
 mod PrintedTexts
+mod StartItems
