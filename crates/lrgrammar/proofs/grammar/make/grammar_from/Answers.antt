@@ -1,4 +1,5 @@
-use Rattle.std.proofs.Common.{◌≡◌, ◌≤◌, ◌+◌, length, map, sym, ap, ◌∙◌, subst, arith, rules}
+use Rattle.std.proofs.Common.{◌≡◌, ◌≤◌, length, map, sym, ap, ◌∙◌, subst, arith}
+use Rattle.std.proofs.lemmas.Result.{IfOk-from_err}
 use Rattle.std.specs.BTreeMap.{get_by_text}
 use Rattle.std.specs.String.{string_bytes}
 use Rattle.std.proofs.lemmas.List.{length-map}
@@ -10,6 +11,7 @@ use Rattle.lrgrammar.specs.GrammarSizes.{IsWithin}
 use Rattle.lrtext.specs.StoredParts.{parts_of, part_production_of}
 use Rattle.lrgrammar.specs.StoredGrammar.{production_of}
 use Rattle.lrgrammar.proofs.GrammarOfParts.{small_from_no_cause, no_double_rule, no_double_token, sizes_from_no_cause, rules_within, same_grammar, room}
+use Rattle.lrgrammar.proofs.Turns.{has_index, index_number}
 use Rattle.lrgrammar.proofs.ProductionLists.{lists_along}
 use Rattle.lrgrammar.proofs.grammar.make.grammar_from.Goals as goal
 
@@ -18,8 +20,8 @@ productions-requires g c = small_from_no_cause g.T.IndexStorage.MAX c.args.parts
 
 pub unwrap-requires : goal.unwrap-requires
 unwrap-requires g c =
-    let few : length c.args.parts.now.prods.items + 1 ≤ g.T.IndexStorage.MAX = room g.T.IndexStorage.MAX c.args.parts.now c.requires in
-    search rules
+    let few : c.len.result ≤ g.T.IndexStorage.MAX = omega (arith, room g.T.IndexStorage.MAX c.args.parts.now c.requires, c.len.ensures, c.args.parts.now.prods.ok.0) in
+    has_index _ g.T.IndexStorage.MAX c.len.result c.from_usize.result c.from_usize.ensures few
 
 pub production_lists-requires-clause-few : goal.production_lists-requires-clause-few
 production_lists-requires-clause-few g c =
@@ -42,7 +44,7 @@ places-requires-2 g c = λ h.
 pub invariant_of-result : goal.invariant_of-result
 invariant_of-result g c =
     let ps = parts_of c.args.parts.now in
-    let numbered : g.T.IndexStorage.number c.unwrap.result ≡ c.len.result = search rules in
+    let numbered : g.T.IndexStorage.number c.unwrap.result ≡ c.len.result = index_number g.T.IndexStorage.number g.T.IndexStorage.MAX c.len.result c.from_usize.result c.unwrap.result c.unwrap.ensures c.from_usize.ensures in
     let same = same_grammar (grammar_of_parts ps) _ _ _ _ (g.T.IndexStorage.number c.unwrap.result) c.in_ok-rule_names.ensures c.in_ok-token_names.ensures c.in_ok-token_precedences.ensures c.in_ok-prods.ensures
     (omega (arith, numbered, length-map c.args.parts.now.prods.items part_production_of, c.args.parts.now.prods.ok.0)) in
     record {
@@ -52,3 +54,30 @@ invariant_of-result g c =
       rules = subst (λ xs. FindsNames (get_by_text c.in_ok-rule_places.rule_places) (map string_bytes xs) (length xs)) c.deref-2.ensures.value c.in_ok-rule_places.ensures;
       tokens = subst (λ xs. FindsNames (get_by_text c.in_ok-token_places.token_places) (map string_bytes xs) (length xs)) c.deref-3.ensures.value c.in_ok-token_places.ensures;
     }
+
+pub returns : goal.returns
+returns g c =
+    let numbered : g.T.IndexStorage.number c.unwrap.result ≡ c.len.result = index_number g.T.IndexStorage.number g.T.IndexStorage.MAX c.len.result c.from_usize.result c.unwrap.result c.unwrap.ensures c.from_usize.ensures in
+    same_grammar (grammar_of_parts (parts_of c.args.parts.now)) _ _ _ _ (g.T.IndexStorage.number c.unwrap.result) c.in_ok-rule_names.ensures c.in_ok-token_names.ensures c.in_ok-token_precedences.ensures c.in_ok-prods.ensures
+    (omega (arith, numbered, length-map c.args.parts.now.prods.items part_production_of, c.args.parts.now.prods.ok.0))
+
+pub returns-in_err-rule_names : goal.returns-in_err-rule_names
+returns-in_err-rule_names g c = IfOk-from_err c.from_residual.result _ c.from_residual.ensures.0
+
+pub returns-in_err-token_names : goal.returns-in_err-token_names
+returns-in_err-token_names g c = IfOk-from_err c.from_residual-in_err-token_names.result _ c.from_residual-in_err-token_names.ensures.0
+
+pub returns-in_err-token_precedences : goal.returns-in_err-token_precedences
+returns-in_err-token_precedences g c = IfOk-from_err c.from_residual-in_err-token_precedences.result _ c.from_residual-in_err-token_precedences.ensures.0
+
+pub returns-in_err-prods : goal.returns-in_err-prods
+returns-in_err-prods g c = IfOk-from_err c.from_residual-in_err-prods.result _ c.from_residual-in_err-prods.ensures.0
+
+pub returns-in_err-rule_prods : goal.returns-in_err-rule_prods
+returns-in_err-rule_prods g c = IfOk-from_err c.from_residual-in_err-rule_prods.result _ c.from_residual-in_err-rule_prods.ensures.0
+
+pub returns-in_err-rule_places : goal.returns-in_err-rule_places
+returns-in_err-rule_places g c = IfOk-from_err c.from_residual-in_err-rule_places.result _ c.from_residual-in_err-rule_places.ensures.0
+
+pub returns-in_err-token_places : goal.returns-in_err-token_places
+returns-in_err-token_places g c = IfOk-from_err c.from_residual-in_err-token_places.result _ c.from_residual-in_err-token_places.ensures.0
