@@ -15,6 +15,11 @@ pub record IsAnswering (answer : List ℕ → List ℕ) (old new : Option (List 
   pub together : all ≡ front ++ behind
   pub so_far : HasAnswered answer old new front line
 
+-- behind a line feed there is less
+pub less_behind : (behind piece more : List ℕ) → behind ≡ piece ++ 10 ∷ more
+    → length more < length behind
+less_behind behind piece more e = omega (arith, ap length e, length-append piece (10 ∷ more))
+
 module _ (answer : List ℕ → List ℕ) where
   pub IsAnswering-start : (o : Option (List ℕ)) (line bytes : List ℕ) → HasNoLineFeed line
       → IsAnswering answer o o (line ++ bytes) line bytes
@@ -40,6 +45,9 @@ module _ (answer : List ℕ → List ℕ) where
 
     pub rest_at_end : (later : List ℕ) → later ≡ line ++ behind → later ≡ rest_of all
     rest_at_end later e = e ∙ at_end.rest_is
+
+    pub no_feed_at_end : (later : List ℕ) → later ≡ line ++ behind → HasNoLineFeed later
+    no_feed_at_end later e = subst (λ l. HasNoLineFeed l) (sym e) at_end.no_feed
 
     pub written_at_end : Appends old new (answers_to answer (whole_lines all))
     written_at_end = at_end.written

@@ -67,3 +67,16 @@ Consumes-append (Some xs) None newer a b g h = absurd g
 Consumes-append (Some xs) (Some ys) None a b g h = absurd h
 Consumes-append (Some xs) (Some ys) (Some zs) a b g h =
     g ∙ ap (λ l. a ++ l) h ∙ sym (append_assoc a b zs)
+
+-- nothing is read
+pub Consumes-nothing : (o : Option (List ℕ)) → Consumes o o []
+Consumes-nothing None = tt
+Consumes-nothing (Some xs) = refl
+
+-- some bytes, and then nothing
+pub Consumes-kept : (old new newer : Option (List ℕ)) (a : List ℕ)
+    → Consumes old new a → Keeps new newer → Consumes old newer a
+Consumes-kept None new newer a g h = tt
+Consumes-kept (Some xs) None newer a g h = absurd g
+Consumes-kept (Some xs) (Some ys) None a g h = absurd h
+Consumes-kept (Some xs) (Some ys) (Some zs) a g h = g ∙ ap (λ l. a ++ l) (sym h)

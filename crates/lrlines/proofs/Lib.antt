@@ -1,5 +1,6 @@
 -- the files of lemmas
 pub mod Counts
+pub mod PassedErrors
 pub mod KnownBytes
 pub mod AnsweredLines
 pub mod AnsweringBytes

@@ -1,11 +1,16 @@
 -- bytes are read, and their lines are answered: more bytes are read, or the call ends
-use Rattle.std.proofs.Common.{◌≡◌, ℕ, ◌+◌, ◌<◌, ◌≤◌, ◌∙◌, sym, ap, subst, List, [], ◌∷◌, ◌++◌, length, take, Option, length-append, arith}
-use Rattle.std.proofs.lemmas.List.{append-nil}
+use Rattle.std.proofs.Common.{◌≡◌, ◌≢◌, ℕ, ◌+◌, ◌-◌, ◌^◌, ◌<◌, ◌≤◌, ◌∙◌, sym, ap, subst, List, [], ◌∷◌, ◌++◌, length, take, Option, length-append, arith}
+use Rattle.std.proofs.lemmas.List.{append-nil, length-take-le}
 use Rattle.std.specs.Io.KnownBytes.{Appends, Consumes, Keeps}
-use Rattle.lrspec.specs.texts.Devices.{ConsumesSome, AppendsBeginning, AppendsFirstAnswers}
-use Rattle.lrspec.specs.texts.Lines.{nonempty, whole_lines, lines, answers_to, answer_text}
-use Rattle.lrlines.proofs.KnownBytes.{Appends-append, Appends-from_Keeps, beginning_behind, Consumes-append}
+use Rattle.lrspec.specs.texts.Devices.{ConsumesSome, AppendsBeginning, AppendsFirstAnswers, GaveTooMuch}
+use Rattle.lrspec.specs.texts.Lines.{nonempty, whole_lines, lines, HasNoLineFeed, answers_to, answer_text}
+use Rattle.lrspec.proofs.texts.LineFacts.{rest_without_feed, no_whole_line}
+use Rattle.lrlines.proofs.KnownBytes.{Appends-nothing, Appends-append, Appends-from_Keeps, beginning_behind, Consumes-nothing, Consumes-kept, Consumes-append}
 use Rattle.lrlines.proofs.AnsweredLines.{some_line_of_rest, HasAnswered, answers_to-append, HasAnswered-append, begun_behind, first_behind}
+
+-- what is taken of enough bytes is some, if that many are
+pub some_taken : (bytes : List ℕ) (n : ℕ) → n ≢ 0 → n ≤ length bytes → 0 < length (take n bytes)
+some_taken bytes n some fits = omega (arith, length-take-le n bytes fits)
 
 -- the whole lines of what was read are answered, and `line` is its rest; `count` reads were made
 pub record IsReading (answer : List ℕ → List ℕ) (left now old new : Option (List ℕ)) (line : List ℕ) (count : ℕ)
@@ -14,6 +19,38 @@ pub record IsReading (answer : List ℕ → List ℕ) (left now old new : Option
   pub consumed : Consumes left now read
   pub so_far : HasAnswered answer old new read line
   pub many : count ≤ length read
+
+module _ (answer : List ℕ → List ℕ) where
+  -- nothing was read
+  pub IsReading-start : (left old : Option (List ℕ)) (line : List ℕ) → line ≡ []
+      → IsReading answer left left old old line 0
+  IsReading-start left old line e =
+      let none : HasNoLineFeed [] = λ k d l. absurd (omega arith) in
+      subst (λ l. IsReading answer left left old old l 0) (sym e)
+      record {
+        read = [];
+        consumed = Consumes-nothing left;
+        so_far = record {
+          rest_is = sym (rest_without_feed [] none);
+          no_feed = none;
+          written =
+              subst (λ ls. Appends old old (answers_to answer ls)) (sym (no_whole_line [] none))
+              (Appends-nothing old);
+        };
+        many = omega arith;
+      }
+
+  module _ (left now old new : Option (List ℕ)) (line : List ℕ) (count : ℕ)
+      (h : IsReading answer left now old new line count) where
+    -- the whole lines of what was read are answered, also where a read gives nothing more
+    pub reads_whole : (later : Option (List ℕ)) → Keeps now later
+        → ConsumesSome left later (λ read. Appends old new (answers_to answer (whole_lines read)))
+    reads_whole later k =
+        (h.read, Consumes-kept left now later h.read h.consumed k, h.so_far.written)
+
+    -- the reader gave a byte for each read
+    pub reads_too_much : 2 ^ 64 - 1 ≤ count → GaveTooMuch left now
+    reads_too_much l = (h.read, h.consumed, omega (arith, h.many))
 
 module _ (answer : List ℕ → List ℕ) (left now later old new newer : Option (List ℕ)) (line : List ℕ) (count : ℕ) where
   -- ---- more bytes are read
