@@ -1,9 +1,10 @@
 -- what stands in front of a text, as the code finds it: a name, a word, a comment, or nothing
-use Rattle.std.proofs.Common.{◌≡◌, ◌≢◌, ℕ, false, ◌==◌, IsTrue, List, [], ◌∷◌, ◌++◌, None, Some, take, drop, refl, ap, ◌∙◌, sym, codes, bytes_eq, append_assoc, subst, true, length, slice_get, false-eqb}
+use Rattle.std.proofs.Common.{◌≡◌, ◌≢◌, ℕ, false, ◌==◌, IsTrue, List, [], ◌∷◌, ◌++◌, None, Some, take, drop, refl, ap, ◌∙◌, sym, codes, bytes_eq, append_assoc, subst, true, length, slice_get, false-eqb, arith}
 use Rattle.std.specs.Char.{is_ascii_alphabetic, is_ascii_digit}
 use Rattle.std.specs.List.{list_all}
 use Rattle.std.specs.Str.Pattern.{FindsText}
 use Rattle.std.proofs.lemmas.Bool.{and_parts, or_parts, cond-false}
+use Rattle.std.proofs.lemmas.Bool.Decides.{nat_tests}
 use Rattle.std.proofs.lemmas.Slice.Eq.{bytes_eq-Decides}
 use Rattle.lrspec.specs.texts.Lexemes as lexemes
 use Rattle.lrspec.specs.texts.Lexemes.{Lexeme, Name, Quoted, Separator, is_blank, is_no_line_feed, is_name_start, is_name_byte, is_quote, may_be_quoted, goes_on, Spells, IsMisfit}
@@ -12,7 +13,8 @@ use Rattle.lrspec.proofs.texts.TextFronts.{Unfit, OfQuoted, OfNothing, beginning
 use Rattle.lrspec.proofs.texts.FrontComplete.{by_quote}
 use Rattle.lrspec.proofs.texts.FrontSound.{unfit_is}
 use Rattle.lrtext.specs.Runs.{is_byte}
-use Rattle.lrtext.specs.NextLexemes.{BeginsWithGap, BeginsWith}
+use Rattle.lrtext.specs.declared.lexemes.Front as found
+use Rattle.lrtext.specs.NextLexemes.{BeginsWithGap, BeginsWith, IsFront}
 use Rattle.lrtext.proofs.FirstClose.{closes_at, never_closes}
 
 -- ---- names
@@ -34,6 +36,11 @@ name_in_front text (b ∷ name) behind rest c cut starts whole all stops =
 pub some_bytes : (w : List ℕ) → (length w == 0) ≡ false → w ≢ []
 some_bytes w h e = false-eqb (length w) 0 (sym h) (ap length e)
 
+-- a list of no bytes
+no_bytes : (w : List ℕ) → (length w == 0) ≡ true → w ≡ []
+no_bytes [] h = refl
+no_bytes (b ∷ w) h = let none : length (b ∷ w) ≡ 0 = grind (arith, nat_tests) in absurd (omega arith)
+
 -- a name between two quotes is in front
 pub quoted_in_front : (q : ℕ) (text name closed behind : List ℕ) → IsTrue (is_quote q) → name ≢ [] → text ≡ name ++ closed → IsTrue (list_all (may_be_quoted q) name) → closed ≡ q ∷ behind → BeginsWith (q ∷ text) (Quoted name) behind
 quoted_in_front q text [] closed behind h some whole all e = absurd (some refl)
@@ -50,6 +57,10 @@ module _ (q : ℕ) (text name closed : List ℕ) (h : IsTrue (is_quote q)) (whol
       ap (λ k. front_by k q text) (by_quote q (λ q. beginning q ≡ OfQuoted) h refl refl)
       ∙ ap (λ l. quoted_front q (split_while (may_be_quoted q) l)) whole
       ∙ ap (quoted_front q) (split_while_is (may_be_quoted q) name closed all stops)
+
+  -- nothing stands between the quotes
+  pub empty_quote_unfit : (length name == 0) ≡ true → q ∷ text ≢ [] → IsMisfit (q ∷ text)
+  empty_quote_unfit e some = unfit_is (q ∷ text) some (behind_quote ∙ ap (λ w. quoted_front q (w, closed)) (no_bytes name e))
 
   -- the second quote is missing
   pub open_quote_unfit : goes_on (is_byte q) closed ≡ false → q ∷ text ≢ [] → IsMisfit (q ∷ text)
@@ -96,6 +107,14 @@ module _ (text word behind : List ℕ) (whole : text ≡ word ++ behind) (all : 
       unknown [] letters e = absurd (letters refl)
       unknown (b ∷ w) letters e = ap (word_found (b ∷ w) behind) e
 
+  -- no word and no second `%` stands behind the `%`
+  pub lone_percent_unfit : word ≡ [] → goes_on (is_byte 37) behind ≡ false → 37 ∷ text ≢ [] → IsMisfit (37 ∷ text)
+  lone_percent_unfit none e some = unfit_is (37 ∷ text) some (behind_percent ∙ ap (λ w. word_front (w, behind)) none ∙ lone behind e)
+    where
+      lone : (bs : List ℕ) → goes_on (is_byte 37) bs ≡ false → word_front ([], bs) ≡ Unfit
+      lone [] e = refl
+      lone (c ∷ bs) e = cond-false (c == 37) _ _ e
+
 -- ---- comments
 
 -- a line comment is in front
@@ -121,6 +140,10 @@ open_block_unfit text block e found some = unfit_is (47 ∷ text) some (rw (e, n
 pub first_cut : {bytes bs behind : List ℕ} {b : ℕ} → Some b ≡ slice_get bytes 0 → bytes ≡ bs → behind ≡ drop 1 bs → bs ≡ b ∷ behind
 first_cut {bytes = bytes} {bs = []} e same h = let none = ap (λ l. slice_get l 0) same in cc
 first_cut {bytes = bytes} {bs = c ∷ bs} e same h = let first = ap (λ l. slice_get l 0) same in cc
+
+-- what is in front of a text that begins with the byte
+pub front_here : {bs behind : List ℕ} {b n : ℕ} (f : found.Front) → bs ≡ b ∷ behind → b ≡ n → IsFront (n ∷ behind) f → IsFront bs f
+front_here {behind = behind} f e same h = subst (λ l. IsFront l f) (sym (e ∙ ap (λ c. c ∷ behind) same)) h
 
 -- a blank is in front
 pub blank_in_front : {bs behind : List ℕ} {b : ℕ} → bs ≡ b ∷ behind → IsTrue (is_blank b) → BeginsWithGap bs behind

@@ -16,6 +16,8 @@ pub mod TakenLexemes
 -- what is meant
 pub mod NumberedNames
 pub mod NamesInMaps
+pub mod AddedNames
+pub mod StoredReadings
 pub mod MeaningFacts
 pub mod LevelFacts
 pub mod MadeParts

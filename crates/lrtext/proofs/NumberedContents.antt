@@ -1,6 +1,7 @@
 -- the names that the code numbers are those of the meaning, and so are the parts that it makes
-use Rattle.std.proofs.Common.{◌≡◌, ℕ, List, [], ◌++◌, map, Option, Some, None, true, refl, sym, ap, ◌∙◌}
-use Rattle.std.specs.Prelude.{IsTrue, not, filter, filter_map, flat_map}
+use Rattle.std.proofs.Common.{◌≡◌, ℕ, List, [], ◌++◌, map, Option, Some, None, Result, true, refl, sym, ap, ◌∙◌}
+use Rattle.std.specs.Prelude.{IsTrue, IfErr, not, filter, filter_map, flat_map}
+use Rattle.std.specs.Result.{IsErrAnd}
 use Rattle.std.proofs.lemmas.Simd.{map-map}
 use Rattle.std.proofs.lemmas.List.Sums.{fold-append}
 use Rattle.std.proofs.lemmas.List.Folds.{flat_map-map}
@@ -18,6 +19,7 @@ use Rattle.lrspec.specs.texts.Documents.{NameText}
 use Rattle.lrspec.specs.texts.Parts.{Parts}
 use Rattle.lrspec.specs.texts.Names.{has_name, has_no_repeats, first_appearances}
 use Rattle.lrspec.specs.texts.Meaning.{Contents, rule_names, token_names, precedence_names, declared_names, body_names, token_in_body, precedences, token_in, production_in, start_in, unknown_in_body, unknown_names}
+use Rattle.lrspec.proofs.texts.ResultsPassedOn.{error_passed}
 use Rattle.lrtext.proofs.NumberedNames.{first_appearances_added}
 use Rattle.lrtext.proofs.MeaningFacts.{precedences_named, unknown_by_numbers}
 
@@ -93,3 +95,7 @@ repeat_is_cause s (read_error.Syntax n) known r = absurd r
 repeat_is_cause s (read_error.UnknownSymbol w) known r = absurd r
 repeat_is_cause s (read_error.DuplicatePrecedence w) known r = (known, r)
 repeat_is_cause s read_error.Memory known r = tt
+
+-- want of memory is a cause of its own
+pub memory_is_cause : {T : Type 0} (s : Contents) (r : Result T ReadError) → IsErrAnd r (λ e. e ≡ read_error.Memory) → IfErr r (IsCauseIn s)
+memory_is_cause s r h = error_passed (IsCauseIn s) r read_error.Memory h tt

@@ -1,12 +1,13 @@
 -- runs of bytes: where they end a text may be cut
-use Rattle.std.proofs.Common.{◌≡◌, ℕ, zero, suc, ◌<◌, ◌≤◌, Bool, true, false, List, [], ◌∷◌, Some, length, take, get_or, subst, IsUtf8, IsTrue, refl, arith, add-one}
+use Rattle.std.proofs.Common.{◌≡◌, ℕ, zero, suc, ◌<◌, ◌≤◌, Bool, true, false, List, [], ◌∷◌, Some, length, take, drop, get_or, sym, ap, ◌∙◌, ◌++◌, subst, IsUtf8, IsTrue, refl, arith, add-one}
 use Rattle.std.specs.List.{slice_get, list_all}
 use Rattle.std.specs.Str.{IsCharBoundary}
 use Rattle.std.specs.Char.{is_ascii_alphabetic}
 use Rattle.std.proofs.lemmas.Bool.{and_from}
 use Rattle.std.proofs.lemmas.Bool.Decides.{nat_tests}
 use Rattle.std.proofs.lemmas.Str.{IsCharBoundary-start, IsCharBoundary-after_ascii}
-use Rattle.lrspec.specs.texts.Lexemes.{is_no_line_feed, is_name_byte, may_be_quoted}
+use Rattle.std.proofs.lemmas.List.{take-append-drop}
+use Rattle.lrspec.specs.texts.Lexemes.{is_no_line_feed, is_name_byte, may_be_quoted, goes_on}
 use Rattle.lrtext.specs.declared.runs.Run.{Run}
 use Rattle.lrtext.specs.declared.runs.Run.TheVariants as run
 use Rattle.lrtext.specs.Runs.{passes, EndsByAscii}
@@ -53,3 +54,17 @@ pub run_passes : (p : ℕ → Bool) (bs : List ℕ) (n : ℕ) → n ≤ length b
 run_passes p bs zero within all = refl
 run_passes p [] (suc n) within all = absurd (omega arith)
 run_passes p (b ∷ bs) (suc n) within all = and_from (p b) (list_all p (take n bs)) (all 0 (omega arith)) (run_passes p bs n (omega arith) (λ k h. all (suc k) (omega arith)))
+
+-- a run stops where it is cut
+stops_there : (p : ℕ → Bool) (bs : List ℕ) (n : ℕ) → (n < length bs → p (get_or bs n 0) ≡ false) → goes_on p (drop n bs) ≡ false
+stops_there p [] zero stops = refl
+stops_there p [] (suc n) stops = refl
+stops_there p (b ∷ bs) zero stops = stops (omega arith)
+stops_there p (b ∷ bs) (suc n) stops = stops_there p bs n (λ h. stops (omega (arith, h)))
+
+pub run_stops : (p : ℕ → Bool) (bs text behind : List ℕ) (n : ℕ) → bs ≡ text → behind ≡ drop n text → (n < length bs → p (get_or bs n 0) ≡ false) → goes_on p behind ≡ false
+run_stops p bs text behind n same cut stops = ap (goes_on p) (cut ∙ ap (drop n) (sym same)) ∙ stops_there p bs n stops
+
+-- the two parts of a text that is cut
+pub cut_whole : (text front behind : List ℕ) (n : ℕ) → front ≡ take n text → behind ≡ drop n text → text ≡ front ++ behind
+cut_whole text front behind n f b = sym (take-append-drop n text) ∙ ap (λ l. l ++ drop n text) (sym f) ∙ ap (λ l. front ++ l) (sym b)

@@ -1,8 +1,8 @@
-use Rattle.std.proofs.Common.{ap, sym, ◌∙◌, arith, rules}
+use Rattle.std.proofs.Common.{ap, sym, refl, ◌∙◌, arith, rules}
 use Rattle.std.specs.List.{slice_get}
 use Rattle.lrtext.proofs.RunFacts.{first_boundary}
 use Rattle.lrspec.specs.texts.Lexemes as lexemes
-use Rattle.lrtext.proofs.FrontFacts.{first_cut, name_in_front, blank_in_front, mark_in_front, nothing_in_front}
+use Rattle.lrtext.proofs.FrontFacts.{first_cut, front_here, name_in_front, blank_in_front, mark_in_front, nothing_in_front}
 use Rattle.lrtext.proofs.lexemes.front_of.Goals as goal
 
 -- the byte is ASCII, so the text may be cut behind it
@@ -33,3 +33,14 @@ returns-in-59 c = mark_in_front (first_cut c.in-Some.ensures.value c.as_bytes.en
 -- no lexeme, blank or comment begins with the byte
 pub returns-in_default-first : goal.returns-in_default-first
 returns-in_default-first c = nothing_in_front (first_cut c.in-Some.ensures.value c.as_bytes.ensures.value c.split_at.ensures.back) (sym c.if-is_name_start.ensures) (search rules) (search rules) (search rules) (sym c.if-is_blank.ensures) (search rules) (search rules) (search rules)
+
+-- a comment, a word and a quoted name
+pub returns-in-47 : goal.returns-in-47
+returns-in-47 c =
+    front_here c.comment.result (first_cut c.in-Some.ensures.value c.as_bytes.ensures.value c.split_at.ensures.back) c.in-47.is c.comment.ensures
+
+pub returns-in-37 : goal.returns-in-37
+returns-in-37 c = front_here c.word.result (first_cut c.in-Some.ensures.value c.as_bytes.ensures.value c.split_at.ensures.back) c.in-37.is c.word.ensures
+
+pub returns-in-39 : goal.returns-in-39
+returns-in-39 c = front_here c.quoted.result (first_cut c.in-Some.ensures.value c.as_bytes.ensures.value c.split_at.ensures.back) refl c.quoted.ensures

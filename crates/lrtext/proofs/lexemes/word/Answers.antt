@@ -1,6 +1,6 @@
 use Rattle.std.proofs.Common.{codes}
 use Rattle.lrspec.specs.texts.Lexemes as lexemes
-use Rattle.lrtext.proofs.FrontFacts.{word_in_front, separator_in_front, not_in_table, unknown_word_unfit}
+use Rattle.lrtext.proofs.FrontFacts.{word_in_front, separator_in_front, not_in_table, unknown_word_unfit, lone_percent_unfit}
 use Rattle.lrtext.proofs.lexemes.word.Goals as goal
 
 pub returns-in-start : goal.returns-in-start
@@ -23,3 +23,6 @@ returns-in-Some c = separator_in_front _ _ _ _ c.split_run.ensures.whole c.in-em
 
 pub returns-in_default : goal.returns-in_default
 returns-in_default c = let s = c.split_run.ensures in let d = c.in_default in unknown_word_unfit _ _ _ s.whole s.all s.stops d.not-empty (not_in_table _ d.not-start d.not-token d.not-left d.not-right d.not-nonassoc)
+
+pub returns-in-None : goal.returns-in-None
+returns-in-None c = let s = c.split_run.ensures in lone_percent_unfit _ _ _ s.whole s.all s.stops c.in-empty.is c.in-None.ensures.none

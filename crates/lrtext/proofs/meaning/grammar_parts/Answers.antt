@@ -2,6 +2,7 @@ use Rattle.std.proofs.Common.{◌∙◌, ap, sym, subst, map, List, ℕ, Some}
 use Rattle.std.specs.Prelude.{IsTrue}
 use Rattle.lrspec.specs.texts.Names.{has_no_repeats}
 use Rattle.lrspec.specs.texts.Meaning.{token_in, production_in}
+use Rattle.std.proofs.lemmas.Result.{IfOk-from_err}
 use Rattle.lrtext.specs.NumberedNames.{names_of}
 use Rattle.lrtext.specs.StoredParts.{parts_of}
 use Rattle.lrtext.specs.StoredContents.{plain_contents, alternative_of}
@@ -9,7 +10,7 @@ use Rattle.lrtext.specs.StoredLevels.{leveled_of, leveled_names, IsRepeat}
 use Rattle.lrtext.proofs.BodySteps.{empty_by_first}
 use Rattle.lrtext.specs.MeantParts.{IsCauseIn}
 use Rattle.lrspec.proofs.texts.ResultsPassedOn.{error_passed}
-use Rattle.lrtext.proofs.NumberedContents.{levels_are, meant, repeat_is_cause}
+use Rattle.lrtext.proofs.NumberedContents.{levels_are, meant, repeat_is_cause, memory_is_cause}
 use Rattle.lrtext.proofs.meaning.grammar_parts.Goals as goal
 
 -- the first unknown name
@@ -49,3 +50,62 @@ tokens-requires c = c.in_ok-rules.ensures
 
 pub part_tokens-requires : goal.part_tokens-requires
 part_tokens-requires c = c.in_ok-numbers.ensures.numbered ∙ ap leveled_names (c.as_slice.ensures.value ∙ sym c.as_slice-2.ensures.value)
+
+-- memory was refused, or a name comes again
+
+pub returns-in_err-rules-clause-ok : goal.returns-in_err-rules-clause-ok
+returns-in_err-rules-clause-ok c = IfOk-from_err _ _ c.from_residual.ensures.0
+
+pub returns-in_err-rules-clause-err : goal.returns-in_err-rules-clause-err
+returns-in_err-rules-clause-err c = memory_is_cause (plain_contents c.args.contents.now) _ c.from_residual.ensures.1
+
+pub returns-in_err-declared-clause-ok : goal.returns-in_err-declared-clause-ok
+returns-in_err-declared-clause-ok c = IfOk-from_err _ _ c.from_residual-in_err-declared.ensures.0
+
+pub returns-in_err-declared-clause-err : goal.returns-in_err-declared-clause-err
+returns-in_err-declared-clause-err c = memory_is_cause (plain_contents c.args.contents.now) _ c.from_residual-in_err-declared.ensures.1
+
+pub returns-in_err-from_str-clause-ok : goal.returns-in_err-from_str-clause-ok
+returns-in_err-from_str-clause-ok c = IfOk-from_err _ _ c.from_residual-in_err-from_str.ensures.0
+
+pub returns-in_err-from_str-clause-err : goal.returns-in_err-from_str-clause-err
+returns-in_err-from_str-clause-err c = memory_is_cause (plain_contents c.args.contents.now) _ c.from_residual-in_err-from_str.ensures.1
+
+pub returns-in_err-leveled-clause-ok : goal.returns-in_err-leveled-clause-ok
+returns-in_err-leveled-clause-ok c = IfOk-from_err _ _ c.from_residual-in_err-leveled.ensures.0
+
+pub returns-in_err-leveled-clause-err : goal.returns-in_err-leveled-clause-err
+returns-in_err-leveled-clause-err c = memory_is_cause (plain_contents c.args.contents.now) _ c.from_residual-in_err-leveled.ensures.1
+
+pub returns-in_err-numbers-clause-ok : goal.returns-in_err-numbers-clause-ok
+returns-in_err-numbers-clause-ok c = IfOk-from_err _ _ c.from_residual-in_err-numbers.ensures.0
+
+pub returns-in_err-tokens-clause-ok : goal.returns-in_err-tokens-clause-ok
+returns-in_err-tokens-clause-ok c = IfOk-from_err _ _ c.from_residual-in_err-tokens.ensures.0
+
+pub returns-in_err-tokens-clause-err : goal.returns-in_err-tokens-clause-err
+returns-in_err-tokens-clause-err c = memory_is_cause (plain_contents c.args.contents.now) _ c.from_residual-in_err-tokens.ensures.1
+
+pub returns-in_err-own_names-clause-ok : goal.returns-in_err-own_names-clause-ok
+returns-in_err-own_names-clause-ok c = IfOk-from_err _ _ c.from_residual-in_err-own_names.ensures.0
+
+pub returns-in_err-own_names-clause-err : goal.returns-in_err-own_names-clause-err
+returns-in_err-own_names-clause-err c = memory_is_cause (plain_contents c.args.contents.now) _ c.from_residual-in_err-own_names.ensures.1
+
+pub returns-in_err-part_tokens-clause-ok : goal.returns-in_err-part_tokens-clause-ok
+returns-in_err-part_tokens-clause-ok c = IfOk-from_err _ _ c.from_residual-in_err-part_tokens.ensures.0
+
+pub returns-in_err-part_tokens-clause-err : goal.returns-in_err-part_tokens-clause-err
+returns-in_err-part_tokens-clause-err c = memory_is_cause (plain_contents c.args.contents.now) _ c.from_residual-in_err-part_tokens.ensures.1
+
+pub returns-in_err-prods-clause-ok : goal.returns-in_err-prods-clause-ok
+returns-in_err-prods-clause-ok c = IfOk-from_err _ _ c.from_residual-in_err-prods.ensures.0
+
+pub returns-in_err-prods-clause-err : goal.returns-in_err-prods-clause-err
+returns-in_err-prods-clause-err c = memory_is_cause (plain_contents c.args.contents.now) _ c.from_residual-in_err-prods.ensures.1
+
+pub returns-in-Some-clause-ok : goal.returns-in-Some-clause-ok
+returns-in-Some-clause-ok c = tt
+
+pub returns-clause-err : goal.returns-clause-err
+returns-clause-err c = tt

@@ -1,4 +1,5 @@
 use Rattle.std.proofs.Common.{◌∙◌, ap, sym, filter_map, flat_map, map, take, get_or}
+use Rattle.std.proofs.lemmas.List.{take_all}
 use Rattle.std.proofs.lemmas.List.Sums.{fold-append}
 use Rattle.lrtext.specs.NumberedNames.{with_name, with_names}
 use Rattle.lrspec.specs.texts.Meaning.{token_in_body}
@@ -19,3 +20,7 @@ loop-alternative-preserved c =
     ∙ ap (λ ws. with_names ws (filter_map h (body_of (get_or items i x)))) c.loop-alternative.invariant
     ∙ sym (fold-append with_name c.args.tokens.now (filter_map h (flat_map body_of (take i items))) (filter_map h (body_of (get_or items i x))))
     ∙ ap (with_names c.args.tokens.now) (sym (pieces_more h body_of items i x c.loop-alternative-test.true))
+
+-- all bodies were gone along
+pub returns : goal.returns
+returns c = c.loop-alternative.invariant ∙ ap (λ xs. with_names c.args.tokens.now (filter_map (token_in_body c.args.rules.now) (flat_map body_of xs))) (take_all c.loop-alternative.alternative-index c.args.alternatives.now c.loop-alternative-test.false)

@@ -1,4 +1,5 @@
 use Rattle.std.proofs.Common.{◌∙◌, ap, sym, filter_map, map, take}
+use Rattle.std.proofs.lemmas.List.{take_all}
 use Rattle.std.proofs.lemmas.List.Sums.{fold_push}
 use Rattle.lrtext.specs.NumberedNames.{with_name, with_names}
 use Rattle.lrspec.specs.texts.Meaning.{token_in_body}
@@ -24,3 +25,7 @@ loop-name-preserved c =
           ∙ c.loop-name.invariant
           ∙ ap (with_names c.args.tokens.now) (sym (kept_same h name_text_of c.args.body.now c.loop-name.name-index _ c.loop-name-test.true w.in_default.ensures))
     ]
+
+-- all names were gone along
+pub returns : goal.returns
+returns c = c.loop-name.invariant ∙ ap (λ ns. with_names c.args.tokens.now (filter_map (token_in_body c.args.rules.now) (map name_text_of ns))) (take_all c.loop-name.name-index c.args.body.now c.loop-name-test.false)
