@@ -85,3 +85,7 @@ place_within look names n k w seen all e = let (below, is) = seen.found w k e in
 pub place_missing : (look : List ℕ → Option ℕ) (names : List (List ℕ)) (n : ℕ) (w : List ℕ) → FindsNames look names n → n ≡ length names → look w ≡ None → Contains names w → ⊥
 place_missing look names n w seen all none (k, l, e) =
     is_some_none (look (get_or names k [])) (seen.kept k (omega arith)) (ap look (get_or_default names k [] w l ∙ e) ∙ none)
+
+-- where it found all names, none is there twice
+pub no_double : (look : List ℕ → Option ℕ) (names : List (List ℕ)) (n : ℕ) → FindsNames look names n → length names ≤ n → HasDouble names → ⊥
+no_double look names n seen over (j, k, l, m, e) = seen.apart j k l (omega arith) e

@@ -1,5 +1,5 @@
 -- What a test says by its answer.
-use Rattle.std.proofs.Common.{◌≡◌, Bool, true, false, refl, sym, ◌∙◌, subst}
+use Rattle.std.proofs.Common.{◌≡◌, ℕ, ◌+◌, ◌<◌, ◌≤◌, leb, leb→le, le→leb, T, Bool, true, false, refl, sym, ◌∙◌, subst, arith}
 use Rattle.std.specs.Prelude.{IsTrue, ◌↔◌}
 use Rattle.std.proofs.lemmas.Bool.{false≢true}
 
@@ -23,3 +23,24 @@ same_test there back h = (λ e. there (h.0 e), λ x. h.1 (back x))
 -- a test of one value is a test of an equal one
 pub test_along : {X : Type 0} (P : X → Type 0) {b : Bool} {x y : X} → x ≡ y → IsTrue b ↔ P x → IsTrue b ↔ P y
 test_along P {b} e h = subst (λ z. IsTrue b ↔ P z) e h
+
+-- a test of two numbers
+at_most : (a b : ℕ) → leb a b ≡ true → a ≤ b
+at_most a b e = leb→le a b (subst T (sym e) tt)
+
+true_from : (b : Bool) → T b → b ≡ true
+true_from true t = refl
+true_from false t = absurd t
+
+is_at_most : (a b : ℕ) → a ≤ b → leb a b ≡ true
+is_at_most a b h = true_from (leb a b) (le→leb a b h)
+
+-- the same, where the second is another's equal: with one more it is above the first
+pub below_more : (most len n : ℕ) → len ≡ n → IsTrue (leb most len) ↔ (most < n + 1)
+below_more most len n same =
+    (λ e. let h = at_most most len e in omega (arith, h), λ h. is_at_most most len (omega (arith, h)))
+
+-- the same of the first
+pub not_above : (len start n : ℕ) → len ≡ n → IsTrue (leb len start) ↔ (n ≤ start)
+not_above len start n same =
+    (λ e. let h = at_most len start e in omega (arith, h), λ h. is_at_most len start (omega (arith, h)))

@@ -1,10 +1,12 @@
 -- Which rules have a production, and so whether one has none.
-use Rattle.std.proofs.Common.{◌≡◌, ◌≢◌, ℕ, ◌<◌, ◌==◌, ◌||◌, Bool, true, false, List, [], ◌∷◌, map, length, get_or, refl, sym, ◌∙◌, arith}
+use Rattle.std.proofs.Common.{◌≡◌, ◌≢◌, ℕ, ◌<◌, ◌==◌, ◌||◌, Bool, true, false, List, [], ◌∷◌, map, take, set, length, get_or, refl, sym, ap, ◌∙◌, ◌+◌, ◌≤◌, arith}
 use Rattle.std.specs.Prelude.{All}
 use Rattle.std.specs.List.{list_any}
 use Rattle.std.proofs.lemmas.Bool.{false≢true}
 use Rattle.std.proofs.lemmas.Bool.Decides.{Decides-eqb}
-use Rattle.std.proofs.lemmas.List.{length-map}
+use Rattle.std.proofs.lemmas.Grind.{get_or-set_at, take_at_read}
+use Rattle.std.proofs.lemmas.List.{length-map, length-set, get_or-set_other}
+use Rattle.std.proofs.lemmas.List.Folds.{list_any-append}
 use Rattle.std.proofs.lemmas.List.Elements.{All-nil, All-cons, All-head, All-tail}
 use Rattle.std.specs.String.{string_bytes}
 use Rattle.lrspec.specs.grammars.Grammar.{Production}
@@ -43,3 +45,48 @@ pub none_empty : (ps : GrammarParts) (used : List Bool) → AreUsed ps used → 
 none_empty ps used are each (r, within, h) =
     let inside : r < length used = omega (arith, are.all, length-map ps.rules.items string_bytes) in
     some_of_rule ps.prods.items r (sym (are.each r inside) ∙ each r inside) h
+
+-- ---- a loop over the productions `ys`, which are `xs`, that notes the rule of each
+
+or_false : (b : Bool) → (b || false) ≡ b
+or_false true = refl
+or_false false = refl
+
+or_true : (b : Bool) → (b || true) ≡ true
+or_true true = refl
+or_true false = refl
+
+module _ (ys xs : List PartProd) (i : ℕ) (x : PartProd) (same : ys ≡ xs) (within : i < length ys) (is : x ≡ get_or ys i x) where
+  -- whether one of the productions up to that of the turn is of the rule
+  one_more : (r : ℕ) (b : Bool) → (x.rule == r) ≡ b → list_any (λ p. p.rule == r) (take (i + 1) xs) ≡ (list_any (λ p. p.rule == r) (take i xs) || b)
+  one_more r b h =
+      let of_rule = λ (p : PartProd). p.rule == r in
+      ap (λ zs. list_any of_rule (take (i + 1) zs)) (sym same)
+      ∙ ap (list_any of_rule) (take_at_read ys i x within).1
+      ∙ list_any-append of_rule (take i ys) (get_or ys i x ∷ [])
+      ∙ ap (λ (p : PartProd). list_any of_rule (take i ys) || (of_rule p || false)) (sym is)
+      ∙ ap (λ c. list_any of_rule (take i ys) || c) (or_false (x.rule == r) ∙ h)
+      ∙ ap (λ zs. list_any of_rule (take i zs) || b) same
+
+  module _ (u : List Bool) (each : (r : ℕ) → r < length u → get_or u r false ≡ list_any (λ p. p.rule == r) (take i xs)) where
+    -- its rule is noted
+    pub noted : x.rule < length u → (r : ℕ) → r < length (set u x.rule true) → get_or (set u x.rule true) r false ≡ list_any (λ p. p.rule == r) (take (i + 1) xs)
+    noted inside r l = go (x.rule == r) refl
+      where
+        go : (b : Bool) → (x.rule == r) ≡ b → get_or (set u x.rule true) r false ≡ list_any (λ p. p.rule == r) (take (i + 1) xs)
+        go true h =
+            let e = (Decides-eqb x.rule r).0 h in
+            get_or-set_at u x.rule r true false (sym e) inside ∙ sym (or_true (list_any (λ p. p.rule == r) (take i xs))) ∙ sym (one_more r true h)
+        go false h =
+            get_or-set_other u x.rule r true false (λ e. false≢true (sym h ∙ (Decides-eqb x.rule r).1 (sym e)))
+            ∙ each r (omega (arith, l, length-set u x.rule true))
+            ∙ sym (or_false (list_any (λ p. p.rule == r) (take i xs)))
+            ∙ sym (one_more r false h)
+
+    -- its rule is none that is noted
+    pub passed_by : length u ≤ x.rule → (r : ℕ) → r < length u → get_or u r false ≡ list_any (λ p. p.rule == r) (take (i + 1) xs)
+    passed_by outside r l = go (x.rule == r) refl
+      where
+        go : (b : Bool) → (x.rule == r) ≡ b → get_or u r false ≡ list_any (λ p. p.rule == r) (take (i + 1) xs)
+        go true h = let e = (Decides-eqb x.rule r).0 h in absurd (omega (arith, e, l, outside))
+        go false h = each r l ∙ sym (or_false (list_any (λ p. p.rule == r) (take i xs))) ∙ sym (one_more r false h)
