@@ -1,14 +1,15 @@
 -- the items of a goto that isn't made
-use Rattle.std.proofs.Common.{Ordering, ◌≡◌, ℕ, ◌+◌, ◌<◌, ◌≤◌, Bool, true, false, not, ◌&&◌, List, [], ◌∷◌, ◌++◌, Some, map, drop, length, get_or, refl, sym, ap, ◌∙◌, append_assoc, add-one, drop-cons, arith}
+use Rattle.std.proofs.Common.{Ordering, ◌≡◌, ℕ, ◌+◌, ◌<◌, ◌≤◌, Bool, true, false, not, ◌&&◌, List, [], ◌∷◌, ◌++◌, None, Some, map, drop, length, get_or, refl, sym, ap, ◌∙◌, append_assoc, add-one, drop-cons, arith}
 use Rattle.std.specs.Prelude.{slice_get, IsTrue, ◌↔◌}
 use Rattle.std.specs.BTreeMap.{insert_entry}
 use Rattle.std.specs.Ordering.{nat_cmp}
 use Rattle.std.proofs.lemmas.Bool.{and_parts}
 use Rattle.std.proofs.lemmas.List.{length-map, map-append, drop_all}
-use Rattle.lrspec.specs.grammars.ItemSets.{Items, item_at, AreUpwards}
+use Rattle.lrspec.specs.grammars.ItemSets.{Items, item_at, HasItem, AreUpwards}
 use Rattle.lritems.specs.ItemsOf.{items_of, Agree}
 use Rattle.lritems.specs.LeastItem.{least_item}
-use Rattle.lritems.proofs.ItemsAscending.{ascending_from_upwards, first_is_least, before_middle, inserted_last, same_from_agree}
+use Rattle.lritems.specs.Merging.{HaveSameKeys}
+use Rattle.lritems.proofs.ItemsAscending.{ascending_from_upwards, first_here, first_is_least, before_middle, inserted_last, same_from_agree}
 use Rattle.lrclosing.proofs.ItemKeys.{Key, key_cmp}
 
 -- items whose lookaheads are shown by `shows`
@@ -77,6 +78,21 @@ all_passed [] n m e l = refl
 all_passed (x ∷ es) n m e l = absurd (omega (arith, e, l))
 
 module _ {T R : Type 0} (number : T → ℕ) (shows : R → List Bool) where
+  -- where there is no first one there is none
+  pub none_found : (es : List (Key T × R)) → None ≡ slice_get es 0 → items_shown number shows es ≡ []
+  none_found [] h = refl
+  none_found (e ∷ es) h = cc
+
+  -- the first is there
+  pub first_there :
+      (es : List (Key T × R)) (e : Key T × R) → Some e ≡ slice_get es 0 → HasItem (items_shown number shows es) (number e.0.0.0) (number e.0.1.0)
+  first_there [] e h = cc
+  first_there (f ∷ es) e h =
+      let s : Some e ≡ Some f = h in
+      let same : e ≡ f = cc in
+      let item : (ℕ × ℕ) × List Bool = ((number f.0.0.0, number f.0.1.0), shows f.1) in
+      rw (same, first_here item (items_shown number shows es)) refl
+
   -- the first is the least
   pub first_found :
       (es : List (Key T × R)) (e : Key T × R) → Some e ≡ slice_get es 0 → AreUpwards (items_shown number shows es)
@@ -107,6 +123,14 @@ module _ {T R : Type 0} (number : T → ℕ) (shows : R → List Bool) where
   pub other_length :
       (es : List (Key T × List Bool)) (all : List (Key T × R)) → (length all ≡ length es → ⊥) → items_of number es ≡ items_shown number shows all → ⊥
   other_length es all n e = n (sym (length-map all _) ∙ sym (ap length e) ∙ length-map es _)
+
+  -- and so are their keys
+  pub other_keys_length :
+      (es : List (Key T × List Bool)) (all : List (Key T × R)) → (length es ≡ length all → ⊥) → HaveSameKeys (items_of number es) (items_shown number shows all) → ⊥
+  other_keys_length es all n e =
+      n
+      (sym (length-map es _) ∙ sym (length-map (items_of number es) _) ∙ ap length e ∙ length-map (items_shown number shows all) _
+      ∙ length-map all _)
 
   -- the item at hand, put into a map of those before it
   module _ (cmp : T → T → Ordering) (ordered : (x y : T) → cmp x y ≡ nat_cmp (number x) (number y)) where

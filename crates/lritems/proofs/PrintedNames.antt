@@ -1,8 +1,8 @@
 -- names of tokens and rules, and the symbols of a body in parts
-use Rattle.std.proofs.Common.{◌≡◌, ℕ, zero, suc, ◌<◌, List, [], ◌∷◌, length, map, get_or, take, drop, Option, None, Some, unwrap_or, refl, sym, ap, ◌∙◌, arith}
+use Rattle.std.proofs.Common.{◌≡◌, ℕ, zero, suc, ◌<◌, ◌≤◌, List, [], ◌∷◌, length, map, get_or, take, drop, Option, None, Some, unwrap_or, refl, sym, ap, ◌∙◌, arith}
 use Rattle.std.specs.List.{slice_get}
 use Rattle.std.specs.Option.{option_map}
-use Rattle.std.proofs.lemmas.List.{take-map, drop-map}
+use Rattle.std.proofs.lemmas.List.{length-map, take-map, drop-map}
 use Rattle.std.proofs.lemmas.Option.{unwrap_or-slice_get, get_or_from_slice_get}
 use Rattle.lrspec.specs.grammars.Grammar.{Symbol, Production, Grammar, IsOfRule, IsProductionOf, IsBodySymbol, AreBodySymbols, rule_of, rule_or_zero}
 use Rattle.lrspec.specs.texts.PrintedTexts.{rule_name}
@@ -56,3 +56,8 @@ front_symbols g f xs front ys n s e h = rw (mapped_front f xs front ys n e h) (s
 pub back_symbols :
     {X : Type 0} (g : Grammar) (f : X → Symbol) (xs back : List X) (ys : List Symbol) (n : ℕ) → AreBodySymbols g ys → map f xs ≡ ys → back ≡ drop n xs → AreBodySymbols g (map f back)
 back_symbols g f xs back ys n s e h = rw (mapped_back f xs back ys n e h) (symbols_behind g n ys s)
+
+-- a dot within the body is within the symbols of which the body is made
+pub dot_within :
+    {X : Type 0} (f : X → Symbol) (xs : List X) (body : List Symbol) (d n : ℕ) → map f xs ≡ body → n ≡ d → d ≤ length body → n ≤ length xs
+dot_within f xs body d n e k l = omega (arith, sym (length-map xs f) ∙ ap length e, k, l)

@@ -1,12 +1,15 @@
 -- walks over two item sets in step
-use Rattle.std.proofs.Common.{◌≡◌, ℕ, Bool, true, false, cond, ◌&&◌, List, [], ◌∷◌, Option, Some, map, refl, sym, ap, ◌∙◌, inl, inr}
+use Rattle.std.proofs.Common.{◌≡◌, ℕ, ◌+◌, ◌<◌, Bool, true, false, cond, ◌&&◌, List, [], ◌∷◌, Option, Some, map, length, get_or, drop, refl, sym, ap, ◌∙◌, ◌⊎◌, inl, inr}
 use Rattle.std.specs.Prelude.{◌==◌, IsTrue, ◌↔◌}
 use Rattle.std.specs.Option.{IsSome}
 use Rattle.lrspec.specs.grammars.ItemSets.{Items, item_at, HasItem, AreUpwards}
 use Rattle.lrspec.specs.merging.WeakCompatibility.{SameItems}
+use Rattle.lritems.specs.ItemsOf.{items_of}
 use Rattle.lritems.specs.Merging.{HaveSameKeys}
 use Rattle.lritems.proofs.ItemsAscending.{AllBehind, AreAscending, ascending_from_upwards, apart_before, first_here, first_of_both, behind_from_has, not_both}
-use Rattle.lrclosing.proofs.ItemKeys.{apart_test}
+use Rattle.lritems.proofs.GotoItems.{items_shown, left_shown}
+use Rattle.lritems.proofs.PassingPairs.{checked_next}
+use Rattle.lrclosing.proofs.ItemKeys.{Key, apart_test}
 use Rattle.lrclosing.proofs.WalksOverItems.{first_or_rest}
 
 -- the look-up finds each item of the list
@@ -115,6 +118,40 @@ keys_ascending (e ∷ es) (f ∷ fs) h k s =
 -- and those that come upwards have them in the same order where they have the same
 pub keys_from_same : (a b : Items) → AreUpwards a → AreUpwards b → SameItems a b → HaveSameKeys a b
 keys_from_same a b u w s = keys_ascending a b (ascending_from_upwards a u) (ascending_from_upwards b w) s
+
+-- a turn of such a walk, over the entries of a map and the items of a goto from a place on
+module _
+    {T R : Type 0} (number : T → ℕ) (shows : R → List Bool) (a b : Items) (es : List (Key T × List Bool)) (all at : List (Key T × R)) (i : ℕ) (e : Key T × R)
+    (same : at ≡ all) (below : i < length at) (is : e ≡ get_or at i e)
+  where
+    abbrev left : List (Key T × R) → Items
+    left xs = items_shown number shows xs
+
+    abbrev item : (ℕ × ℕ) × List Bool
+    item = ((number e.0.0.0, number e.0.1.0), shows e.1)
+
+    at_hand : left (drop i all) ≡ item ∷ left (drop (i + 1) all)
+    at_hand = left_shown number shows all i e (rw same at below) (rw same at is)
+
+    -- the next of both are one item
+    pub turn_in_step :
+        (next : List (Key T × List Bool)) (f : Key T × List Bool) → es ≡ f ∷ next → AreInStep a b (items_of number es) (items_shown number shows (drop i all))
+        → AreNext a b (number f.0.0.0) (number f.0.1.0) f.1 (shows e.1) × AreInStep a b (items_of number next) (items_shown number shows (drop (i + 1) all))
+    turn_in_step next f steps s =
+        next_in_step a b (items_of number next) (left (drop (i + 1) all)) ((number f.0.0.0, number f.0.1.0), f.1) item (rw (steps, at_hand) at s)
+
+    -- the map doesn't end before the goto
+    pub no_early_end : es ≡ [] → AreInStep a b (items_of number es) (items_shown number shows (drop i all)) → ⊥
+    no_early_end none s =
+        not_early a b (items_of number es) (left (drop (i + 1) all)) item (rw at_hand at s) (ap (λ xs. items_of number xs) none)
+
+-- what holds of each item that isn't to come, and of the next one
+pub checked_turn :
+    {T : Type 0} (number : T → ℕ) (P : ℕ → ℕ → Type 0) (a : Items) (es next : List (Key T × List Bool)) (f : Key T × List Bool) → es ≡ f ∷ next
+    → ((i e : ℕ) → HasItem a i e → P i e ⊎ HasItem (items_of number es) i e) → P (number f.0.0.0) (number f.0.1.0)
+    → (i e : ℕ) → HasItem a i e → P i e ⊎ HasItem (items_of number next) i e
+checked_turn number P a es next f steps checked here =
+    checked_next P a (number f.0.0.0) (number f.0.1.0) f.1 (items_of number next) (rw steps at checked) here
 
 -- a test that says no
 pub no_from : (P : Type 0) → (P → ⊥) → IsTrue false ↔ P

@@ -60,3 +60,6 @@ loop-key-preserved-in-Continue-branch-2 g c =
 
 pub returns : goal.returns
 returns g c = end_gotos c.args.grm.now _ _ _ c.loop-key.invariant.moving c.loop-key.invariant.growing.upwards c.loop-key.invariant.order (rw c.in-None.ensures.steps.0 refl)
+
+pub place_of-requires : goal.place_of-requires
+place_of-requires g c = c.loop-key.invariant.places

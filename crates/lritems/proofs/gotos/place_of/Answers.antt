@@ -1,4 +1,4 @@
-use Rattle.std.proofs.Common.{◌≡◌, ◌∙◌, [], sym, ap, refl, Some, inr, length, rules}
+use Rattle.std.proofs.Common.{◌≡◌, ◌∙◌, [], sym, ap, refl, Some, inr, inl, length}
 use Rattle.std.proofs.lemmas.List.{length-map}
 use Rattle.lrgrammar.specs.Symbols.{symbol_of}
 use Rattle.lritems.specs.Gotos.{gotos_of, places_of}
@@ -17,7 +17,7 @@ returns-clause-places g c =
     let number = g.T.IndexStorage.number in
     let law = g.met.T.IndexStorage.ordered in
     let gs = gotos_of number c.args.gotos.now.items in
-    let size : c.len-place.result ≡ length c.args.gotos.now.items = search rules in
+    let size : c.len-place.result ≡ length c.args.gotos.now.items = c.len-place.ensures ∙ c.args.gotos.now.ok.0 in
     let len : length gs ≡ c.len-place.result = length-map c.args.gotos.now.items _ ∙ sym size in
     let ordered = symbol_order number _ (λ a b. law a.0 b.0) (λ a b. refl) (λ a b. refl) (λ a b. law a.0 b.0) in
     let updates = c.in_ok-insert.ensures.updates.0 in
@@ -30,7 +30,7 @@ pub returns-clause-at : goal.returns-clause-at
 returns-clause-at g c =
     let number = g.T.IndexStorage.number in
     let gs = gotos_of number c.args.gotos.now.items in
-    let size : c.len-place.result ≡ length c.args.gotos.now.items = search rules in
+    let size : c.len-place.result ≡ length c.args.gotos.now.items = c.len-place.ensures ∙ c.args.gotos.now.ok.0 in
     let len : length gs ≡ c.len-place.result = length-map c.args.gotos.now.items _ ∙ sym size in
     rw (← len, pushed_gotos number c.args.gotos.now.items c.push.new.self.items c.args.symbol c.new.result c.in_ok-push.ensures.items c.new.ensures)
     (at_end gs (symbol_of number c.args.symbol) [])
@@ -43,3 +43,9 @@ returns-clause-made g c =
           (sym c.known_place.ensures ∙ c.in_default.is),
       pushed_gotos number c.args.gotos.now.items c.push.new.self.items c.args.symbol c.new.result c.in_ok-push.ensures.items c.new.ensures,
     )
+
+pub returns-in-Some-clause-places : goal.returns-in-Some-clause-places
+returns-in-Some-clause-places g c = c.requires
+
+pub returns-in-Some-clause-made : goal.returns-in-Some-clause-made
+returns-in-Some-clause-made g c = inl refl

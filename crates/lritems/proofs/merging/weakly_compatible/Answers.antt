@@ -1,11 +1,11 @@
-use Rattle.std.proofs.Common.{◌≡◌, ◌∙◌, sym, ap, false, inr, refl, ⊎_elim}
+use Rattle.std.proofs.Common.{◌≡◌, ◌∙◌, sym, false, inr, refl, ⊎_elim}
 use Rattle.lrspec.specs.grammars.ItemSets.{HasItem}
 use Rattle.lritems.specs.ItemsOf.{items_of}
 use Rattle.lritems.specs.Gotos.{goto_of}
 use Rattle.lritems.specs.Merging.{PassesWithAll}
-use Rattle.lritems.proofs.GotoItems.{left_shown, none_left}
-use Rattle.lritems.proofs.PassingPairs.{checked_next, clash_refutes}
-use Rattle.lritems.proofs.WalksInStep.{begin_in_step, next_in_step, not_early, both_end, same_from_keys, keys_from_same, no_from}
+use Rattle.lritems.proofs.GotoItems.{none_left}
+use Rattle.lritems.proofs.PassingPairs.{clash_refutes}
+use Rattle.lritems.proofs.WalksInStep.{begin_in_step, turn_in_step, no_early_end, checked_turn, both_end, same_from_keys, keys_from_same, no_from}
 use Rattle.lritems.proofs.merging.weakly_compatible.Goals as goal
 
 pub returns-then-not-has_same_items-clause-compatible : goal.returns-then-not-has_same_items-clause-compatible
@@ -29,23 +29,17 @@ loop-b_i-init g c =
 pub returns-in_default-clause-compatible : goal.returns-in_default-clause-compatible
 returns-in_default-clause-compatible g c =
     let number = g.T.IndexStorage.number in
-    let at = c.deref-b_i-items.ensures.value in
-    let left = left_shown number (λ r. r.now) c.args.b.now.items.items c.loop-b_i.b_i-index c.loop-b_i-item.result (rw at at c.loop-b_i-test.true) (rw at at c.loop-b_i-item.is) in
-    absurd (not_early _ _ _ _ _ (rw left at c.loop-b_i.invariant.in_step) (ap (λ es. items_of number es) c.in_default.ensures.steps.0))
+    absurd (no_early_end number (λ r. r.now) _ _ _ _ _ _ _ c.deref-b_i-items.ensures.value c.loop-b_i-test.true c.loop-b_i-item.is c.in_default.ensures.steps.0 c.loop-b_i.invariant.in_step)
 
 pub returns-in_default-clause-clash : goal.returns-in_default-clause-clash
 returns-in_default-clause-clash g c = λ _ _.
     let number = g.T.IndexStorage.number in
-    let at = c.deref-b_i-items.ensures.value in
-    let left = left_shown number (λ r. r.now) c.args.b.now.items.items c.loop-b_i.b_i-index c.loop-b_i-item.result (rw at at c.loop-b_i-test.true) (rw at at c.loop-b_i-item.is) in
-    absurd (not_early _ _ _ _ _ (rw left at c.loop-b_i.invariant.in_step) (ap (λ es. items_of number es) c.in_default.ensures.steps.0))
+    absurd (no_early_end number (λ r. r.now) _ _ _ _ _ _ _ c.deref-b_i-items.ensures.value c.loop-b_i-test.true c.loop-b_i-item.is c.in_default.ensures.steps.0 c.loop-b_i.invariant.in_step)
 
 pub passes_with_all-requires : goal.passes_with_all-requires
 passes_with_all-requires g c =
     let number = g.T.IndexStorage.number in
-    let at = c.deref-b_i-items.ensures.value in
-    let left = left_shown number (λ r. r.now) c.args.b.now.items.items c.loop-b_i.b_i-index c.loop-b_i-item.result (rw at at c.loop-b_i-test.true) (rw at at c.loop-b_i-item.is) in
-    let turn = next_in_step _ _ _ _ _ _ (rw (c.in-Some.ensures.steps, left) at c.loop-b_i.invariant.in_step) in
+    let turn = turn_in_step number (λ r. r.now) _ _ _ _ _ _ _ c.deref-b_i-items.ensures.value c.loop-b_i-test.true c.loop-b_i-item.is _ _ c.in-Some.ensures.steps c.loop-b_i.invariant.in_step in
     let bits = c.requires.bits in
     let mine = bits.1 _ _ _ turn.0.here in
     let other = bits.2 _ _ _ turn.0.there in
@@ -60,17 +54,13 @@ passes_with_all-requires g c =
 pub returns-then-not-passes_with_all-clause-compatible : goal.returns-then-not-passes_with_all-clause-compatible
 returns-then-not-passes_with_all-clause-compatible g c =
     let number = g.T.IndexStorage.number in
-    let at = c.deref-b_i-items.ensures.value in
-    let left = left_shown number (λ r. r.now) c.args.b.now.items.items c.loop-b_i.b_i-index c.loop-b_i-item.result (rw at at c.loop-b_i-test.true) (rw at at c.loop-b_i-item.is) in
-    let turn = next_in_step _ _ _ _ _ _ (rw (c.in-Some.ensures.steps, left) at c.loop-b_i.invariant.in_step) in
+    let turn = turn_in_step number (λ r. r.now) _ _ _ _ _ _ _ c.deref-b_i-items.ensures.value c.loop-b_i-test.true c.loop-b_i-item.is _ _ c.in-Some.ensures.steps c.loop-b_i.invariant.in_step in
     no_from _ (clash_refutes _ _ (c.passes_with_all.ensures.no c.if-not-passes_with_all.true _ _ turn.0.here turn.0.there))
 
 pub returns-then-not-passes_with_all-clause-clash : goal.returns-then-not-passes_with_all-clause-clash
 returns-then-not-passes_with_all-clause-clash g c = λ _ _.
     let number = g.T.IndexStorage.number in
-    let at = c.deref-b_i-items.ensures.value in
-    let left = left_shown number (λ r. r.now) c.args.b.now.items.items c.loop-b_i.b_i-index c.loop-b_i-item.result (rw at at c.loop-b_i-test.true) (rw at at c.loop-b_i-item.is) in
-    let turn = next_in_step _ _ _ _ _ _ (rw (c.in-Some.ensures.steps, left) at c.loop-b_i.invariant.in_step) in
+    let turn = turn_in_step number (λ r. r.now) _ _ _ _ _ _ _ c.deref-b_i-items.ensures.value c.loop-b_i-test.true c.loop-b_i-item.is _ _ c.in-Some.ensures.steps c.loop-b_i.invariant.in_step in
     c.passes_with_all.ensures.no c.if-not-passes_with_all.true _ _ turn.0.here turn.0.there
 
 pub loop-b_i-preserved : goal.loop-b_i-preserved
@@ -78,13 +68,10 @@ loop-b_i-preserved g c =
     let number = g.T.IndexStorage.number in
     let a = items_of number c.args.a.now.items.entries in
     let b = goto_of number c.args.b.now in
-    let at = c.deref-b_i-items.ensures.value in
-    let left = left_shown number (λ r. r.now) c.args.b.now.items.items c.loop-b_i.b_i-index c.loop-b_i-item.result (rw at at c.loop-b_i-test.true) (rw at at c.loop-b_i-item.is) in
-    let turn = next_in_step _ _ _ _ _ _ (rw (c.in-Some.ensures.steps, left) at c.loop-b_i.invariant.in_step) in
-    let checked = rw c.in-Some.ensures.steps at c.loop-b_i.invariant.checked in
+    let turn = turn_in_step number (λ r. r.now) _ _ _ _ _ _ _ c.deref-b_i-items.ensures.value c.loop-b_i-test.true c.loop-b_i-item.is _ _ c.in-Some.ensures.steps c.loop-b_i.invariant.in_step in
     record {
       in_step = turn.1;
-      checked = checked_next (PassesWithAll a b) a _ _ _ _ checked (c.passes_with_all.ensures.yes c.if-not-passes_with_all.false _ _ turn.0.here turn.0.there);
+      checked = checked_turn number (PassesWithAll a b) a _ _ _ c.in-Some.ensures.steps c.loop-b_i.invariant.checked (c.passes_with_all.ensures.yes c.if-not-passes_with_all.false _ _ turn.0.here turn.0.there);
     }
 
 pub returns-clause-compatible : goal.returns-clause-compatible

@@ -6,7 +6,7 @@ use Rattle.lrspec.specs.grammars.Grammar.{body_of, rule_of, rest}
 use Rattle.lrspec.specs.texts.PrintedTexts.{rule_name, spaced, looks_text, item_text}
 use Rattle.lrgrammar.specs.Symbols.{symbol_of}
 use Rattle.lritems.proofs.JoinedTexts.{last_piece}
-use Rattle.lritems.proofs.PrintedNames.{name_of_rule, mapped_front, mapped_back, front_symbols, back_symbols}
+use Rattle.lritems.proofs.PrintedNames.{dot_within, name_of_rule, mapped_front, mapped_back, front_symbols, back_symbols}
 use Rattle.lritems.proofs.printing.push_item.Goals as goal
 
 pub push_spaced-requires : goal.push_spaced-requires
@@ -34,3 +34,18 @@ returns g c =
     let looks : string_bytes c.push_looks.new.text ≡ string_bytes c.push_str-4.new.self ++ looks_text m c.args.ctx.now = c.in_ok-push_looks.ensures in
     let whole : string_bytes c.push_looks.new.text ++ codes "}]" ≡ string_bytes c.args.text.now ++ item_text m ((p, d), c.args.ctx.now) = rw (looks, comma, behind, dot, before, arrow, rule, bracket) (simp append_assoc) in
     last_piece c.push_str-5.result _ (string_bytes c.push_looks.new.text) (codes "}]") _ c.push_str-5.ensures.bytes whole
+
+pub prod-requires : goal.prod-requires
+prod-requires g c = c.requires.production
+
+pub split_at-requires : goal.split_at-requires
+split_at-requires g c = dot_within _ _ _ _ _ c.prod.ensures.body c.from.ensures c.requires.dot
+
+pub prod_to_rule-requires : goal.prod_to_rule-requires
+prod_to_rule-requires g c = c.requires.production
+
+pub rule_name_str-requires : goal.rule_name_str-requires
+rule_name_str-requires g c = c.prod.ensures.shape.rules _ _ c.prod_to_rule.ensures.rule
+
+pub push_looks-requires : goal.push_looks-requires
+push_looks-requires g c = c.requires.bits

@@ -1,4 +1,4 @@
-use Rattle.std.proofs.Common.{ap, ◌∙◌, ◌≡◌, sym, length, refl, arith, rules}
+use Rattle.std.proofs.Common.{ap, ◌∙◌, ◌≡◌, sym, length, refl, arith}
 use Rattle.std.specs.Prelude.{IsTrue, false}
 use Rattle.lritems.specs.ItemsOf.{items_of, set_of}
 use Rattle.lritems.specs.Gotos.{goto_of}
@@ -9,7 +9,7 @@ use Rattle.lritems.proofs.gotos.Goto.is_equal.Goals as goal
 pub returns-then-len : goal.returns-then-len
 returns-then-len g c =
     let number = g.T.IndexStorage.number in
-    let mine : c.len.result ≡ length c.args.self.now.items.items = search rules in
+    let mine : c.len.result ≡ length c.args.self.now.items.items = c.len.ensures ∙ c.args.self.now.items.ok.0 in
     apart_from_other (set_of number c.args.set.now) (goto_of number c.args.self.now)
     (upwards_from_sorted number g.T.Ord.cmp g.met.T.IndexStorage.ordered c.args.set.now.items.entries c.len-2.ensures.ordered) c.requires
     (other_length number (λ r. r.now) c.args.set.now.items.entries c.args.self.now.items.items (λ e. c.if-len.true (mine ∙ e ∙ sym c.len-2.ensures.len)))
