@@ -1,11 +1,12 @@
 -- placing a goto: cores only grow and keep their items, no state goes, and a state that is made comes last
-use Rattle.std.proofs.Common.{◌≡◌, ◌≢◌, ℕ, ◌+◌, ◌<◌, ◌≤◌, List, length, None, inl, inr, ⊎_elim, arith}
+use Rattle.std.proofs.Common.{◌≡◌, ◌≢◌, ℕ, ◌+◌, ◌<◌, ◌≤◌, List, false, length, None, sym, subst, inl, inr, ⊎_elim, arith}
 use Rattle.std.proofs.lemmas.Bool.{cases_eq}
 use Rattle.lrspec.specs.grammars.Grammar.{Symbol}
-use Rattle.lrspec.specs.grammars.ItemSets.{Items, IsContained}
+use Rattle.lrspec.specs.grammars.ItemSets.{Items, LooksIn, IsContained}
 use Rattle.lrspec.specs.merging.WeakCompatibility.{SameItems, IsUnion}
 use Rattle.lrspec.proofs.grammars.Closures.{contained_itself}
-use Rattle.lrplacing.specs.Construction.{Draft, core_at, closed_at, Places}
+use Rattle.lritems.specs.ItemsOf.{Agree}
+use Rattle.lrplacing.specs.Construction.{Draft, core_at, closed_at, HasGrown, Places}
 
 -- one core grew into another: it keeps its items, and looks at least where it looked
 pub record GrowsInto (a b : Items) : Type 0 where
@@ -50,3 +51,15 @@ module _ (old new : List Draft) (from k : ℕ) (x : Symbol) (goto : Items) (m : 
             let last : j ≡ k = omega (arith, h.length_is, h.last, l, b) in
             (last, omega (arith, h.length_is, l, b), rw last h.core, rw last h.closed)
       ]
+
+-- what holds of two item sets holds of those that are equal to them
+pub of_equal : (P : Items → Items → Type 0) (a b c d : Items) → c ≡ a → d ≡ b → P a b → P c d
+of_equal P a b c d e f h = subst (λ x. P x d) (sym e) (subst (P a) (sym f) h)
+
+-- item sets that agree look at the same
+pub looks_of_agree : (a b : Items) → Agree a b → (p d t : ℕ) → LooksIn a p d t → LooksIn b p d t
+looks_of_agree a b h p d t l = rw (h p d) at l
+
+-- a core that is as it was has not grown
+pub not_grown : (a b : Items) → b ≡ a → HasGrown false a b
+not_grown a b e = (λ h. cc, λ h p d t l. subst (λ x. LooksIn x p d t) e l)

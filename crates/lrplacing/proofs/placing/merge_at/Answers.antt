@@ -1,4 +1,9 @@
-use Rattle.lrplacing.proofs.DraftLists.{core_found, closed_found, core_put, closed_put}
+use Rattle.std.proofs.Common.{length-set}
+use Rattle.lrspec.specs.merging.WeakCompatibility.{SameItems, IsUnion}
+use Rattle.lritems.specs.Gotos.{goto_of}
+use Rattle.lritems.specs.Merging.{HaveEquallyManyBits}
+use Rattle.lrplacing.specs.Construction.{HasGrown}
+use Rattle.lrplacing.proofs.DraftLists.{core_found, closed_found, core_put, closed_put, elsewhere, of_read, of_cores, edges_kept}
 use Rattle.lrplacing.proofs.placing.merge_at.Goals as goal
 
 pub returns-clause-fits : goal.returns-clause-fits
@@ -15,3 +20,33 @@ returns-clause-closed g c =
       closed_found c.args.drafts.now.items c.args.k c.index_mut.result.now c.requires.below c.index_mut.ensures.value,
     )
     c.merge.ensures.closed
+
+pub merge-requires : goal.merge-requires
+merge-requires g c =
+    let goto = goto_of g.T.IndexStorage.number c.args.goto.now in
+    let read = of_read c.args.drafts.now.items c.args.k c.index_mut.result.now c.requires.below c.index_mut.ensures.value in
+    record {
+      items = read (λ a. SameItems a goto) c.requires.items;
+      bits = read (λ a. HaveEquallyManyBits a goto) c.requires.bits;
+      upwards = c.requires.upwards;
+    }
+
+pub returns-clause-len : goal.returns-clause-len
+returns-clause-len g c = length-set c.args.drafts.now.items c.args.k c.merge.new.self
+
+pub returns-clause-others : goal.returns-clause-others
+returns-clause-others g c = λ j n. elsewhere c.args.drafts.now.items c.args.k j c.merge.new.self n
+
+pub returns-clause-edges : goal.returns-clause-edges
+returns-clause-edges g c =
+    edges_kept c.args.drafts.now.items c.args.k c.index_mut.result.now c.merge.new.self c.requires.below c.index_mut.ensures.value c.merge.ensures.edges
+
+pub returns-clause-union : goal.returns-clause-union
+returns-clause-union g c =
+    of_cores c.args.drafts.now.items c.args.k c.index_mut.result.now c.merge.new.self c.requires.below c.index_mut.ensures.value
+    (λ a b. IsUnion a (goto_of g.T.IndexStorage.number c.args.goto.now) b) c.merge.ensures.union
+
+pub returns-clause-grew : goal.returns-clause-grew
+returns-clause-grew g c =
+    of_cores c.args.drafts.now.items c.args.k c.index_mut.result.now c.merge.new.self c.requires.below c.index_mut.ensures.value
+    (HasGrown c.merge.result) c.merge.ensures.grew

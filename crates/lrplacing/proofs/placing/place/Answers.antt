@@ -1,9 +1,11 @@
-use Rattle.std.proofs.Common.{◌∙◌, ◌<◌, length}
+use Rattle.std.proofs.Common.{◌∙◌, ◌<◌, ◌≤◌, length, refl, sym, subst, arith}
 use Rattle.lrgrammar.specs.Symbols.{symbol_of}
 use Rattle.lritems.specs.Gotos.{goto_of}
 use Rattle.lrplacing.specs.CandidatesOf.{IsFirstItem}
 use Rattle.lrplacing.specs.ChosenPlaces.{IsPlaceOf}
 use Rattle.lrplacing.specs.ChosenPlaces as choice
+use Rattle.lrplacing.specs.Construction.{HasGrown}
+use Rattle.lrplacing.proofs.CoreGrowth.{of_equal, not_grown}
 use Rattle.lrplacing.proofs.CandidateLists.{all_below, all_clash, candidates_kept, candidates_made, same_cores, merged_items, others_core, some_first, first_found, at_each_first}
 use Rattle.lrplacing.proofs.FirstOfList.{first_among}
 use Rattle.lrplacing.proofs.PlacingFacts.{put_places, put_equal, put_merged, put_made}
@@ -124,3 +126,29 @@ returns-clause-candidates g c =
 
 pub unwrap-first-requires : goal.unwrap-first-requires
 unwrap-first-requires g c = some_first (goto_of g.T.IndexStorage.number c.args.goto.now) c.first_item.result c.requires.some c.first_item.ensures.none
+
+pub merge_at-grew-requires-clause-items : goal.merge_at-grew-requires-clause-items
+merge_at-grew-requires-clause-items g c =
+    let found = rw c.as_slice-2.ensures.value at c.in-Some-find_compatible.ensures.compatible in
+    found.1.items
+
+pub link-requires-2 : goal.link-requires-2
+link-requires-2 g c = omega (arith, c.in_ok-k.ensures.len, c.requires.from)
+
+pub returns-in-Some-clause-grew : goal.returns-in-Some-clause-grew
+returns-in-Some-clause-grew g c = λ _. not_grown _ _ (c.in_ok-link.ensures.stays c.in-Some.k).core
+
+pub returns-in-Some-find_compatible-clause-grew : goal.returns-in-Some-find_compatible-clause-grew
+returns-in-Some-find_compatible-clause-grew g c = λ _.
+    let k = c.in-Some-find_compatible.k in
+    of_equal (HasGrown c.merge_at-grew.result) _ _ _ _ refl (c.in_ok-link-2.ensures.stays k).core c.merge_at-grew.ensures.grew
+
+pub returns-in-Some-find_compatible-clause-most : goal.returns-in-Some-find_compatible-clause-most
+returns-in-Some-find_compatible-clause-most g c =
+    subst (λ n. n ≤ g.T.IndexStorage.MAX) (sym (c.in_ok-link-2.ensures.len ∙ c.merge_at-grew.ensures.len)) c.requires.most
+
+pub returns-clause-grew : goal.returns-clause-grew
+returns-clause-grew g c = λ b. absurd (omega (arith, b, c.in_ok-k.ensures.number))
+
+pub returns-clause-most : goal.returns-clause-most
+returns-clause-most g c = subst (λ n. n ≤ g.T.IndexStorage.MAX) (sym c.in_ok-link-3.ensures.len) c.in_ok-k.ensures.most

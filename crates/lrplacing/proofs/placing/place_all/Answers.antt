@@ -64,3 +64,21 @@ pub returns-clause-placed : goal.returns-clause-placed
 returns-clause-placed g c =
     let e = empty _ _ c.loop-symbol.invariant.count c.in-None.ensures.steps.0 in
     c.loop-symbol.invariant.placed _ (rw e plain.PlacesAll.none)
+
+pub place-requires-clause-from : goal.place-requires-clause-from
+place-requires-clause-from g c = c.loop-symbol.invariant.from
+
+pub place-requires-clause-most : goal.place-requires-clause-most
+place-requires-clause-most g c = c.loop-symbol.invariant.most
+
+pub place-requires-clause-candidates : goal.place-requires-clause-candidates
+place-requires-clause-candidates g c = c.loop-symbol.invariant.candidates
+
+pub returns-clause-from : goal.returns-clause-from
+returns-clause-from g c = c.loop-symbol.invariant.from
+
+pub returns-clause-most : goal.returns-clause-most
+returns-clause-most g c = c.loop-symbol.invariant.most
+
+pub returns-clause-candidates : goal.returns-clause-candidates
+returns-clause-candidates g c = c.loop-symbol.invariant.candidates

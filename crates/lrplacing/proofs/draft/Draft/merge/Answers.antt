@@ -1,3 +1,10 @@
+use Rattle.std.proofs.Common.{◌≡◌, true, false, ap, sym, subst, refl, ◌∙◌, inl, inr}
+use Rattle.lrspec.specs.grammars.ItemSets.{LooksIn}
+use Rattle.lrspec.specs.merging.WeakCompatibility.{SameItems, IsUnion}
+use Rattle.lritems.specs.Gotos.{goto_of}
+use Rattle.lritems.specs.Merging.{HaveEquallyManyBits, Gains}
+use Rattle.lrplacing.specs.Construction.{Draft}
+use Rattle.lrplacing.proofs.CoreGrowth.{of_equal, looks_of_agree}
 use Rattle.lrplacing.proofs.draft.Draft.merge.Goals as goal
 
 pub returns-then-grew-clause-fits : goal.returns-then-grew-clause-fits
@@ -5,3 +12,47 @@ returns-then-grew-clause-fits g c = λ n f. rw c.unclose.ensures.core (c.weakly_
 
 pub returns-else-grew-clause-fits : goal.returns-else-grew-clause-fits
 returns-else-grew-clause-fits g c = λ n f. c.weakly_merge-grew.ensures.fits n (rw (← c.self.view_is) at f)
+
+pub weakly_merge-grew-requires : goal.weakly_merge-grew-requires
+weakly_merge-grew-requires g c =
+    let goto = goto_of g.T.IndexStorage.number c.args.goto.now in
+    record {
+      items = subst (λ (s : Draft). SameItems s.core goto) (sym c.self.view_is) c.requires.items;
+      bits = subst (λ (s : Draft). HaveEquallyManyBits s.core goto) (sym c.self.view_is) c.requires.bits;
+      upwards = c.requires.upwards;
+    }
+
+pub returns-then-grew-clause-union : goal.returns-then-grew-clause-union
+returns-then-grew-clause-union g c =
+    let old = ap (λ (s : Draft). s.core) c.self.view_is in
+    of_equal (λ a b. IsUnion a (goto_of g.T.IndexStorage.number c.args.goto.now) b) _ _ _ _ (sym old) c.unclose.ensures.core c.weakly_merge-grew.ensures.union
+
+pub returns-then-grew-clause-closed : goal.returns-then-grew-clause-closed
+returns-then-grew-clause-closed g c =
+    let old = ap (λ (s : Draft). s.core) c.self.view_is in
+    inr (c.unclose.ensures.closed, of_equal Gains _ _ _ _ (sym old) c.unclose.ensures.core (c.weakly_merge-grew.ensures.grew c.if-grew.true))
+
+pub returns-then-grew-clause-grew : goal.returns-then-grew-clause-grew
+returns-then-grew-clause-grew g c =
+    let old = ap (λ (s : Draft). s.core) c.self.view_is in
+    (λ e. of_equal Gains _ _ _ _ (sym old) c.unclose.ensures.core (c.weakly_merge-grew.ensures.grew e), λ e. absurd (let n : true ≡ false = sym c.if-grew.true ∙ e in cc))
+
+pub returns-else-grew-clause-union : goal.returns-else-grew-clause-union
+returns-else-grew-clause-union g c =
+    let old = ap (λ (s : Draft). s.core) c.self.view_is in
+    of_equal (λ a b. IsUnion a (goto_of g.T.IndexStorage.number c.args.goto.now) b) _ _ _ _ (sym old) refl c.weakly_merge-grew.ensures.union
+
+pub returns-else-grew-clause-closed : goal.returns-else-grew-clause-closed
+returns-else-grew-clause-closed g c =
+    let old = ap (λ (s : Draft). s.core) c.self.view_is in
+    inl (
+      λ p d t l. subst (λ a. LooksIn a p d t) old (looks_of_agree _ _ (c.weakly_merge-grew.ensures.same c.if-grew.false) p d t l),
+      ap (λ (s : Draft). s.closed) c.self.view_is,
+    )
+
+pub returns-else-grew-clause-grew : goal.returns-else-grew-clause-grew
+returns-else-grew-clause-grew g c =
+    let old = ap (λ (s : Draft). s.core) c.self.view_is in (
+      λ e. absurd (let n : true ≡ false = sym e ∙ c.if-grew.false in cc),
+      λ e p d t l. subst (λ a. LooksIn a p d t) old (looks_of_agree _ _ (c.weakly_merge-grew.ensures.same e) p d t l),
+    )
