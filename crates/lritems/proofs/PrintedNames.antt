@@ -1,11 +1,12 @@
 -- names of tokens and rules, and the symbols of a body in parts
-use Rattle.std.proofs.Common.{◌≡◌, ℕ, zero, suc, ◌<◌, ◌≤◌, List, [], ◌∷◌, length, map, get_or, take, drop, Option, None, Some, unwrap_or, refl, sym, ap, ◌∙◌, arith}
+use Rattle.std.proofs.Common.{◌≡◌, ℕ, zero, suc, ◌+◌, ◌<◌, ◌≤◌, List, [], ◌∷◌, ◌++◌, append_assoc, length, map, get_or, take, drop, Option, None, Some, unwrap_or, refl, sym, ap, ◌∙◌, arith}
+use Rattle.std.specs.Prelude.{codes}
 use Rattle.std.specs.List.{slice_get}
 use Rattle.std.specs.Option.{option_map}
-use Rattle.std.proofs.lemmas.List.{length-map, take-map, drop-map}
+use Rattle.std.proofs.lemmas.List.{length-map, take-map, drop-map, take_more, map-append, flat_map_more}
 use Rattle.std.proofs.lemmas.Option.{unwrap_or-slice_get, get_or_from_slice_get}
 use Rattle.lrspec.specs.grammars.Grammar.{Symbol, Production, Grammar, IsOfRule, IsProductionOf, IsBodySymbol, AreBodySymbols, rule_of, rule_or_zero}
-use Rattle.lrspec.specs.texts.PrintedTexts.{rule_name}
+use Rattle.lrspec.specs.texts.PrintedTexts.{rule_name, symbol_text, spaced}
 use Rattle.lrclosing.proofs.SymbolsBehindDots.{symbols_behind}
 
 -- what is read of an element of a list, or of something else where there is none
@@ -61,3 +62,15 @@ back_symbols g f xs back ys n s e h = rw (mapped_back f xs back ys n e h) (symbo
 pub dot_within :
     {X : Type 0} (f : X → Symbol) (xs : List X) (body : List Symbol) (d n : ℕ) → map f xs ≡ body → n ≡ d → d ≤ length body → n ≤ length xs
 dot_within f xs body d n e k l = omega (arith, sym (length-map xs f) ∙ ap length e, k, l)
+
+-- one symbol more, behind a space
+pub spaced_turn :
+    {X : Type 0} (g : Grammar) (f : X → Symbol) (xs : List X) (i : ℕ) (x : X) (first before space after : List ℕ) → i < length xs → x ≡ get_or xs i x
+    → before ≡ first ++ spaced g (map f (take i xs)) → space ≡ before ++ codes " " → after ≡ space ++ symbol_text g (f x)
+    → after ≡ first ++ spaced g (map f (take (i + 1) xs))
+spaced_turn g f xs i x first before space after l at b p q =
+    let name = symbol_text g (f x) in
+    let piece : Symbol → List ℕ = λ y. codes " " ++ symbol_text g y in
+    let more : take (i + 1) xs ≡ take i xs ++ x ∷ [] = take_more xs i x l ∙ ap (λ y. take i xs ++ y ∷ []) (sym at) in
+    rw (more, map-append f (take i xs) (x ∷ []))
+    (q ∙ ap (λ t. t ++ name) p ∙ append_assoc before (codes " ") name ∙ ap (λ t. t ++ piece (f x)) b ∙ flat_map_more piece first (map f (take i xs)) (f x))
