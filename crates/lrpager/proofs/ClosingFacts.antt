@@ -1,5 +1,5 @@
 -- closing a state: what is put at its place, and what holds then
-use Rattle.std.proofs.Common.{◌≡◌, ℕ, ◌+◌, ◌<◌, ◌≤◌, List, length, None}
+use Rattle.std.proofs.Common.{◌≡◌, ℕ, ◌+◌, ◌<◌, ◌≤◌, List, length, get_or, None, sym, subst, ◌∙◌}
 use Rattle.lrspec.specs.grammars.Grammar.{Symbol, Grammar, IsGrammar}
 use Rattle.lrspec.specs.grammars.ItemSets.{Items, Fits, IsClosure}
 use Rattle.lrplacing.specs.Construction.{Draft, core_at, closed_at, with_closed, PlacesAll}
@@ -8,6 +8,7 @@ use Rattle.lrplacing.specs.Invariant.{Holds, HasGotos, AllMayBePlaced}
 use Rattle.lrplacing.specs.CandidatesOf.{Lists, AreCandidates}
 use Rattle.lritems.specs.Gotos.{AreGotosOf}
 use Rattle.lrpager.specs.Closing.{Closes, ClosesTo}
+use Rattle.lrplacing.proofs.DraftLists.{core_found}
 use Rattle.lrplacing.proofs.ClosedLater.{elsewhere, length_with, core_with, edge_with, closed_with}
 use Rattle.lrplacing.proofs.CandidateLists.{candidates_kept, same_cores}
 use Rattle.lrpager.proofs.ClosedStates.{closes_holds}
@@ -35,10 +36,15 @@ closes_with g old i c l was closure fits = record {
   fits = fits;
 }
 
+-- the state that was read at the place, with its closed state and the gotos of it
 pub closes_to :
-    (g : Grammar) (old : List Draft) (i : ℕ) (c : Items) {gs : List (Symbol × Items)} → i < length old → closed_at old i ≡ None → IsClosure g (core_at old i) c → Fits g c
-    → AreGotosOf g c gs → ClosesTo g old i (with_closed old i c) gs
-closes_to g old i c l was closure fits gotos = record { closed = c; closes = closes_with g old i c l was closure fits; gotos = gotos }
+    (g : Grammar) (old : List Draft) (i : ℕ) (s : Draft) (core c : Items) {gs : List (Symbol × Items)} → i < length old → s ≡ get_or old i s → core ≡ s.core
+    → closed_at old i ≡ None → IsClosure g core c → Fits g c → AreGotosOf g c gs → ClosesTo g old i (with_closed old i c) gs
+closes_to g old i s core c l at is was closure fits gotos = record {
+  closed = c;
+  closes = closes_with g old i c l was (subst (λ a. IsClosure g a c) (is ∙ sym (core_found old i s l at)) closure) fits;
+  gotos = gotos;
+}
 
 -- candidates are those that they were where a closed state is noted
 pub candidates_with : (ss : List Draft) (i : ℕ) (c : Items) {cs : Lists} → AreCandidates ss cs → AreCandidates (with_closed ss i c) cs

@@ -1,11 +1,14 @@
 -- the next state to close: what is known of it, and when there is none
-use Rattle.std.proofs.Common.{◌≡◌, ℕ, List, Option, None, Some, refl, arith}
-use Rattle.std.specs.Prelude.{MatchOption}
+use Rattle.std.proofs.Common.{◌≡◌, ℕ, ◌+◌, ◌<◌, ◌≤◌, Bool, true, false, List, length, get_or, Option, None, Some, refl, sym, subst, ◌∙◌, inl, inr, arith}
+use Rattle.std.specs.Prelude.{MatchOption, IsTrue, ◌↔◌}
 use Rattle.std.specs.Option.{IsSome}
+use Rattle.std.proofs.lemmas.Bool.{cases_lt}
+use Rattle.lrspec.specs.grammars.ItemSets.{Items}
 use Rattle.lrplacing.specs.Construction.{Draft, closed_at}
 use Rattle.lrplacing.specs.Invariant.{AreClosed}
 use Rattle.lrpager.specs.Choices.{IsUnclosed, NoneUnclosedFrom, IsFirstUnclosedFrom, IsNextUnclosed}
 use Rattle.lrpager.specs.Choices as choice
+use Rattle.lrplacing.proofs.DraftLists.{closed_found}
 
 -- the next state to close is to be closed
 pub next_is_unclosed : {ss : List Draft} {from k : ℕ} → IsNextUnclosed ss from k → IsUnclosed ss k
@@ -26,3 +29,31 @@ pub first_is_next :
     → MatchOption r (AreClosed ss) (IsNextUnclosed ss from)
 first_is_next ss from None none m = closed_of_none_from_first ss m
 first_is_next ss from (Some k) none m = choice.IsNextUnclosed.earlier none m
+
+none_from_test : (o : Option Items) (b : Bool) → (IsTrue b ↔ IsSome o) → b ≡ false → o ≡ None
+none_from_test None b h e = refl
+none_from_test (Some x) b h e = let t : b ≡ true = h.1 refl in cc
+
+some_none : (o : Option Items) → IsSome o → o ≡ None → ⊥
+some_none None s e = cc
+some_none (Some x) s e = cc
+
+-- the state that was read at a place, by the test whether it is closed
+module _
+    (ss : List Draft) (k : ℕ) (s : Draft) (b : Bool) (below : k < length ss) (at : s ≡ get_or ss k s) (test : IsTrue b ↔ IsSome s.closed)
+  where
+    pub is_unclosed : b ≡ false → IsUnclosed ss k
+    is_unclosed e = (below, closed_found ss k s below at ∙ none_from_test s.closed b test e)
+
+    pub not_unclosed : b ≡ true → IsUnclosed ss k → ⊥
+    not_unclosed e u = some_none s.closed (test.0 e) (sym (closed_found ss k s below at) ∙ u.1)
+
+-- one more place at which no state is to be closed
+pub none_more :
+    (ss : List Draft) (from i : ℕ) → ((k : ℕ) → from ≤ k → k < i → IsUnclosed ss k → ⊥) → (IsUnclosed ss i → ⊥)
+    → (k : ℕ) → from ≤ k → k < i + 1 → IsUnclosed ss k → ⊥
+none_more ss from i before here k f l u =
+    elim (cases_lt k i) [
+      | inl lt ↦ before k f lt u
+      | inr ge ↦ let same : k ≡ i = omega arith in here (subst (IsUnclosed ss) same u)
+    ]

@@ -65,3 +65,21 @@ returns-clause-chain g c =
 pub returns-clause-fits : goal.returns-clause-fits
 returns-clause-fits g c =
     closings_bound_fits g.T.IndexStorage.MAX c.args.grm.now c.tokens_len-sizes.ensures.sizes g.met.T.IndexStorage.most
+
+pub construct-requires-clause-of : goal.construct-requires-clause-of
+construct-requires-clause-of g c = c.in_ok-firsts.ensures
+
+pub construct-requires-clause-sizes : goal.construct-requires-clause-sizes
+construct-requires-clause-sizes g c = c.tokens_len-sizes.ensures.sizes
+
+pub construct-requires-clause-candidates : goal.construct-requires-clause-candidates
+construct-requires-clause-candidates g c = c.in_ok-drafts.ensures.candidates
+
+pub collect-requires-clause-closed : goal.collect-requires-clause-closed
+collect-requires-clause-closed g c = c.in_ok-closings.ensures.closed
+
+pub collect-requires-clause-most : goal.collect-requires-clause-most
+collect-requires-clause-most g c = c.in_ok-closings.ensures.most
+
+pub returns-clause-below : goal.returns-clause-below
+returns-clause-below g c = c.in_ok-graph.ensures.states

@@ -14,28 +14,25 @@ close-requires-clause-fits g c =
 pub place_all-requires-clause-holds : goal.place_all-requires-clause-holds
 place_all-requires-clause-holds g c =
     let old = c.args.drafts.now.items in
-    let same = c.core.ensures ∙ sym (core_found old c.args.i c.index.result.now c.requires.below c.index.ensures) in
     let e = c.in_ok-closed.ensures in
-    let t = closes_to c.args.grm.now old c.args.i (set_of g.T.IndexStorage.number c.in_ok-closed.closed) c.requires.below c.requires.unclosed (rw same at e.closure) e.fits
-    c.in_ok-successors.ensures in
+    let t = closes_to c.args.grm.now old c.args.i c.index.result.now _ (set_of g.T.IndexStorage.number c.in_ok-closed.closed) c.requires.below c.index.ensures c.core.ensures
+    c.requires.unclosed e.closure e.fits c.in_ok-successors.ensures in
     closed_holds c.requires.of.shape t c.requires.holds
 
 pub place_all-requires-clause-gotos : goal.place_all-requires-clause-gotos
 place_all-requires-clause-gotos g c =
     let old = c.args.drafts.now.items in
-    let same = c.core.ensures ∙ sym (core_found old c.args.i c.index.result.now c.requires.below c.index.ensures) in
     let e = c.in_ok-closed.ensures in
-    let t = closes_to c.args.grm.now old c.args.i (set_of g.T.IndexStorage.number c.in_ok-closed.closed) c.requires.below c.requires.unclosed (rw same at e.closure) e.fits
-    c.in_ok-successors.ensures in
+    let t = closes_to c.args.grm.now old c.args.i c.index.result.now _ (set_of g.T.IndexStorage.number c.in_ok-closed.closed) c.requires.below c.index.ensures c.core.ensures
+    c.requires.unclosed e.closure e.fits c.in_ok-successors.ensures in
     closed_gotos c.requires.of.shape t c.requires.holds
 
 pub returns-clause-turn : goal.returns-clause-turn
 returns-clause-turn g c =
     let old = c.args.drafts.now.items in
-    let same = c.core.ensures ∙ sym (core_found old c.args.i c.index.result.now c.requires.below c.index.ensures) in
     let e = c.in_ok-closed.ensures in
-    let t = closes_to c.args.grm.now old c.args.i (set_of g.T.IndexStorage.number c.in_ok-closed.closed) c.requires.below c.requires.unclosed (rw same at e.closure) e.fits
-    c.in_ok-successors.ensures in
+    let t = closes_to c.args.grm.now old c.args.i c.index.result.now _ (set_of g.T.IndexStorage.number c.in_ok-closed.closed) c.requires.below c.index.ensures c.core.ensures
+    c.requires.unclosed e.closure e.fits c.in_ok-successors.ensures in
     let closed = set_of g.T.IndexStorage.number c.in_ok-closed.closed in
     let mid = c.place_all.new.drafts.items in
     elim c.if-not-grew.branch [
