@@ -2,7 +2,7 @@
 use Rattle.std.proofs.Common.{◌≡◌, ◌≢◌, ℕ, Bool, true, false, not, eqb, IsTrue, ◌↔◌, List, [], ◌∷◌, ◌++◌, length, map, Option, None, Some, IfSome, option_map, append_assoc, eq-eqb, refl, sym, ap, ◌∙◌, ◌⊎◌, inl, inr, cond}
 use Rattle.std.specs.Prelude.{◌&&◌}
 use Rattle.std.proofs.lemmas.Bool.Decides.{eqb_tells}
-use Rattle.std.proofs.lemmas.List.{map-append}
+use Rattle.std.proofs.lemmas.List.{append-nil, map-append}
 use Rattle.lrspec.specs.grammars.Grammar.{Grammar, body_of, token_count}
 use Rattle.lrspec.specs.grammars.ItemSets.{Items, item_at, Fits}
 use Rattle.lrspec.specs.tables.Table.{bit_or_none, accepts_at}
@@ -54,6 +54,11 @@ module _ {X : Type 0} (shown : X → ℕ × List Bool) (g : Grammar) where
   passed_turn before p d v rest whole none h =
       let here : complete_items g (((p, d), v) ∷ rest) ≡ complete_items g rest = rw none refl in
       ap (λ ys. map shown before ++ ys) (sym here) ∙ h
+
+-- nothing is left
+pub all_listed :
+    {X : Type 0} (before left whole : List X) → left ≡ [] → before ++ left ≡ whole → before ≡ whole
+all_listed before left whole none h = sym (ap (λ xs. before ++ xs) none ∙ append-nil before) ∙ h
 
 -- what is found of the complete start production
 pub accepted_found :

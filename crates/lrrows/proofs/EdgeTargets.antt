@@ -1,10 +1,14 @@
 -- targets of the edges of a state, by the places of their symbols
-use Rattle.std.proofs.Common.{◌≡◌, ℕ, ◌≤◌, List, ◌∷◌, length, Option, None, eq-eqb, refl}
+use Rattle.std.proofs.Common.{◌≡◌, ℕ, ◌≤◌, List, ◌∷◌, length, Option, None, eq-eqb, refl, arith}
 use Rattle.std.proofs.lemmas.Option.{slice_get_past}
 use Rattle.lrspec.specs.grammars.Grammar.{Symbol, Rule, Token}
 use Rattle.lrspec.specs.merging.Graph.{Graph, edge, edge_at}
 use Rattle.lrrows.proofs.CompleteTurns.{other}
 use Rattle.lrrows.proofs.FilledPlaces.{AreFilling, IsFilled, filled_turn}
+
+-- a state whose number is not below that of states is not there
+pub not_there : (a b s m n : ℕ) → b ≤ a → a ≡ s → b ≡ m → m ≡ n → n ≤ s
+not_there a b s m n l e f h = omega arith
 
 -- there are no edges of a state that is not there
 pub nowhere : (h : Graph) (s : ℕ) (x : Symbol) → length h ≤ s → edge h s x ≡ None

@@ -15,6 +15,13 @@ pub written_back :
     → take len (new ++ drop (length new) old) ≡ new
 written_back len new old e f = rw (e ∙ sym f) (take-append_seam new (drop (length new) old))
 
+-- what holds of no value holds of None alone
+pub none_only :
+    {X : Type 0} (P : Option X → Type 0) → ((x : X) → P (Some x) → ⊥) → (o : Option X) → P o
+    → o ≡ None
+none_only P not_some None h = refl
+none_only P not_some (Some x) h = absurd (not_some x h)
+
 -- a value came to a place, if nothing stood there, and nothing to the others
 pub record IsFilled {X : Type 0} (old new : List (Option X)) (k : ℕ) (x : X) : Type 0 where
   pub here : k < length old → get_or new k None ≡ option_or (get_or old k None) (Some x)

@@ -14,6 +14,7 @@ pub mod LookingTokens
 pub mod ContestSteps
 pub mod ContestsOfState
 -- rows, state after state
+pub mod FirstLooking
 pub mod IndexedRows
 pub mod ReducedRows
 pub mod RowsByOne

@@ -17,6 +17,10 @@ accept_reduce_at-requires-clause-fits g c =
     let l = next_asked c.args.grm.now c.args.sg.now _ _ _ _ c.in-Some.ensures.steps c.loop-stidx.invariant in
     rw c.closed_state.ensures.items (c.requires.graph.closures.fit_closed _ l)
 
+pub accept_reduce_at-requires-clause-upwards : goal.accept_reduce_at-requires-clause-upwards
+accept_reduce_at-requires-clause-upwards g c =
+    rw c.closed_state.ensures.items c.closed_state.ensures.upwards
+
 pub loop-stidx-preserved-in-Some-2 : goal.loop-stidx-preserved-in-Some-2
 loop-stidx-preserved-in-Some-2 g c =
     let number = g.T.IndexStorage.number in

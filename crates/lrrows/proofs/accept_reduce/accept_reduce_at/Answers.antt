@@ -5,6 +5,12 @@ use Rattle.lritems.specs.ItemsOf.{set_of}
 use Rattle.lrrows.proofs.LeastReductions.{first_is}
 use Rattle.lrrows.proofs.accept_reduce.accept_reduce_at.Goals as goal
 
+pub accepted-requires : goal.accepted-requires
+accepted-requires g c = c.requires.fits
+
+pub completes-requires : goal.completes-requires
+completes-requires g c = c.requires.fits
+
 pub returns : goal.returns
 returns g c =
     let a = set_of g.T.IndexStorage.number c.args.closed.now in

@@ -1,10 +1,11 @@
-use Rattle.std.proofs.Common.{◌≡◌, length, refl, inl, inr}
+use Rattle.std.proofs.Common.{◌≡◌, length, refl, ap, inl, inr}
 use Rattle.std.proofs.lemmas.List.Elements.{All-nil, All-push}
 use Rattle.lrspec.specs.grammars.Grammar.{token_count}
 use Rattle.lritems.specs.ItemsOf.{items_of}
 use Rattle.lrclosing.proofs.WalksOverItems.{found_all}
 use Rattle.lrrows.specs.StateRows.{complete_items}
-use Rattle.lrrows.proofs.CompleteTurns.{complete_turn, passed_turn, left_out, equal_by_test, differ_by_test, denied}
+use Rattle.lrrows.proofs.CompleteTurns.{complete_turn, passed_turn, all_listed, left_out}
+use Rattle.lrrows.proofs.CompleteTurns.{equal_by_test, differ_by_test, denied}
 use Rattle.lrrows.proofs.completes.completes.Goals as goal
 use Rattle.lrrows.proofs.completes.completes.Goals.{else-eq-via-then-eq+else-ne, else-eq-via-else-eq}
 
@@ -68,3 +69,13 @@ loop-key-preserved g c =
             bits = c.loop-key.invariant.bits;
           }
     ]
+
+pub returns-clause-items : goal.returns-clause-items
+returns-clause-items g c =
+    all_listed _ _ _
+    (ap (λ es. complete_items c.args.grm.now (items_of g.T.IndexStorage.number es))
+    c.in-None.ensures.steps.0)
+    c.loop-key.invariant.items
+
+pub returns-clause-bits : goal.returns-clause-bits
+returns-clause-bits g c = c.loop-key.invariant.bits

@@ -1,12 +1,13 @@
 -- each edge on a rule brings its target to the place of the rule
-use Rattle.std.proofs.Common.{◌≡◌, ◌≤◌, ◌∙◌, ◌∷◌, ℕ, Option, None, length, get_or, replicate, refl, ap, arith, rules}
+use Rattle.std.proofs.Common.{◌≡◌, ◌∙◌, ◌∷◌, ℕ, Option, None, length}
+use Rattle.std.proofs.Common.{get_or, replicate, refl, sym, ap}
 use Rattle.std.proofs.lemmas.List.{get_or-replicate}
 use Rattle.lrspec.specs.grammars.Grammar.{Rule, Token}
 use Rattle.lrspec.specs.merging.Graph.{edge, edge_at}
 use Rattle.lrgrammar.specs.declared.idx.StIdx.{StIdx}
 use Rattle.lrgraphs.specs.GraphOf.{edges_of}
-use Rattle.lrrows.proofs.EdgeTargets.{nowhere, rule_passed, rule_turn}
-use Rattle.lrrows.proofs.FilledPlaces.{written_back, filling_none, filled_all}
+use Rattle.lrrows.proofs.EdgeTargets.{not_there, nowhere, rule_passed, rule_turn}
+use Rattle.lrrows.proofs.FilledPlaces.{none_only, written_back, filling_none, filled_all}
 use Rattle.lrrows.proofs.targets.rule_targets.Goals as goal
 use Rattle.lrrows.proofs.targets.rule_targets.Goals.{then-from+in-None, else-from}
 
@@ -16,8 +17,12 @@ loop-symbol-init g c =
     let n = length c.args.grm.now.rule_names in
     let whole : ℕ → Option ℕ = λ r. edge c.args.sg.now (number c.args.stidx.0) (Rule r) in
     let i = c.into_iter-symbol-iterator.ensures.into_iter_gives in
-    let many : length c.in_ok-targets.targets.items ≡ n = search rules in
-    let items : c.in_ok-targets.targets.items ≡ replicate n None = search rules in
+    let many : length c.in_ok-targets.targets.items ≡ n =
+    sym c.in_ok-targets.targets.ok.0 ∙ c.in_ok-targets.ensures.len
+    ∙ c.from.ensures ∙ c.rules_len.ensures.value in
+    let items : c.in_ok-targets.targets.items ≡ replicate n None =
+    c.in_ok-targets.ensures.items_if_clones_equal (none_only _ (λ x h. h))
+    ∙ ap (λ m. replicate m None) (c.from.ensures ∙ c.rules_len.ensures.value) in
     record {
       many = many;
       filling =
@@ -33,8 +38,10 @@ loop-symbol-preserved-in-Rule g c =
     let whole : ℕ → Option ℕ = λ r. edge c.args.sg.now (number c.args.stidx.0) (Rule r) in
     let old = c.loop-symbol.targets in
     let new = c.fill.new.places in
-    let back = written_back old.len new old.items (omega arith) (omega arith) in
-    let many : length new ≡ n = omega arith in
+    let same : length new ≡ length old.items =
+    c.fill.auto.places ∙ ap length c.as_mut_slice.ensures.value in
+    let back = written_back old.len new old.items old.ok.0 same in
+    let many : length new ≡ n = same ∙ c.loop-symbol.invariant.many in
     let left = edges_of number (λ (u : StIdx g.row.T.Denot). number u.0) in
     let target = c.in-Some.target.now in
     let first : left c.loop-symbol.symbol-iterator ≡ (Rule c.from-in-Rule.result, number target.0) ∷ left c.next.new.self =
@@ -81,9 +88,15 @@ returns g c =
           (filled_all (λ u. number u.0) w.loop-symbol.targets.items n (λ r. edge_at left (Rule r)) whole
           (λ r. rw w.in-None.ensures.steps.0 refl) w.loop-symbol.invariant.filling w.loop-symbol.invariant.many)
       | else-from w ↦
-          let many : length c.in_ok-targets.targets.items ≡ n = search rules in
-          let items : c.in_ok-targets.targets.items ≡ replicate n None = search rules in
-          let past : length c.args.sg.now ≤ number c.args.stidx.0 = omega arith in
+          let many : length c.in_ok-targets.targets.items ≡ n =
+          sym c.in_ok-targets.targets.ok.0 ∙ c.in_ok-targets.ensures.len
+          ∙ c.from.ensures ∙ c.rules_len.ensures.value in
+          let items : c.in_ok-targets.targets.items ≡ replicate n None =
+          c.in_ok-targets.ensures.items_if_clones_equal (none_only _ (λ x h. h))
+          ∙ ap (λ m. replicate m None) (c.from.ensures ∙ c.rules_len.ensures.value) in
+          let past =
+          not_there _ _ _ _ _ w.if-from.false c.from-2.ensures c.from-3.ensures
+          c.all_states_len.ensures in
           rw w.targets-is
           (filled_all (λ u. number u.0) c.in_ok-targets.targets.items n whole whole
           (λ r. nowhere c.args.sg.now (number c.args.stidx.0) (Rule r) past)

@@ -1,12 +1,13 @@
 -- each edge on a token brings its target to the place of the token
-use Rattle.std.proofs.Common.{◌≡◌, ◌≤◌, ◌∙◌, ◌∷◌, ℕ, Option, None, length, get_or, replicate, refl, ap, arith, rules}
+use Rattle.std.proofs.Common.{◌≡◌, ◌∙◌, ◌∷◌, ℕ, Option, None, length}
+use Rattle.std.proofs.Common.{get_or, replicate, refl, sym, ap}
 use Rattle.std.proofs.lemmas.List.{get_or-replicate}
 use Rattle.lrspec.specs.grammars.Grammar.{Token, Rule, token_count}
 use Rattle.lrspec.specs.merging.Graph.{edge, edge_at}
 use Rattle.lrgrammar.specs.declared.idx.StIdx.{StIdx}
 use Rattle.lrgraphs.specs.GraphOf.{edges_of}
-use Rattle.lrrows.proofs.EdgeTargets.{nowhere, token_passed, token_turn}
-use Rattle.lrrows.proofs.FilledPlaces.{written_back, filling_none, filled_all}
+use Rattle.lrrows.proofs.EdgeTargets.{not_there, nowhere, token_passed, token_turn}
+use Rattle.lrrows.proofs.FilledPlaces.{none_only, written_back, filling_none, filled_all}
 use Rattle.lrrows.proofs.targets.token_targets.Goals as goal
 use Rattle.lrrows.proofs.targets.token_targets.Goals.{then-from+in-None, else-from}
 
@@ -16,8 +17,12 @@ loop-symbol-init g c =
     let n = token_count c.args.grm.now in
     let whole : ℕ → Option ℕ = λ t. edge c.args.sg.now (number c.args.stidx.0) (Token t) in
     let i = c.into_iter-symbol-iterator.ensures.into_iter_gives in
-    let many : length c.in_ok-targets.targets.items ≡ n = search rules in
-    let items : c.in_ok-targets.targets.items ≡ replicate n None = search rules in
+    let many : length c.in_ok-targets.targets.items ≡ n =
+    sym c.in_ok-targets.targets.ok.0 ∙ c.in_ok-targets.ensures.len
+    ∙ c.from.ensures ∙ c.tokens_len.ensures.value in
+    let items : c.in_ok-targets.targets.items ≡ replicate n None =
+    c.in_ok-targets.ensures.items_if_clones_equal (none_only _ (λ x h. h))
+    ∙ ap (λ m. replicate m None) (c.from.ensures ∙ c.tokens_len.ensures.value) in
     record {
       many = many;
       filling =
@@ -33,8 +38,10 @@ loop-symbol-preserved-in-Token g c =
     let whole : ℕ → Option ℕ = λ t. edge c.args.sg.now (number c.args.stidx.0) (Token t) in
     let old = c.loop-symbol.targets in
     let new = c.fill.new.places in
-    let back = written_back old.len new old.items (omega arith) (omega arith) in
-    let many : length new ≡ n = omega arith in
+    let same : length new ≡ length old.items =
+    c.fill.auto.places ∙ ap length c.as_mut_slice.ensures.value in
+    let back = written_back old.len new old.items old.ok.0 same in
+    let many : length new ≡ n = same ∙ c.loop-symbol.invariant.many in
     let left = edges_of number (λ (u : StIdx g.row.T.Denot). number u.0) in
     let target = c.in-Some.target.now in
     let first : left c.loop-symbol.symbol-iterator ≡ (Token c.from-in-Token.result, number target.0) ∷ left c.next.new.self =
@@ -81,9 +88,15 @@ returns g c =
           (filled_all (λ u. number u.0) w.loop-symbol.targets.items n (λ t. edge_at left (Token t)) whole
           (λ t. rw w.in-None.ensures.steps.0 refl) w.loop-symbol.invariant.filling w.loop-symbol.invariant.many)
       | else-from w ↦
-          let many : length c.in_ok-targets.targets.items ≡ n = search rules in
-          let items : c.in_ok-targets.targets.items ≡ replicate n None = search rules in
-          let past : length c.args.sg.now ≤ number c.args.stidx.0 = omega arith in
+          let many : length c.in_ok-targets.targets.items ≡ n =
+          sym c.in_ok-targets.targets.ok.0 ∙ c.in_ok-targets.ensures.len
+          ∙ c.from.ensures ∙ c.tokens_len.ensures.value in
+          let items : c.in_ok-targets.targets.items ≡ replicate n None =
+          c.in_ok-targets.ensures.items_if_clones_equal (none_only _ (λ x h. h))
+          ∙ ap (λ m. replicate m None) (c.from.ensures ∙ c.tokens_len.ensures.value) in
+          let past =
+          not_there _ _ _ _ _ w.if-from.false c.from-2.ensures c.from-3.ensures
+          c.all_states_len.ensures in
           rw w.targets-is
           (filled_all (λ u. number u.0) c.in_ok-targets.targets.items n whole whole
           (λ t. nowhere c.args.sg.now (number c.args.stidx.0) (Token t) past)
