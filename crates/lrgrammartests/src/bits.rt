@@ -1,7 +1,8 @@
 //! Bit vectors.
 
 use lrgrammar::vob::Vob;
-use std::alloc::AllocError;
+use std::alloc::{AllocError, Global};
+use std::process::Abort;
 
 #[test]
 fn meeting_bits(rt: HostRuntime) -> Result<(), AllocError> {
@@ -18,13 +19,19 @@ fn meeting_bits(rt: HostRuntime) -> Result<(), AllocError> {
     Ok(())
 }
 
+/// 128 bits, of which those at these places are set.
+fn bits_at(rt: &impl Abort, alloc: Global, places: &[usize]) -> Result<Vob, AllocError> {
+    let mut bits = Vob::from_elem(alloc, false, 128)?;
+    for place in places {
+        assert!(rt; *place < bits.len());
+        bits.set(*place, true);
+    }
+    Ok(bits)
+}
+
 #[test]
 fn bits_in_a_range(rt: HostRuntime) -> Result<(), AllocError> {
-    let mut bits = Vob::from_elem(rt.alloc(), false, 128)?;
-    for place in [59, 60, 63, 64, 69, 70] {
-        assert!(rt; place < bits.len());
-        bits.set(place, true);
-    }
+    let bits = bits_at(&rt, rt.alloc(), &[59, 60, 63, 64, 69, 70])?;
     assert_eq!(rt; bits.len(), 128);
     let found: Vec<usize> = bits.iter_set_bits(60..70).collect(rt.alloc())?;
     assert_eq!(rt; found.as_slice(), [60, 63, 64, 69].as_slice());

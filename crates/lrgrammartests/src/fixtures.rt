@@ -1,7 +1,8 @@
-//! Grammar texts that tests read, and parts that they make.
+//! Grammar texts that tests read, parts that they make, and how they compare texts.
 
 use lrgrammar::grammar::{GrammarParts, PartProd, PartSymbol, PartToken, Precedence};
 use std::alloc::{AllocError, Global};
+use std::process::Abort;
 
 /// One sentence, the empty one.
 pub const EMPTY_RULE: &str = "%% S: ;";
@@ -22,14 +23,21 @@ pub const NO_SENTENCE: &str = "%% S: S 'a';";
 pub const IN_TWO_PLACES: &str =
     "%left c %% S: A 'c' 'd' | B 'c' 'e'; A: 'a'; B: 'a' | 'b'; A: 'b' 'A';";
 
-/// A token of this name.
-pub fn token(
+/// What is told is what is wanted.
+pub fn is_told(rt: &impl Abort, of: &str, told: &str, wanted: &str) {
+    assert_eq!(rt; told, wanted, "{of}");
+}
+
+/// Adds a token of this name.
+pub fn push_token(
     alloc: Global,
+    parts: &mut GrammarParts,
     name: &str,
     precedence: Option<Precedence>,
-) -> Result<PartToken, AllocError> {
+) -> Result<(), AllocError> {
     let name = String::from_str(alloc, name)?;
-    Ok(PartToken { name, precedence })
+    parts.tokens.push(PartToken { name, precedence })?;
+    Ok(())
 }
 
 /// A production of rule 0 whose body is one symbol, that many times.
@@ -38,23 +46,27 @@ pub fn production(alloc: Global, symbol: PartSymbol, times: usize) -> Result<Par
     Ok(PartProd { rule: 0, symbols })
 }
 
+/// Adds a rule of this name with an empty production.
+fn push_rule(alloc: Global, parts: &mut GrammarParts, name: &str) -> Result<(), AllocError> {
+    let rule = parts.rules.len();
+    parts.rules.push(String::from_str(alloc, name)?)?;
+    let symbols = Vec::new(alloc);
+    parts.prods.push(PartProd { rule, symbols })?;
+    Ok(())
+}
+
 /// Rules of these names, each with an empty production; no tokens.
 pub fn rules(alloc: Global, names: &str) -> Result<GrammarParts, AllocError> {
-    let mut rules = Vec::new(alloc);
-    let mut prods = Vec::new(alloc);
-    for (rule, name) in names.split_whitespace().enumerate() {
-        rules.push(String::from_str(alloc, name)?)?;
-        let symbols = Vec::new(alloc);
-        prods.push(PartProd { rule, symbols })?;
+    let mut parts = GrammarParts {
+        rules: Vec::new(alloc),
+        tokens: Vec::new(alloc),
+        prods: Vec::new(alloc),
+        start: 0,
+    };
+    for name in names.split_whitespace() {
+        push_rule(alloc, &mut parts, name)?;
     }
-    let tokens = Vec::new(alloc);
-    let start = 0;
-    Ok(GrammarParts {
-        rules,
-        tokens,
-        prods,
-        start,
-    })
+    Ok(parts)
 }
 
 /// The same with tokens of these names, none of which has a precedence.
@@ -65,7 +77,7 @@ pub fn rules_and_tokens(
 ) -> Result<GrammarParts, AllocError> {
     let mut parts = rules(alloc, names)?;
     for name in token_names.split_whitespace() {
-        parts.tokens.push(token(alloc, name, None)?)?;
+        push_token(alloc, &mut parts, name, None)?;
     }
     Ok(parts)
 }

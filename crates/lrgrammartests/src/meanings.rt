@@ -1,9 +1,11 @@
 //! What texts mean: their parts, and tokens in their order, productions and precedences.
 
+use crate::fixtures::is_told;
 use lrgrammar::grammar::{AssocKind, Precedence, YaccGrammar};
 use lrgrammar::idx::{IndexStorage, PIdx, TIdx};
 use lrtext::reader::read_parts;
 use std::alloc::{AllocError, Global};
+use std::process::Abort;
 use std::test::Fail;
 
 /// Adds the names of the tokens with their precedences.
@@ -45,15 +47,27 @@ fn push_precedence(text: &mut String, precedence: Option<Precedence>) -> Result<
 /// The names of the tokens with their precedences, and then the productions: `a b+0L $; S: "a" "b"`,
 /// where a level is followed by the first letter of its kind. In front stands `!` where some token
 /// has a precedence.
-fn meaning<T: IndexStorage>(alloc: Global, text: &str) -> Result<String, Fail> {
-    let grm = YaccGrammar::<T>::from_text(alloc, text)?;
+fn meaning_of<T: IndexStorage>(alloc: Global, grm: &YaccGrammar<T>) -> Result<String, AllocError> {
     let mut meaning = String::new(alloc);
     if grm.has_precedences() {
         meaning.push('!')?;
     }
-    push_tokens(&mut meaning, &grm)?;
-    push_prods(&mut meaning, &grm)?;
+    push_tokens(&mut meaning, grm)?;
+    push_prods(&mut meaning, grm)?;
     Ok(meaning)
+}
+
+/// The text has that meaning.
+fn means<T: IndexStorage>(
+    rt: &impl Abort,
+    alloc: Global,
+    text: &str,
+    wanted: &str,
+) -> Result<(), Fail> {
+    let grm = YaccGrammar::<T>::from_text(alloc, text)?;
+    let meaning = meaning_of(alloc, &grm)?;
+    is_told(rt, text, meaning.as_str(), wanted);
+    Ok(())
 }
 
 #[test]
@@ -86,26 +100,31 @@ fn meanings_of_texts(rt: HostRuntime) -> Result<(), Fail> {
             "c a b $ ; S: \"A\" \"c\"; A: \"a\"; S:; A: \"b\"; ^: \"S\"",
         ),
     ] {
-        assert_eq!(rt; meaning::<u8>(alloc, text)?.as_str(), wanted, "{text}");
-        assert_eq!(rt; meaning::<u32>(alloc, text)?.as_str(), wanted, "{text}");
+        means::<u8>(&rt, alloc, text, wanted)?;
+        means::<u32>(&rt, alloc, text, wanted)?;
     }
     Ok(())
 }
 
+/// The parts of the text, as they are printed.
+fn parts_of(alloc: Global, text: &str) -> Result<String, Fail> {
+    let parts = read_parts(alloc, text).ok().ok_or("parts")?;
+    Ok(format!(in alloc; "{parts:?}")?)
+}
+
 #[test]
 fn parts_of_a_text(rt: HostRuntime) -> Result<(), Fail> {
-    let alloc = rt.alloc();
-    let parts = read_parts(alloc, "%nonassoc x %% S: x; x: 'a';")
-        .ok()
-        .ok_or("parts")?;
-    let told = format!(in alloc; "{parts:?}")?;
-    assert_eq!(rt;
+    let text = "%nonassoc x %% S: x; x: 'a';";
+    let told = parts_of(rt.alloc(), text)?;
+    is_told(
+        &rt,
+        text,
         told.as_str(),
         "GrammarParts { rules: [\"S\", \"x\"], tokens: [\
             PartToken { name: \"a\", precedence: None }, PartToken { name: \"x\", \
             precedence: Some(Precedence { level: 0, kind: Nonassoc }) }], prods: [\
             PartProd { rule: 0, symbols: [Rule(1)] }, \
-            PartProd { rule: 1, symbols: [Token(0)] }], start: 0 }"
+            PartProd { rule: 1, symbols: [Token(0)] }], start: 0 }",
     );
     Ok(())
 }

@@ -1,6 +1,6 @@
 //! Parts that are refused, and parts at the limits, which are not.
 
-use crate::fixtures::{numbered_names, production, rules, rules_and_tokens, token};
+use crate::fixtures::{numbered_names, production, push_token, rules, rules_and_tokens};
 use lrgrammar::grammar::{
     AssocKind, GrammarError, GrammarParts, PartSymbol, Precedence, YaccGrammar,
 };
@@ -30,6 +30,17 @@ fn sized(
     Ok(parts)
 }
 
+/// Why so many rules, tokens and productions more make no grammar.
+fn refusal_of_sizes(
+    alloc: Global,
+    rules: usize,
+    tokens: usize,
+    prods: usize,
+) -> Result<Option<GrammarError>, AllocError> {
+    let parts = sized(alloc, rules, tokens, prods)?;
+    Ok(refusal(alloc, &parts))
+}
+
 #[test]
 fn too_many_parts(rt: HostRuntime) -> Result<(), Fail> {
     let alloc = rt.alloc();
@@ -41,10 +52,21 @@ fn too_many_parts(rt: HostRuntime) -> Result<(), Fail> {
         (1, 0, 253, None),
         (1, 0, 254, Some(GrammarError::TooManyProductions)),
     ] {
-        let parts = sized(alloc, rules, tokens, prods)?;
-        assert_eq!(rt; refusal(alloc, &parts), wanted, "{rules} {tokens} {prods}");
+        let found = refusal_of_sizes(alloc, rules, tokens, prods)?;
+        assert_eq!(rt; found, wanted, "{rules} {tokens} {prods}");
     }
     Ok(())
+}
+
+/// Why the rule `S` with a body of that symbol, so many times, makes no grammar.
+fn refusal_of_body(
+    alloc: Global,
+    symbol: PartSymbol,
+    times: usize,
+) -> Result<Option<GrammarError>, AllocError> {
+    let mut parts = rules(alloc, "S")?;
+    parts.prods.push(production(alloc, symbol, times)?)?;
+    Ok(refusal(alloc, &parts))
 }
 
 #[test]
@@ -61,11 +83,22 @@ fn unfit_bodies(rt: HostRuntime) -> Result<(), Fail> {
             Some(GrammarError::SymbolOutOfRange),
         ),
     ] {
-        let mut parts = rules(alloc, "S")?;
-        parts.prods.push(production(alloc, symbol, times)?)?;
-        assert_eq!(rt; refusal(alloc, &parts), wanted, "{times}");
+        let found = refusal_of_body(alloc, symbol, times)?;
+        assert_eq!(rt; found, wanted, "{times}");
     }
     Ok(())
+}
+
+/// Why rules and tokens of these names make no grammar, with the start rule of that number.
+fn refusal_of_names(
+    alloc: Global,
+    names: &str,
+    tokens: &str,
+    start: usize,
+) -> Result<Option<GrammarError>, AllocError> {
+    let mut parts = rules_and_tokens(alloc, names, tokens)?;
+    parts.start = start;
+    Ok(refusal(alloc, &parts))
 }
 
 #[test]
@@ -78,9 +111,8 @@ fn unfit_names(rt: HostRuntime) -> Result<(), Fail> {
         ("S", "a b a", 1, Some(GrammarError::DuplicateName)),
         ("S", "a ^", 1, Some(GrammarError::NoStart)),
     ] {
-        let mut parts = rules_and_tokens(alloc, names, tokens)?;
-        parts.start = start;
-        assert_eq!(rt; refusal(alloc, &parts), wanted, "{names}, {tokens}");
+        let found = refusal_of_names(alloc, names, tokens, start)?;
+        assert_eq!(rt; found, wanted, "{names}, {tokens}");
     }
     Ok(())
 }
@@ -100,7 +132,7 @@ fn two_kinds_of_one_level(rt: HostRuntime) -> Result<(), Fail> {
     let mut parts = rules(alloc, "S")?;
     for (name, kind) in [("a", AssocKind::Left), ("b", AssocKind::Right)] {
         let precedence = Some(Precedence { level: 0, kind });
-        parts.tokens.push(token(alloc, name, precedence)?)?;
+        push_token(alloc, &mut parts, name, precedence)?;
     }
     assert_eq!(rt; refusal(alloc, &parts), Some(GrammarError::MixedLevel));
     Ok(())

@@ -2,11 +2,17 @@
 
 use lrgrammar::grammar::{GrammarError, TextError, YaccGrammar};
 use std::alloc::Global;
+use std::process::Abort;
 use std::test::Fail;
 
 /// A text's refusal with `u32` indices, None where it is a grammar.
 fn refusal(alloc: Global, text: &str) -> Option<TextError> {
     YaccGrammar::<u32>::from_text(alloc, text).err()
+}
+
+/// The text is refused with that error.
+fn is_refused(rt: &impl Abort, alloc: Global, text: &str, error: TextError) {
+    assert_eq!(rt; refusal(alloc, text), Some(error), "{text}");
 }
 
 #[test]
@@ -34,19 +40,16 @@ fn syntax_errors(rt: HostRuntime) {
         ("%% S: 'a\r';", 6),
         ("%% \u{e9}: ;", 3),
     ] {
-        assert_eq!(rt;
-            refusal(rt.alloc(), text),
-            Some(TextError::Syntax(place)),
-            "{text}"
-        );
+        is_refused(&rt, rt.alloc(), text, TextError::Syntax(place));
     }
 }
 
 #[test]
 fn beginnings_of_a_text(rt: HostRuntime) {
-    let no_start = Some(TextError::Grammar(GrammarError::NoStart));
-    assert_eq!(rt; refusal(rt.alloc(), "%%"), no_start);
-    assert_eq!(rt; refusal(rt.alloc(), "%% "), no_start);
+    for text in ["%%", "%% "] {
+        let no_start = TextError::Grammar(GrammarError::NoStart);
+        is_refused(&rt, rt.alloc(), text, no_start);
+    }
     assert_eq!(rt; refusal(rt.alloc(), "%% S: 'a';"), None);
 }
 
@@ -59,11 +62,7 @@ fn unknown_names(rt: HostRuntime) -> Result<(), Fail> {
         ("%start T %% S: y;", "T"),
     ] {
         let name = String::from_str(alloc, name)?;
-        assert_eq!(rt;
-            refusal(alloc, text),
-            Some(TextError::UnknownSymbol(name)),
-            "{text}"
-        );
+        is_refused(&rt, alloc, text, TextError::UnknownSymbol(name));
     }
     Ok(())
 }
@@ -77,11 +76,7 @@ fn names_with_two_precedences(rt: HostRuntime) -> Result<(), Fail> {
         ("%left a b %left b a %% S: ;", "b"),
     ] {
         let name = String::from_str(alloc, name)?;
-        assert_eq!(rt;
-            refusal(alloc, text),
-            Some(TextError::DuplicatePrecedence(name)),
-            "{text}"
-        );
+        is_refused(&rt, alloc, text, TextError::DuplicatePrecedence(name));
     }
     Ok(())
 }
