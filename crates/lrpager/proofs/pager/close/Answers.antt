@@ -54,3 +54,15 @@ returns-clause-candidates g c =
           rw (ap (λ d. d.items) w.drafts-is, noted) (candidates_with mid c.args.i closed c.in_ok-grew.ensures.candidates)
       | else-not-grew w ↦ rw (ap (λ d. d.items) w.drafts-is) c.in_ok-grew.ensures.candidates
     ]
+
+pub place_all-requires-clause-from : goal.place_all-requires-clause-from
+place_all-requires-clause-from g c = c.requires.below
+
+pub place_all-requires-clause-most : goal.place_all-requires-clause-most
+place_all-requires-clause-most g c = c.requires.most
+
+pub place_all-requires-clause-unclosed : goal.place_all-requires-clause-unclosed
+place_all-requires-clause-unclosed g c = c.requires.unclosed
+
+pub place_all-requires-clause-candidates : goal.place_all-requires-clause-candidates
+place_all-requires-clause-candidates g c = c.requires.candidates

@@ -20,3 +20,18 @@ returns-clause-states g c =
     let states = c.in_ok-states.ensures in
     let count = c.in_ok-numbers.ensures.count in
     rw (c.new.ensures, length-map) (omega (arith, states.len, count, c.if-count-MAX.false))
+
+pub marked_states-requires-clause-below : goal.marked_states-requires-clause-below
+marked_states-requires-clause-below g c = c.requires.below
+
+pub marked_states-requires-clause-one_symbol : goal.marked_states-requires-clause-one_symbol
+marked_states-requires-clause-one_symbol g c = c.requires.one_symbol
+
+pub marked_states-requires-clause-closed : goal.marked_states-requires-clause-closed
+marked_states-requires-clause-closed g c = c.requires.closed
+
+pub marked_states-requires-clause-most : goal.marked_states-requires-clause-most
+marked_states-requires-clause-most g c = c.requires.most
+
+pub returns-clause-collected : goal.returns-clause-collected
+returns-clause-collected g c = (c.in_ok-marks.marks, rw c.as_slice.ensures.value at c.in_ok-marks.ensures, rw c.new.ensures c.in_ok-states.ensures.collected)
