@@ -14,7 +14,7 @@ use crate::tables::grammar_and_table;
 use lrgrammar::grammar::YaccGrammar;
 use lrgrammar::idx::TIdx;
 use lrtable::StateTable;
-use lrtable::machine::{Verdict, run};
+use lrtable::machine::{Run, Verdict, run};
 use std::alloc::Global;
 use std::test::Fail;
 
@@ -58,6 +58,18 @@ fn draw_text(
     Ok(text)
 }
 
+/// Whether the plain machine does the same with the text.
+fn is_plain(
+    alloc: Global,
+    grm: &YaccGrammar<u32>,
+    table: &StateTable<u32>,
+    text: &[TIdx<u32>],
+    run: &Run<u32>,
+) -> Result<bool, Fail> {
+    let plain = run_plainly(alloc, grm, table, text, STEPS)?;
+    Ok(*run == plain)
+}
+
 /// Whether the text is accepted; None where the machines differ, or where the reductions do not derive the text.
 fn accepted(
     alloc: Global,
@@ -69,7 +81,7 @@ fn accepted(
     requires named { AreNamed grm.now (text_of (λ n. n) text.now) }
 {
     let run = run(alloc, grm, table, text, STEPS)?;
-    if run != run_plainly(alloc, grm, table, text, STEPS)? {
+    if !is_plain(alloc, grm, table, text, &run)? {
         return Ok(None);
     }
     if run.verdict != Verdict::Accepted {
@@ -79,18 +91,42 @@ fn accepted(
     Ok(derived.then_some(true))
 }
 
+/// Whether a text that is drawn is accepted; None where it is not run as it should be.
+fn drawn_accepted(
+    alloc: Global,
+    grm: &YaccGrammar<u32>,
+    table: &StateTable<u32>,
+    draws: &mut Draws,
+) -> Result<Option<bool>, Fail>
+    requires { IsTableFor grm.now table.now }
+{
+    let text = draw_text(alloc, grm, draws)?;
+    accepted(alloc, grm, table, &text)
+}
+
 /// Whether any of the texts is accepted; None where one is not run as it should be.
-fn any_accepted(alloc: Global, grammar: &str, draws: &mut Draws) -> Result<Option<bool>, Fail> {
-    let (grm, table) = grammar_and_table::<u32>(alloc, grammar)?;
+fn any_accepted(
+    alloc: Global,
+    grm: &YaccGrammar<u32>,
+    table: &StateTable<u32>,
+    draws: &mut Draws,
+) -> Result<Option<bool>, Fail>
+    requires { IsTableFor grm.now table.now }
+{
     let mut any = false;
     for _ in 0..TEXTS {
-        let text = draw_text(alloc, &grm, draws)?;
-        match accepted(alloc, &grm, &table, &text)? {
+        match drawn_accepted(alloc, grm, table, draws)? {
             Some(is_accepted) => any |= is_accepted,
             None => return Ok(None),
         }
     }
     Ok(Some(any))
+}
+
+/// The same of the texts of a grammar.
+fn any_of_grammar(alloc: Global, grammar: &str, draws: &mut Draws) -> Result<Option<bool>, Fail> {
+    let (grm, table) = grammar_and_table::<u32>(alloc, grammar)?;
+    any_accepted(alloc, &grm, &table, draws)
 }
 
 /// Beside each grammar stands whether the machine accepts any text at all.
@@ -113,7 +149,7 @@ fn as_the_plain_machine(rt: HostRuntime) -> Result<(), Fail> {
         (fixtures::NEVER_ENDING, false),
         (fixtures::ONE_BODY_TWICE, true),
     ] {
-        let found = any_accepted(rt.alloc(), grammar, &mut draws)?;
+        let found = any_of_grammar(rt.alloc(), grammar, &mut draws)?;
         assert_eq!(rt; found, Some(any), "{grammar}");
     }
     Ok(())

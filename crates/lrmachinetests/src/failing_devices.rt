@@ -3,8 +3,9 @@
 use crate::devices::{FailingReader, FailingWriter};
 use crate::fixtures::TERMS_AND_FACTORS;
 use crate::tables::grammar_and_table;
-use lrtable::machine::run_lines;
+use lrtable::machine::{LineError, run_lines};
 use std::alloc::Global;
+use std::process::Abort;
 use std::test::Fail;
 
 /// Four lines, of which one is empty, one has no answer by the machine, and the last one has no line feed.
@@ -21,17 +22,26 @@ const ANSWERS: [&str; 4] = [
 /// More than all bytes, or all calls.
 const ALL: usize = 1000;
 
+/// Answers the lines by the table of the terms and factors.
+fn answer(
+    alloc: Global,
+    reader: &mut FailingReader<'_>,
+    writer: &mut FailingWriter,
+) -> Result<Result<(), LineError>, Fail> {
+    let (grm, table) = grammar_and_table::<u32>(alloc, TERMS_AND_FACTORS)?;
+    Ok(run_lines(alloc, reader, writer, &grm, &table, 100))
+}
+
 /// What is written for the lines, and behind it the text of the fault if there is one.
 fn answers(
     alloc: Global,
     mut reader: FailingReader<'_>,
     mut writer: FailingWriter,
 ) -> Result<String, Fail> {
-    let (grm, table) = grammar_and_table::<u32>(alloc, TERMS_AND_FACTORS)?;
-    let outcome = run_lines(alloc, &mut reader, &mut writer, &grm, &table, 100);
+    let outcome = answer(alloc, &mut reader, &mut writer)?;
     let mut text = String::from_utf8(writer.bytes).ok().ok_or("a text")?;
     if let Err(fault) = outcome {
-        text.push_str(format!(in alloc; "{fault}")?.as_str())?;
+        write!(text, "{fault}")?;
     }
     Ok(text)
 }
@@ -46,15 +56,32 @@ fn first_answers(alloc: Global, lines: usize, behind: &str) -> Result<String, Fa
     Ok(text)
 }
 
+/// Between a reader that gives so many bytes at once and fails behind so many, and a writer that takes
+/// so many at once and fails behind so many calls, the first lines are answered, and then that is said.
+fn are_answered(
+    rt: &impl Abort,
+    alloc: Global,
+    (given, bytes): (usize, usize),
+    (taken, calls): (usize, usize),
+    (lines, behind): (usize, &str),
+) -> Result<(), Fail> {
+    let reader = FailingReader::new(INPUT.as_bytes(), given, bytes);
+    let text = answers(alloc, reader, FailingWriter::new(alloc, taken, calls))?;
+    let wanted = first_answers(alloc, lines, behind)?;
+    assert_eq!(rt;
+        text.as_str(),
+        wanted.as_str(),
+        "{given} {bytes} {taken} {calls}"
+    );
+    Ok(())
+}
+
 /// What the reader has given before it fails decides which lines are answered.
 #[test]
 fn readers_that_fail(rt: HostRuntime) -> Result<(), Fail> {
-    let alloc = rt.alloc();
     for (good, lines) in [(7, 0), (8, 1), (9, 2)] {
-        let reader = FailingReader::new(INPUT.as_bytes(), ALL, good);
-        let text = answers(alloc, reader, FailingWriter::new(alloc, ALL, ALL))?;
-        let wanted = first_answers(alloc, lines, "cannot read standard input")?;
-        assert_eq!(rt; text.as_str(), wanted.as_str(), "{good}");
+        let told = (lines, "cannot read standard input");
+        are_answered(&rt, rt.alloc(), (ALL, good), (ALL, ALL), told)?;
     }
     Ok(())
 }
@@ -62,14 +89,11 @@ fn readers_that_fail(rt: HostRuntime) -> Result<(), Fail> {
 /// However few bytes a call gives, and wherever it fails, the lines that are whole by then are answered.
 #[test]
 fn readers_that_fail_anywhere(rt: HostRuntime) -> Result<(), Fail> {
-    let alloc = rt.alloc();
     for at_once in [1, 3, ALL] {
         for good in 0..=INPUT.len() {
-            let reader = FailingReader::new(INPUT.as_bytes(), at_once, good);
-            let text = answers(alloc, reader, FailingWriter::new(alloc, ALL, ALL))?;
             let lines = INPUT.bytes().take(good).filter(|b| *b == b'\n').count();
-            let wanted = first_answers(alloc, lines, "cannot read standard input")?;
-            assert_eq!(rt; text.as_str(), wanted.as_str(), "{at_once} {good}");
+            let told = (lines, "cannot read standard input");
+            are_answered(&rt, rt.alloc(), (at_once, good), (ALL, ALL), told)?;
         }
     }
     Ok(())
@@ -78,12 +102,9 @@ fn readers_that_fail_anywhere(rt: HostRuntime) -> Result<(), Fail> {
 /// However few bytes a call gives or takes, all lines are answered.
 #[test]
 fn devices_that_move_little(rt: HostRuntime) -> Result<(), Fail> {
-    let alloc = rt.alloc();
-    let wanted = first_answers(alloc, ANSWERS.len(), "")?;
     for (given, taken) in [(1, ALL), (3, 1), (ALL, 1), (ALL, 5)] {
-        let reader = FailingReader::new(INPUT.as_bytes(), given, ALL);
-        let text = answers(alloc, reader, FailingWriter::new(alloc, taken, ALL))?;
-        assert_eq!(rt; text.as_str(), wanted.as_str(), "{given} {taken}");
+        let told = (ANSWERS.len(), "");
+        are_answered(&rt, rt.alloc(), (given, ALL), (taken, ALL), told)?;
     }
     Ok(())
 }
@@ -116,12 +137,9 @@ fn writers_that_fail_anywhere(rt: HostRuntime) -> Result<(), Fail> {
 /// A writer that fails behind the first line, and one that takes nothing, which is to fail too.
 #[test]
 fn writers_that_fail(rt: HostRuntime) -> Result<(), Fail> {
-    let alloc = rt.alloc();
     for (at_once, good, lines) in [(1, 57, 1), (ALL, 1, 1), (0, ALL, 0)] {
-        let reader = FailingReader::new(INPUT.as_bytes(), ALL, ALL);
-        let text = answers(alloc, reader, FailingWriter::new(alloc, at_once, good))?;
-        let wanted = first_answers(alloc, lines, "cannot write standard output")?;
-        assert_eq!(rt; text.as_str(), wanted.as_str(), "{at_once} {good}");
+        let told = (lines, "cannot write standard output");
+        are_answered(&rt, rt.alloc(), (ALL, ALL), (at_once, good), told)?;
     }
     Ok(())
 }

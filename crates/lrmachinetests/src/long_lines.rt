@@ -1,7 +1,11 @@
 //! A line of a hundred thousand words.
 
+ghost use Rattle.lrspec.specs.tables.Table.{IsTableFor};
+
 use crate::fixtures::{MANY, repeated};
 use crate::tables::grammar_and_table;
+use lrgrammar::grammar::YaccGrammar;
+use lrtable::StateTable;
 use lrtable::machine::{Counted, run_lines};
 use std::alloc::Global;
 use std::test::Fail;
@@ -9,14 +13,27 @@ use std::test::Fail;
 /// How many words the line has.
 const WORDS: usize = 100_000;
 
-/// What is written for the line after at most so many steps.
-fn answer(alloc: Global, steps: usize) -> Result<Vec<u8>, Fail> {
-    let (grm, table) = grammar_and_table::<u32>(alloc, MANY)?;
-    let line = repeated(alloc, "", "a ", WORDS, "\n")?;
+/// What is written for the line by the table after at most so many steps.
+fn answer_by(
+    alloc: Global,
+    grm: &YaccGrammar<u32>,
+    table: &StateTable<u32>,
+    line: &str,
+    steps: usize,
+) -> Result<Vec<u8>, Fail>
+    requires { IsTableFor grm.now table.now }
+{
     let mut reader = Counted::new(line.as_bytes());
     let mut writer = Counted::new(Vec::new(alloc));
-    run_lines(alloc, &mut reader, &mut writer, &grm, &table, steps)?;
+    run_lines(alloc, &mut reader, &mut writer, grm, table, steps)?;
     Ok(writer.into_inner())
+}
+
+/// What is written for so many words after at most so many steps.
+fn answer(alloc: Global, steps: usize) -> Result<Vec<u8>, Fail> {
+    let line = repeated(alloc, "", "a ", WORDS, "\n")?;
+    let (grm, table) = grammar_and_table::<u32>(alloc, MANY)?;
+    answer_by(alloc, &grm, &table, line.as_str(), steps)
 }
 
 #[test]

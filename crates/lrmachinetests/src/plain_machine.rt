@@ -25,6 +25,13 @@ impl<T: IndexStorage> Plain<T> {
         }
     }
 
+    /// Drops so many states; the one that is then on top.
+    fn pop(&mut self, count: usize) -> Result<StIdx<T>, Fail> {
+        let kept = self.stack.len().checked_sub(count).ok_or("states")?;
+        self.stack.truncate(kept);
+        self.top()
+    }
+
     /// Drops a body, and pushes where its rule leads.
     fn reduce(
         &mut self,
@@ -33,12 +40,23 @@ impl<T: IndexStorage> Plain<T> {
         by: PIdx<T>,
     ) -> Result<(), Fail> {
         let (rule, body) = production(grm, by).ok_or("a production")?;
-        let kept = self.stack.len().checked_sub(body.len()).ok_or("states")?;
-        self.stack.truncate(kept);
-        let to = table.goto(self.top()?, rule).ok_or("a goto")?;
+        let behind = self.pop(body.len())?;
+        let to = table.goto(behind, rule).ok_or("a goto")?;
         self.stack.push(to)?;
         self.reductions.push(by)?;
         Ok(())
+    }
+
+    /// Pushes the state, and uses up a token.
+    fn shift(&mut self, to: StIdx<T>) -> Result<(), Fail> {
+        self.stack.push(to)?;
+        self.used = self.used.saturating_add(1);
+        Ok(())
+    }
+
+    /// The next token of the text, which is the end token behind the last one.
+    fn next(&self, grm: &YaccGrammar<T>, text: &[TIdx<T>]) -> TIdx<T> {
+        text.get(self.used).copied().unwrap_or(grm.eof_token_idx())
     }
 
     /// Looks at one cell; the verdict where that is the last one.
@@ -48,20 +66,29 @@ impl<T: IndexStorage> Plain<T> {
         table: &StateTable<T>,
         text: &[TIdx<T>],
     ) -> Result<Option<Verdict>, Fail> {
-        let next = text.get(self.used).copied().unwrap_or(grm.eof_token_idx());
-        match table.action(self.top()?, next) {
-            Action::Shift(to) => {
-                self.stack.push(to)?;
-                self.used = self.used.saturating_add(1);
-                Ok(None)
-            }
-            Action::Reduce(by) => {
-                self.reduce(grm, table, by)?;
-                Ok(None)
-            }
-            Action::Accept => Ok(Some(Verdict::Accepted)),
-            Action::Error => Ok(Some(Verdict::Rejected)),
+        match table.action(self.top()?, self.next(grm, text)) {
+            Action::Shift(to) => self.shift(to)?,
+            Action::Reduce(by) => self.reduce(grm, table, by)?,
+            Action::Accept => return Ok(Some(Verdict::Accepted)),
+            Action::Error => return Ok(Some(Verdict::Rejected)),
         }
+        Ok(None)
+    }
+
+    /// The verdict after at most so many steps, and how many there were.
+    fn run(
+        &mut self,
+        grm: &YaccGrammar<T>,
+        table: &StateTable<T>,
+        text: &[TIdx<T>],
+        steps: usize,
+    ) -> Result<(Verdict, usize), Fail> {
+        for before in 0..steps {
+            if let Some(verdict) = self.step(grm, table, text)? {
+                return Ok((verdict, before + 1));
+            }
+        }
+        Ok((Verdict::Unfinished, steps))
     }
 }
 
@@ -71,7 +98,7 @@ pub fn run_plainly<T: IndexStorage>(
     grm: &YaccGrammar<T>,
     table: &StateTable<T>,
     text: &[TIdx<T>],
-    steps: usize,
+    most: usize,
 ) -> Result<Run<T>, Fail> {
     let mut plain = Plain {
         stack: Vec::new(alloc),
@@ -79,17 +106,9 @@ pub fn run_plainly<T: IndexStorage>(
         reductions: Vec::new(alloc),
     };
     plain.stack.push(table.start_state())?;
-    for before in 0..steps {
-        if let Some(verdict) = plain.step(grm, table, text)? {
-            return Ok(Run {
-                verdict,
-                steps: before + 1,
-                reductions: plain.reductions,
-            });
-        }
-    }
+    let (verdict, steps) = plain.run(grm, table, text, most)?;
     Ok(Run {
-        verdict: Verdict::Unfinished,
+        verdict,
         steps,
         reductions: plain.reductions,
     })

@@ -2,6 +2,7 @@
 
 ghost use Rattle.std.specs.Prelude.{◌<◌, IfOk};
 ghost use Rattle.lrspec.specs.grammars.Grammar.{end_token};
+ghost use Rattle.lrspec.specs.tables.Table.{IsTableFor};
 ghost use Rattle.lrspec.specs.tables.Recognition.{AreNamed};
 ghost use Rattle.lrtable.specs.RunAnswers.{text_of};
 
@@ -11,6 +12,7 @@ use crate::fixtures::{
 use crate::tables::grammar_and_table;
 use lrgrammar::grammar::YaccGrammar;
 use lrgrammar::idx::{IndexStorage, TIdx};
+use lrtable::StateTable;
 use lrtable::machine::{Run, run};
 use std::alloc::{AllocError, Global};
 use std::test::Fail;
@@ -53,6 +55,21 @@ fn told<T: IndexStorage>(alloc: Global, run: &Run<T>) -> Result<String, AllocErr
     Ok(text)
 }
 
+/// How a run by the table of at most so many steps on the text comes out.
+fn outcome_by<T: IndexStorage>(
+    alloc: Global,
+    grm: &YaccGrammar<T>,
+    table: &StateTable<T>,
+    text: &str,
+    steps: usize,
+) -> Result<String, Fail>
+    requires { IsTableFor grm.now table.now }
+{
+    let tokens = tokens(alloc, grm, text)?;
+    let run = run(alloc, grm, table, &tokens, steps)?;
+    Ok(told(alloc, &run)?)
+}
+
 /// How a run of at most so many steps on the text comes out.
 fn outcome<T: IndexStorage>(
     alloc: Global,
@@ -61,9 +78,7 @@ fn outcome<T: IndexStorage>(
     steps: usize,
 ) -> Result<String, Fail> {
     let (grm, table) = grammar_and_table::<T>(alloc, grammar)?;
-    let tokens = tokens(alloc, &grm, text)?;
-    let run = run(alloc, &grm, &table, &tokens, steps)?;
-    Ok(told(alloc, &run)?)
+    outcome_by(alloc, &grm, &table, text, steps)
 }
 
 #[test]
