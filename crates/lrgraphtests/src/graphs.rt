@@ -12,6 +12,11 @@ use std::alloc::Global;
 use std::process::Abort;
 use std::test::Fail;
 
+/// What is told is what is wanted.
+pub fn is_told(rt: &impl Abort, of: &str, told: &str, wanted: &str) {
+    assert_eq!(rt; told, wanted, "{of}");
+}
+
 /// The grammar of the text with its graph.
 pub fn grammar_and_graph<T: IndexStorage>(
     alloc: Global,
@@ -24,6 +29,12 @@ pub fn grammar_and_graph<T: IndexStorage>(
         Ok((graph, _counts)) => Ok((grm, graph)),
         Err(_) => Err(Fail::from("a graph")),
     }
+}
+
+/// How many states and edges the graph of the text has.
+pub fn sizes_of<T: IndexStorage>(alloc: Global, text: &str) -> Result<[usize; 2], Fail> {
+    let (_grm, graph) = grammar_and_graph::<T>(alloc, text)?;
+    Ok([usize::from(graph.all_states_len()), graph.all_edges_len()])
 }
 
 /// The state of that number.

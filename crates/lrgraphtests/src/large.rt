@@ -1,6 +1,6 @@
 //! Graphs of large grammars, whose sizes are counted by hand.
 
-use crate::graphs::grammar_and_graph;
+use crate::graphs::sizes_of;
 use lrgrammar::idx::IndexStorage;
 use std::alloc::{AllocError, Global};
 use std::process::Abort;
@@ -39,10 +39,9 @@ fn layers(alloc: Global) -> Result<String, AllocError> {
 /// A state for each beginning of a word, the empty one among them, and one behind `Word`. Each but the start state has one
 /// edge that leads to it.
 fn beginnings_of_words<T: IndexStorage>(rt: &impl Abort, alloc: Global) -> Result<(), Fail> {
-    let (_grm, graph) = grammar_and_graph::<T>(alloc, words(alloc)?.as_str())?;
+    let found = sizes_of::<T>(alloc, words(alloc)?.as_str())?;
     let states = 1 + LETTERS + LETTERS * LETTERS + LETTERS * LETTERS * LETTERS + 1;
-    assert_eq!(rt; usize::from(graph.all_states_len()), states);
-    assert_eq!(rt; graph.all_edges_len(), states - 1);
+    assert_eq!(rt; found, [states, states - 1]);
     Ok(())
 }
 
@@ -56,10 +55,9 @@ fn beginnings_of_words_by_both_indices(rt: HostRuntime) -> Result<(), Fail> {
 /// six more: the start state, those behind `(`, behind the rule in brackets, behind `)`, behind `id`, and behind the last
 /// rule. An edge for each symbol with which what is looked for in a state can begin.
 fn states_of_layers<T: IndexStorage>(rt: &impl Abort, alloc: Global) -> Result<(), Fail> {
-    let (_grm, graph) = grammar_and_graph::<T>(alloc, layers(alloc)?.as_str())?;
-    assert_eq!(rt; usize::from(graph.all_states_len()), 3 * LAYERS + 6);
+    let found = sizes_of::<T>(alloc, layers(alloc)?.as_str())?;
     let edges = LAYERS * (LAYERS + 1) / 2 + 6 * LAYERS + 7;
-    assert_eq!(rt; graph.all_edges_len(), edges);
+    assert_eq!(rt; found, [3 * LAYERS + 6, edges]);
     Ok(())
 }
 

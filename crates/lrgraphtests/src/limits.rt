@@ -1,7 +1,7 @@
 //! The most states that an index type can number.
 
 use crate::grammars::one_long_body;
-use crate::graphs::grammar_and_graph;
+use crate::graphs::sizes_of;
 use lrgrammar::grammar::YaccGrammar;
 use lrgrammar::idx::IndexStorage;
 use lrgraphs::BuildError;
@@ -18,13 +18,9 @@ fn has_states<T: IndexStorage>(
 ) -> Result<(), Fail> {
     for (length, states) in lengths {
         let text = one_long_body(alloc, *length)?;
-        let (_grm, graph) = grammar_and_graph::<T>(alloc, text.as_str())?;
-        assert_eq!(rt; usize::from(graph.all_states_len()), *states, "{length}");
-        assert_eq!(rt;
-            Some(graph.all_edges_len()),
-            states.checked_sub(1),
-            "{length}"
-        );
+        let [found, edges] = sizes_of::<T>(alloc, text.as_str())?;
+        assert_eq!(rt; found, *states, "{length}");
+        assert_eq!(rt; Some(edges), states.checked_sub(1), "{length}");
     }
     Ok(())
 }

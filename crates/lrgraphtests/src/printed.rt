@@ -1,67 +1,79 @@
 //! The printed texts of small graphs.
 
+ghost use Rattle.lrspec.specs.merging.Graph.{IsGraphOf};
+
 use crate::grammars::{EMPTY_RULE, NO_SENTENCE, ONE_TOKEN};
-use crate::graphs::grammar_and_graph;
+use crate::graphs::{grammar_and_graph, is_told};
+use lrgrammar::grammar::YaccGrammar;
 use lrgrammar::idx::IndexStorage;
+use lrgraphs::StateGraph;
 use std::alloc::Global;
 use std::process::Abort;
 use std::test::Fail;
 
-/// The printed cores of the graph of the text.
+/// The printed cores of the graph.
 fn prints_cores<T: IndexStorage>(
+    rt: &impl Abort,
+    grm: &YaccGrammar<T>,
+    graph: &StateGraph<T>,
+    cores: &str,
+) -> Result<(), Fail>
+    requires { IsGraphOf grm.now graph.now }
+{
+    is_told(rt, "cores", graph.pp_core_states(grm)?.as_str(), cores);
+    is_told(rt, "a graph", graph.pp(grm, true)?.as_str(), cores);
+    Ok(())
+}
+
+/// The printed closed states of the graph.
+fn prints_closed<T: IndexStorage>(
+    rt: &impl Abort,
+    grm: &YaccGrammar<T>,
+    graph: &StateGraph<T>,
+    closed: &str,
+) -> Result<(), Fail>
+    requires { IsGraphOf grm.now graph.now }
+{
+    is_told(
+        rt,
+        "closed states",
+        graph.pp_closed_states(grm)?.as_str(),
+        closed,
+    );
+    is_told(rt, "a graph", graph.pp(grm, false)?.as_str(), closed);
+    Ok(())
+}
+
+/// The printed cores and the printed closed states of the graph of the text.
+fn prints<T: IndexStorage>(
     rt: &impl Abort,
     alloc: Global,
     text: &str,
     cores: &str,
-) -> Result<(), Fail> {
-    let (grm, graph) = grammar_and_graph::<T>(alloc, text)?;
-    assert_eq!(rt; graph.pp_core_states(&grm)?.as_str(), cores);
-    assert_eq!(rt; graph.pp(&grm, true)?.as_str(), cores);
-    Ok(())
-}
-
-/// The printed closed states of the graph of the text.
-fn prints_closed<T: IndexStorage>(
-    rt: &impl Abort,
-    alloc: Global,
-    text: &str,
     closed: &str,
 ) -> Result<(), Fail> {
     let (grm, graph) = grammar_and_graph::<T>(alloc, text)?;
-    assert_eq!(rt; graph.pp_closed_states(&grm)?.as_str(), closed);
-    assert_eq!(rt; graph.pp(&grm, false)?.as_str(), closed);
-    Ok(())
+    prints_cores(rt, &grm, &graph, cores)?;
+    prints_closed(rt, &grm, &graph, closed)
 }
 
 /// Whole texts.
 fn small_graphs<T: IndexStorage>(rt: &impl Abort, alloc: Global) -> Result<(), Fail> {
-    for (text, cores, closed) in [
-        (
-            EMPTY_RULE,
-            "0: [^ -> . S, {'$'}]\n   S -> 1\n1: [^ -> S ., {'$'}]",
-            "0: [S -> ., {'$'}]\n   [^ -> . S, {'$'}]\n   S -> 1\n1: [^ -> S ., {'$'}]",
-        ),
-        (
-            ONE_TOKEN,
-            "0: [^ -> . S, {'$'}]\n   'a' -> 1\n   S -> 2\n1: [S -> 'a' ., {'$'}]\n\
-                2: [^ -> S ., {'$'}]",
-            "0: [S -> . 'a', {'$'}]\n   [^ -> . S, {'$'}]\n   'a' -> 1\n   S -> 2\n\
-                1: [S -> 'a' ., {'$'}]\n2: [^ -> S ., {'$'}]",
-        ),
-        (
-            NO_SENTENCE,
-            "0: [^ -> . S, {'$'}]\n   S -> 1\n\
-                1: [S -> S . 'a', {'a', '$'}]\n   [^ -> S ., {'$'}]\n   'a' -> 2\n\
-                2: [S -> S 'a' ., {'a', '$'}]",
-            "0: [S -> . S 'a', {'a', '$'}]\n   [^ -> . S, {'$'}]\n   S -> 1\n\
-                1: [S -> S . 'a', {'a', '$'}]\n   [^ -> S ., {'$'}]\n   'a' -> 2\n\
-                2: [S -> S 'a' ., {'a', '$'}]",
-        ),
-    ] {
-        prints_cores::<T>(rt, alloc, text, cores)?;
-        prints_closed::<T>(rt, alloc, text, closed)?;
-    }
-    Ok(())
+    let cores = "0: [^ -> . S, {'$'}]\n   S -> 1\n1: [^ -> S ., {'$'}]";
+    let closed = "0: [S -> ., {'$'}]\n   [^ -> . S, {'$'}]\n   S -> 1\n1: [^ -> S ., {'$'}]";
+    prints::<T>(rt, alloc, EMPTY_RULE, cores, closed)?;
+    let cores = "0: [^ -> . S, {'$'}]\n   'a' -> 1\n   S -> 2\n1: [S -> 'a' ., {'$'}]\n\
+        2: [^ -> S ., {'$'}]";
+    let closed = "0: [S -> . 'a', {'$'}]\n   [^ -> . S, {'$'}]\n   'a' -> 1\n   S -> 2\n\
+        1: [S -> 'a' ., {'$'}]\n2: [^ -> S ., {'$'}]";
+    prints::<T>(rt, alloc, ONE_TOKEN, cores, closed)?;
+    let cores = "0: [^ -> . S, {'$'}]\n   S -> 1\n\
+        1: [S -> S . 'a', {'a', '$'}]\n   [^ -> S ., {'$'}]\n   'a' -> 2\n\
+        2: [S -> S 'a' ., {'a', '$'}]";
+    let closed = "0: [S -> . S 'a', {'a', '$'}]\n   [^ -> . S, {'$'}]\n   S -> 1\n\
+        1: [S -> S . 'a', {'a', '$'}]\n   [^ -> S ., {'$'}]\n   'a' -> 2\n\
+        2: [S -> S 'a' ., {'a', '$'}]";
+    prints::<T>(rt, alloc, NO_SENTENCE, cores, closed)
 }
 
 #[test]

@@ -4,7 +4,9 @@ use crate::grammars::{
     A_COLLECTED_STATE, BRACKETS, CONTESTED_ON_X_ALONE, HIDDEN_LEFT_RECURSION, LR1_AND_NOT_LALR1,
     NESTED_STATES, NO_SENTENCE, PAGERS_EXAMPLE, RULE_WITHOUT_A_TREE, TERMS_AND_FACTORS,
 };
-use crate::graphs::{closed_text, core_text, grammar_and_graph, state, target, walk};
+use crate::graphs::{
+    closed_text, core_text, grammar_and_graph, is_told, sizes_of, state, target, walk,
+};
 use lrgrammar::grammar::YaccGrammar;
 use lrgrammar::idx::IndexStorage;
 use lrgraphs::StateGraph;
@@ -37,7 +39,8 @@ fn has_cores<T: IndexStorage>(
     cores: &[(usize, &str)],
 ) -> Result<(), Fail> {
     for (state, text) in cores {
-        assert_eq!(rt; core_text(grm, graph, *state)?.as_str(), *text, "{state}");
+        let told = core_text(grm, graph, *state)?;
+        is_told(rt, "a core", told.as_str(), text);
     }
     Ok(())
 }
@@ -50,9 +53,16 @@ fn has_closed_states<T: IndexStorage>(
     closed: &[(usize, &str)],
 ) -> Result<(), Fail> {
     for (state, text) in closed {
-        assert_eq!(rt; closed_text(grm, graph, *state)?.as_str(), *text, "{state}");
+        let told = closed_text(grm, graph, *state)?;
+        is_told(rt, "a closed state", told.as_str(), text);
     }
     Ok(())
+}
+
+/// The number of the start state of the graph of the text.
+fn start_of<T: IndexStorage>(alloc: Global, text: &str) -> Result<usize, Fail> {
+    let (_grm, graph) = grammar_and_graph::<T>(alloc, text)?;
+    Ok(usize::from(graph.start_state()))
 }
 
 /// The graph of the text has so many states and edges, and begins with state 0.
@@ -63,10 +73,10 @@ fn has_sizes<T: IndexStorage>(
     states: usize,
     edges: usize,
 ) -> Result<(), Fail> {
-    let (_grm, graph) = grammar_and_graph::<T>(alloc, text)?;
-    assert_eq!(rt; usize::from(graph.all_states_len()), states, "{text}");
-    assert_eq!(rt; graph.all_edges_len(), edges, "{text}");
-    assert_eq!(rt; usize::from(graph.start_state()), 0);
+    let found = sizes_of::<T>(alloc, text)?;
+    assert_eq!(rt; found, [states, edges], "{text}");
+    let start = start_of::<T>(alloc, text)?;
+    assert_eq!(rt; start, 0);
     Ok(())
 }
 
@@ -96,9 +106,40 @@ fn sizes_by_all_indices(rt: HostRuntime) -> Result<(), Fail> {
     sizes::<u32>(&rt, rt.alloc())
 }
 
+/// The graph of the text has these edges and cores.
+fn edges_and_cores<T: IndexStorage>(
+    rt: &impl Abort,
+    alloc: Global,
+    text: &str,
+    edges: &[(usize, &str, usize)],
+    cores: &[(usize, &str)],
+) -> Result<(), Fail> {
+    let (grm, graph) = grammar_and_graph::<T>(alloc, text)?;
+    leads(rt, &grm, &graph, edges)?;
+    has_cores(rt, &grm, &graph, cores)
+}
+
+/// The graph of the text has these edges and closed states.
+fn edges_and_closed_states<T: IndexStorage>(
+    rt: &impl Abort,
+    alloc: Global,
+    text: &str,
+    edges: &[(usize, &str, usize)],
+    closed: &[(usize, &str)],
+) -> Result<(), Fail> {
+    let (grm, graph) = grammar_and_graph::<T>(alloc, text)?;
+    leads(rt, &grm, &graph, edges)?;
+    has_closed_states(rt, &grm, &graph, closed)
+}
+
+/// The state to which the symbols of these names lead from the start state of the graph of the text.
+fn walk_of<T: IndexStorage>(alloc: Global, text: &str, names: &[&str]) -> Result<usize, Fail> {
+    let (grm, graph) = grammar_and_graph::<T>(alloc, text)?;
+    walk(&grm, &graph, names)
+}
+
 #[test]
 fn pagers_example(rt: HostRuntime) -> Result<(), Fail> {
-    let (grm, graph) = grammar_and_graph::<u32>(rt.alloc(), PAGERS_EXAMPLE)?;
     let edges = [
         (0, "a", 1),
         (0, "b", 2),
@@ -107,39 +148,39 @@ fn pagers_example(rt: HostRuntime) -> Result<(), Fail> {
         (1, "t", 7),
         (2, "t", 12),
     ];
-    leads(&rt, &grm, &graph, &edges)?;
     let cores = [
         (7, "[Y -> 't' . W, {'d'}]\n[Z -> 't' . 'u', {'c'}]"),
         (12, "[Y -> 't' . W, {'e'}]\n[Z -> 't' . 'u', {'d'}]"),
     ];
-    has_cores(&rt, &grm, &graph, &cores)
+    edges_and_cores::<u32>(&rt, rt.alloc(), PAGERS_EXAMPLE, &edges, &cores)
 }
 
 #[test]
 fn lr1_and_not_lalr1(rt: HostRuntime) -> Result<(), Fail> {
-    let (grm, graph) = grammar_and_graph::<u32>(rt.alloc(), LR1_AND_NOT_LALR1)?;
-    assert_eq!(rt; walk(&grm, &graph, &["a", "c"])?, 6);
-    assert_eq!(rt; walk(&grm, &graph, &["b", "c"])?, 9);
+    let behind_a = walk_of::<u32>(rt.alloc(), LR1_AND_NOT_LALR1, &["a", "c"])?;
+    assert_eq!(rt; behind_a, 6);
+    let behind_b = walk_of::<u32>(rt.alloc(), LR1_AND_NOT_LALR1, &["b", "c"])?;
+    assert_eq!(rt; behind_b, 9);
     let cores = [
         (6, "[A -> 'c' ., {'d'}]\n[B -> 'c' ., {'e'}]"),
         (9, "[A -> 'c' ., {'e'}]\n[B -> 'c' ., {'d'}]"),
     ];
-    has_cores(&rt, &grm, &graph, &cores)
+    edges_and_cores::<u32>(&rt, rt.alloc(), LR1_AND_NOT_LALR1, &[], &cores)
 }
 
 #[test]
 fn contested_on_x_alone(rt: HostRuntime) -> Result<(), Fail> {
-    let (grm, graph) = grammar_and_graph::<u32>(rt.alloc(), CONTESTED_ON_X_ALONE)?;
-    assert_eq!(rt; walk(&grm, &graph, &["a", "c"])?, 6);
-    assert_eq!(rt; walk(&grm, &graph, &["b", "c"])?, 6);
+    let behind_a = walk_of::<u32>(rt.alloc(), CONTESTED_ON_X_ALONE, &["a", "c"])?;
+    assert_eq!(rt; behind_a, 6);
+    let behind_b = walk_of::<u32>(rt.alloc(), CONTESTED_ON_X_ALONE, &["b", "c"])?;
+    assert_eq!(rt; behind_b, 6);
     let core = "[A -> 'c' ., {'d', 'x', 'e'}]\n[B -> 'c' ., {'d', 'x', 'e'}]";
-    has_cores(&rt, &grm, &graph, &[(6, core)])
+    edges_and_cores::<u32>(&rt, rt.alloc(), CONTESTED_ON_X_ALONE, &[], &[(6, core)])
 }
 
 /// The state that was made as number 18 is gone, and those behind it have the number before theirs.
 #[test]
 fn a_collected_state(rt: HostRuntime) -> Result<(), Fail> {
-    let (grm, graph) = grammar_and_graph::<u32>(rt.alloc(), A_COLLECTED_STATE)?;
     let edges = [
         (1, "c", 7),
         (9, "c", 7),
@@ -147,7 +188,6 @@ fn a_collected_state(rt: HostRuntime) -> Result<(), Fail> {
         (10, "K", 18),
         (18, "d", 20),
     ];
-    leads(&rt, &grm, &graph, &edges)?;
     let cores = [
         (
             7,
@@ -156,12 +196,22 @@ fn a_collected_state(rt: HostRuntime) -> Result<(), Fail> {
         (18, "[S -> 'f' 'g' K . 'd', {'$'}]"),
         (20, "[S -> 'f' 'g' K 'd' ., {'$'}]"),
     ];
-    has_cores(&rt, &grm, &graph, &cores)
+    edges_and_cores::<u32>(&rt, rt.alloc(), A_COLLECTED_STATE, &edges, &cores)
+}
+
+/// Where the edge of the state of the graph of the text leads on the symbol of that name.
+fn target_of<T: IndexStorage>(
+    alloc: Global,
+    text: &str,
+    from: usize,
+    name: &str,
+) -> Result<Option<usize>, Fail> {
+    let (grm, graph) = grammar_and_graph::<T>(alloc, text)?;
+    target(&grm, &graph, from, name)
 }
 
 #[test]
 fn terms_and_factors(rt: HostRuntime) -> Result<(), Fail> {
-    let (grm, graph) = grammar_and_graph::<u32>(rt.alloc(), TERMS_AND_FACTORS)?;
     let edges = [
         (0, "Term", 1),
         (0, "Factor", 2),
@@ -170,8 +220,6 @@ fn terms_and_factors(rt: HostRuntime) -> Result<(), Fail> {
         (1, "-", 5),
         (2, "*", 6),
     ];
-    leads(&rt, &grm, &graph, &edges)?;
-    assert_eq!(rt; target(&grm, &graph, 9, "Expr")?, None);
     let cores = [
         (
             1,
@@ -180,22 +228,28 @@ fn terms_and_factors(rt: HostRuntime) -> Result<(), Fail> {
         (3, "[Factor -> 'id' ., {'-', '*', '$'}]"),
         (4, "[^ -> Expr ., {'$'}]"),
     ];
-    has_cores(&rt, &grm, &graph, &cores)
+    edges_and_cores::<u32>(&rt, rt.alloc(), TERMS_AND_FACTORS, &edges, &cores)?;
+    let missing = target_of::<u32>(rt.alloc(), TERMS_AND_FACTORS, 9, "Expr")?;
+    assert_eq!(rt; missing, None);
+    Ok(())
 }
 
 #[test]
 fn a_rule_without_a_tree(rt: HostRuntime) -> Result<(), Fail> {
-    let (grm, graph) = grammar_and_graph::<u32>(rt.alloc(), RULE_WITHOUT_A_TREE)?;
-    leads(&rt, &grm, &graph, &[(0, "a", 3)])?;
-    let text = "[A -> 'a' ., {}]\n[A -> 'a' ., {}]";
-    has_cores(&rt, &grm, &graph, &[(3, text)])?;
-    has_closed_states(&rt, &grm, &graph, &[(3, text)])
+    let states = [(3, "[A -> 'a' ., {}]\n[A -> 'a' ., {}]")];
+    edges_and_cores::<u32>(
+        &rt,
+        rt.alloc(),
+        RULE_WITHOUT_A_TREE,
+        &[(0, "a", 3)],
+        &states,
+    )?;
+    edges_and_closed_states::<u32>(&rt, rt.alloc(), RULE_WITHOUT_A_TREE, &[], &states)
 }
 
 #[test]
 fn hidden_left_recursion(rt: HostRuntime) -> Result<(), Fail> {
-    let (grm, graph) = grammar_and_graph::<u32>(rt.alloc(), HIDDEN_LEFT_RECURSION)?;
-    leads(&rt, &grm, &graph, &[(0, "A", 1), (1, "A", 1)])?;
+    let edges = [(0, "A", 1), (1, "A", 1)];
     let closed = [
         (
             0,
@@ -206,19 +260,18 @@ fn hidden_left_recursion(rt: HostRuntime) -> Result<(), Fail> {
             "[S -> . A S 'x', {'x'}]\n[S -> A . S 'x', {'x', '$'}]\n[S -> . B 'y', {'x'}]\n[A -> ., {'y'}]\n[B -> ., {'y'}]",
         ),
     ];
-    has_closed_states(&rt, &grm, &graph, &closed)
+    edges_and_closed_states::<u32>(&rt, rt.alloc(), HIDDEN_LEFT_RECURSION, &edges, &closed)
 }
 
 #[test]
 fn no_sentence(rt: HostRuntime) -> Result<(), Fail> {
-    let (grm, graph) = grammar_and_graph::<u32>(rt.alloc(), NO_SENTENCE)?;
-    leads(&rt, &grm, &graph, &[(0, "S", 1), (1, "a", 2)])?;
+    let edges = [(0, "S", 1), (1, "a", 2)];
     let cores = [
         (0, "[^ -> . S, {'$'}]"),
         (1, "[S -> S . 'a', {'a', '$'}]\n[^ -> S ., {'$'}]"),
         (2, "[S -> S 'a' ., {'a', '$'}]"),
     ];
-    has_cores(&rt, &grm, &graph, &cores)
+    edges_and_cores::<u32>(&rt, rt.alloc(), NO_SENTENCE, &edges, &cores)
 }
 
 /// The core of each state has so many items.
@@ -228,11 +281,8 @@ fn has_core_items<T: IndexStorage>(
     items: usize,
 ) -> Result<(), Fail> {
     for number in 0..usize::from(graph.all_states_len()) {
-        assert_eq!(rt;
-            graph.core_state(state(number)?).items.len(),
-            items,
-            "{number}"
-        );
+        let found = graph.core_state(state(number)?).items.len();
+        assert_eq!(rt; found, items, "{number}");
     }
     Ok(())
 }
@@ -241,17 +291,12 @@ fn has_core_items<T: IndexStorage>(
 fn brackets(rt: HostRuntime) -> Result<(), Fail> {
     let (grm, graph) = grammar_and_graph::<u32>(rt.alloc(), BRACKETS)?;
     has_core_items(&rt, &graph, 1)?;
-    leads(
-        &rt,
-        &grm,
-        &graph,
-        &[(0, "OPEN_BRACKET", 1), (1, "OPEN_BRACKET", 1)],
-    )
+    let edges = [(0, "OPEN_BRACKET", 1), (1, "OPEN_BRACKET", 1)];
+    leads(&rt, &grm, &graph, &edges)
 }
 
 #[test]
 fn nested_states(rt: HostRuntime) -> Result<(), Fail> {
-    let (grm, graph) = grammar_and_graph::<u32>(rt.alloc(), NESTED_STATES)?;
     let edges = [
         (0, "S", 1),
         (0, "b", 2),
@@ -260,11 +305,10 @@ fn nested_states(rt: HostRuntime) -> Result<(), Fail> {
         (5, "b", 2),
         (5, "S", 7),
     ];
-    leads(&rt, &grm, &graph, &edges)?;
     let cores = [
         (0, "[^ -> . S, {'$'}]"),
         (1, "[S -> S . 'b', {'b', '$'}]\n[^ -> S ., {'$'}]"),
         (2, "[S -> 'b' . A 'a', {'b', 'c', '$'}]"),
     ];
-    has_cores(&rt, &grm, &graph, &cores)
+    edges_and_cores::<u32>(&rt, rt.alloc(), NESTED_STATES, &edges, &cores)
 }
