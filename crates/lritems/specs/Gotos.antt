@@ -17,7 +17,7 @@ item_of number k v = ((number k.0.0, number k.1.0), v)
 
 -- the items of a goto, each by the numbers of its production and its dot
 abbrev pub goto_of : {T : Type 0} → (T → ℕ) → Goto T → Items
-goto_of number a = map (λ e. ((number e.0.0.0, number e.0.1.0), e.1.now)) a.items.items
+goto_of number a = map (λ e. item_of number e.0 e.1.now) a.items.items
 
 -- gotos as plain data, each with its symbol
 abbrev pub gotos_of :

@@ -5,7 +5,7 @@ use Rattle.std.proofs.lemmas.Bool.{cases_eq, false≢true}
 use Rattle.lrspec.specs.grammars.Grammar.{Symbol}
 use Rattle.lrspec.specs.grammars.ItemSets.{Items, LooksIn}
 use Rattle.lrspec.specs.merging.Graph.{same_symbol}
-use Rattle.lrplacing.specs.Construction.{Draft, draft_closed, core_at, closed_at, edge_from, with_closed, closed_unless, HasGrown, Stays, Gains, Grows, Places}
+use Rattle.lrplacing.specs.Construction.{Draft, draft_closed, core_at, closed_at, edge_from, with_closed, closed_unless, TellsGrowth, Stays, Gains, Grows, Places}
 
 pub length_with : (ss : List Draft) (i : ℕ) (c : Items) → length (with_closed ss i c) ≡ length ss
 length_with [] i c = refl
@@ -123,7 +123,7 @@ module _
       ];
     }
 
-    module _ {grew : Bool} (how_grown : k < length old → HasGrown grew (core_at old k) (core_at new k)) where
+    module _ {grew : Bool} (how_grown : k < length old → TellsGrowth grew (core_at old k) (core_at new k)) where
       -- a goto that did not grow the state
       here_same : k ≡ from → grew ≡ false → Places (with_closed old from c) from x goto k (with_closed new from c)
       here_same e f = record {

@@ -6,7 +6,7 @@ use Rattle.lrspec.specs.grammars.ItemSets.{Items, LooksIn, IsContained}
 use Rattle.lrspec.specs.merging.WeakCompatibility.{SameItems, IsUnion}
 use Rattle.lrspec.proofs.grammars.Closures.{contained_itself}
 use Rattle.lritems.specs.ItemsOf.{Agree}
-use Rattle.lrplacing.specs.Construction.{Draft, core_at, closed_at, HasGrown, Places}
+use Rattle.lrplacing.specs.Construction.{Draft, core_at, closed_at, TellsGrowth, Places}
 
 -- one core grew into another: it keeps its items, and looks at least where it looked
 pub record GrowsInto (a b : Items) : Type 0 where
@@ -61,5 +61,5 @@ pub looks_of_agree : (a b : Items) → Agree a b → (p d t : ℕ) → LooksIn a
 looks_of_agree a b h p d t l = rw (h p d) at l
 
 -- a core that is as it was has not grown
-pub not_grown : (a b : Items) → b ≡ a → HasGrown false a b
+pub not_grown : (a b : Items) → b ≡ a → TellsGrowth false a b
 not_grown a b e = (λ h. cc, λ h p d t l. subst (λ x. LooksIn x p d t) e l)

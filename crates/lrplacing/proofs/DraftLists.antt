@@ -51,9 +51,6 @@ module _ (ss : List Draft) (k : ℕ) (s : Draft) (l : k < length ss) where
   pub closed_read : closed_at ss k ≡ (get_or ss k s).closed
   closed_read = ap draft_closed (slice_get-get_or ss k s l)
 
-  pub edge_read : (y : Symbol) → edge_from ss k y ≡ edge_at (get_or ss k s).edges y
-  edge_read y = ap (λ o. edge_at (draft_edges o) y) (slice_get-get_or ss k s l)
-
 -- what was put at a place changed no other
 pub elsewhere : (ss : List Draft) (k j : ℕ) (s : Draft) → (j ≡ k → ⊥) → slice_get (set ss k s) j ≡ slice_get ss j
 elsewhere [] k j s n = refl

@@ -48,8 +48,8 @@ closed_unless true ss k c = ss
 closed_unless false ss k c = with_closed ss k c
 
 -- `grew` says whether a core that was `a` and is `b` looks at more
-abbrev pub HasGrown : Bool → Items → Items → Type 0
-HasGrown grew a b =
+abbrev pub TellsGrowth : Bool → Items → Items → Type 0
+TellsGrowth grew a b =
     (grew ≡ true → Gains a b) × (grew ≡ false → (p d t : ℕ) → LooksIn b p d t → LooksIn a p d t)
 
 -- ---- placing a goto

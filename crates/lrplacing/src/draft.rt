@@ -9,7 +9,7 @@ ghost use Rattle.lrspec.specs.merging.Graph.{same_symbol, edge_at};
 ghost use Rattle.lrgrammar.specs.Symbols.{symbol_of};
 ghost use Rattle.lritems.specs.ItemsOf.{set_of};
 ghost use Rattle.lritems.specs.Gotos.{goto_of};
-ghost use Rattle.lrplacing.specs.Construction.{Gains, HasGrown};
+ghost use Rattle.lrplacing.specs.Construction.{Gains, TellsGrowth};
 ghost use Rattle.lritems.specs.Merging.{HaveEquallyManyBits};
 
 use lrgrammar::idx::{IndexStorage, Symbol};
@@ -100,7 +100,7 @@ impl<T: IndexStorage> Draft<T> {
         ensures closed { (((p d t : ℕ) → LooksIn self.new.core p d t → LooksIn self.old.core p d t)
             × (self.new.closed ≡ self.old.closed))
             ⊎ ((self.new.closed ≡ None) × Gains self.old.core self.new.core) }
-        ensures grew { HasGrown result self.old.core self.new.core }
+        ensures grew { TellsGrowth result self.old.core self.new.core }
     {
         let grew = weakly_merge(&mut self.core, goto);
         if grew {

@@ -9,7 +9,7 @@ ghost use Rattle.lrspec.specs.merging.WeakCompatibility.{SameItems, IsWeaklyComp
 ghost use Rattle.lrspec.specs.merging.Graph.{same_symbol};
 ghost use Rattle.lrgrammar.specs.Symbols.{symbol_of};
 ghost use Rattle.lritems.specs.ItemsOf.{set_of};
-ghost use Rattle.lrplacing.specs.Construction.{core_at, closed_at, edge_from, with_closed, closed_unless, HasGrown, Stays, Gains, Places, PlacesAll};
+ghost use Rattle.lrplacing.specs.Construction.{core_at, closed_at, edge_from, with_closed, closed_unless, TellsGrowth, Stays, Gains, Places, PlacesAll};
 ghost use Rattle.lrplacing.specs.Invariant.{MayBePlaced, AllMayBePlaced, Holds};
 ghost use Rattle.lrplacing.specs.Chains.{HasChainOf};
 ghost use Rattle.lrplacing.specs.CandidatesOf.{AreCandidates, IsFirstItem, listed_at};
@@ -111,7 +111,7 @@ fn merge_at<T: IndexStorage>(drafts: &mut Vec<Draft<T>>, k: usize, goto: &Goto<T
         × (closed_at drafts.new.items k ≡ closed_at drafts.old.items k))
         ⊎ ((closed_at drafts.new.items k ≡ None)
         × Gains (core_at drafts.old.items k) (core_at drafts.new.items k)) }
-    ensures grew { HasGrown result (core_at drafts.old.items k) (core_at drafts.new.items k) }
+    ensures grew { TellsGrowth result (core_at drafts.old.items k) (core_at drafts.new.items k) }
 {
     drafts[k].merge(goto)
 }
@@ -179,7 +179,7 @@ fn place<T: IndexStorage>(
     requires candidates { AreCandidates drafts.old.items candidates.old }
     ensures placed { IfOk result (λ r. Places drafts.old.items from (symbol_of T.number symbol)
         (goto_of T.number goto.now) r.state drafts.new.items) }
-    ensures grew { IfOk result (λ r. r.state < length drafts.old.items → HasGrown r.grew
+    ensures grew { IfOk result (λ r. r.state < length drafts.old.items → TellsGrowth r.grew
         (core_at drafts.old.items r.state) (core_at drafts.new.items r.state)) }
     ensures choice { IfOk result (λ r. (p d : ℕ) → IsFirstItem (goto_of T.number goto.now) p d
         → IsPlaceOf drafts.old.items (listed_at candidates.old p d) (goto_of T.number goto.now)

@@ -2,7 +2,7 @@ use Rattle.std.proofs.Common.{length-set}
 use Rattle.lrspec.specs.merging.WeakCompatibility.{SameItems, IsUnion}
 use Rattle.lritems.specs.Gotos.{goto_of}
 use Rattle.lritems.specs.Merging.{HaveEquallyManyBits}
-use Rattle.lrplacing.specs.Construction.{HasGrown}
+use Rattle.lrplacing.specs.Construction.{TellsGrowth}
 use Rattle.lrplacing.proofs.DraftLists.{core_found, closed_found, core_put, closed_put, elsewhere, of_read, of_cores, edges_kept}
 use Rattle.lrplacing.proofs.placing.merge_at.Goals as goal
 
@@ -49,4 +49,4 @@ returns-clause-union g c =
 pub returns-clause-grew : goal.returns-clause-grew
 returns-clause-grew g c =
     of_cores c.args.drafts.now.items c.args.k c.index_mut.result.now c.merge.new.self c.requires.below c.index_mut.ensures.value
-    (HasGrown c.merge.result) c.merge.ensures.grew
+    (TellsGrowth c.merge.result) c.merge.ensures.grew

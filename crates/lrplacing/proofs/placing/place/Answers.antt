@@ -4,7 +4,7 @@ use Rattle.lritems.specs.Gotos.{goto_of}
 use Rattle.lrplacing.specs.CandidatesOf.{IsFirstItem}
 use Rattle.lrplacing.specs.ChosenPlaces.{IsPlaceOf}
 use Rattle.lrplacing.specs.ChosenPlaces as choice
-use Rattle.lrplacing.specs.Construction.{HasGrown}
+use Rattle.lrplacing.specs.Construction.{TellsGrowth}
 use Rattle.lrplacing.proofs.CoreGrowth.{of_equal, not_grown}
 use Rattle.lrplacing.proofs.CandidateLists.{all_below, all_clash, candidates_kept, candidates_made, same_cores, merged_items, others_core, some_first, first_found, at_each_first}
 use Rattle.lrplacing.proofs.FirstOfList.{first_among}
@@ -141,7 +141,7 @@ returns-in-Some-clause-grew g c = λ _. not_grown _ _ (c.in_ok-link.ensures.stay
 pub returns-in-Some-find_compatible-clause-grew : goal.returns-in-Some-find_compatible-clause-grew
 returns-in-Some-find_compatible-clause-grew g c = λ _.
     let k = c.in-Some-find_compatible.k in
-    of_equal (HasGrown c.merge_at-grew.result) _ _ _ _ refl (c.in_ok-link-2.ensures.stays k).core c.merge_at-grew.ensures.grew
+    of_equal (TellsGrowth c.merge_at-grew.result) _ _ _ _ refl (c.in_ok-link-2.ensures.stays k).core c.merge_at-grew.ensures.grew
 
 pub returns-in-Some-find_compatible-clause-most : goal.returns-in-Some-find_compatible-clause-most
 returns-in-Some-find_compatible-clause-most g c =
