@@ -93,7 +93,7 @@ pub const NEVER_ENDING: &str = "%% S: B; B: 'b' B;";
 pub fn many_tokens(alloc: Global, count: usize) -> Result<String, AllocError> {
     let mut text = String::from_str(alloc, "%token")?;
     for number in 0..count {
-        text.push_str(format!(in alloc; " t{number}")?.as_str())?;
+        write!(text, " t{number}")?;
     }
     text.push_str(" %% S: t0;")?;
     Ok(text)

@@ -89,81 +89,70 @@ fn closed_text<T: IndexStorage>(
     Ok(closed.pp(&grm)?)
 }
 
+/// The closure of the item of the grammar has that text.
+fn closes_to<T: IndexStorage>(
+    rt: &impl Abort,
+    alloc: Global,
+    text: &str,
+    (prod, dot, looks): (usize, usize, &str),
+    wanted: &str,
+) -> Result<(), Fail> {
+    let told = closed_text::<T>(rt, alloc, text, prod, dot, looks)?;
+    is_told(rt, text, told.as_str(), wanted);
+    Ok(())
+}
+
+/// Closures that add one item.
+fn short_closures(rt: &impl Abort, alloc: Global) -> Result<(), Fail> {
+    let wanted = "[S -> ., {'$'}]\n[^ -> . S, {'$'}]";
+    closes_to::<u32>(rt, alloc, EMPTY_RULE, (1, 0, "$"), wanted)?;
+    let wanted = "[S -> . S 'a', {'a', '$'}]\n[^ -> . S, {'$'}]";
+    closes_to::<u32>(rt, alloc, NO_SENTENCE, (1, 0, "$"), wanted)
+}
+
+/// Closures of two items of the nested states.
+fn closures_of_nested_states(rt: &impl Abort, alloc: Global) -> Result<(), Fail> {
+    let wanted = "[S -> 'b' . A 'a', {'b', '$'}]\n[A -> . 'a' S 'c', {'a'}]\n\
+        [A -> . 'a', {'a'}]\n[A -> . 'a' S 'b', {'a'}]";
+    closes_to::<u32>(rt, alloc, NESTED_STATES, (1, 1, "b $"), wanted)?;
+    let wanted = "[S -> . S 'b', {'b', 'c'}]\n[S -> . 'b' A 'a', {'b', 'c'}]\n\
+        [A -> 'a' . S 'c', {'a'}]";
+    closes_to::<u32>(rt, alloc, NESTED_STATES, (2, 1, "a"), wanted)
+}
+
+/// Closures of the start items of a grammar in which a rule has no tree, and of one whose rules
+/// lead to each other.
+fn closures_of_start_items(rt: &impl Abort, alloc: Global) -> Result<(), Fail> {
+    let wanted = "[S -> . A B, {'$'}]\n[S -> . 'c', {'$'}]\n[A -> . 'a', {}]\n\
+        [A -> . 'a', {}]\n[^ -> . S, {'$'}]";
+    closes_to::<u32>(rt, alloc, RULE_WITHOUT_A_TREE, (5, 0, "$"), wanted)?;
+    let wanted = "[S -> . C 'd', {'x', '$'}]\n[A -> . 'a', {'b'}]\n[A -> . S 'x', {'b'}]\n\
+        [B -> . A 'b', {'c'}]\n[C -> . B 'c', {'d'}]\n[C -> ., {'d'}]\n[^ -> . S, {'$'}]";
+    closes_to::<u32>(rt, alloc, ROUND, (6, 0, "$"), wanted)
+}
+
+/// Closures through a nullable rule, and of the start item of the same grammar.
+fn closures_through_nullables(rt: &impl Abort, alloc: Global) -> Result<(), Fail> {
+    let wanted = "[C -> . D A, {'d', 'f'}]\n[D -> . 'd', {'a'}]\n[D -> ., {'a'}]\n\
+        [F -> . C D 'f', {'$'}]";
+    closes_to::<u32>(rt, alloc, THROUGH_NULLABLES, (10, 0, "$"), wanted)?;
+    let wanted = "[S -> . S 'b', {'b', '$'}]\n[S -> . 'b' A 'a', {'b', '$'}]\n\
+        [S -> . 'a', {'b', '$'}]\n[^ -> . S, {'$'}]";
+    closes_to::<u32>(rt, alloc, THROUGH_NULLABLES, (11, 0, "$"), wanted)
+}
+
 #[test]
 fn closures(rt: HostRuntime) -> Result<(), Fail> {
-    let alloc = rt.alloc();
-    for (text, prod, dot, looks, wanted) in [
-        (EMPTY_RULE, 1, 0, "$", "[S -> ., {'$'}]\n[^ -> . S, {'$'}]"),
-        (
-            NESTED_STATES,
-            1,
-            1,
-            "b $",
-            "[S -> 'b' . A 'a', {'b', '$'}]\n[A -> . 'a' S 'c', {'a'}]\n\
-                [A -> . 'a', {'a'}]\n[A -> . 'a' S 'b', {'a'}]",
-        ),
-        (
-            NESTED_STATES,
-            2,
-            1,
-            "a",
-            "[S -> . S 'b', {'b', 'c'}]\n[S -> . 'b' A 'a', {'b', 'c'}]\n[A -> 'a' . S 'c', {'a'}]",
-        ),
-        (
-            RULE_WITHOUT_A_TREE,
-            5,
-            0,
-            "$",
-            "[S -> . A B, {'$'}]\n[S -> . 'c', {'$'}]\n[A -> . 'a', {}]\n\
-                [A -> . 'a', {}]\n[^ -> . S, {'$'}]",
-        ),
-        (
-            NO_SENTENCE,
-            1,
-            0,
-            "$",
-            "[S -> . S 'a', {'a', '$'}]\n[^ -> . S, {'$'}]",
-        ),
-        (
-            ROUND,
-            6,
-            0,
-            "$",
-            "[S -> . C 'd', {'x', '$'}]\n[A -> . 'a', {'b'}]\n[A -> . S 'x', {'b'}]\n\
-                [B -> . A 'b', {'c'}]\n[C -> . B 'c', {'d'}]\n[C -> ., {'d'}]\n[^ -> . S, {'$'}]",
-        ),
-        (
-            THROUGH_NULLABLES,
-            10,
-            0,
-            "$",
-            "[C -> . D A, {'d', 'f'}]\n[D -> . 'd', {'a'}]\n[D -> ., {'a'}]\n[F -> . C D 'f', {'$'}]",
-        ),
-        (
-            THROUGH_NULLABLES,
-            11,
-            0,
-            "$",
-            "[S -> . S 'b', {'b', '$'}]\n[S -> . 'b' A 'a', {'b', '$'}]\n\
-                [S -> . 'a', {'b', '$'}]\n[^ -> . S, {'$'}]",
-        ),
-    ] {
-        let told = closed_text::<u32>(&rt, alloc, text, prod, dot, looks)?;
-        is_told(&rt, text, told.as_str(), wanted);
-    }
-    Ok(())
+    short_closures(&rt, rt.alloc())?;
+    closures_of_nested_states(&rt, rt.alloc())?;
+    closures_of_start_items(&rt, rt.alloc())?;
+    closures_through_nullables(&rt, rt.alloc())
 }
 
 #[test]
 fn closure_by_bytes(rt: HostRuntime) -> Result<(), Fail> {
-    let told = closed_text::<u8>(&rt, rt.alloc(), EMPTY_RULE, 1, 0, "$")?;
-    is_told(
-        &rt,
-        EMPTY_RULE,
-        told.as_str(),
-        "[S -> ., {'$'}]\n[^ -> . S, {'$'}]",
-    );
-    Ok(())
+    let wanted = "[S -> ., {'$'}]\n[^ -> . S, {'$'}]";
+    closes_to::<u8>(&rt, rt.alloc(), EMPTY_RULE, (1, 0, "$"), wanted)
 }
 
 /// The rule or else the token of that name.
@@ -253,11 +242,20 @@ fn added_twice<T: IndexStorage>(
 }
 
 /// The same where the first lookaheads are all there or all missing, and the second are all there.
-fn added<T: IndexStorage>(alloc: Global, first: bool) -> Result<(bool, bool, usize), Fail> {
-    let grm = YaccGrammar::<T>::from_text(alloc, NO_SENTENCE)?;
+fn added_to<T: IndexStorage>(
+    alloc: Global,
+    grm: &YaccGrammar<T>,
+    first: bool,
+) -> Result<(bool, bool, usize), Fail> {
     let these = Vob::from_elem(alloc, first, usize::from(grm.tokens_len()))?;
     let those = Vob::from_elem(alloc, true, usize::from(grm.tokens_len()))?;
-    added_twice(alloc, &grm, &these, &those)
+    added_twice(alloc, grm, &these, &those)
+}
+
+/// The same for a grammar without a sentence.
+fn added<T: IndexStorage>(alloc: Global, first: bool) -> Result<(bool, bool, usize), Fail> {
+    let grm = YaccGrammar::<T>::from_text(alloc, NO_SENTENCE)?;
+    added_to(alloc, &grm, first)
 }
 
 /// What adding answers for a new item, and for it once more; and what for lookaheads more.
@@ -269,13 +267,34 @@ fn adding<T: IndexStorage>(rt: &impl Abort, alloc: Global) -> Result<(), Fail> {
     Ok(())
 }
 
+/// Whether the item set is equal to its copy.
+fn is_copied<T: IndexStorage>(set: &Itemset<T>) -> Result<bool, Fail> {
+    let copy = set.clone()?;
+    Ok(*set == copy)
+}
+
+/// Whether the item set of the start item that looks at nothing is equal to its copy, and whether it
+/// is equal to the one that looks at `a`.
+fn equal_to<T: IndexStorage>(
+    rt: &impl Abort,
+    alloc: Global,
+    grm: &YaccGrammar<T>,
+) -> Result<(bool, bool), Fail> {
+    let none = one_item(rt, alloc, grm, 1, 0, "")?;
+    let some = one_item(rt, alloc, grm, 1, 0, "a")?;
+    Ok((is_copied(&none)?, none == some))
+}
+
+/// The same for a grammar without a sentence.
+fn equal<T: IndexStorage>(rt: &impl Abort, alloc: Global) -> Result<(bool, bool), Fail> {
+    let grm = YaccGrammar::<T>::from_text(alloc, NO_SENTENCE)?;
+    equal_to(rt, alloc, &grm)
+}
+
 /// Which item sets are equal.
 fn compared<T: IndexStorage>(rt: &impl Abort, alloc: Global) -> Result<(), Fail> {
-    let grm = YaccGrammar::<T>::from_text(alloc, NO_SENTENCE)?;
-    let none = one_item(rt, alloc, &grm, 1, 0, "")?;
-    let some = one_item(rt, alloc, &grm, 1, 0, "a")?;
-    assert!(rt; none == none.clone()?);
-    assert!(rt; none != some);
+    let (to_copy, to_another) = equal::<T>(rt, alloc)?;
+    assert!(rt; to_copy && !to_another);
     Ok(())
 }
 

@@ -155,13 +155,33 @@ fn push_prods<T: IndexStorage>(told: &mut String, prods: &[PIdx<T>]) -> Result<(
     Ok(())
 }
 
+/// Adds the numbers of the productions of the rule of that name.
+fn push_prods_of<T: IndexStorage>(
+    told: &mut String,
+    grm: &YaccGrammar<T>,
+    name: &str,
+) -> Result<(), Fail> {
+    let rule = grm.rule_idx(name).ok_or("a rule")?;
+    push_prods(told, grm.rule_to_prods(rule))?;
+    Ok(())
+}
+
 /// The numbers of the productions of the rule of that name.
 pub fn prods_of_rule(alloc: Global, text: &str, name: &str) -> Result<String, Fail> {
     let grm = YaccGrammar::<u32>::from_text(alloc, text)?;
-    let rule = grm.rule_idx(name).ok_or("a rule")?;
     let mut told = String::new(alloc);
-    push_prods(&mut told, grm.rule_to_prods(rule))?;
+    push_prods_of(&mut told, &grm, name)?;
     Ok(told)
+}
+
+/// Adds the numbers in brackets, behind a space and parted by commas.
+fn push_numbers(told: &mut String, numbers: &[usize]) -> Result<(), AllocError> {
+    let mut before = " (";
+    for number in numbers {
+        write!(told, "{before}{number}")?;
+        before = ",";
+    }
+    told.push(')')
 }
 
 /// Adds the reduce/reduce conflicts, by numbers.
@@ -172,7 +192,7 @@ fn push_reduce_reduce<T: IndexStorage>(
     for (token, prod, other, state) in conflicts.rr_conflicts() {
         let (token, prod) = (usize::from(*token), usize::from(*prod));
         let (other, state) = (usize::from(*other), usize::from(*state));
-        write!(told, " ({token},{prod},{other},{state})")?;
+        push_numbers(told, &[token, prod, other, state])?;
     }
     Ok(())
 }
@@ -185,7 +205,7 @@ fn push_shift_reduce<T: IndexStorage>(
     for (token, prod, state) in conflicts.sr_conflicts() {
         let (token, prod) = (usize::from(*token), usize::from(*prod));
         let state = usize::from(*state);
-        write!(told, " ({token},{prod},{state})")?;
+        push_numbers(told, &[token, prod, state])?;
     }
     Ok(())
 }
@@ -203,10 +223,7 @@ fn push_conflicts<T: IndexStorage>(
 }
 
 /// The conflicts of the table.
-fn conflicts_of<T: IndexStorage>(
-    alloc: Global,
-    table: &StateTable<T>,
-) -> Result<String, AllocError> {
+fn conflicts_of<T: IndexStorage>(alloc: Global, table: &StateTable<T>) -> Result<String, Fail> {
     let mut told = String::new(alloc);
     match table.conflicts() {
         Some(conflicts) => push_conflicts(&mut told, conflicts)?,
@@ -218,5 +235,5 @@ fn conflicts_of<T: IndexStorage>(
 /// The conflicts of the table of the text.
 pub fn conflicts<T: IndexStorage>(alloc: Global, text: &str) -> Result<String, Fail> {
     let (_grm, table) = grammar_and_table::<T>(alloc, text)?;
-    Ok(conflicts_of(alloc, &table)?)
+    conflicts_of(alloc, &table)
 }
