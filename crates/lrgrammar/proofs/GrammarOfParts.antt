@@ -1,6 +1,6 @@
 -- Parts that no cause refuses: their numbers are small, their names differ, and their grammar is in bounds.
-use Rattle.std.proofs.Common.{◌≡◌, ◌⊎◌, ℕ, zero, suc, ◌+◌, ◌<◌, ◌≤◌, List, [], ◌∷◌, length, map, get_or, Option, refl, ap, sym, ◌∙◌, subst, inl, inr, arith}
-use Rattle.std.specs.Prelude.{Any, Contains, codes, slice_get}
+use Rattle.std.proofs.Common.{◌≡◌, ◌⊎◌, ℕ, zero, suc, ◌+◌, ◌<◌, ◌≤◌, List, [], ◌∷◌, length, map, get_or, Option, None, Some, refl, ap, sym, ◌∙◌, subst, inl, inr, arith}
+use Rattle.std.specs.Prelude.{Contains, IfSome, codes, slice_get}
 use Rattle.std.proofs.lemmas.List.{length-map, get_or_default}
 use Rattle.lrspec.specs.grammars.Grammar.{Grammar, Production, Precedence, IsGrammar, IsOfRule}
 use Rattle.lrspec.specs.texts.Parts.{Parts, IsOutOfRange, NoCause, HasDouble, names_of, grammar_of_parts}
@@ -22,12 +22,17 @@ small_symbol most ps never (Rule r) inside =
 small_symbol most ps never (Token t) inside =
     let few : most < length (parts_of ps).tokens + 1 → ⊥ = (λ h. never 2 (part.Cause.too_many_tokens h)) in omega arith
 
+-- the number of a token that is named for a precedence, where it is in range
+small_named : (most : ℕ) (ps : GrammarParts) → NoCause most (parts_of ps) → (o : Option ℕ) → (part.IsNamedOutOfRange (parts_of ps) o → ⊥) → IfSome o (λ t. t ≤ most)
+small_named most ps never None inside = tt
+small_named most ps never (Some t) inside = small_symbol most ps never (Token t) inside
+
 -- where no cause of refusal holds, the numbers are small
 pub small_from_no_cause : (most : ℕ) (ps : GrammarParts) → NoCause most (parts_of ps) → AreSmall most ps
 small_from_no_cause most ps never =
     let few : most < length (parts_of ps).rules + 1 → ⊥ = (λ h. never 1 (part.Cause.too_many_rules h)) in
     let has_start : length (parts_of ps).rules ≤ ps.start → ⊥ = (λ h. never 10 (part.Cause.no_start h)) in
-    let P = λ (p : Production). (length (parts_of ps).rules ≤ p.rule) ⊎ Any (IsOutOfRange (parts_of ps)) p.body in
+    let P = part.HasOutOfRange (parts_of ps) in
     record {
       rules = λ k d l.
           let x = get_or ps.prods.items k d in
@@ -37,7 +42,11 @@ small_from_no_cause most ps never =
           let x = get_or ps.prods.items k d in
           let s = get_or x.symbols.items j e in
           small_symbol most ps never s
-          (λ h. never 5 (part.Cause.symbol_out_of_range (any_image part_production_of P ps.prods.items ps.prods.items k x refl l (get_or_default ps.prods.items k d x l) (inr (any_image part_symbol_of (IsOutOfRange (parts_of ps)) x.symbols.items x.symbols.items j s refl m (get_or_default x.symbols.items j e s m) h)))));
+          (λ h. never 5 (part.Cause.symbol_out_of_range (any_image part_production_of P ps.prods.items ps.prods.items k x refl l (get_or_default ps.prods.items k d x l) (inr (inl (any_image part_symbol_of (IsOutOfRange (parts_of ps)) x.symbols.items x.symbols.items j s refl m (get_or_default x.symbols.items j e s m) h))))));
+      named = λ k d l.
+          let x = get_or ps.prods.items k d in
+          small_named most ps never x.precedence
+          (λ h. never 5 (part.Cause.symbol_out_of_range (any_image part_production_of P ps.prods.items ps.prods.items k x refl l (get_or_default ps.prods.items k d x l) (inr (inr h)))));
       start = omega arith;
     }
 

@@ -37,11 +37,12 @@ pub all_more : {X : Type 0} (P : X → Type 0) (old new : List X) (x : X) → ne
 all_more P old new x pushed all here = subst (All P) (sym pushed) (All-push P old x all here)
 
 -- a production by its fields
-abbrev by_fields : ℕ → List Symbol → Production
-by_fields n xs = record { rule = n; body = xs }
+abbrev by_fields : ℕ → List Symbol → Option ℕ → Production
+by_fields n xs o = record { rule = n; body = xs; precedence_token = o }
 
-pub same_production : (n m : ℕ) (xs ys : List Symbol) → n ≡ m → xs ≡ ys → by_fields n xs ≡ by_fields m ys
-same_production n m xs ys e f = ap (λ k. by_fields k xs) e ∙ ap (λ zs. by_fields m zs) f
+pub same_production : (n m : ℕ) (xs ys : List Symbol) (o q : Option ℕ) → n ≡ m → xs ≡ ys → o ≡ q → by_fields n xs o ≡ by_fields m ys q
+same_production n m xs ys o q e f h =
+    ap (λ k. by_fields k xs o) e ∙ ap (λ zs. by_fields m zs o) f ∙ ap (λ p. by_fields m ys p) h
 
 -- the list from the place `i` on is its element there and the rest
 pub left_is : {X : Type 0} (f : X → Symbol) (xs : List X) (i : ℕ) (x : X) → i < length xs → x ≡ get_or xs i x → map f (drop i xs) ≡ f x ∷ map f (drop (i + 1) xs)

@@ -1,5 +1,5 @@
 -- The numbers that rules and tokens of the parts get in the grammar.
-use Rattle.std.specs.Prelude.{ℕ, ◌+◌, ◌≤◌, All}
+use Rattle.std.specs.Prelude.{ℕ, ◌+◌, ◌≤◌, All, IfSome}
 use Rattle.lrtext.specs.declared.parts.GrammarParts.{GrammarParts}
 use Rattle.lrtext.specs.declared.parts.PartSymbol.{PartSymbol}
 use Rattle.lrtext.specs.declared.parts.PartSymbol.TheVariants.{Rule, Token}
@@ -13,4 +13,5 @@ part_number (Token t) = t
 pub record AreSmall (most : ℕ) (ps : GrammarParts) : Type 0 where
   pub rules : All (λ p. p.rule + 1 ≤ most) ps.prods.items
   pub symbols : All (λ p. All (λ s. part_number s ≤ most) p.symbols.items) ps.prods.items
+  pub named : All (λ p. IfSome p.precedence (λ t. t ≤ most)) ps.prods.items
   pub start : ps.start + 1 ≤ most

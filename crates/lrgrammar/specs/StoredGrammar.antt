@@ -16,7 +16,12 @@ use Rattle.lrparts.specs.LookUps.{FindsNames}
 
 -- a stored production as the grammar has it
 abbrev pub production_of : {T : Type 0} → (T → ℕ) → stored.Production T → Production
-production_of number p = record { rule = number p.rule.0; body = map (symbol_of number) p.body.items }
+production_of number p =
+    record {
+      rule = number p.rule.0;
+      body = map (symbol_of number) p.body.items;
+      precedence_token = option_map (λ t. number t.0) p.precedence;
+    }
 
 -- a stored grammar as plain lists
 abbrev pub grammar_of : {T : Type 0} → (T → ℕ) → Inside T → Grammar

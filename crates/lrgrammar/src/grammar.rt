@@ -22,11 +22,12 @@ use std::collections::BTreeMap;
 use std::marker::Model;
 pub use tidxs::TIdxIterator;
 
-/// A production: its rule and its body.
+/// A production: its rule, its body, and the token that it names for its precedence.
 #[derive(Drop)]
 struct Production<T> {
     rule: RIdx<T>,
     body: Vec<Symbol<T>>,
+    precedence: Option<TIdx<T>>,
 }
 
 /// A grammar. Rule 0 is `^`, whose one production comes last and has the start rule as its body;

@@ -43,7 +43,11 @@ pub fn push_token(
 /// A production of rule 0 whose body is one symbol, that many times.
 pub fn production(alloc: Global, symbol: PartSymbol, times: usize) -> Result<PartProd, AllocError> {
     let symbols = vec![in alloc; symbol; times]?;
-    Ok(PartProd { rule: 0, symbols })
+    Ok(PartProd {
+        rule: 0,
+        symbols,
+        precedence: None,
+    })
 }
 
 /// Adds a rule of this name with an empty production.
@@ -51,7 +55,11 @@ fn push_rule(alloc: Global, parts: &mut GrammarParts, name: &str) -> Result<(), 
     let rule = parts.rules.len();
     parts.rules.push(String::from_str(alloc, name)?)?;
     let symbols = Vec::new(alloc);
-    parts.prods.push(PartProd { rule, symbols })?;
+    parts.prods.push(PartProd {
+        rule,
+        symbols,
+        precedence: None,
+    })?;
     Ok(())
 }
 

@@ -123,8 +123,8 @@ fn parts_of_a_text(rt: HostRuntime) -> Result<(), Fail> {
         "GrammarParts { rules: [\"S\", \"x\"], tokens: [\
             PartToken { name: \"a\", precedence: None }, PartToken { name: \"x\", \
             precedence: Some(Precedence { level: 0, kind: Nonassoc }) }], prods: [\
-            PartProd { rule: 0, symbols: [Rule(1)] }, \
-            PartProd { rule: 1, symbols: [Token(0)] }], start: 0 }",
+            PartProd { rule: 0, symbols: [Rule(1)], precedence: None }, \
+            PartProd { rule: 1, symbols: [Token(0)], precedence: None }], start: 0 }",
     );
     Ok(())
 }

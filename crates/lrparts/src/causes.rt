@@ -45,16 +45,37 @@ fn body_too_long(parts: &GrammarParts, most: usize) -> bool
     false
 }
 
-/// Whether a body symbol or the rule of a production is in no list.
+/// Whether a production names a rule or a token that is in no list.
 fn symbol_out_of_range(parts: &GrammarParts) -> bool
     ensures { IsTrue result ↔ part.SymbolOutOfRange (parts_of parts.now) }
 {
     for prod in &parts.prods {
-        if prod.rule >= parts.rules.len() || has_symbol_out_of_range(parts, prod) {
+        if has_out_of_range(parts, prod) {
             return true;
         }
     }
     false
+}
+
+/// Whether the rule of the production, a symbol of its body or the token that it names for its
+/// precedence is in no list.
+fn has_out_of_range(parts: &GrammarParts, prod: &PartProd) -> bool
+    ensures { IsTrue result
+        ↔ part.HasOutOfRange (parts_of parts.now) (part_production_of prod.now) }
+{
+    prod.rule >= parts.rules.len()
+        || has_symbol_out_of_range(parts, prod)
+        || is_named_out_of_range(parts, prod.precedence)
+}
+
+/// Whether the token that is named for a precedence, if one is, is in no list.
+fn is_named_out_of_range(parts: &GrammarParts, named: Option<usize>) -> bool
+    ensures { IsTrue result ↔ part.IsNamedOutOfRange (parts_of parts.now) named }
+{
+    match named {
+        Some(t) => t >= parts.tokens.len(),
+        None => false,
+    }
 }
 
 /// Whether a symbol of the body is in no list.

@@ -22,7 +22,8 @@ pub enum GrammarError {
     /// The symbols of a body are more than the greatest index.
     #[error("production too long")]
     BodyTooLong,
-    /// A symbol of a body or the rule of a production is in no list.
+    /// A symbol of a body, the rule of a production or the token that it names for its precedence is
+    /// in no list.
     #[error("symbol out of range")]
     SymbolOutOfRange,
     /// A rule has no production.

@@ -77,14 +77,15 @@ module _ (q : ℕ) (text name closed : List ℕ) (h : IsTrue (is_quote q)) (whol
 other_word : (w v : List ℕ) → w ≢ v → bytes_eq w v ≡ false
 other_word w v differs = elim (bytes_eq w v) as (λ t. bytes_eq w v ≡ t → t ≡ false) [ true ↦ λ h. absurd (differs ((bytes_eq-Decides w v).0 h)) | false ↦ λ h. refl ] refl
 
--- a word that is none of the five is not in the table
-pub not_in_table : (w : List ℕ) → w ≢ codes "start" → w ≢ codes "token" → w ≢ codes "left" → w ≢ codes "right" → w ≢ codes "nonassoc" → word_lexeme w ≡ None
-not_in_table w start token left right nonassoc =
+-- a word that is none of the six is not in the table
+pub not_in_table : (w : List ℕ) → w ≢ codes "start" → w ≢ codes "token" → w ≢ codes "left" → w ≢ codes "right" → w ≢ codes "nonassoc" → w ≢ codes "prec" → word_lexeme w ≡ None
+not_in_table w start token left right nonassoc prec =
     cond-false (bytes_eq w (codes "start")) _ _ (other_word w _ start)
     ∙ cond-false (bytes_eq w (codes "token")) _ _ (other_word w _ token)
     ∙ cond-false (bytes_eq w (codes "left")) _ _ (other_word w _ left)
     ∙ cond-false (bytes_eq w (codes "right")) _ _ (other_word w _ right)
     ∙ cond-false (bytes_eq w (codes "nonassoc")) _ _ (other_word w _ nonassoc)
+    ∙ cond-false (bytes_eq w (codes "prec")) _ _ (other_word w _ prec)
 
 -- a word of the table is in front
 pub word_in_front : (text word behind v : List ℕ) (l : Lexeme) → text ≡ word ++ behind → goes_on is_ascii_alphabetic behind ≡ false → word ≡ v → ((rest : List ℕ) → goes_on is_ascii_alphabetic rest ≡ false → Spells (37 ∷ v) l rest) → BeginsWith (37 ∷ text) l behind

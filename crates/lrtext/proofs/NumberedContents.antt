@@ -15,10 +15,10 @@ use Rattle.lrtext.specs.StoredContents.{plain_contents, alternative_of, rule_nam
 use Rattle.lrtext.specs.StoredLevels.{leveled_of, leveled_names, IsRepeat}
 use Rattle.lrtext.specs.MeantParts.{AreMeant, IsCauseIn}
 use Rattle.lrspec.specs.grammars.Grammar.{Kind, Precedence}
-use Rattle.lrspec.specs.texts.Documents.{NameText}
+use Rattle.lrspec.specs.texts.Documents.{BodyText}
 use Rattle.lrspec.specs.texts.Parts.{Parts}
 use Rattle.lrspec.specs.texts.Names.{has_name, has_no_repeats, first_appearances}
-use Rattle.lrspec.specs.texts.Meaning.{Contents, rule_names, token_names, precedence_names, declared_names, body_names, token_in_body, precedences, token_in, production_in, start_in, unknown_in_body, unknown_names}
+use Rattle.lrspec.specs.texts.Meaning.{Contents, rule_names, token_names, precedence_names, declared_names, body_names, named_precedence, named_precedences, token_in_body, precedences, token_in, production_in, start_in, unknown_in_body, unknown_names}
 use Rattle.lrspec.proofs.texts.ResultsPassedOn.{error_passed}
 use Rattle.lrtext.proofs.NumberedNames.{first_appearances_added}
 use Rattle.lrtext.proofs.MeaningFacts.{precedences_named, unknown_by_numbers}
@@ -26,7 +26,7 @@ use Rattle.lrtext.proofs.MeaningFacts.{precedences_named, unknown_by_numbers}
 module _ (d : stored.Contents) where
   -- the rules that were numbered are those that are said
   pub rules_are : (rules : List (List ℕ)) → rules ≡ with_names [] (map rule_name_of d.alternatives.items) → rules ≡ rule_names (plain_contents d)
-  rules_are rules e = e ∙ first_appearances_added _ ∙ ap first_appearances (sym (map-map (λ (a : List ℕ × List NameText). a.0) alternative_of d.alternatives.items))
+  rules_are rules e = e ∙ first_appearances_added _ ∙ ap first_appearances (sym (map-map (λ (a : List ℕ × BodyText). a.0) alternative_of d.alternatives.items))
 
   -- the names of the precedence lines
   lines_are : flat_map line_names_of d.kind_lines.items ≡ precedence_names (plain_contents d)
@@ -34,23 +34,27 @@ module _ (d : stored.Contents) where
 
   -- the names in bodies
   bodies_are : flat_map body_of d.alternatives.items ≡ body_names (plain_contents d)
-  bodies_are = sym (flat_map-map (λ (a : List ℕ × List NameText). a.1) alternative_of d.alternatives.items)
+  bodies_are = sym (flat_map-map (λ (a : List ℕ × BodyText). a.1.names) alternative_of d.alternatives.items)
 
   -- the declared names that were numbered are those that are said
   pub declared_are : (declared : List (List ℕ)) → declared ≡ with_names (with_names [] (names_of d.declared.items)) (flat_map line_names_of d.kind_lines.items) → declared ≡ first_appearances (declared_names (plain_contents d))
   declared_are declared e = e ∙ sym (fold-append with_name [] (names_of d.declared.items) _) ∙ ap (λ ws. with_names [] (names_of d.declared.items ++ ws)) lines_are ∙ first_appearances_added _
 
   -- the tokens that were numbered are those that are said
-  pub tokens_are : (rules tokens : List (List ℕ)) → rules ≡ rule_names (plain_contents d) → tokens ≡ with_names (with_names (with_names [] (names_of d.declared.items)) (filter_map (token_in_body rules) (flat_map body_of d.alternatives.items))) (flat_map line_names_of d.kind_lines.items) → tokens ≡ token_names (plain_contents d)
+  pub tokens_are : (rules tokens : List (List ℕ)) → rules ≡ rule_names (plain_contents d) → tokens ≡ with_names (with_names (with_names (with_names [] (names_of d.declared.items)) (filter_map (token_in_body rules) (flat_map body_of d.alternatives.items))) (flat_map line_names_of d.kind_lines.items)) (filter_map named_precedence (map alternative_of d.alternatives.items)) → tokens ≡ token_names (plain_contents d)
   tokens_are rules tokens same e =
       let declared = names_of d.declared.items in
       let used = filter_map (token_in_body rules) (flat_map body_of d.alternatives.items) in
+      let lines = flat_map line_names_of d.kind_lines.items in
+      let said = precedence_names (plain_contents d) in
+      let named = named_precedences (plain_contents d) in
       e
-      ∙ ap (λ ws. with_names ws (flat_map line_names_of d.kind_lines.items)) (sym (fold-append with_name [] declared used))
-      ∙ sym (fold-append with_name [] (declared ++ used) _)
-      ∙ ap (λ ws. with_names [] (declared ++ used ++ ws)) lines_are
-      ∙ ap (λ ns. with_names [] (declared ++ filter_map (token_in_body rules) ns ++ precedence_names (plain_contents d))) bodies_are
-      ∙ ap (λ rs. with_names [] (declared ++ filter_map (token_in_body rs) (body_names (plain_contents d)) ++ precedence_names (plain_contents d))) same
+      ∙ ap (λ ws. with_names (with_names ws lines) named) (sym (fold-append with_name [] declared used))
+      ∙ ap (λ ws. with_names ws named) (sym (fold-append with_name [] (declared ++ used) lines))
+      ∙ sym (fold-append with_name [] (declared ++ used ++ lines) named)
+      ∙ ap (λ ws. with_names [] (declared ++ used ++ ws ++ named)) lines_are
+      ∙ ap (λ ns. with_names [] (declared ++ filter_map (token_in_body rules) ns ++ said ++ named)) bodies_are
+      ∙ ap (λ rs. with_names [] (declared ++ filter_map (token_in_body rs) (body_names (plain_contents d)) ++ said ++ named)) same
       ∙ first_appearances_added _
 
   -- the unknown names by the names that were numbered

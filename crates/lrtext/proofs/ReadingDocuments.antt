@@ -1,54 +1,82 @@
 -- what is read of rules and of a whole document is what the document says
 use Rattle.std.proofs.Common.{◌≡◌, ℕ, ◌≤◌, false, List, [], ◌∷◌, ◌++◌, length, map, Option, None, Some, flat_map, filter_map, refl, ap, ◌∙◌, sym, append_assoc, append-nil, add-zero, arith}
 use Rattle.lrspec.specs.texts.Lexemes.{Lexeme, Semicolon}
-use Rattle.lrspec.specs.texts.Documents.{NameText, Plain, InQuotes, Declaration, StartLine, TokenLine, KindLine, RuleText, Document, name_lexeme, other_body_lexemes, rule_lexemes, behind_lexemes, start_names, IsDocumentOf}
-use Rattle.lrspec.specs.texts.ReadingStates.{ReadingState, AtRule, InBody, Behind}
+use Rattle.lrspec.specs.texts.Documents.{NameText, Plain, InQuotes, Declaration, StartLine, TokenLine, KindLine, BodyText, RuleText, Document, name_lexeme, precedence_lexemes, body_lexemes, other_body_lexemes, rule_lexemes, behind_lexemes, start_names, IsDocumentOf}
+use Rattle.lrspec.specs.texts.ReadingStates.{ReadingState, AtRule, InBody, BehindBody, Behind}
 use Rattle.lrspec.specs.texts.Meaning.{Contents, bare_name, token_line_names, kind_line, alternatives_of, contents_of}
 use Rattle.lrspec.proofs.texts.ReadingStateFacts.{rule_grouped}
-use Rattle.lrtext.specs.Readings.{Reading, first_reading, reading_behind, starts_in, contents_in}
+use Rattle.lrtext.specs.Readings.{Reading, first_reading, body_in_hand, reading_behind, starts_in, contents_in}
 use Rattle.lrtext.proofs.ReadingDeclarations.{read_declarations, declarations_read}
 
 -- rules with their bodies
 abbrev Alternatives : Type 0
-Alternatives = List (List ℕ × List NameText)
+Alternatives = List (List ℕ × BodyText)
+
+-- the lexemes of other bodies, the `;` and what follows it
+abbrev bodies_lexemes : List BodyText → List Lexeme → List Lexeme
+bodies_lexemes bs rest = flat_map other_body_lexemes bs ++ Semicolon ∷ rest
 
 -- the names of a body
-body_read : (b : List NameText) (x : Reading) (rest : List Lexeme) → reading_behind (record x { state = InBody }) (map name_lexeme b ++ rest) ≡ reading_behind (record x { state = InBody; body = x.body ++ b }) rest
-body_read [] x rest = ap (λ b. reading_behind (record x { state = InBody; body = b }) rest) (sym (append-nil x.body))
-body_read (Plain w ∷ b) x rest = body_read b (record x { body = x.body ++ Plain w ∷ [] }) rest ∙ ap (λ b. reading_behind (record x { state = InBody; body = b }) rest) (append_assoc x.body (Plain w ∷ []) b)
-body_read (InQuotes w ∷ b) x rest = body_read b (record x { body = x.body ++ InQuotes w ∷ [] }) rest ∙ ap (λ b. reading_behind (record x { state = InBody; body = b }) rest) (append_assoc x.body (InQuotes w ∷ []) b)
+names_read : (ns : List NameText) (x : Reading) (rest : List Lexeme) → reading_behind (record x { state = InBody }) (map name_lexeme ns ++ rest) ≡ reading_behind (record x { state = InBody; body = x.body ++ ns }) rest
+names_read [] x rest = ap (λ b. reading_behind (record x { state = InBody; body = b }) rest) (sym (append-nil x.body))
+names_read (Plain w ∷ ns) x rest = names_read ns (record x { body = x.body ++ Plain w ∷ [] }) rest ∙ ap (λ b. reading_behind (record x { state = InBody; body = b }) rest) (append_assoc x.body (Plain w ∷ []) ns)
+names_read (InQuotes w ∷ ns) x rest = names_read ns (record x { body = x.body ++ InQuotes w ∷ [] }) rest ∙ ap (λ b. reading_behind (record x { state = InBody; body = b }) rest) (append_assoc x.body (InQuotes w ∷ []) ns)
+
+-- what follows a body is read alike behind its `%prec` and where it has none
+bodies_alike : (bs : List BodyText) (x : Reading) (rest : List Lexeme) → reading_behind (record x { state = BehindBody }) (bodies_lexemes bs rest) ≡ reading_behind (record x { state = InBody }) (bodies_lexemes bs rest)
+bodies_alike [] x rest = refl
+bodies_alike (b ∷ bs) x rest = refl
+
+-- `%prec` with its name, where a body has one
+precedence_read : (o : Option NameText) (bs : List BodyText) (x : Reading) (rest : List Lexeme) → reading_behind (record x { state = InBody; precedence = None }) (precedence_lexemes o ++ bodies_lexemes bs rest)
+    ≡ reading_behind (record x { state = InBody; precedence = o }) (bodies_lexemes bs rest)
+precedence_read None bs x rest = refl
+precedence_read (Some (Plain w)) bs x rest = bodies_alike bs (record x { precedence = Some (Plain w) }) rest
+precedence_read (Some (InQuotes w)) bs x rest = bodies_alike bs (record x { precedence = Some (InQuotes w) }) rest
+
+-- a body before others
+body_read : (b : BodyText) (bs : List BodyText) (x : Reading) (rest : List Lexeme) → reading_behind (record x { state = InBody; body = []; precedence = None }) (body_lexemes b ++ bodies_lexemes bs rest)
+    ≡ reading_behind (record x { state = InBody; body = b.names; precedence = b.precedence }) (bodies_lexemes bs rest)
+body_read b bs x rest =
+    let y : Reading = record x { body = []; precedence = None } in
+    ap (reading_behind (record y { state = InBody })) (append_assoc (map name_lexeme b.names) (precedence_lexemes b.precedence) (bodies_lexemes bs rest))
+    ∙ names_read b.names y (precedence_lexemes b.precedence ++ bodies_lexemes bs rest)
+    ∙ precedence_read b.precedence bs (record x { body = b.names }) rest
 
 -- other bodies and the `;`
-bodies_read : (bs : List (List NameText)) (x : Reading) (rest : List Lexeme) → reading_behind (record x { state = InBody }) (flat_map other_body_lexemes bs ++ Semicolon ∷ rest)
-    ≡ reading_behind (record x { state = AtRule; body = []; alternatives = x.alternatives ++ (x.rule, x.body) ∷ map (λ b. (x.rule, b)) bs }) rest
+bodies_read : (bs : List BodyText) (x : Reading) (rest : List Lexeme) → reading_behind (record x { state = InBody }) (bodies_lexemes bs rest)
+    ≡ reading_behind (record x { state = AtRule; body = []; precedence = None; alternatives = x.alternatives ++ (x.rule, body_in_hand x) ∷ map (λ b. (x.rule, b)) bs }) rest
 bodies_read [] x rest = refl
 bodies_read (b ∷ bs) x rest =
-    let y : Reading = record x { body = []; alternatives = x.alternatives ++ (x.rule, x.body) ∷ [] } in
+    let y : Reading = record x { body = []; precedence = None; alternatives = x.alternatives ++ (x.rule, body_in_hand x) ∷ [] } in
     let more : Alternatives = map (λ b. (x.rule, b)) (b ∷ bs) in
-    ap (reading_behind (record y { state = InBody })) (append_assoc (map name_lexeme b) (flat_map other_body_lexemes bs) (Semicolon ∷ rest))
-    ∙ body_read b y (flat_map other_body_lexemes bs ++ Semicolon ∷ rest)
-    ∙ bodies_read bs (record y { body = b }) rest
-    ∙ ap (λ a. reading_behind (record x { state = AtRule; body = []; alternatives = a }) rest) (append_assoc x.alternatives ((x.rule, x.body) ∷ []) more)
+    ap (reading_behind (record y { state = InBody })) (append_assoc (body_lexemes b) (flat_map other_body_lexemes bs) (Semicolon ∷ rest))
+    ∙ body_read b bs y rest
+    ∙ bodies_read bs (record y { body = b.names; precedence = b.precedence }) rest
+    ∙ ap (λ a. reading_behind (record x { state = AtRule; body = []; precedence = None; alternatives = a }) rest) (append_assoc x.alternatives ((x.rule, body_in_hand x) ∷ []) more)
 
 -- what rules add
 abbrev read_rules : List RuleText → Reading → Reading
 read_rules [] x = x
 read_rules (r ∷ rs) x = read_rules rs (record x { rule = r.name; alternatives = x.alternatives ++ alternatives_of r })
 
+-- no body is in hand at a rule
+abbrev at_rule : Reading → Reading
+at_rule x = record x { state = AtRule; body = []; precedence = None }
+
 -- a rule
-rule_read : (r : RuleText) (x : Reading) (rest : List Lexeme) → reading_behind (record x { state = AtRule; body = [] }) (rule_lexemes r ++ rest)
-    ≡ reading_behind (record x { state = AtRule; body = []; rule = r.name; alternatives = x.alternatives ++ alternatives_of r }) rest
+rule_read : (r : RuleText) (x : Reading) (rest : List Lexeme) → reading_behind (at_rule x) (rule_lexemes r ++ rest) ≡ reading_behind (at_rule (record x { rule = r.name; alternatives = x.alternatives ++ alternatives_of r })) rest
 rule_read r x rest =
-    let y : Reading = record x { body = []; rule = r.name } in
-    ap (reading_behind (record y { state = InBody })) (rule_grouped (map name_lexeme r.first) (flat_map other_body_lexemes r.others) rest)
-    ∙ body_read r.first y (flat_map other_body_lexemes r.others ++ Semicolon ∷ rest)
-    ∙ bodies_read r.others (record y { body = r.first }) rest
+    let y : Reading = record x { body = []; precedence = None; rule = r.name } in
+    ap (reading_behind (record y { state = InBody })) (rule_grouped (body_lexemes r.first) (flat_map other_body_lexemes r.others) rest)
+    ∙ body_read r.first r.others y rest
+    ∙ bodies_read r.others (record y { body = r.first.names; precedence = r.first.precedence }) rest
 
 -- rules are read one by one
-rules_read : (rs : List RuleText) (x : Reading) (rest : List Lexeme) → reading_behind (record x { state = AtRule; body = [] }) (flat_map rule_lexemes rs ++ rest) ≡ reading_behind (record (read_rules rs x) { state = AtRule; body = [] }) rest
+rules_read : (rs : List RuleText) (x : Reading) (rest : List Lexeme) → reading_behind (at_rule x) (flat_map rule_lexemes rs ++ rest) ≡ reading_behind (at_rule (read_rules rs x)) rest
 rules_read [] x rest = refl
 rules_read (r ∷ rs) x rest =
-    ap (reading_behind (record x { state = AtRule; body = [] })) (append_assoc (rule_lexemes r) (flat_map rule_lexemes rs) rest)
+    ap (reading_behind (at_rule x)) (append_assoc (rule_lexemes r) (flat_map rule_lexemes rs) rest)
     ∙ rule_read r x (flat_map rule_lexemes rs ++ rest) ∙ rules_read rs (record x { rule = r.name; alternatives = x.alternatives ++ alternatives_of r }) rest
 
 -- what stands behind the second `%%` adds nothing
@@ -90,8 +118,8 @@ declared_lines (TokenLine n ns ∷ ds) x = declared_lines ds _
 declared_lines (KindLine k n ns ∷ ds) x = declared_lines ds _ ∙ append_assoc x.kind_lines ((k, map bare_name (n ∷ ns)) ∷ []) (filter_map kind_line ds)
 
 -- declarations leave the rules as they are
-declared_kept : (ds : List Declaration) (x : Reading) → ((read_declarations ds x).body ≡ x.body) × ((read_declarations ds x).alternatives ≡ x.alternatives)
-declared_kept [] x = (refl, refl)
+declared_kept : (ds : List Declaration) (x : Reading) → ((read_declarations ds x).body ≡ x.body) × ((read_declarations ds x).precedence ≡ x.precedence) × ((read_declarations ds x).alternatives ≡ x.alternatives)
+declared_kept [] x = (refl, refl, refl)
 declared_kept (StartLine w ∷ ds) x = declared_kept ds (record x { start = Some w })
 declared_kept (TokenLine n ns ∷ ds) x = declared_kept ds (record x { declared = x.declared ++ map bare_name (n ∷ ns) })
 declared_kept (KindLine k n ns ∷ ds) x = declared_kept ds (record x { kind_lines = x.kind_lines ++ (k, map bare_name (n ∷ ns)) ∷ [] })
@@ -121,13 +149,14 @@ document_reading d is h =
     let x = record (read_declarations d.declarations first_reading) { line = None; names = [] } in
     let y = read_rules d.rules x in
     let (start, declared, lines, line, names) = ruled_kept d.rules x in
-    let (body, alternatives) = declared_kept d.declarations first_reading in
-    let (s, e) = ended_by d.behind (record y { body = [] }) in (
-      record y { state = s; body = [] },
+    let (body, precedence, alternatives) = declared_kept d.declarations first_reading in
+    let (s, e) = ended_by d.behind (at_rule y) in (
+      record (at_rule y) { state = s },
       rw (← h.lexemes) (declarations_read d.declarations false first_reading (flat_map rule_lexemes d.rules ++ behind_lexemes d.behind) (rw add-zero h.one_start)
           ∙ ap (λ b. reading_behind (record x { state = AtRule; body = b }) (flat_map rule_lexemes d.rules ++ behind_lexemes d.behind)) body
+          ∙ ap (λ p. reading_behind (record x { state = AtRule; body = []; precedence = p }) (flat_map rule_lexemes d.rules ++ behind_lexemes d.behind)) precedence
           ∙ rules_read d.rules x (behind_lexemes d.behind) ∙ e),
-      contents_same (record y { state = s; body = [] }) (contents_of d)
+      contents_same (record (at_rule y) { state = s }) (contents_of d)
           (ap starts_in start ∙ declared_start d.declarations first_reading refl h.one_start)
           (declared ∙ declared_tokens d.declarations first_reading)
           (lines ∙ declared_lines d.declarations first_reading)

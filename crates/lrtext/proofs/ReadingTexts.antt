@@ -3,7 +3,7 @@ use Rattle.std.proofs.Common.{◌≡◌, ◌≢◌, ℕ, ◌+◌, ◌-◌, ◌�
 use Rattle.lrspec.specs.texts.Lexemes.{Lexeme, Misfit, Placed, HasLexemes}
 use Rattle.lrtext.specs.NextLexemes.{GoesOnAt, HasNext, HasMisfit}
 use Rattle.lrspec.specs.texts.Documents.{lexemes_of, IsSyntaxErrorAt}
-use Rattle.lrspec.specs.texts.ReadingStates.{ReadingState, AtDeclaration, WantsStart, WantsName, InLine, AtRule, WantsColon, InBody, Behind, may_end, next_state}
+use Rattle.lrspec.specs.texts.ReadingStates.{ReadingState, AtDeclaration, WantsStart, WantsName, InLine, AtRule, WantsColon, InBody, WantsPrecedence, BehindBody, Behind, may_end, next_state}
 use Rattle.lrspec.proofs.texts.LexemesOfText.{lexemes_within, within_has}
 use Rattle.lrtext.proofs.ReadLexemes.{HasRead, has_read_none, has_read_more, has_read_all, has_read_misfit}
 use Rattle.lrtext.specs.Readings.{Reading, first_reading, moved, take_lexeme, reading_behind}
@@ -69,6 +69,8 @@ misfit_refused (InLine seen) h = refl
 misfit_refused AtRule h = refl
 misfit_refused WantsColon h = refl
 misfit_refused InBody h = refl
+misfit_refused WantsPrecedence h = refl
+misfit_refused BehindBody h = refl
 misfit_refused Behind h = absurd (h refl)
 
 -- no lexeme begins there, so that the syntax error is there

@@ -13,6 +13,7 @@ use Rattle.lrtext.specs.declared.parts.AssocKind.{AssocKind}
 use Rattle.lrtext.specs.declared.reading.Reading.{Reading}
 use Rattle.lrtext.specs.NextLexemes.{lexeme_of}
 use Rattle.lrtext.specs.NumberedNames.{names_of}
+use Rattle.lrspec.specs.texts.Documents.{BodyText}
 use Rattle.lrtext.specs.Readings.{named, line_ended, alternative_ended, in_body}
 use Rattle.lrtext.specs.StoredContents.{name_text_of, kind_line_of, alternative_of}
 use Rattle.lrtext.specs.StoredParts.{kind_of}
@@ -43,14 +44,15 @@ module _ (r : Reading) where
       ∙ sym (ap (λ (o : Option AssocKind). line_ended (option_map kind_of o) (reading_of r)) some)
 
   -- the end of an alternative
-  pub alternative_more : (body empty : Vec NameText Global) (new : Vec Alternative Global) → new.items ≡ r.contents.alternatives.items ++ record { rule = r.rule; body = body } ∷ [] → body ≡ r.body → empty.items ≡ [] → reading_of (record r { contents = record r.contents { alternatives = new }; body = empty }) ≡ alternative_ended (reading_of r)
+  pub alternative_more : (body empty : Vec NameText Global) (new : Vec Alternative Global) → new.items ≡ r.contents.alternatives.items ++ record { rule = r.rule; body = body; precedence = r.precedence } ∷ [] → body ≡ r.body → empty.items ≡ [] → reading_of (record r { contents = record r.contents { alternatives = new }; body = empty; precedence = None }) ≡ alternative_ended (reading_of r)
   alternative_more body empty new more same none =
       let before = map alternative_of r.contents.alternatives.items in
-      ap (λ ls. record (reading_of r) { alternatives = ls; body = map name_text_of empty.items })
+      let said : List NameText → List ℕ × BodyText = λ ns. (r.rule.now, record { names = map name_text_of ns; precedence = option_map name_text_of r.precedence }) in
+      ap (λ ls. record (reading_of r) { alternatives = ls; body = map name_text_of empty.items; precedence = None })
       (ap (map alternative_of) more
-      ∙ map-append alternative_of r.contents.alternatives.items (record { rule = r.rule; body = body } ∷ [])
-      ∙ ap (λ (v : Vec NameText Global). before ++ (r.rule.now, map name_text_of v.items) ∷ []) same)
-      ∙ ap (λ ns. record (reading_of r) { alternatives = before ++ (r.rule.now, map name_text_of r.body.items) ∷ []; body = map name_text_of ns }) none
+      ∙ map-append alternative_of r.contents.alternatives.items (record { rule = r.rule; body = body; precedence = r.precedence } ∷ [])
+      ∙ ap (λ (v : Vec NameText Global). before ++ said v.items ∷ []) same)
+      ∙ ap (λ ns. record (reading_of r) { alternatives = before ++ said r.body.items ∷ []; body = map name_text_of ns; precedence = None }) none
 
   -- one more name in a body
   pub plain_more : (l : Lexeme) (w : Bor (List ℕ)) (new : Vec NameText Global) → l ≡ code.Name w → new.items ≡ r.body.items ++ name.Plain w ∷ [] → reading_of (record r { body = new }) ≡ in_body (lexeme_of l) (reading_of r)

@@ -17,6 +17,7 @@ lexeme_of (code.Quoted s) = text.Lexeme.Quoted s.now
 lexeme_of code.StartWord = text.Lexeme.StartWord
 lexeme_of code.TokenWord = text.Lexeme.TokenWord
 lexeme_of (code.KindWord k) = text.Lexeme.KindWord (kind_of k)
+lexeme_of code.PrecedenceWord = text.Lexeme.PrecedenceWord
 lexeme_of code.Separator = text.Lexeme.Separator
 lexeme_of code.Colon = text.Lexeme.Colon
 lexeme_of code.Bar = text.Lexeme.Bar

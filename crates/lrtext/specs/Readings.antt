@@ -2,13 +2,13 @@
 use Rattle.std.specs.Prelude.{ℕ, List, [], ◌∷◌, ◌++◌, Option, None, Some}
 use Rattle.lrspec.specs.grammars.Grammar.{Kind}
 use Rattle.lrspec.specs.texts.Lexemes.{Lexeme, Name, Quoted, KindWord, Bar, Semicolon}
-use Rattle.lrspec.specs.texts.Documents.{NameText, Plain, InQuotes}
+use Rattle.lrspec.specs.texts.Documents.{NameText, Plain, InQuotes, BodyText}
 use Rattle.lrspec.specs.texts.Meaning.{Contents}
-use Rattle.lrspec.specs.texts.ReadingStates.{ReadingState, AtDeclaration, WantsStart, WantsName, InLine, AtRule, WantsColon, InBody, Behind, first_state, next_state}
+use Rattle.lrspec.specs.texts.ReadingStates.{ReadingState, AtDeclaration, WantsStart, WantsName, InLine, AtRule, WantsColon, InBody, WantsPrecedence, BehindBody, Behind, first_state, next_state}
 
 -- what was read of a document so far: the state, the name of `%start`, the names of the `%token`
--- lines, the precedence lines that are done, the kind and the names of the one in hand, the rule
--- and the body in hand, and the alternatives that are done
+-- lines, the precedence lines that are done, the kind and the names of the one in hand, the rule,
+-- the body and the name behind `%prec` in hand, and the alternatives that are done
 pub record Reading : Type 0 where
   pub state : ReadingState
   pub start : Option (List ℕ)
@@ -18,7 +18,8 @@ pub record Reading : Type 0 where
   pub names : List (List ℕ)
   pub rule : List ℕ
   pub body : List NameText
-  pub alternatives : List (List ℕ × List NameText)
+  pub precedence : Option NameText
+  pub alternatives : List (List ℕ × BodyText)
 
 -- nothing was read
 abbrev pub first_reading : Reading
@@ -32,6 +33,7 @@ first_reading =
       names = [];
       rule = [];
       body = [];
+      precedence = None;
       alternatives = [];
     }
 
@@ -64,9 +66,18 @@ abbrev pub naming : Lexeme → Reading → Reading
 naming (Name w) x = record x { rule = w }
 naming _ x = x
 
+-- the body in hand
+abbrev pub body_in_hand : Reading → BodyText
+body_in_hand x = record { names = x.body; precedence = x.precedence }
+
 -- the end of an alternative
 abbrev pub alternative_ended : Reading → Reading
-alternative_ended x = record x { alternatives = x.alternatives ++ (x.rule, x.body) ∷ []; body = [] }
+alternative_ended x =
+    record x {
+      alternatives = x.alternatives ++ (x.rule, body_in_hand x) ∷ [];
+      body = [];
+      precedence = None;
+    }
 
 -- what a lexeme adds in the bodies of a rule
 abbrev pub in_body : Lexeme → Reading → Reading
@@ -75,6 +86,12 @@ in_body (Quoted w) x = record x { body = x.body ++ InQuotes w ∷ [] }
 in_body Bar x = alternative_ended x
 in_body Semicolon x = alternative_ended x
 in_body _ x = x
+
+-- the name behind `%prec`
+abbrev pub preceding : Lexeme → Reading → Reading
+preceding (Name w) x = record x { precedence = Some (Plain w) }
+preceding (Quoted w) x = record x { precedence = Some (InQuotes w) }
+preceding _ x = x
 
 -- what a lexeme adds in a state
 abbrev pub added : ReadingState → Lexeme → Reading → Reading
@@ -85,6 +102,8 @@ added (InLine seen) l x = declaring l x
 added AtRule l x = naming l x
 added WantsColon l x = x
 added InBody l x = in_body l x
+added WantsPrecedence l x = preceding l x
+added BehindBody l x = in_body l x
 added Behind l x = x
 
 -- a lexeme is added where there is a state behind it

@@ -1,6 +1,7 @@
 -- the contents of a document, as the code stores them, by plain lists
 use Rattle.std.specs.Prelude.{ℕ, List, [], ◌∷◌, map, Option, None, Some}
 use denote.Ref.{Bor}
+use Rattle.std.specs.Option.{option_map}
 use Rattle.lrtext.specs.declared.contents.NameText as stored_name
 use Rattle.lrtext.specs.declared.contents.NameText.TheVariants as name
 use Rattle.lrtext.specs.declared.contents.KindLine.{KindLine}
@@ -9,7 +10,7 @@ use Rattle.lrtext.specs.declared.contents.Contents as stored
 use Rattle.lrtext.specs.StoredParts.{kind_of}
 use Rattle.lrtext.specs.NumberedNames.{names_of}
 use Rattle.lrspec.specs.grammars.Grammar.{Kind}
-use Rattle.lrspec.specs.texts.Documents.{NameText, Plain, InQuotes}
+use Rattle.lrspec.specs.texts.Documents.{NameText, Plain, InQuotes, BodyText}
 use Rattle.lrspec.specs.texts.Meaning.{Contents}
 
 -- a name in a body as a document has it
@@ -22,8 +23,14 @@ abbrev pub kind_line_of : KindLine → Kind × List (List ℕ)
 kind_line_of l = (kind_of l.kind, names_of l.names.items)
 
 -- an alternative with the name of its rule
-abbrev pub alternative_of : Alternative → List ℕ × List NameText
-alternative_of a = (a.rule.now, map name_text_of a.body.items)
+abbrev pub alternative_of : Alternative → List ℕ × BodyText
+alternative_of a = (
+  a.rule.now,
+  record {
+    names = map name_text_of a.body.items;
+    precedence = option_map name_text_of a.precedence;
+  },
+)
 
 -- the names behind `%start`
 abbrev pub starts_of : Option (Bor (List ℕ)) → List (List ℕ)

@@ -31,7 +31,12 @@ part_symbol_of (symbol.Rule r) = math.Symbol.Rule r
 part_symbol_of (symbol.Token t) = math.Symbol.Token t
 
 abbrev pub part_production_of : PartProd → math.Production
-part_production_of p = record { rule = p.rule; body = map part_symbol_of p.symbols.items }
+part_production_of p =
+    record {
+      rule = p.rule;
+      body = map part_symbol_of p.symbols.items;
+      precedence_token = p.precedence;
+    }
 
 -- the parts as plain lists
 abbrev pub parts_of : GrammarParts → Parts

@@ -7,7 +7,7 @@ use Rattle.lrtext.specs.declared.reading.Reading as stored
 use Rattle.lrtext.specs.StoredParts.{kind_of}
 use Rattle.lrtext.specs.StoredContents.{name_text_of, kind_line_of, alternative_of}
 use Rattle.lrtext.specs.NumberedNames.{names_of}
-use Rattle.lrspec.specs.texts.ReadingStates.{ReadingState, AtDeclaration, WantsStart, WantsName, InLine, AtRule, WantsColon, InBody, Behind}
+use Rattle.lrspec.specs.texts.ReadingStates.{ReadingState, AtDeclaration, WantsStart, WantsName, InLine, AtRule, WantsColon, InBody, WantsPrecedence, BehindBody, Behind}
 use Rattle.lrtext.specs.Readings.{Reading}
 
 -- how far a document was read
@@ -19,6 +19,8 @@ state_of (state.InLine seen) = InLine seen
 state_of state.AtRule = AtRule
 state_of state.WantsColon = WantsColon
 state_of state.InBody = InBody
+state_of state.WantsPrecedence = WantsPrecedence
+state_of state.BehindBody = BehindBody
 state_of state.Behind = Behind
 
 -- what was read, by plain lists
@@ -33,6 +35,7 @@ reading_of r =
       names = names_of r.names.items;
       rule = r.rule.now;
       body = map name_text_of r.body.items;
+      precedence = option_map name_text_of r.precedence;
       alternatives = map alternative_of r.contents.alternatives.items;
     }
 

@@ -16,11 +16,12 @@ pub(crate) struct KindLine<'a> {
     pub names: Vec<&'a str>,
 }
 
-/// An alternative of a rule.
+/// An alternative of a rule: its names, and the one behind `%prec`.
 #[derive(Drop)]
 pub(crate) struct Alternative<'a> {
     pub rule: &'a str,
     pub body: Vec<NameText<'a>>,
+    pub precedence: Option<NameText<'a>>,
 }
 
 /// What a document says.

@@ -21,6 +21,8 @@ pub(crate) enum Lexeme<'a> {
     TokenWord,
     /// `%left`, `%right` or `%nonassoc`.
     KindWord(AssocKind),
+    /// `%prec`.
+    PrecedenceWord,
     /// `%%`.
     Separator,
     /// `:`.
@@ -86,6 +88,7 @@ fn word(text: &str) -> Front<'_>
         "left" => Front::Found(Lexeme::KindWord(AssocKind::Left), behind),
         "right" => Front::Found(Lexeme::KindWord(AssocKind::Right), behind),
         "nonassoc" => Front::Found(Lexeme::KindWord(AssocKind::Nonassoc), behind),
+        "prec" => Front::Found(Lexeme::PrecedenceWord, behind),
         "" => match behind_byte(behind, b'%') {
             Some(behind) => Front::Found(Lexeme::Separator, behind),
             None => Front::Unfit,

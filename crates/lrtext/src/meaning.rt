@@ -1,7 +1,8 @@
 //! From what a document says to the parts of its grammar.
 
-ghost use Rattle.std.specs.Prelude.{◌≡◌, map, string_bytes, IfOk, IfErr};
-ghost use Rattle.lrspec.specs.texts.Meaning.{token_in, symbol_in, production_in, start_in};
+ghost use Rattle.std.specs.Prelude.{◌≡◌, map, option_map, string_bytes, IfOk, IfErr};
+ghost use Rattle.lrspec.specs.texts.Meaning.{token_in, symbol_in, production_in, start_in, named_precedence};
+ghost use Rattle.lrspec.specs.texts.Names.{place_of};
 ghost use Rattle.lrtext.specs.NumberedNames.{names_of};
 ghost use Rattle.lrtext.specs.StoredParts.{token_of, part_symbol_of, part_production_of, parts_of};
 ghost use Rattle.lrtext.specs.StoredContents.{name_text_of, alternative_of, starts_of, plain_contents};
@@ -14,7 +15,7 @@ mod precedences;
 mod unknown;
 
 use crate::contents::{Alternative, Contents, NameText};
-use crate::meaning::numbering::{declared, rules, tokens};
+use crate::meaning::numbering::{declared, named, rules, tokens};
 use crate::meaning::numbers::Numbers;
 use crate::meaning::precedences::{Leveled, distinct, find_precedence, levels};
 use crate::meaning::unknown::first_unknown;
@@ -83,6 +84,17 @@ fn symbols<'a>(
     Ok(symbols)
 }
 
+/// The place of the token that an alternative names for its precedence, if it names one.
+fn precedence<'a>(tokens: &Numbers<'a>, alternative: &Alternative<'a>) -> Option<usize>
+    ensures { let said = named_precedence (alternative_of alternative.now) in
+        result ≡ option_map (place_of tokens.now) said }
+{
+    match named(alternative) {
+        Some(token) => Some(tokens.place(token)),
+        None => None,
+    }
+}
+
 /// The productions, one for each alternative.
 fn prods<'a>(
     alloc: Global,
@@ -98,7 +110,12 @@ fn prods<'a>(
     for alternative in alternatives {
         let rule = rules.place(alternative.rule);
         let symbols = symbols(alloc, rules, tokens, alternative.body.as_slice())?;
-        prods.push(PartProd { rule, symbols })?;
+        let precedence = precedence(tokens, alternative);
+        prods.push(PartProd {
+            rule,
+            symbols,
+            precedence,
+        })?;
     }
     Ok(prods)
 }

@@ -29,6 +29,9 @@ pub struct PartProd {
     pub rule: usize,
     /// Its body.
     pub symbols: Vec<PartSymbol>,
+    /// The place in `tokens` of the token whose precedence it has; None where it has that of the
+    /// last token in its body.
+    pub precedence: Option<usize>,
 }
 
 /// A symbol of a body.

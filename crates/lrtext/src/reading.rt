@@ -2,7 +2,7 @@
 
 ghost use Rattle.std.specs.Prelude.{◌≡◌, ◌↔◌, IsTrue, IfOk, OnOk};
 ghost use Rattle.lrspec.specs.texts.ReadingStates.{may_end, Behind};
-ghost use Rattle.lrtext.specs.Readings.{first_reading, named, line_ended, declaring, alternative_ended, in_body, added, take_lexeme, contents_in};
+ghost use Rattle.lrtext.specs.Readings.{first_reading, named, line_ended, declaring, alternative_ended, in_body, preceding, added, take_lexeme, contents_in};
 ghost use Rattle.lrtext.specs.NextLexemes.{lexeme_of};
 ghost use Rattle.lrtext.specs.StoredReading.{reading_of, IsTaken};
 ghost use Rattle.lrtext.specs.StoredContents.{plain_contents};
@@ -22,9 +22,10 @@ pub(crate) struct Reading<'a> {
     /// The kind and the names of the precedence line in hand.
     line: Option<AssocKind>,
     names: Vec<&'a str>,
-    /// The rule and the body in hand.
+    /// The rule and the body in hand, and the name behind its `%prec`.
     rule: &'a str,
     body: Vec<NameText<'a>>,
+    precedence: Option<NameText<'a>>,
 }
 
 impl<'a> Reading<'a> {
@@ -44,6 +45,7 @@ impl<'a> Reading<'a> {
             names: Vec::new(alloc),
             rule: "",
             body: Vec::new(alloc),
+            precedence: None,
         }
     }
 
@@ -97,7 +99,13 @@ impl<'a> Reading<'a> {
         let empty = Vec::new(*self.body.allocator());
         let body = std::mem::replace(&mut self.body, empty);
         let rule = self.rule;
-        self.contents.alternatives.push(Alternative { rule, body })?;
+        let precedence = self.precedence;
+        self.contents.alternatives.push(Alternative {
+            rule,
+            body,
+            precedence,
+        })?;
+        self.precedence = None;
         Ok(())
     }
 
@@ -113,6 +121,18 @@ impl<'a> Reading<'a> {
             _ => {}
         }
         Ok(())
+    }
+
+    /// Notes the name behind `%prec`.
+    fn note_precedence(&mut self, lexeme: Lexeme<'a>)
+        ensures { let before = reading_of self.old in
+            reading_of self.new ≡ preceding (lexeme_of lexeme.entry) before }
+    {
+        match lexeme {
+            Lexeme::Name(name) => self.precedence = Some(NameText::Plain(name)),
+            Lexeme::Quoted(name) => self.precedence = Some(NameText::InQuotes(name)),
+            _ => {}
+        }
     }
 
     /// Adds what the lexeme says in this state.
@@ -135,7 +155,11 @@ impl<'a> Reading<'a> {
                 }
                 Ok(())
             }
-            ReadingState::InBody => self.add_in_body(lexeme),
+            ReadingState::InBody | ReadingState::BehindBody => self.add_in_body(lexeme),
+            ReadingState::WantsPrecedence => {
+                self.note_precedence(lexeme);
+                Ok(())
+            }
             ReadingState::WantsColon | ReadingState::Behind => Ok(()),
         }
     }

@@ -25,6 +25,10 @@ pub(crate) enum ReadingState {
     WantsColon,
     /// In the bodies of a rule.
     InBody,
+    /// Behind `%prec`.
+    WantsPrecedence,
+    /// Behind the name that follows `%prec`.
+    BehindBody,
     /// Behind the second `%%`.
     Behind,
 }
@@ -72,6 +76,16 @@ pub(crate) fn next_state(state: ReadingState, lexeme: Lexeme<'_>) -> Option<Read
         },
         ReadingState::InBody => match lexeme {
             Lexeme::Name(_) | Lexeme::Quoted(_) | Lexeme::Bar => Some(ReadingState::InBody),
+            Lexeme::Semicolon => Some(ReadingState::AtRule),
+            Lexeme::PrecedenceWord => Some(ReadingState::WantsPrecedence),
+            _ => None,
+        },
+        ReadingState::WantsPrecedence => match lexeme {
+            Lexeme::Name(_) | Lexeme::Quoted(_) => Some(ReadingState::BehindBody),
+            _ => None,
+        },
+        ReadingState::BehindBody => match lexeme {
+            Lexeme::Bar => Some(ReadingState::InBody),
             Lexeme::Semicolon => Some(ReadingState::AtRule),
             _ => None,
         },

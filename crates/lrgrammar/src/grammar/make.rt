@@ -1,6 +1,6 @@
 //! A grammar from its parts or from a text.
 
-ghost use Rattle.std.specs.Prelude.{◌≡◌, ℕ, ◌+◌, ◌<◌, ◌≤◌, ◌∷◌, Err, IfOk, OnOk, IfErr, map, codes, All};
+ghost use Rattle.std.specs.Prelude.{◌≡◌, ℕ, ◌+◌, ◌<◌, ◌≤◌, ◌∷◌, Err, IfOk, OnOk, IfErr, IfSome, map, codes, All};
 ghost use Rattle.std.specs.String.{string_bytes};
 ghost use Rattle.std.specs.Option.{option_map};
 ghost use Rattle.lrspec.specs.texts.Parts as part;
@@ -98,7 +98,22 @@ fn start_production<T: IndexStorage>(
     let rule = RIdx(T::from_usize(0).unwrap());
     let mut body = Vec::new(alloc);
     body.push(Symbol::Rule(RIdx(T::from_usize(parts.start + 1).unwrap())))?;
-    Ok(Production { rule, body })
+    Ok(Production {
+        rule,
+        body,
+        precedence: None,
+    })
+}
+
+/// The token that a production names for its precedence.
+fn named_token<T: IndexStorage>(prod: &PartProd) -> Option<TIdx<T>>
+    requires { IfSome prod.now.precedence (λ t. t ≤ T.MAX) }
+    ensures { option_map (λ t. T.number t.0) result ≡ prod.now.precedence }
+{
+    match prod.precedence {
+        Some(t) => Some(TIdx(T::from_usize(t).unwrap())),
+        None => None,
+    }
 }
 
 /// The productions, the start production last.
@@ -114,7 +129,12 @@ fn productions<T: IndexStorage>(
     for prod in &parts.prods {
         let rule = RIdx(T::from_usize(prod.rule + 1).unwrap());
         let body = body(alloc, prod)?;
-        prods.push(Production { rule, body })?;
+        let precedence = named_token(prod);
+        prods.push(Production {
+            rule,
+            body,
+            precedence,
+        })?;
     }
     prods.push(start_production(alloc, parts)?)?;
     Ok(prods)

@@ -35,6 +35,19 @@ impl<T: IndexStorage> YaccGrammar<T> {
         }
     }
 
+    /// The token that gives a production its precedence: the one that it names, or else the last
+    /// one of its body.
+    fn precedence_token(&self, pidx: PIdx<T>) -> Option<TIdx<T>>
+        requires { T.number pidx.0 < length self.now.productions }
+        ensures { let p = T.number pidx.0 in option_map (λ t. T.number t.0) result
+            ≡ math.named_or_last (math.named_token_of self.now p) (math.body_of self.now p) }
+    {
+        match self.prods[pidx.0.to_usize()].precedence {
+            Some(named) => Some(named),
+            None => last_token(self.prod(pidx)),
+        }
+    }
+
     /// The precedence of a token, if it has one. The end token has none.
     pub fn token_precedence(&self, tidx: TIdx<T>) -> Option<Precedence>
         requires { T.number tidx.0 < math.token_count self.now }
@@ -44,15 +57,16 @@ impl<T: IndexStorage> YaccGrammar<T> {
         self.precedence_at(tidx.0.to_usize())
     }
 
-    /// The precedence of a production, which is that of the last token in its body. It has none
-    /// where its body has no token or that token has none.
+    /// The precedence of a production, which is that of the token that it names by `%prec`, or else
+    /// of the last token in its body. It has none where that token has none, or where it names none
+    /// and its body has no token.
     pub fn prod_precedence(&self, pidx: PIdx<T>) -> Option<Precedence>
         requires { T.number pidx.0 < length self.now.productions }
         ensures { option_map precedence_of result
             ≡ math.production_precedence self.now (T.number pidx.0) }
     {
-        match last_token(self.prod(pidx)) {
-            Some(last) => self.precedence_at(last.0.to_usize()),
+        match self.precedence_token(pidx) {
+            Some(tidx) => self.precedence_at(tidx.0.to_usize()),
             None => None,
         }
     }

@@ -3,15 +3,19 @@ use Rattle.std.proofs.Common.{◌≡◌, ℕ, ◌≤◌, List, [], ◌∷◌, le
 use Rattle.lrspec.specs.grammars.Grammar.{Rule, Token, Kind, Left, Right, Nonassoc}
 use Rattle.lrspec.specs.texts.Parts.{PartToken, Parts, grammar_of_parts}
 use Rattle.lrspec.specs.texts.Lexemes.{Misfit}
-use Rattle.lrspec.specs.texts.Documents.{Document, Plain, InQuotes, StartLine, TokenLine, KindLine, document_lexemes, start_names, lexemes_of, Reads}
+use Rattle.lrspec.specs.texts.Documents.{NameText, BodyText, Document, Plain, InQuotes, StartLine, TokenLine, KindLine, document_lexemes, start_names, lexemes_of, Reads}
 use Rattle.lrspec.specs.texts.Meaning as meaning
 use Rattle.lrspec.specs.texts.Meaning.{UnknownSymbol, DuplicatePrecedence, IsRefused, Means}
-use Rattle.lrspec.specs.examples.ExampleGrammars.{hidden_left_recursion}
+use Rattle.lrspec.specs.examples.ExampleGrammars.{production, hidden_left_recursion}
 use Rattle.lrspec.proofs.texts.LexemesOfText.{text_lexemes, text_has_lexemes}
 
 -- a text is a document with the same lexemes
 reads : (bs : List ℕ) (d : Document) → document_lexemes d ≡ lexemes_of (text_lexemes bs) → length (start_names d.declarations) ≤ 1 → Reads bs d
 reads bs d h one = record { placed = text_lexemes bs; has = text_has_lexemes bs; is = record { lexemes = h; one_start = one } }
+
+-- a body without `%prec`
+abbrev names : List NameText → BodyText
+names ns = record { names = ns; precedence = None }
 
 -- a token without precedence
 abbrev bare : List ℕ → PartToken
@@ -25,13 +29,13 @@ at w n k = record { name = w; precedence = Some (record { level = n; kind = k })
 token_line : Means (codes "%token a %% S: b \"b\" | 'a'; b: ; %% '") (record {
   rules = codes "S" ∷ codes "b" ∷ [];
   tokens = bare (codes "a") ∷ bare (codes "b") ∷ [];
-  prods = record { rule = 0; body = Rule 1 ∷ Token 1 ∷ [] } ∷ record { rule = 0; body = Token 0 ∷ [] } ∷ record { rule = 1; body = [] } ∷ [];
+  prods = production 0 (Rule 1 ∷ Token 1 ∷ []) ∷ production 0 (Token 0 ∷ []) ∷ production 1 [] ∷ [];
   start = 0;
 })
 token_line =
     let d : Document = record {
       declarations = TokenLine (Plain (codes "a")) [] ∷ [];
-      rules = record { name = codes "S"; first = Plain (codes "b") ∷ InQuotes (codes "b") ∷ []; others = (InQuotes (codes "a") ∷ []) ∷ [] } ∷ record { name = codes "b"; first = []; others = [] } ∷ [];
+      rules = record { name = codes "S"; first = names (Plain (codes "b") ∷ InQuotes (codes "b") ∷ []); others = names (InQuotes (codes "a") ∷ []) ∷ [] } ∷ record { name = codes "b"; first = names []; others = [] } ∷ [];
       behind = Some (Misfit ∷ []);
     } in
     record { document = d; reads = reads _ d refl (lit≤ tt); known = refl; once = refl; parts = refl }
@@ -40,14 +44,14 @@ token_line =
 levels : Means (codes "%left '+' '-' %right '*' %start E %% F: 'x'; E: E '+' F; F: F '*' F;") (record {
   rules = codes "F" ∷ codes "E" ∷ [];
   tokens = bare (codes "x") ∷ at (codes "+") 0 Left ∷ at (codes "*") 1 Right ∷ at (codes "-") 0 Left ∷ [];
-  prods = record { rule = 0; body = Token 0 ∷ [] } ∷ record { rule = 1; body = Rule 1 ∷ Token 1 ∷ Rule 0 ∷ [] } ∷ record { rule = 0; body = Rule 0 ∷ Token 2 ∷ Rule 0 ∷ [] } ∷ [];
+  prods = production 0 (Token 0 ∷ []) ∷ production 1 (Rule 1 ∷ Token 1 ∷ Rule 0 ∷ []) ∷ production 0 (Rule 0 ∷ Token 2 ∷ Rule 0 ∷ []) ∷ [];
   start = 1;
 })
 levels =
     let d : Document = record {
       declarations = KindLine Left (InQuotes (codes "+")) (InQuotes (codes "-") ∷ []) ∷ KindLine Right (InQuotes (codes "*")) [] ∷ StartLine (codes "E") ∷ [];
-      rules = record { name = codes "F"; first = InQuotes (codes "x") ∷ []; others = [] } ∷ record { name = codes "E"; first = Plain (codes "E") ∷ InQuotes (codes "+") ∷ Plain (codes "F") ∷ []; others = [] }
-          ∷ record { name = codes "F"; first = Plain (codes "F") ∷ InQuotes (codes "*") ∷ Plain (codes "F") ∷ []; others = [] } ∷ [];
+      rules = record { name = codes "F"; first = names (InQuotes (codes "x") ∷ []); others = [] } ∷ record { name = codes "E"; first = names (Plain (codes "E") ∷ InQuotes (codes "+") ∷ Plain (codes "F") ∷ []); others = [] }
+          ∷ record { name = codes "F"; first = names (Plain (codes "F") ∷ InQuotes (codes "*") ∷ Plain (codes "F") ∷ []); others = [] } ∷ [];
       behind = None;
     } in
     record { document = d; reads = reads _ d refl (lit≤ tt); known = refl; once = refl; parts = refl }
@@ -56,13 +60,35 @@ levels =
 rule_before_token : Means (codes "%nonassoc x %% S: x; x: 'a';") (record {
   rules = codes "S" ∷ codes "x" ∷ [];
   tokens = bare (codes "a") ∷ at (codes "x") 0 Nonassoc ∷ [];
-  prods = record { rule = 0; body = Rule 1 ∷ [] } ∷ record { rule = 1; body = Token 0 ∷ [] } ∷ [];
+  prods = production 0 (Rule 1 ∷ []) ∷ production 1 (Token 0 ∷ []) ∷ [];
   start = 0;
 })
 rule_before_token =
     let d : Document = record {
       declarations = KindLine Nonassoc (Plain (codes "x")) [] ∷ [];
-      rules = record { name = codes "S"; first = Plain (codes "x") ∷ []; others = [] } ∷ record { name = codes "x"; first = InQuotes (codes "a") ∷ []; others = [] } ∷ [];
+      rules = record { name = codes "S"; first = names (Plain (codes "x") ∷ []); others = [] } ∷ record { name = codes "x"; first = names (InQuotes (codes "a") ∷ []); others = [] } ∷ [];
+      behind = None;
+    } in
+    record { document = d; reads = reads _ d refl (lit≤ tt); known = refl; once = refl; parts = refl }
+
+-- the name of `%prec` is a token, which comes last and gives the production its precedence
+named_token : Means (codes "%left '+' %% S: 'a' %prec 'b' | '+' %prec 'a';") (record {
+  rules = codes "S" ∷ [];
+  tokens = bare (codes "a") ∷ at (codes "+") 0 Left ∷ bare (codes "b") ∷ [];
+  prods =
+      record { rule = 0; body = Token 0 ∷ []; precedence_token = Some 2 }
+      ∷ record { rule = 0; body = Token 1 ∷ []; precedence_token = Some 0 }
+      ∷ [];
+  start = 0;
+})
+named_token =
+    let d : Document = record {
+      declarations = KindLine Left (InQuotes (codes "+")) [] ∷ [];
+      rules = record {
+        name = codes "S";
+        first = record { names = InQuotes (codes "a") ∷ []; precedence = Some (InQuotes (codes "b")) };
+        others = record { names = InQuotes (codes "+") ∷ []; precedence = Some (InQuotes (codes "a")) } ∷ [];
+      } ∷ [];
       behind = None;
     } in
     record { document = d; reads = reads _ d refl (lit≤ tt); known = refl; once = refl; parts = refl }
@@ -76,13 +102,27 @@ no_rules =
 -- a quoted name makes no plain one known
 unknown_body_name : IsRefused (codes "%% S: 'x' x;") (UnknownSymbol (codes "x"))
 unknown_body_name =
-    let d : Document = record { declarations = []; rules = record { name = codes "S"; first = InQuotes (codes "x") ∷ Plain (codes "x") ∷ []; others = [] } ∷ []; behind = None } in
+    let d : Document = record { declarations = []; rules = record { name = codes "S"; first = names (InQuotes (codes "x") ∷ Plain (codes "x") ∷ []); others = [] } ∷ []; behind = None } in
+    meaning.IsRefused.unknown (reads _ d refl (lit≤ tt)) refl
+
+-- nor does a name of `%prec`
+unknown_named : IsRefused (codes "%% S: 'a' x %prec x;") (UnknownSymbol (codes "x"))
+unknown_named =
+    let d : Document = record {
+      declarations = [];
+      rules = record {
+        name = codes "S";
+        first = record { names = InQuotes (codes "a") ∷ Plain (codes "x") ∷ []; precedence = Some (Plain (codes "x")) };
+        others = [];
+      } ∷ [];
+      behind = None;
+    } in
     meaning.IsRefused.unknown (reads _ d refl (lit≤ tt)) refl
 
 -- the name of `%start` comes before those in bodies
 unknown_start : IsRefused (codes "%start T %% S: U;") (UnknownSymbol (codes "T"))
 unknown_start =
-    let d : Document = record { declarations = StartLine (codes "T") ∷ []; rules = record { name = codes "S"; first = Plain (codes "U") ∷ []; others = [] } ∷ []; behind = None } in
+    let d : Document = record { declarations = StartLine (codes "T") ∷ []; rules = record { name = codes "S"; first = names (Plain (codes "U") ∷ []); others = [] } ∷ []; behind = None } in
     meaning.IsRefused.unknown (reads _ d refl (lit≤ tt)) refl
 
 -- the first name that comes a second time, not the first name that comes again
@@ -97,10 +137,10 @@ hidden_parts = record {
   rules = codes "S" ∷ codes "A" ∷ codes "B" ∷ [];
   tokens = bare (codes "x") ∷ bare (codes "y") ∷ [];
   prods =
-      record { rule = 0; body = Rule 1 ∷ Rule 0 ∷ Token 0 ∷ [] }
-      ∷ record { rule = 0; body = Rule 2 ∷ Token 1 ∷ [] }
-      ∷ record { rule = 1; body = [] }
-      ∷ record { rule = 2; body = [] }
+      production 0 (Rule 1 ∷ Rule 0 ∷ Token 0 ∷ [])
+      ∷ production 0 (Rule 2 ∷ Token 1 ∷ [])
+      ∷ production 1 []
+      ∷ production 2 []
       ∷ [];
   start = 0;
 }
@@ -110,9 +150,9 @@ hidden_means =
     let d : Document = record {
       declarations = [];
       rules =
-          record { name = codes "S"; first = Plain (codes "A") ∷ Plain (codes "S") ∷ InQuotes (codes "x") ∷ []; others = (Plain (codes "B") ∷ InQuotes (codes "y") ∷ []) ∷ [] }
-          ∷ record { name = codes "A"; first = []; others = [] }
-          ∷ record { name = codes "B"; first = []; others = [] }
+          record { name = codes "S"; first = names (Plain (codes "A") ∷ Plain (codes "S") ∷ InQuotes (codes "x") ∷ []); others = names (Plain (codes "B") ∷ InQuotes (codes "y") ∷ []) ∷ [] }
+          ∷ record { name = codes "A"; first = names []; others = [] }
+          ∷ record { name = codes "B"; first = names []; others = [] }
           ∷ [];
       behind = None;
     } in

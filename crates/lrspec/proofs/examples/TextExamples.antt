@@ -49,8 +49,8 @@ unclosed_star : IsSyntaxErrorAt (codes "%% S: ; /*/") 8
 unclosed_star = (syntax_error_iff (codes "%% S: ; /*/") 8).0 refl
 
 -- a word that is not in the table
-unknown_word : IsSyntaxErrorAt (codes "%% S: 'a' %prec 'b';") 10
-unknown_word = (syntax_error_iff (codes "%% S: 'a' %prec 'b';") 10).0 refl
+unknown_word : IsSyntaxErrorAt (codes "%% S: 'a' %precedence 'b';") 10
+unknown_word = (syntax_error_iff (codes "%% S: 'a' %precedence 'b';") 10).0 refl
 
 -- an open quote behind the second `%%`
 unread_quote : text_error (codes "%token a %% S: a \"b\" | 'a'; %% '") ≡ None
@@ -60,3 +60,11 @@ unread_quote = refl
 beginnings : map (λ n. text_error (take n (codes "%% S: 'a';"))) (range_with_len 0 11)
     ≡ Some 0 ∷ Some 0 ∷ None ∷ None ∷ Some 4 ∷ Some 5 ∷ Some 6 ∷ Some 6 ∷ Some 6 ∷ Some 9 ∷ None ∷ []
 beginnings = refl
+
+-- a name has to stand behind `%prec`
+no_precedence_name : IsSyntaxErrorAt (codes "%% S: %prec;") 11
+no_precedence_name = (syntax_error_iff _ 11).0 refl
+
+-- and nothing else of the body
+name_behind_precedence : IsSyntaxErrorAt (codes "%% S: 'a' %prec 'b' 'c';") 20
+name_behind_precedence = (syntax_error_iff _ 20).0 refl

@@ -1,8 +1,8 @@
 -- what has to follow in each reading state to make a document
 use Rattle.std.proofs.Common.{◌≡◌, ℕ, ◌+◌, ◌≤◌, Bool, true, false, List, [], ◌∷◌, ◌++◌, length, map, Option, None, Some, flat_map, refl, ap, ◌∙◌, append_assoc, arith}
-use Rattle.lrspec.specs.texts.Lexemes.{Lexeme, Name, Quoted, StartWord, TokenWord, KindWord, Separator, Colon, Bar, Semicolon, Misfit}
-use Rattle.lrspec.specs.texts.Documents.{NameText, Plain, InQuotes, Declaration, StartLine, TokenLine, KindLine, RuleText, name_lexeme, declaration_lexemes, other_body_lexemes, rule_lexemes, behind_lexemes, start_names}
-use Rattle.lrspec.specs.texts.ReadingStates.{ReadingState, AtDeclaration, WantsStart, WantsName, InLine, AtRule, WantsColon, InBody, Behind, may_end, declare, next_state, state_behind}
+use Rattle.lrspec.specs.texts.Lexemes.{Lexeme, Name, Quoted, StartWord, TokenWord, KindWord, PrecedenceWord, Separator, Colon, Bar, Semicolon, Misfit}
+use Rattle.lrspec.specs.texts.Documents.{NameText, Plain, InQuotes, Declaration, StartLine, TokenLine, KindLine, BodyText, RuleText, name_lexeme, declaration_lexemes, body_lexemes, other_body_lexemes, rule_lexemes, behind_lexemes, start_names}
+use Rattle.lrspec.specs.texts.ReadingStates.{ReadingState, AtDeclaration, WantsStart, WantsName, InLine, AtRule, WantsColon, InBody, WantsPrecedence, BehindBody, Behind, may_end, declare, next_state, state_behind}
 
 -- how often `%start` came
 abbrev pub count_seen : Bool → ℕ
@@ -21,9 +21,17 @@ DeclarationsRest seen is = (ds : List Declaration) × (rest : List Lexeme) × (f
 abbrev pub LineRest : Bool → List Lexeme → Type 0
 LineRest seen is = (ns : List NameText) × (rest : List Lexeme) × (map name_lexeme ns ++ rest ≡ is) × DeclarationsRest seen rest
 
--- the rest of a body, other bodies, and what follows the rule
+-- other bodies, and what follows the rule
+abbrev pub BodiesRest : List Lexeme → Type 0
+BodiesRest is = (bs : List BodyText) × (rest : List Lexeme) × (flat_map other_body_lexemes bs ++ Semicolon ∷ rest ≡ is) × RulesRest rest
+
+-- the name behind `%prec`, and what follows the body
+abbrev pub PrecedenceRest : List Lexeme → Type 0
+PrecedenceRest is = (n : NameText) × (rest : List Lexeme) × (name_lexeme n ∷ rest ≡ is) × BodiesRest rest
+
+-- the rest of a body, and what follows it
 abbrev pub BodyRest : List Lexeme → Type 0
-BodyRest is = (b : List NameText) × (bs : List (List NameText)) × (rest : List Lexeme) × (map name_lexeme b ++ (flat_map other_body_lexemes bs ++ Semicolon ∷ rest) ≡ is) × RulesRest rest
+BodyRest is = (b : BodyText) × (rest : List Lexeme) × (body_lexemes b ++ rest ≡ is) × BodiesRest rest
 
 -- the lexemes that make what was read up to a state a document
 abbrev pub Rest : ReadingState → List Lexeme → Type 0
@@ -34,6 +42,8 @@ Rest (InLine seen) is = LineRest seen is
 Rest AtRule is = RulesRest is
 Rest WantsColon is = (rest : List Lexeme) × (Colon ∷ rest ≡ is) × BodyRest rest
 Rest InBody is = BodyRest is
+Rest WantsPrecedence is = PrecedenceRest is
+Rest BehindBody is = BodiesRest is
 Rest Behind is = Unit {0}
 
 -- the same where there is a state behind a lexeme
@@ -62,6 +72,7 @@ declare_rest false StartWord is (w, rest, e, (ds, behind, f, one, rules)) = (Sta
 declare_rest seen TokenWord is (n, rest, e, (ns, rest', f, (ds, behind, g, one, rules))) = (TokenLine n ns ∷ ds, behind, line_lexemes TokenWord n ns ds behind rest rest' is e f g, one, rules)
 declare_rest seen (KindWord k) is (n, rest, e, (ns, rest', f, (ds, behind, g, one, rules))) = (KindLine k n ns ∷ ds, behind, line_lexemes (KindWord k) n ns ds behind rest rest' is e f g, one, rules)
 declare_rest seen Separator is h = ([], is, refl, seen_once seen, h)
+declare_rest seen PrecedenceWord is h = absurd h
 declare_rest seen (Name w) is h = absurd h
 declare_rest seen (Quoted w) is h = absurd h
 declare_rest seen Colon is h = absurd h
@@ -79,7 +90,20 @@ line_rest seen is h = ([], is, refl, h)
 
 -- one more name of a body
 body_rest : (n : NameText) (is : List Lexeme) → BodyRest is → BodyRest (name_lexeme n ∷ is)
-body_rest n is (b, bs, rest, e, h) = (n ∷ b, bs, rest, ap (λ l. name_lexeme n ∷ l) e, h)
+body_rest n is (b, rest, e, h) = (record b { names = n ∷ b.names }, rest, ap (λ l. name_lexeme n ∷ l) e, h)
+
+-- one more body
+bar_rest : (is : List Lexeme) → BodyRest is → BodiesRest (Bar ∷ is)
+bar_rest is (b, rest, e, (bs, rest', f, h)) =
+    (b ∷ bs, rest', ap (λ l. Bar ∷ l) (append_assoc (body_lexemes b) (flat_map other_body_lexemes bs) (Semicolon ∷ rest') ∙ ap (λ l. body_lexemes b ++ l) f ∙ e), h)
+
+-- the end of a body
+end_rest : (is : List Lexeme) → RulesRest is → BodiesRest (Semicolon ∷ is)
+end_rest is h = ([], is, refl, h)
+
+-- a body may have no more names
+bodies_rest : (is : List Lexeme) → BodiesRest is → BodyRest is
+bodies_rest is h = (record { names = []; precedence = None }, is, refl, h)
 
 -- the lexemes of a rule and what follows it, grouped to the right
 rule_ends : (a b c d : List Lexeme) → a ++ (b ++ Semicolon ∷ []) ++ c ++ d ≡ a ++ (b ++ Semicolon ∷ (c ++ d))
@@ -87,11 +111,11 @@ rule_ends a b c d = simp append_assoc
 
 -- a rule before others
 rule_rest : (w : List ℕ) (is : List Lexeme) → Rest WantsColon is → RulesRest (Name w ∷ is)
-rule_rest w is (rest, e, (b, bs, rest', f, (rs, o, g))) = (
+rule_rest w is (rest, e, (b, rest', f, (bs, rest'', g, (rs, o, k)))) = (
   record { name = w; first = b; others = bs } ∷ rs,
   o,
-  ap (λ l. Name w ∷ l) (ap (λ l. Colon ∷ l) (rule_ends (map name_lexeme b) (flat_map other_body_lexemes bs) (flat_map rule_lexemes rs) (behind_lexemes o)
-      ∙ ap (λ l. map name_lexeme b ++ (flat_map other_body_lexemes bs ++ Semicolon ∷ l)) g ∙ f) ∙ e),
+  ap (λ l. Name w ∷ l) (ap (λ l. Colon ∷ l) (rule_ends (body_lexemes b) (flat_map other_body_lexemes bs) (flat_map rule_lexemes rs) (behind_lexemes o)
+      ∙ ap (λ l. body_lexemes b ++ (flat_map other_body_lexemes bs ++ Semicolon ∷ l)) k ∙ ap (λ l. body_lexemes b ++ l) g ∙ f) ∙ e),
 )
 
 -- a lexeme that may come makes what followed it follow the state before it
@@ -112,9 +136,16 @@ next_rest WantsColon Colon is h = (is, refl, h)
 next_rest WantsColon _ is h = absurd h
 next_rest InBody (Name w) is h = body_rest (Plain w) is h
 next_rest InBody (Quoted w) is h = body_rest (InQuotes w) is h
-next_rest InBody Bar is (b, bs, rest, e, h) = ([], b ∷ bs, rest, ap (λ l. Bar ∷ l) (append_assoc (map name_lexeme b) (flat_map other_body_lexemes bs) (Semicolon ∷ rest) ∙ e), h)
-next_rest InBody Semicolon is h = ([], [], is, refl, h)
+next_rest InBody Bar is h = bodies_rest (Bar ∷ is) (bar_rest is h)
+next_rest InBody Semicolon is h = bodies_rest (Semicolon ∷ is) (end_rest is h)
+next_rest InBody PrecedenceWord is (n, rest, e, h) = (record { names = []; precedence = Some n }, rest, ap (λ l. PrecedenceWord ∷ l) e, h)
 next_rest InBody _ is h = absurd h
+next_rest WantsPrecedence (Name w) is h = (Plain w, is, refl, h)
+next_rest WantsPrecedence (Quoted w) is h = (InQuotes w, is, refl, h)
+next_rest WantsPrecedence _ is h = absurd h
+next_rest BehindBody Bar is h = bar_rest is h
+next_rest BehindBody Semicolon is h = end_rest is h
+next_rest BehindBody _ is h = absurd h
 next_rest Behind i is h = tt
 
 -- the first of some lexemes, by the state behind it
@@ -140,6 +171,12 @@ ended_rest (WantsName seen) h = absurd (cc)
 ended_rest (InLine seen) h = absurd (cc)
 ended_rest WantsColon h = absurd (cc)
 ended_rest InBody h = absurd (cc)
+ended_rest WantsPrecedence h = absurd (cc)
+ended_rest BehindBody h = absurd (cc)
+
+-- a body and the document may end with a `;`
+last_rest : BodiesRest (Semicolon ∷ [])
+last_rest = end_rest [] ([], None, refl)
 
 -- every state has something that may follow it
 pub some_rest : (s : ReadingState) → (is : List Lexeme) × Rest s is
@@ -148,6 +185,8 @@ some_rest WantsStart = (Name [] ∷ Separator ∷ [], ([], Separator ∷ [], ref
 some_rest (WantsName seen) = (Name [] ∷ Separator ∷ [], (Plain [], Separator ∷ [], refl, line_rest seen (Separator ∷ []) (at_separator seen)))
 some_rest (InLine seen) = (Separator ∷ [], line_rest seen (Separator ∷ []) (at_separator seen))
 some_rest AtRule = ([], ([], None, refl))
-some_rest WantsColon = (Colon ∷ Semicolon ∷ [], (Semicolon ∷ [], refl, ([], [], [], refl, ([], None, refl))))
-some_rest InBody = (Semicolon ∷ [], ([], [], [], refl, ([], None, refl)))
+some_rest WantsColon = (Colon ∷ Semicolon ∷ [], (Semicolon ∷ [], refl, bodies_rest (Semicolon ∷ []) last_rest))
+some_rest InBody = (Semicolon ∷ [], bodies_rest (Semicolon ∷ []) last_rest)
+some_rest WantsPrecedence = (Name [] ∷ Semicolon ∷ [], (Plain [], Semicolon ∷ [], refl, last_rest))
+some_rest BehindBody = (Semicolon ∷ [], last_rest)
 some_rest Behind = ([], tt)

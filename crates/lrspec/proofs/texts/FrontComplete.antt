@@ -50,6 +50,7 @@ front_lexeme {rest = rest} (text.Spells.token s) = ap word_front (split_while_is
 front_lexeme {rest = rest} (text.Spells.left s) = ap word_front (split_while_is is_ascii_alphabetic (codes "left") rest refl s)
 front_lexeme {rest = rest} (text.Spells.right s) = ap word_front (split_while_is is_ascii_alphabetic (codes "right") rest refl s)
 front_lexeme {rest = rest} (text.Spells.nonassoc s) = ap word_front (split_while_is is_ascii_alphabetic (codes "nonassoc") rest refl s)
+front_lexeme {rest = rest} (text.Spells.precedence s) = ap word_front (split_while_is is_ascii_alphabetic (codes "prec") rest refl s)
 front_lexeme text.Spells.separator = refl
 front_lexeme text.Spells.colon = refl
 front_lexeme text.Spells.bar = refl

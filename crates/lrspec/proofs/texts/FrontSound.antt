@@ -5,7 +5,7 @@ use Rattle.std.proofs.lemmas.Bool.{cond_both, eqb-true}
 use Rattle.std.proofs.lemmas.Slice.Eq.{bytes_eq-Decides}
 use Rattle.lrspec.specs.grammars.Grammar.{Left, Right, Nonassoc}
 use Rattle.lrspec.specs.texts.Lexemes as text
-use Rattle.lrspec.specs.texts.Lexemes.{Lexeme, Name, Quoted, StartWord, TokenWord, KindWord, Separator, Colon, Bar, Semicolon, is_blank, is_no_line_feed, is_name_start, is_name_byte, is_quote, may_be_quoted, IsGap, Spells, IsMisfit, goes_on}
+use Rattle.lrspec.specs.texts.Lexemes.{Lexeme, Name, Quoted, StartWord, TokenWord, KindWord, PrecedenceWord, Separator, Colon, Bar, Semicolon, is_blank, is_no_line_feed, is_name_start, is_name_byte, is_quote, may_be_quoted, IsGap, Spells, IsMisfit, goes_on}
 use Rattle.lrspec.proofs.texts.ByteSplits.{IsSplit, split_while_splits, IsClosed, until_close_closes}
 use Rattle.lrspec.proofs.texts.TextFronts.{Front, Gap, Found, Unfit, Beginning, OfName, OfQuoted, OfWord, OfComment, OfBlank, OfMark, OfNothing, beginning, name_front, quoted_front, word_lexeme, word_found, word_front, line_front, block_front, comment_front, front_by, front}
 use Rattle.lrspec.proofs.texts.FrontComplete.{front_gap, front_lexeme}
@@ -70,7 +70,8 @@ word_lexeme_is w =
     cond_both (bytes_eq w (codes "token")) _ _ (IsWord w) (word w (codes "token") TokenWord (λ r s. text.Spells.token s)) (λ h.
     cond_both (bytes_eq w (codes "left")) _ _ (IsWord w) (word w (codes "left") (KindWord Left) (λ r s. text.Spells.left s)) (λ h.
     cond_both (bytes_eq w (codes "right")) _ _ (IsWord w) (word w (codes "right") (KindWord Right) (λ r s. text.Spells.right s)) (λ h.
-    cond_both (bytes_eq w (codes "nonassoc")) _ _ (IsWord w) (word w (codes "nonassoc") (KindWord Nonassoc) (λ r s. text.Spells.nonassoc s)) (λ h. tt)))))
+    cond_both (bytes_eq w (codes "nonassoc")) _ _ (IsWord w) (word w (codes "nonassoc") (KindWord Nonassoc) (λ r s. text.Spells.nonassoc s)) (λ h.
+    cond_both (bytes_eq w (codes "prec")) _ _ (IsWord w) (word w (codes "prec") PrecedenceWord (λ r s. text.Spells.precedence s)) (λ h. tt))))))
 
 -- a word in front, by the table
 word_found_is : (w rest : List ℕ) (o : Option Lexeme) → goes_on is_ascii_alphabetic rest ≡ false → IsWord w o → IsFront (37 ∷ w ++ rest) (word_found w rest o)

@@ -3,8 +3,8 @@ use Rattle.std.proofs.Common.{◌≡◌, ℕ, zero, suc, ◌+◌, ◌<◌, ◌�
 use Rattle.std.specs.Prelude.{slice_get, Any}
 use Rattle.std.proofs.lemmas.List.{length-map}
 use Rattle.std.proofs.lemmas.Option.{slice_get_within, get_or_from_slice_get}
-use Rattle.lrspec.specs.grammars.Grammar.{Symbol, Rule, Token, Production, IsGrammar, IsOfRule, IsBodySymbol, AreBodySymbols, body_of, body_or_none}
-use Rattle.lrspec.specs.texts.Parts.{Parts, names_of, precedences_of, shifted, shifted_production, start_production_of, grammar_of_parts, IsOutOfRange, NoCause, Cause}
+use Rattle.lrspec.specs.grammars.Grammar.{Symbol, Rule, Token, Production, IsGrammar, IsOfRule, IsBodySymbol, AreBodySymbols, body_of, body_or_none, named_token_or_none}
+use Rattle.lrspec.specs.texts.Parts.{Parts, names_of, precedences_of, shifted, shifted_production, start_production_of, grammar_of_parts, IsOutOfRange, IsNamedOutOfRange, HasOutOfRange, NoCause, Cause}
 use Rattle.lrspec.specs.texts.Parts as parts
 
 -- what holds of no place, of the last element and of each mapped element before it holds at every place
@@ -36,6 +36,12 @@ symbols_in_range ps [] never = tt
 symbols_in_range ps (x ∷ xs) never =
     (symbol_in_range ps x (none_at (IsOutOfRange ps) (x ∷ xs) 0 x never refl), symbols_in_range ps xs (none_in_tail (IsOutOfRange ps) x xs never))
 
+named_in_range : (ps : Parts) (o : Option ℕ) (t : ℕ) → (IsNamedOutOfRange ps o → ⊥) → o ≡ Some t → t < length (grammar_of_parts ps).token_names
+named_in_range ps None t never e = absurd (cc)
+named_in_range ps (Some u) t never e =
+    let same : u ≡ t = cc in
+    let low : length ps.tokens ≤ u → ⊥ = never in omega (arith, low, length-map ps.tokens (λ t. t.name))
+
 -- the productions of a grammar of parts, at every place
 at_each_production : (ps : Parts) (P : ℕ → Option Production → Type 0) → ((p : ℕ) → P p None) → P (length ps.prods) (Some (start_production_of ps)) → ((k : ℕ) (x : Production) → slice_get ps.prods k ≡ Some x → P k (Some (shifted_production x))) → (p : ℕ) → P p (slice_get (grammar_of_parts ps).productions p)
 at_each_production ps P none last each = at_each_place shifted_production ps.prods (start_production_of ps) P none last each
@@ -45,7 +51,7 @@ pub grammar_from_parts : (most : ℕ) (ps : Parts) → NoCause most ps → IsGra
 grammar_from_parts most ps never =
     let g = grammar_of_parts ps in
     let in_range = λ (k : ℕ) (x : Production) (at : slice_get ps.prods k ≡ Some x).
-    none_at (λ p. (length ps.rules ≤ p.rule) ⊎ Any (IsOutOfRange ps) p.body) ps.prods k x (λ h. never 5 (parts.Cause.symbol_out_of_range h)) at in
+    none_at (HasOutOfRange ps) ps.prods k x (λ h. never 5 (parts.Cause.symbol_out_of_range h)) at in
     let start_in : ps.start < length ps.rules = let h : length ps.rules ≤ ps.start → ⊥ = (λ h. never 10 (parts.Cause.no_start h)) in omega arith in
     record {
       caret = refl;
@@ -54,7 +60,8 @@ grammar_from_parts most ps never =
       start = (ps.start + 1, slice_get_last shifted_production ps.prods (start_production_of ps));
       only = at_each_production ps (λ p o. IsOfRule o 0 → p ≡ length ps.prods) (λ p h. absurd h) (λ h. refl) (λ k x at h. absurd (omega arith));
       rules = λ p r. at_each_production ps (λ p o. IsOfRule o r → r < length g.rule_names) (λ p h. absurd h) (λ h. omega arith) (λ k x at h. let low : length ps.rules ≤ x.rule → ⊥ = (λ l. in_range k x at (inl l)) in omega arith) p;
-      symbols = at_each_production ps (λ p o. AreBodySymbols g (body_or_none o)) (λ p. tt) ((omega arith, omega arith), tt) (λ k x at. symbols_in_range ps x.body (λ h. in_range k x at (inr h)));
+      symbols = at_each_production ps (λ p o. AreBodySymbols g (body_or_none o)) (λ p. tt) ((omega arith, omega arith), tt) (λ k x at. symbols_in_range ps x.body (λ h. in_range k x at (inr (inl h))));
+      named = λ p t. at_each_production ps (λ p o. named_token_or_none o ≡ Some t → t < length g.token_names) (λ p h. absurd (cc)) (λ h. absurd (cc)) (λ k x at. named_in_range ps x.precedence_token t (λ h. in_range k x at (inr (inr h)))) p;
     }
 
 -- where no cause of refusal holds, no body has more than `most` symbols

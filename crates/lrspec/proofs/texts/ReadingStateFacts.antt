@@ -1,8 +1,8 @@
 -- the reading states go on along documents and their beginnings, and along nothing else
 use Rattle.std.proofs.Common.{◌≡◌, ◌+◌, ◌≤◌, Bool, true, false, List, [], ◌∷◌, ◌++◌, length, map, Option, None, Some, flat_map, refl, ap, ◌∙◌, append_assoc, append-nil, add-zero, arith}
 use Rattle.lrspec.specs.texts.Lexemes.{Lexeme, Separator, Semicolon}
-use Rattle.lrspec.specs.texts.Documents.{NameText, Plain, InQuotes, Declaration, StartLine, TokenLine, KindLine, RuleText, name_lexeme, declaration_lexemes, other_body_lexemes, rule_lexemes, behind_lexemes, start_names, IsDocument, IsBeginning}
-use Rattle.lrspec.specs.texts.ReadingStates.{ReadingState, AtDeclaration, InLine, AtRule, InBody, Behind, first_state, may_end, next_state, state_behind}
+use Rattle.lrspec.specs.texts.Documents.{NameText, Plain, InQuotes, Declaration, StartLine, TokenLine, KindLine, BodyText, RuleText, name_lexeme, declaration_lexemes, precedence_lexemes, body_lexemes, other_body_lexemes, rule_lexemes, behind_lexemes, start_names, IsDocument, IsBeginning}
+use Rattle.lrspec.specs.texts.ReadingStates.{ReadingState, AtDeclaration, InLine, AtRule, InBody, BehindBody, Behind, first_state, may_end, next_state, state_behind}
 use Rattle.lrspec.proofs.texts.DocumentRests.{count_seen, DeclarationsRest, leads_rest, ended_rest, some_rest}
 
 -- names go on with a line
@@ -12,16 +12,32 @@ line_states seen (Plain w ∷ ns) rest = line_states seen ns rest
 line_states seen (InQuotes w ∷ ns) rest = line_states seen ns rest
 
 -- names go on with a body
-body_states : (b : List NameText) (rest : List Lexeme) → state_behind InBody (map name_lexeme b ++ rest) ≡ state_behind InBody rest
-body_states [] rest = refl
-body_states (Plain w ∷ b) rest = body_states b rest
-body_states (InQuotes w ∷ b) rest = body_states b rest
+names_states : (ns : List NameText) (rest : List Lexeme) → state_behind InBody (map name_lexeme ns ++ rest) ≡ state_behind InBody rest
+names_states [] rest = refl
+names_states (Plain w ∷ ns) rest = names_states ns rest
+names_states (InQuotes w ∷ ns) rest = names_states ns rest
+
+-- from within a body and from behind one the lexemes lead to the same
+abbrev BodyLeads : List Lexeme → Option ReadingState → Type 0
+BodyLeads is o = (state_behind InBody is ≡ o) × (state_behind BehindBody is ≡ o)
+
+-- `%prec` with its name leads behind the body
+precedence_states : (o : Option NameText) (rest : List Lexeme) (t : Option ReadingState) → BodyLeads rest t → state_behind InBody (precedence_lexemes o ++ rest) ≡ t
+precedence_states None rest t h = h.0
+precedence_states (Some (Plain w)) rest t h = h.1
+precedence_states (Some (InQuotes w)) rest t h = h.1
+
+-- a body leads to what follows it
+body_states : (b : BodyText) (rest : List Lexeme) (t : Option ReadingState) → BodyLeads rest t → state_behind InBody (body_lexemes b ++ rest) ≡ t
+body_states b rest t h =
+    ap (state_behind InBody) (append_assoc (map name_lexeme b.names) (precedence_lexemes b.precedence) rest)
+    ∙ names_states b.names (precedence_lexemes b.precedence ++ rest) ∙ precedence_states b.precedence rest t h
 
 -- other bodies and the `;` lead behind the rule
-bodies_states : (bs : List (List NameText)) (rest : List Lexeme) → state_behind InBody (flat_map other_body_lexemes bs ++ Semicolon ∷ rest) ≡ state_behind AtRule rest
-bodies_states [] rest = refl
+bodies_states : (bs : List BodyText) (rest : List Lexeme) → BodyLeads (flat_map other_body_lexemes bs ++ Semicolon ∷ rest) (state_behind AtRule rest)
+bodies_states [] rest = (refl, refl)
 bodies_states (b ∷ bs) rest =
-    ap (state_behind InBody) (append_assoc (map name_lexeme b) (flat_map other_body_lexemes bs) (Semicolon ∷ rest)) ∙ body_states b (flat_map other_body_lexemes bs ++ Semicolon ∷ rest) ∙ bodies_states bs rest
+    let e = ap (state_behind InBody) (append_assoc (body_lexemes b) (flat_map other_body_lexemes bs) (Semicolon ∷ rest)) ∙ body_states b (flat_map other_body_lexemes bs ++ Semicolon ∷ rest) (state_behind AtRule rest) (bodies_states bs rest) in (e, e)
 
 -- a rule and what follows it, grouped to the right
 pub rule_grouped : (a b c : List Lexeme) → a ++ (b ++ Semicolon ∷ []) ++ c ≡ a ++ (b ++ Semicolon ∷ c)
@@ -30,8 +46,8 @@ rule_grouped a b c = simp append_assoc
 -- a rule leads behind itself
 rule_states : (r : RuleText) (rest : List Lexeme) → state_behind AtRule (rule_lexemes r ++ rest) ≡ state_behind AtRule rest
 rule_states r rest =
-    ap (state_behind InBody) (rule_grouped (map name_lexeme r.first) (flat_map other_body_lexemes r.others) rest)
-    ∙ body_states r.first (flat_map other_body_lexemes r.others ++ Semicolon ∷ rest) ∙ bodies_states r.others rest
+    ap (state_behind InBody) (rule_grouped (body_lexemes r.first) (flat_map other_body_lexemes r.others) rest)
+    ∙ body_states r.first (flat_map other_body_lexemes r.others ++ Semicolon ∷ rest) (state_behind AtRule rest) (bodies_states r.others rest)
 
 -- rules lead behind themselves
 rules_states : (rs : List RuleText) (rest : List Lexeme) → state_behind AtRule (flat_map rule_lexemes rs ++ rest) ≡ state_behind AtRule rest

@@ -2,7 +2,7 @@
 use Rattle.std.specs.Prelude.{ℕ, cond, ◌==◌, List, [], ◌∷◌, ◌++◌, Option, None, Some, codes, bytes_eq}
 use Rattle.std.specs.Char.{is_ascii_alphabetic}
 use Rattle.lrspec.specs.grammars.Grammar.{Left, Right, Nonassoc}
-use Rattle.lrspec.specs.texts.Lexemes.{Lexeme, Name, Quoted, StartWord, TokenWord, KindWord, Separator, Colon, Bar, Semicolon, is_blank, is_no_line_feed, is_name_start, is_name_byte, is_quote, may_be_quoted}
+use Rattle.lrspec.specs.texts.Lexemes.{Lexeme, Name, Quoted, StartWord, TokenWord, KindWord, PrecedenceWord, Separator, Colon, Bar, Semicolon, is_blank, is_no_line_feed, is_name_start, is_name_byte, is_quote, may_be_quoted}
 use Rattle.lrspec.proofs.texts.ByteSplits.{split_while, until_close}
 
 -- what stands in front of a text: a blank or a comment, or a lexeme, with its bytes and the rest; or nothing that fits
@@ -37,7 +37,8 @@ quoted_front q (b ∷ w, c ∷ rest) = cond (c == q) (Found (Quoted (b ∷ w)) (
 abbrev pub word_lexeme : List ℕ → Option Lexeme
 word_lexeme w =
     cond (bytes_eq w (codes "start")) (Some StartWord) (cond (bytes_eq w (codes "token")) (Some TokenWord) (cond (bytes_eq w (codes "left")) (Some (KindWord Left))
-    (cond (bytes_eq w (codes "right")) (Some (KindWord Right)) (cond (bytes_eq w (codes "nonassoc")) (Some (KindWord Nonassoc)) None))))
+    (cond (bytes_eq w (codes "right")) (Some (KindWord Right)) (cond (bytes_eq w (codes "nonassoc")) (Some (KindWord Nonassoc))
+    (cond (bytes_eq w (codes "prec")) (Some PrecedenceWord) None)))))
 
 -- a word, by the answer of the table
 abbrev pub word_found : List ℕ → List ℕ → Option Lexeme → Front

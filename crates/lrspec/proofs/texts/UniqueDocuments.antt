@@ -1,7 +1,7 @@
 -- lexemes are of one document at most, and so is a text
 use Rattle.std.proofs.Common.{◌≡◌, ℕ, List, [], ◌∷◌, ◌++◌, map, Option, None, Some, flat_map, refl, ap, ◌∙◌, sym, subst, append_assoc}
-use Rattle.lrspec.specs.texts.Lexemes.{Lexeme, Name, Quoted, KindWord, Separator, Semicolon}
-use Rattle.lrspec.specs.texts.Documents.{NameText, Plain, InQuotes, Declaration, StartLine, TokenLine, KindLine, RuleText, Document, name_lexeme, declaration_lexemes, other_body_lexemes, rule_lexemes, behind_lexemes, document_lexemes, lexemes_of, Reads}
+use Rattle.lrspec.specs.texts.Lexemes.{Lexeme, Name, Quoted, KindWord, PrecedenceWord, Separator, Bar, Semicolon}
+use Rattle.lrspec.specs.texts.Documents.{NameText, Plain, InQuotes, Declaration, StartLine, TokenLine, KindLine, BodyText, RuleText, Document, name_lexeme, declaration_lexemes, precedence_lexemes, body_lexemes, other_body_lexemes, rule_lexemes, behind_lexemes, document_lexemes, lexemes_of, Reads}
 use Rattle.lrspec.proofs.texts.ReadingStateFacts.{rule_grouped}
 use Rattle.lrspec.proofs.texts.LexemesOfText.{text_lexemes_only}
 
@@ -34,20 +34,54 @@ names_same (n ∷ ns) (m ∷ ms) x y h k e =
     let (others, rest) = names_same ns ms x y h k (cc) in
     (λ i. name_same n m first i ∷ others i, rest)
 
--- what follows a body begins with no name
-no_name_in_bodies : (bs : List (List NameText)) (x : List Lexeme) → NoName (flat_map other_body_lexemes bs ++ Semicolon ∷ x)
-no_name_in_bodies [] x = tt
-no_name_in_bodies (b ∷ bs) x = tt
+-- the lexemes end a body
+abbrev EndsBody : List Lexeme → Type 0
+EndsBody (Bar ∷ is) = Unit {0}
+EndsBody (Semicolon ∷ is) = Unit {0}
+EndsBody _ = ⊥
+
+-- what follows a body ends it
+bodies_end : (bs : List BodyText) (x : List Lexeme) → EndsBody (flat_map other_body_lexemes bs ++ Semicolon ∷ x)
+bodies_end [] x = tt
+bodies_end (b ∷ bs) x = tt
+
+-- what ends a body begins with no name
+no_name_at_end : (x : List Lexeme) → EndsBody x → NoName x
+no_name_at_end (Bar ∷ is) h = tt
+no_name_at_end (Semicolon ∷ is) h = tt
+no_name_at_end _ h = absurd h
+
+-- what follows the names of a body begins with no name
+no_name_behind : (o : Option NameText) (x : List Lexeme) → EndsBody x → NoName (precedence_lexemes o ++ x)
+no_name_behind None x h = no_name_at_end x h
+no_name_behind (Some n) x h = tt
+
+-- `%prec` with its name and what follows it
+precedence_same : (o p : Option NameText) (x y : List Lexeme) → EndsBody x → EndsBody y → precedence_lexemes o ++ x ≡ precedence_lexemes p ++ y → (o ≡ p) × (x ≡ y)
+precedence_same None None x y h k e = (refl, e)
+precedence_same None (Some m) x y h k e = absurd (subst EndsBody e h)
+precedence_same (Some n) None x y h k e = absurd (subst EndsBody (sym e) k)
+precedence_same (Some n) (Some m) x y h k e =
+    let first : name_lexeme n ≡ name_lexeme m = cc in
+    (λ i. Some (name_same n m first i), cc)
+
+-- a body and what follows it
+body_same : (b c : BodyText) (x y : List Lexeme) → EndsBody x → EndsBody y → body_lexemes b ++ x ≡ body_lexemes c ++ y → (b ≡ c) × (x ≡ y)
+body_same b c x y h k e =
+    let (names, rest) = names_same b.names c.names _ _ (no_name_behind b.precedence x h) (no_name_behind c.precedence y k)
+    (sym (append_assoc (map name_lexeme b.names) (precedence_lexemes b.precedence) x) ∙ e ∙ append_assoc (map name_lexeme c.names) (precedence_lexemes c.precedence) y) in
+    let (precedence, last) = precedence_same b.precedence c.precedence x y h k rest in
+    (λ i. record { names = names i; precedence = precedence i }, last)
 
 -- other bodies and what follows the `;`
-bodies_same : (bs cs : List (List NameText)) (x y : List Lexeme) → flat_map other_body_lexemes bs ++ Semicolon ∷ x ≡ flat_map other_body_lexemes cs ++ Semicolon ∷ y → (bs ≡ cs) × (x ≡ y)
+bodies_same : (bs cs : List BodyText) (x y : List Lexeme) → flat_map other_body_lexemes bs ++ Semicolon ∷ x ≡ flat_map other_body_lexemes cs ++ Semicolon ∷ y → (bs ≡ cs) × (x ≡ y)
 bodies_same [] [] x y e = (refl, cc)
 bodies_same [] (c ∷ cs) x y e = cc
 bodies_same (b ∷ bs) [] x y e = cc
 bodies_same (b ∷ bs) (c ∷ cs) x y e =
-    let tails : map name_lexeme b ++ flat_map other_body_lexemes bs ++ Semicolon ∷ x ≡ map name_lexeme c ++ flat_map other_body_lexemes cs ++ Semicolon ∷ y = cc in
-    let (first, rest) = names_same b c _ _ (no_name_in_bodies bs x) (no_name_in_bodies cs y)
-    (sym (append_assoc (map name_lexeme b) (flat_map other_body_lexemes bs) (Semicolon ∷ x)) ∙ tails ∙ append_assoc (map name_lexeme c) (flat_map other_body_lexemes cs) (Semicolon ∷ y)) in
+    let tails : body_lexemes b ++ flat_map other_body_lexemes bs ++ Semicolon ∷ x ≡ body_lexemes c ++ flat_map other_body_lexemes cs ++ Semicolon ∷ y = cc in
+    let (first, rest) = body_same b c _ _ (bodies_end bs x) (bodies_end cs y)
+    (sym (append_assoc (body_lexemes b) (flat_map other_body_lexemes bs) (Semicolon ∷ x)) ∙ tails ∙ append_assoc (body_lexemes c) (flat_map other_body_lexemes cs) (Semicolon ∷ y)) in
     let (others, last) = bodies_same bs cs x y rest in
     (λ i. first i ∷ others i, last)
 
@@ -56,9 +90,9 @@ rule_same : (r s : RuleText) (x y : List Lexeme) → rule_lexemes r ++ x ≡ rul
 rule_same r s x y e =
     let head : Name r.name ≡ Name s.name = cc in
     let name : r.name ≡ s.name = cc in
-    let bodies : map name_lexeme r.first ++ (flat_map other_body_lexemes r.others ++ Semicolon ∷ []) ++ x ≡ map name_lexeme s.first ++ (flat_map other_body_lexemes s.others ++ Semicolon ∷ []) ++ y = cc in
-    let (first, rest) = names_same r.first s.first _ _ (no_name_in_bodies r.others x) (no_name_in_bodies s.others y)
-    (sym (rule_grouped (map name_lexeme r.first) (flat_map other_body_lexemes r.others) x) ∙ bodies ∙ rule_grouped (map name_lexeme s.first) (flat_map other_body_lexemes s.others) y) in
+    let bodies : body_lexemes r.first ++ (flat_map other_body_lexemes r.others ++ Semicolon ∷ []) ++ x ≡ body_lexemes s.first ++ (flat_map other_body_lexemes s.others ++ Semicolon ∷ []) ++ y = cc in
+    let (first, rest) = body_same r.first s.first _ _ (bodies_end r.others x) (bodies_end s.others y)
+    (sym (rule_grouped (body_lexemes r.first) (flat_map other_body_lexemes r.others) x) ∙ bodies ∙ rule_grouped (body_lexemes s.first) (flat_map other_body_lexemes s.others) y) in
     let (others, last) = bodies_same r.others s.others x y rest in
     (λ i. record { name = name i; first = first i; others = others i }, last)
 

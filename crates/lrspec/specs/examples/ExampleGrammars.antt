@@ -2,9 +2,9 @@
 use Rattle.std.specs.Prelude.{ℕ, List, [], ◌∷◌, Option, None, Some, codes}
 use Rattle.lrspec.specs.grammars.Grammar.{Symbol, Rule, Token, Kind, Left, Right, Nonassoc, Precedence, Production, Grammar}
 
--- a production of the rule `r` with this body
+-- a production of the rule `r` with this body, which names no token for its precedence
 abbrev pub production : ℕ → List Symbol → Production
-production r y = record { rule = r; body = y }
+production r y = record { rule = r; body = y; precedence_token = None }
 
 -- a precedence of this level and kind
 abbrev pub at_level : ℕ → Kind → Option Precedence

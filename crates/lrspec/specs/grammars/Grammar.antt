@@ -8,10 +8,12 @@ pub data Symbol : Type 0 where
   Rule : ℕ → Symbol
   Token : ℕ → Symbol
 
--- a production: its rule and its body
+-- a production: its rule and its body, and the token that it names for its precedence, if it names
+-- one
 pub record Production : Type 0 where
   pub rule : ℕ
   pub body : List Symbol
+  pub precedence_token : Option ℕ
 
 -- how operators of one level group
 pub data Kind : Type 0 where
@@ -89,9 +91,24 @@ last_token_or o [] = o
 last_token_or o (Rule r ∷ y) = last_token_or o y
 last_token_or o (Token t ∷ y) = last_token_or (Some t) y
 
--- the precedence of the last token in the body of the production
+-- the token that a production names for its precedence, none without a production
+abbrev pub named_token_or_none : Option Production → Option ℕ
+named_token_or_none None = None
+named_token_or_none (Some p) = p.precedence_token
+
+-- the token that the production `p` names for its precedence
+abbrev pub named_token_of : Grammar → ℕ → Option ℕ
+named_token_of g p = named_token_or_none (slice_get g.productions p)
+
+-- the token that is named, or else the last one of the body
+abbrev pub named_or_last : Option ℕ → List Symbol → Option ℕ
+named_or_last None y = last_token_or None y
+named_or_last (Some t) y = Some t
+
+-- the precedence of the token that the production names, or else of the last one in its body
 abbrev pub production_precedence : Grammar → ℕ → Option Precedence
-production_precedence g p = option_and_then (token_precedence g) (last_token_or None (body_of g p))
+production_precedence g p =
+    option_and_then (token_precedence g) (named_or_last (named_token_of g p) (body_of g p))
 
 -- what stands behind the dot `d` in the body of `p`
 abbrev pub rest : Grammar → ℕ → ℕ → List Symbol
@@ -124,10 +141,12 @@ pub record IsGrammar (g : Grammar) : Type 0 where
   pub start :
       (r : ℕ)
       × (slice_get g.productions g.start_production
-      ≡ Some (record { rule = 0; body = Rule r ∷ [] }))
+      ≡ Some (record { rule = 0; body = Rule r ∷ []; precedence_token = None }))
   -- it is the only production of rule 0
   pub only : (p : ℕ) → IsProductionOf g p 0 → p ≡ g.start_production
   -- each production is of a rule
   pub rules : (p r : ℕ) → IsProductionOf g p r → r < length g.rule_names
   -- rule 0 and the end token stand in no body
   pub symbols : (p : ℕ) → AreBodySymbols g (body_of g p)
+  -- what a production names for its precedence is a named token
+  pub named : (p t : ℕ) → named_token_of g p ≡ Some t → t < length g.token_names

@@ -1,7 +1,7 @@
 -- documents as lists of lexemes, the texts that are documents, and where a text stops being one
 use Rattle.std.specs.Prelude.{◌≡◌, ℕ, ◌≤◌, List, [], ◌∷◌, ◌++◌, length, map, Option, None, Some, filter_map, flat_map}
 use Rattle.lrspec.specs.grammars.Grammar.{Kind}
-use Rattle.lrspec.specs.texts.Lexemes.{Lexeme, Name, Quoted, StartWord, TokenWord, KindWord, Separator, Colon, Bar, Semicolon, Placed, HasLexemes}
+use Rattle.lrspec.specs.texts.Lexemes.{Lexeme, Name, Quoted, StartWord, TokenWord, KindWord, PrecedenceWord, Separator, Colon, Bar, Semicolon, Placed, HasLexemes}
 
 -- a name of a document, as it is or between quotes
 pub data NameText : Type 0 where
@@ -13,11 +13,16 @@ pub data Declaration : Type 0 where
   TokenLine : NameText → List NameText → Declaration
   KindLine : Kind → NameText → List NameText → Declaration
 
+-- a body: its names, and the name behind `%prec` where it has one
+pub record BodyText : Type 0 where
+  pub names : List NameText
+  pub precedence : Option NameText
+
 -- a rule: its name, its first body, and its other bodies
 pub record RuleText : Type 0 where
   pub name : List ℕ
-  pub first : List NameText
-  pub others : List (List NameText)
+  pub first : BodyText
+  pub others : List BodyText
 
 -- a document: declarations and rules, and behind a second `%%` anything
 pub record Document : Type 0 where
@@ -36,15 +41,24 @@ declaration_lexemes (StartLine w) = StartWord ∷ Name w ∷ []
 declaration_lexemes (TokenLine n ns) = TokenWord ∷ map name_lexeme (n ∷ ns)
 declaration_lexemes (KindLine k n ns) = KindWord k ∷ map name_lexeme (n ∷ ns)
 
+-- `%prec` and the name behind it
+abbrev pub precedence_lexemes : Option NameText → List Lexeme
+precedence_lexemes None = []
+precedence_lexemes (Some n) = PrecedenceWord ∷ name_lexeme n ∷ []
+
+-- a body
+abbrev pub body_lexemes : BodyText → List Lexeme
+body_lexemes b = map name_lexeme b.names ++ precedence_lexemes b.precedence
+
 -- a body that is not the first
-abbrev pub other_body_lexemes : List NameText → List Lexeme
-other_body_lexemes b = Bar ∷ map name_lexeme b
+abbrev pub other_body_lexemes : BodyText → List Lexeme
+other_body_lexemes b = Bar ∷ body_lexemes b
 
 -- a rule
 abbrev pub rule_lexemes : RuleText → List Lexeme
 rule_lexemes r =
     Name r.name ∷ Colon
-    ∷ (map name_lexeme r.first ++ (flat_map other_body_lexemes r.others ++ Semicolon ∷ []))
+    ∷ (body_lexemes r.first ++ (flat_map other_body_lexemes r.others ++ Semicolon ∷ []))
 
 -- what stands behind the second `%%`
 abbrev pub behind_lexemes : Option (List Lexeme) → List Lexeme

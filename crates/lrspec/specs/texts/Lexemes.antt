@@ -11,6 +11,8 @@ pub data Lexeme : Type 0 where
   -- `%start`, `%token`, and the word of a precedence line
   StartWord TokenWord : Lexeme
   KindWord : Kind → Lexeme
+  -- `%prec`
+  PrecedenceWord : Lexeme
   -- `%%`, `:`, `|` and `;`
   Separator Colon Bar Semicolon : Lexeme
   -- a place where no lexeme begins
@@ -77,6 +79,8 @@ pub data Spells : List ℕ → Lexeme → List ℕ → Type 0 where
       → Spells (codes "%right") (KindWord Right) rest
   nonassoc : {rest : List ℕ} → goes_on is_ascii_alphabetic rest ≡ false
       → Spells (codes "%nonassoc") (KindWord Nonassoc) rest
+  precedence : {rest : List ℕ} → goes_on is_ascii_alphabetic rest ≡ false
+      → Spells (codes "%prec") PrecedenceWord rest
   separator : {rest : List ℕ} → Spells (codes "%%") Separator rest
   colon : {rest : List ℕ} → Spells (codes ":") Colon rest
   bar : {rest : List ℕ} → Spells (codes "|") Bar rest

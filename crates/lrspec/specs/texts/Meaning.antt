@@ -4,7 +4,7 @@ use Rattle.std.specs.List.{enumerate_from}
 use Rattle.lrspec.specs.grammars.Grammar.{Symbol, Rule, Token, Kind, Precedence, Production}
 use Rattle.lrspec.specs.texts.Parts.{PartToken, Parts}
 use Rattle.lrspec.specs.texts.Names.{has_name, has_no_repeats, first_appearances, place_of}
-use Rattle.lrspec.specs.texts.Documents.{NameText, Plain, InQuotes, Declaration, StartLine, TokenLine, KindLine, RuleText, Document, start_names, Reads, IsSyntaxErrorAt}
+use Rattle.lrspec.specs.texts.Documents.{NameText, Plain, InQuotes, Declaration, StartLine, TokenLine, KindLine, BodyText, RuleText, Document, start_names, Reads, IsSyntaxErrorAt}
 
 -- what a document says, in the order of the text
 pub record Contents : Type 0 where
@@ -15,7 +15,7 @@ pub record Contents : Type 0 where
   -- the kinds and the names of the precedence lines
   pub kind_lines : List (Kind × List (List ℕ))
   -- the alternatives of the rules, each with the name of its rule
-  pub alternatives : List (List ℕ × List NameText)
+  pub alternatives : List (List ℕ × BodyText)
 
 -- the name, without its quotes
 abbrev pub bare_name : NameText → List ℕ
@@ -35,7 +35,7 @@ kind_line (TokenLine n ns) = None
 kind_line (KindLine k n ns) = Some (k, map bare_name (n ∷ ns))
 
 -- the name of a rule with each of its bodies
-abbrev pub alternatives_of : RuleText → List (List ℕ × List NameText)
+abbrev pub alternatives_of : RuleText → List (List ℕ × BodyText)
 alternatives_of r = map (λ b. (r.name, b)) (r.first ∷ r.others)
 
 -- what the document says
@@ -63,18 +63,28 @@ declared_names s = s.declared ++ precedence_names s
 
 -- the names in the bodies
 abbrev pub body_names : Contents → List NameText
-body_names s = flat_map (λ a. a.1) s.alternatives
+body_names s = flat_map (λ a. a.1.names) s.alternatives
+
+-- the name behind `%prec` of an alternative, without its quotes
+abbrev pub named_precedence : List ℕ × BodyText → Option (List ℕ)
+named_precedence a = option_map bare_name a.1.precedence
+
+-- the names behind `%prec`
+abbrev pub named_precedences : Contents → List (List ℕ)
+named_precedences s = filter_map named_precedence s.alternatives
 
 -- a quoted name in a body is a token, and a plain one is a token where it is no rule
 abbrev pub token_in_body : List (List ℕ) → NameText → Option (List ℕ)
 token_in_body rules (Plain w) = if has_name rules w then None else Some w
 token_in_body rules (InQuotes w) = Some w
 
--- the tokens: by the `%token` lines, then by first appearance in bodies, then in precedence lines
+-- the tokens: by the `%token` lines, then by first appearance in bodies, then in precedence lines,
+-- then behind `%prec`
 abbrev pub token_names : Contents → List (List ℕ)
 token_names s =
     first_appearances (s.declared
-    ++ filter_map (token_in_body (rule_names s)) (body_names s) ++ precedence_names s)
+    ++ filter_map (token_in_body (rule_names s)) (body_names s) ++ precedence_names s
+    ++ named_precedences s)
 
 -- ---- the parts of the grammar
 
@@ -101,9 +111,13 @@ symbol_in rules tokens (Plain w) =
 symbol_in rules tokens (InQuotes w) = Token (place_of tokens w)
 
 -- the production that an alternative is
-abbrev pub production_in : List (List ℕ) → List (List ℕ) → List ℕ × List NameText → Production
-production_in rules tokens (w, ns) =
-    record { rule = place_of rules w; body = map (symbol_in rules tokens) ns }
+abbrev pub production_in : List (List ℕ) → List (List ℕ) → List ℕ × BodyText → Production
+production_in rules tokens a =
+    record {
+      rule = place_of rules a.0;
+      body = map (symbol_in rules tokens) a.1.names;
+      precedence_token = option_map (place_of tokens) (named_precedence a);
+    }
 
 -- the rule of `%start`, or else the first
 abbrev pub start_in : List (List ℕ) → List (List ℕ) → ℕ

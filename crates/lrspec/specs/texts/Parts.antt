@@ -1,5 +1,5 @@
 -- the parts of a grammar as a caller gives them, their grammar, and the causes of their refusal
-use Rattle.std.specs.Prelude.{◌≡◌, ◌≢◌, ℕ, ◌+◌, ◌<◌, ◌≤◌, ◌⊎◌, List, [], ◌∷◌, ◌++◌, map, length, codes, Option, Some, slice_index_or, All, Any, Contains}
+use Rattle.std.specs.Prelude.{◌≡◌, ◌≢◌, ℕ, ◌+◌, ◌<◌, ◌≤◌, ◌⊎◌, List, [], ◌∷◌, ◌++◌, map, length, codes, Option, None, Some, slice_index_or, All, Any, Contains}
 use Rattle.lrspec.specs.grammars.Grammar.{Symbol, Rule, Token, Production, Precedence, Grammar}
 
 -- a token as it is given: its name, and its precedence or none
@@ -27,11 +27,17 @@ shifted (Rule r) = Rule (r + 1)
 shifted (Token t) = Token t
 
 abbrev pub shifted_production : Production → Production
-shifted_production p = record { rule = p.rule + 1; body = map shifted p.body }
+shifted_production p =
+    record {
+      rule = p.rule + 1;
+      body = map shifted p.body;
+      precedence_token = p.precedence_token;
+    }
 
 -- the start production: rule 0 is the start rule
 abbrev pub start_production_of : Parts → Production
-start_production_of ps = record { rule = 0; body = Rule (ps.start + 1) ∷ [] }
+start_production_of ps =
+    record { rule = 0; body = Rule (ps.start + 1) ∷ []; precedence_token = None }
 
 -- the grammar of the parts: the rule `^` first, the start production last
 abbrev pub grammar_of_parts : Parts → Grammar
@@ -65,9 +71,20 @@ abbrev pub IsOutOfRange : Parts → Symbol → Type 0
 IsOutOfRange ps (Rule r) = length ps.rules ≤ r
 IsOutOfRange ps (Token t) = length ps.tokens ≤ t
 
--- 5: the rule of a production or a symbol of its body is in no list
+-- the token that is named for a precedence, if one is, stands in no list of the parts
+abbrev pub IsNamedOutOfRange : Parts → Option ℕ → Type 0
+IsNamedOutOfRange ps None = ⊥
+IsNamedOutOfRange ps (Some t) = IsOutOfRange ps (Token t)
+
+-- the rule of the production, a symbol of its body, or the token that it names is in no list
+abbrev pub HasOutOfRange : Parts → Production → Type 0
+HasOutOfRange ps p =
+    (length ps.rules ≤ p.rule) ⊎ (Any (IsOutOfRange ps) p.body
+    ⊎ IsNamedOutOfRange ps p.precedence_token)
+
+-- 5: a production names a rule or a token that is in no list
 abbrev pub SymbolOutOfRange : Parts → Type 0
-SymbolOutOfRange ps = Any (λ p. (length ps.rules ≤ p.rule) ⊎ Any (IsOutOfRange ps) p.body) ps.prods
+SymbolOutOfRange ps = Any (HasOutOfRange ps) ps.prods
 
 -- 6: a rule has no production
 abbrev pub EmptyRule : Parts → Type 0

@@ -1,6 +1,6 @@
 -- how far a document was read, lexeme by lexeme, and which lexeme may come next
 use Rattle.std.specs.Prelude.{Bool, true, false, if◌then◌else◌, List, [], ◌∷◌, Option, None, Some}
-use Rattle.lrspec.specs.texts.Lexemes.{Lexeme, Name, Quoted, StartWord, TokenWord, KindWord, Separator, Colon, Bar, Semicolon}
+use Rattle.lrspec.specs.texts.Lexemes.{Lexeme, Name, Quoted, StartWord, TokenWord, KindWord, PrecedenceWord, Separator, Colon, Bar, Semicolon}
 
 -- how far a document was read: between which of its lexemes. The flag says whether `%start` came
 pub data ReadingState : Type 0 where
@@ -14,6 +14,8 @@ pub data ReadingState : Type 0 where
   AtRule : ReadingState
   -- behind the name of a rule, and in its bodies
   WantsColon InBody : ReadingState
+  -- behind `%prec`, and behind the name that follows it
+  WantsPrecedence BehindBody : ReadingState
   -- behind the second `%%`
   Behind : ReadingState
 
@@ -55,7 +57,14 @@ next_state InBody (Name w) = Some InBody
 next_state InBody (Quoted w) = Some InBody
 next_state InBody Bar = Some InBody
 next_state InBody Semicolon = Some AtRule
+next_state InBody PrecedenceWord = Some WantsPrecedence
 next_state InBody _ = None
+next_state WantsPrecedence (Name w) = Some BehindBody
+next_state WantsPrecedence (Quoted w) = Some BehindBody
+next_state WantsPrecedence _ = None
+next_state BehindBody Bar = Some InBody
+next_state BehindBody Semicolon = Some AtRule
+next_state BehindBody _ = None
 next_state Behind l = Some Behind
 
 -- the state behind all the lexemes, if each may come

@@ -3,8 +3,8 @@
 ghost use Rattle.std.specs.Prelude.{◌≡◌, map, option_map, filter_map, flat_map, IfOk, OnOk};
 ghost use Rattle.lrspec.specs.texts.Names.{first_appearances};
 ghost use Rattle.lrtext.specs.NumberedNames.{with_names};
-ghost use Rattle.lrspec.specs.texts.Meaning.{rule_names, token_names, declared_names, token_in_body};
-ghost use Rattle.lrtext.specs.StoredContents.{name_text_of, line_names_of, body_of, plain_contents};
+ghost use Rattle.lrspec.specs.texts.Meaning.{rule_names, token_names, declared_names, token_in_body, named_precedence};
+ghost use Rattle.lrtext.specs.StoredContents.{name_text_of, line_names_of, body_of, alternative_of, plain_contents};
 
 use crate::contents::{Alternative, Contents, KindLine, NameText};
 use crate::meaning::numbers::Numbers;
@@ -93,7 +93,34 @@ fn add_bodies<'a>(
     Ok(())
 }
 
-/// The tokens: those of the `%token` lines, then those of bodies, then those of precedence lines.
+/// The name behind the `%prec` of an alternative, if it has one.
+pub(super) fn named<'a>(alternative: &Alternative<'a>) -> Option<&'a str>
+    ensures { option_map (λ w. w.now) result ≡ named_precedence (alternative_of alternative.now) }
+{
+    match alternative.precedence {
+        Some(NameText::Plain(name) | NameText::InQuotes(name)) => Some(name),
+        None => None,
+    }
+}
+
+/// Adds the names behind `%prec`.
+fn add_named<'a>(
+    tokens: &mut Numbers<'a>,
+    alternatives: &[Alternative<'a>],
+) -> Result<(), AllocError>
+    ensures { let names = filter_map named_precedence (map alternative_of alternatives.now) in
+        OnOk result (tokens.new ≡ with_names tokens.old names) }
+{
+    for alternative in alternatives {
+        if let Some(token) = named(alternative) {
+            tokens.add(token)?;
+        }
+    }
+    Ok(())
+}
+
+/// The tokens: those of the `%token` lines, then those of bodies, then those of precedence lines,
+/// then those behind `%prec`.
 pub(super) fn tokens<'a>(
     alloc: Global,
     contents: &Contents<'a>,
@@ -106,5 +133,6 @@ pub(super) fn tokens<'a>(
     tokens.add_all(contents.declared.as_slice())?;
     add_bodies(&mut tokens, rules, contents.alternatives.as_slice())?;
     add_lines(&mut tokens, contents.kind_lines.as_slice())?;
+    add_named(&mut tokens, contents.alternatives.as_slice())?;
     Ok(tokens)
 }

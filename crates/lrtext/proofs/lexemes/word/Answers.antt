@@ -18,11 +18,14 @@ returns-in-right c = let s = c.split_run.ensures in word_in_front _ _ _ (codes "
 pub returns-in-nonassoc : goal.returns-in-nonassoc
 returns-in-nonassoc c = let s = c.split_run.ensures in word_in_front _ _ _ (codes "nonassoc") _ s.whole s.stops c.in-nonassoc.is (λ r h. lexemes.Spells.nonassoc h)
 
+pub returns-in-prec : goal.returns-in-prec
+returns-in-prec c = let s = c.split_run.ensures in word_in_front _ _ _ (codes "prec") _ s.whole s.stops c.in-prec.is (λ r h. lexemes.Spells.precedence h)
+
 pub returns-in-Some : goal.returns-in-Some
 returns-in-Some c = separator_in_front _ _ _ _ c.split_run.ensures.whole c.in-empty.is c.in-Some.ensures.some
 
 pub returns-in_default : goal.returns-in_default
-returns-in_default c = let s = c.split_run.ensures in let d = c.in_default in unknown_word_unfit _ _ _ s.whole s.all s.stops d.not-empty (not_in_table _ d.not-start d.not-token d.not-left d.not-right d.not-nonassoc)
+returns-in_default c = let s = c.split_run.ensures in let d = c.in_default in unknown_word_unfit _ _ _ s.whole s.all s.stops d.not-empty (not_in_table _ d.not-start d.not-token d.not-left d.not-right d.not-nonassoc d.not-prec)
 
 pub returns-in-None : goal.returns-in-None
 returns-in-None c = let s = c.split_run.ensures in lone_percent_unfit _ _ _ s.whole s.all s.stops c.in-empty.is c.in-None.ensures.none

@@ -1,5 +1,5 @@
 use Rattle.std.proofs.Common.{◌≡◌, ◌+◌, ◌≤◌, map, sym, ap, ◌∙◌, subst, arith}
-use Rattle.std.specs.Prelude.{All}
+use Rattle.std.specs.Prelude.{All, IfSome}
 use Rattle.std.proofs.lemmas.Result.{IfOk-from_err}
 use Rattle.lrspec.specs.texts.Parts.{shifted, shifted_production, start_production_of}
 use Rattle.lrtext.specs.declared.parts.PartProd.{PartProd}
@@ -16,7 +16,7 @@ loop-prod-preserved g c =
     let prod = c.prod-item.result in
     let n : number c.unwrap.result ≡ prod.rule + 1 = index_number number g.T.IndexStorage.MAX (prod.rule + 1) c.from_usize.result c.unwrap.result c.unwrap.ensures c.from_usize.ensures in
     maps_more (production_of number) shifted_production part_production_of c.deref-prod-items.result.now c.args.parts.now.prods.items c.loop-prod.prod-index prod c.loop-prod.prods.items c.push.new.self.items _ c.deref-prod-items.ensures.value c.loop-prod-test.true
-    (same_production (number c.unwrap.result) (prod.rule + 1) (map (symbol_of number) c.in_ok-body.body.items) (map shifted (map part_symbol_of prod.symbols.items)) n c.in_ok-body.ensures ∙ ap (λ p. shifted_production (part_production_of p)) c.prod-item.is)
+    (same_production (number c.unwrap.result) (prod.rule + 1) (map (symbol_of number) c.in_ok-body.body.items) (map shifted (map part_symbol_of prod.symbols.items)) _ prod.precedence n c.in_ok-body.ensures c.named_token-precedence.ensures ∙ ap (λ p. shifted_production (part_production_of p)) c.prod-item.is)
     c.in_ok-push.ensures.items
     c.loop-prod.invariant
 
@@ -45,6 +45,10 @@ unwrap-requires g c =
 pub body-requires : goal.body-requires
 body-requires g c =
     subst (λ (p : PartProd). All (λ s. part_number s ≤ g.T.IndexStorage.MAX) p.symbols.items) (sym c.prod-item.is) (all_along (λ p. All (λ s. part_number s ≤ g.T.IndexStorage.MAX) p.symbols.items) c.deref-prod-items.result.now c.args.parts.now.prods.items c.loop-prod.prod-index c.prod-item.result c.deref-prod-items.ensures.value c.loop-prod-test.true c.requires.symbols)
+
+pub named_token-precedence-requires : goal.named_token-precedence-requires
+named_token-precedence-requires g c =
+    subst (λ (p : PartProd). IfSome p.precedence (λ t. t ≤ g.T.IndexStorage.MAX)) (sym c.prod-item.is) (all_along (λ p. IfSome p.precedence (λ t. t ≤ g.T.IndexStorage.MAX)) c.deref-prod-items.result.now c.args.parts.now.prods.items c.loop-prod.prod-index c.prod-item.result c.deref-prod-items.ensures.value c.loop-prod-test.true c.requires.named)
 
 pub start_production-requires : goal.start_production-requires
 start_production-requires g c = c.requires.start
