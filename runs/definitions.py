@@ -38,7 +38,9 @@ PLACES = {
     "levels": {"NAME": "levels", "QUOTED": "levels", **DECLARATIONS},
     "rules": {"NAME": "rule", "%%": "rest"},
     "rule": {":": "body"},
-    "body": {"NAME": "body", "QUOTED": "body", "|": "body", ";": "rules"},
+    "body": {"NAME": "body", "QUOTED": "body", "%prec": "precedence", "|": "body", ";": "rules"},
+    "precedence": {"NAME": "behind", "QUOTED": "behind"},
+    "behind": {"|": "body", ";": "rules"},
 }
 
 
@@ -47,9 +49,16 @@ class Fault(Exception):
 
 
 @dataclass
+class Body:
+    """A body: its names, each a pair of NAME or QUOTED and the name, and the name behind its `%prec`."""
+
+    names: list = field(default_factory=list)
+    precedence: bytes | None = None
+
+
+@dataclass
 class Document:
-    """What a text says, in its order; a name of a body is a pair of NAME or QUOTED and the name, and a level a pair of its kind
-    and its names."""
+    """What a text says, in its order; a level is a pair of its kind and its names, and a rule one of its name and its bodies."""
 
     start: bytes | None = None
     tokens: list = field(default_factory=list)
@@ -69,9 +78,11 @@ class Document:
         elif place == "rule":
             self.rules.append((name, []))
         elif kind in (":", "|"):
-            self.rules[-1][1].append([])
+            self.rules[-1][1].append(Body())
         elif place == "body":
-            self.rules[-1][1][-1].append((kind, name))
+            self.rules[-1][1][-1].names.append((kind, name))
+        elif place == "behind":
+            self.rules[-1][1][-1].precedence = name
 
 
 def lexeme_at(text, at):
@@ -103,11 +114,13 @@ def read(text):
 @dataclass
 class Grammar:
     """Productions as pairs of a rule's name and a body, the start production last; in a body a rule is its name, and a token
-    its number. The tokens that have a precedence are `levelled`, each with its level and kind."""
+    its number. The tokens that have a precedence are `levelled`, each with its level and kind. The productions with `%prec`
+    are `named`, each with the token that it names."""
 
     prods: list
     tokens: list
     levelled: dict
+    named: dict
 
 
 def meaning(document):
@@ -118,7 +131,7 @@ def meaning(document):
     bodies = [(rule, body) for rule, bodies in document.rules for body in bodies]
     if document.start not in {None, *rules}:
         raise Fault(b"unknown symbol " + document.start)
-    for kind, name in (symbol for _, body in bodies for symbol in body):
+    for kind, name in (symbol for _, body in bodies for symbol in body.names):
         if kind == "NAME" and name not in rules and name not in known:
             raise Fault(b"unknown symbol " + name)
     levels = {}
@@ -130,12 +143,15 @@ def meaning(document):
     if not rules:
         raise Fault(b"no start rule")
     is_rule = lambda kind, name: kind == "NAME" and name in rules
-    of_bodies = [name for _, body in bodies for kind, name in body if not is_rule(kind, name)]
-    tokens = list(dict.fromkeys([*document.tokens, *of_bodies, *in_levels]))
+    of_bodies = [name for _, body in bodies for kind, name in body.names if not is_rule(kind, name)]
+    behind = {prod: body.precedence for prod, (_, body) in enumerate(bodies) if body.precedence is not None}
+    tokens = list(dict.fromkeys([*document.tokens, *of_bodies, *in_levels, *behind.values()]))
     number = {name: place for place, name in enumerate(tokens)}
-    prods = [(rule, [name if is_rule(kind, name) else number[name] for kind, name in body]) for rule, body in bodies]
-    start = (b"^", [document.start or document.rules[0][0]])
-    return Grammar([*prods, start], tokens, {number[name]: level for name, level in levels.items()})
+    symbol = lambda kind, name: name if is_rule(kind, name) else number[name]
+    prods = [(rule, [symbol(*it) for it in body.names]) for rule, body in bodies]
+    prods.append((b"^", [document.start or document.rules[0][0]]))
+    levelled = {number[name]: level for name, level in levels.items()}
+    return Grammar(prods, tokens, levelled, {prod: number[name] for prod, name in behind.items()})
 
 
 class Texts:

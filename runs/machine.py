@@ -3,13 +3,7 @@ program."""
 
 import re
 
-from tables import complete
-
-
-def precedence(grammar, prod):
-    """The level and kind of the last token of the production's body, or None."""
-    tokens = [it for it in grammar.prods[prod][1] if not isinstance(it, bytes)]
-    return grammar.levelled.get(tokens[-1]) if tokens else None
+from tables import complete, precedence
 
 
 def takes_shift(token, prod):

@@ -15,10 +15,11 @@ def accepts_and_reduces(grammar, states):
     return any(start in prods and len(prods) > 1 for prods in at_end)
 
 
-def has_precedence(grammar, prod):
-    """Whether the last token of the production's body has one."""
+def precedence(grammar, prod):
+    """The level and kind of the token that the production names by `%prec`, or else of the last token in its body; None where
+    that token has none, or there is no such token."""
     tokens = [it for it in grammar.prods[prod][1] if not isinstance(it, bytes)]
-    return bool(tokens) and tokens[-1] in grammar.levelled
+    return grammar.levelled.get(grammar.named.get(prod, tokens[-1] if tokens else None))
 
 
 def conflicts(grammar, states):
@@ -33,6 +34,6 @@ def conflicts(grammar, states):
                     reduce_reduce.append((token, least[token], prod, number))
                 least.setdefault(token, prod)
         for token in sorted(least.keys() & state.edges.keys()):
-            if token not in grammar.levelled or not has_precedence(grammar, least[token]):
+            if token not in grammar.levelled or precedence(grammar, least[token]) is None:
                 shift_reduce.append((token, least[token], number))
     return shift_reduce, reduce_reduce
