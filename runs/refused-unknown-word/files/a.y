@@ -1,1 +1,1 @@
-%% S: 'a' %prec 'b';
+%% S: 'a' %precedence 'b';

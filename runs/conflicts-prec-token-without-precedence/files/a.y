@@ -1,0 +1,1 @@
+%token U %left '-' %% E: E '-' E | '-' E %prec U | 'n';

@@ -1,0 +1,1 @@
+%nonassoc U '~' %% E: '!' E %prec U | E '~' E | 'n';

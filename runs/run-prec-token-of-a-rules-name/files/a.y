@@ -1,0 +1,1 @@
+%left '-' %left '*' %left Minus %% E: E '-' E | E '*' E | Minus | 'n'; Minus: '-' E %prec Minus;
