@@ -89,6 +89,29 @@ fn unfit_bodies(rt: HostRuntime) -> Result<(), Fail> {
     Ok(())
 }
 
+/// Why the rule `S` with a production that names the token at that place, of two, makes no grammar.
+fn refusal_of_named(alloc: Global, named: usize) -> Result<Option<GrammarError>, AllocError> {
+    let mut parts = rules_and_tokens(alloc, "S", "a b")?;
+    let mut prod = production(alloc, PartSymbol::Rule(0), 1)?;
+    prod.precedence = Some(named);
+    parts.prods.push(prod)?;
+    Ok(refusal(alloc, &parts))
+}
+
+#[test]
+fn tokens_named_for_a_precedence(rt: HostRuntime) -> Result<(), Fail> {
+    for (named, wanted) in [
+        (1, None),
+        (2, Some(GrammarError::SymbolOutOfRange)),
+        (255, Some(GrammarError::SymbolOutOfRange)),
+        (usize::MAX, Some(GrammarError::SymbolOutOfRange)),
+    ] {
+        let found = refusal_of_named(rt.alloc(), named)?;
+        assert_eq!(rt; found, wanted, "{named}");
+    }
+    Ok(())
+}
+
 /// Why rules and tokens of these names make no grammar, with the start rule of that number.
 fn refusal_of_names(
     alloc: Global,

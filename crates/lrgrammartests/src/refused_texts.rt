@@ -27,7 +27,7 @@ fn syntax_errors(rt: HostRuntime) {
         ("%% S: '", 6),
         ("%% S: 'a", 6),
         ("%% S: 'a'", 9),
-        ("%% S: 'a' %prec 'b';", 10),
+        ("%% S: 'a' %precedence 'b';", 10),
         ("%% S: '' ;", 6),
         ("%% S: ; /* x", 8),
         ("%start S %start S %% S: ;", 9),
@@ -39,6 +39,27 @@ fn syntax_errors(rt: HostRuntime) {
         ("% %% S: ;", 0),
         ("%% S: 'a\r';", 6),
         ("%% \u{e9}: ;", 3),
+    ] {
+        is_refused(&rt, rt.alloc(), text, TextError::Syntax(place));
+    }
+}
+
+/// One name comes behind `%prec`, and then the next body or the end of the rule.
+#[test]
+fn syntax_errors_of_prec(rt: HostRuntime) {
+    for (text, place) in [
+        ("%prec 'b' %% S: ;", 0),
+        ("%% %prec 'b' S: ;", 3),
+        ("%% S %prec 'b': ;", 5),
+        ("%% S: %prec;", 11),
+        ("%% S: %prec | 'a';", 12),
+        ("%% S: %prec %prec 'b';", 12),
+        ("%% S: 'a' %prec", 15),
+        ("%% S: 'a' %prec 'b'", 19),
+        ("%% S: 'a' %prec 'b' 'c';", 20),
+        ("%% S: 'a' %prec 'b' %prec 'b';", 20),
+        ("%% S: 'a' %prec 'b' : ;", 20),
+        ("%% S: 'a' %prec 'b'; %prec 'b'", 21),
     ] {
         is_refused(&rt, rt.alloc(), text, TextError::Syntax(place));
     }
@@ -60,6 +81,8 @@ fn unknown_names(rt: HostRuntime) -> Result<(), Fail> {
         ("%% S: x;", "x"),
         ("%start T %% S: ;", "T"),
         ("%start T %% S: y;", "T"),
+        ("%% S: b; A: 'a' %prec b;", "b"),
+        ("%% S: 'a' %prec b | b;", "b"),
     ] {
         let name = String::from_str(alloc, name)?;
         is_refused(&rt, alloc, text, TextError::UnknownSymbol(name));

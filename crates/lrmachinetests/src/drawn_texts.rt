@@ -18,8 +18,8 @@ use lrtable::machine::{Run, Verdict, run};
 use std::alloc::Global;
 use std::test::Fail;
 
-/// How many texts are drawn for each of the fourteen grammars: ten thousand in all, and a few more.
-const TEXTS: usize = 715;
+/// How many texts are drawn for each of the sixteen grammars: ten thousand in all.
+const TEXTS: usize = 625;
 
 /// The most tokens that a text has.
 const LONGEST: usize = 12;
@@ -145,6 +145,8 @@ fn as_the_plain_machine(rt: HostRuntime) -> Result<(), Fail> {
         (fixtures::FOUR_LEVELS, true),
         (fixtures::SUMS_AND_PRODUCTS, true),
         (fixtures::SUMS_AND_PRODUCTS_WITH_LEVELS, true),
+        (fixtures::UNARY_MINUS, true),
+        (fixtures::UNARY_MINUS_WITHOUT_PREC, true),
         (fixtures::ROUND_WITHOUT_TOKENS, true),
         (fixtures::NEVER_ENDING, false),
         (fixtures::ONE_BODY_TWICE, true),

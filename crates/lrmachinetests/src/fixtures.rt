@@ -40,6 +40,14 @@ pub const SUMS_AND_PRODUCTS: &str = "%% Expr : Expr '+' Expr | Expr '*' Expr | '
 pub const SUMS_AND_PRODUCTS_WITH_LEVELS: &str =
     "%left '+' %left '*' %% Expr : Expr '+' Expr | Expr '*' Expr | 'id' ;";
 
+/// A minus in front goes before all else.
+pub const UNARY_MINUS: &str = "%left '+' '-' %left '*' %left U %% \
+    E: E '+' E | E '-' E | E '*' E | '-' E %prec U | 'n';";
+
+/// A minus in front goes with the others.
+pub const UNARY_MINUS_WITHOUT_PREC: &str = "%left '+' '-' %left '*' %left U %% \
+    E: E '+' E | E '-' E | E '*' E | '-' E | 'n';";
+
 /// One sentence, by two productions.
 pub const ONE_BODY_TWICE: &str = "%% S: 'a' | 'a';";
 

@@ -7,7 +7,8 @@ ghost use Rattle.lrspec.specs.tables.Recognition.{AreNamed};
 ghost use Rattle.lrtable.specs.RunAnswers.{text_of};
 
 use crate::fixtures::{
-    NEVER_ENDING, ONE_BODY_TWICE, ROUND_WITHOUT_TOKENS, TERMS_AND_FACTORS, repeated,
+    NEVER_ENDING, ONE_BODY_TWICE, ROUND_WITHOUT_TOKENS, TERMS_AND_FACTORS, UNARY_MINUS,
+    UNARY_MINUS_WITHOUT_PREC, repeated,
 };
 use crate::tables::grammar_and_table;
 use lrgrammar::grammar::YaccGrammar;
@@ -105,6 +106,8 @@ fn by_four_bytes(rt: HostRuntime) -> Result<(), Fail> {
         (NEVER_ENDING, "b b", 100, "Rejected 3:"),
         (NEVER_ENDING, "b", 1, "Unfinished 1:"),
         (ONE_BODY_TWICE, "a", 100, "Accepted 3: 0"),
+        (UNARY_MINUS, "- n * n", 100, "Accepted 9: 4 3 4 2"),
+        (UNARY_MINUS_WITHOUT_PREC, "- n * n", 100, "Accepted 9: 4 4 2 3"),
     ] {
         let come_out = outcome::<u32>(rt.alloc(), grammar, text, steps)?;
         assert_eq!(rt; come_out.as_str(), wanted);

@@ -5,6 +5,7 @@ ghost use Rattle.lrspec.specs.merging.Graph.{IsGraphOf};
 use crate::fixtures::{
     A_RULE_GONE_ON_WITH, FOUR_LEVELS, NONASSOC, ONE_BODY_TWICE, RULE_WITHOUT_A_TREE,
     SUMS_AND_PRODUCTS, SUMS_AND_PRODUCTS_WITH_LEVELS, TERMS_AND_FACTORS, TOLD_APART_LATE,
+    UNARY_MINUS, UNARY_MINUS_WITHOUT_PREC,
 };
 use crate::tables::{actions, gotos, grammar_and_table, is_told, prods_of_rule, row};
 use lrgrammar::grammar::YaccGrammar;
@@ -156,6 +157,18 @@ fn single_cells(rt: HostRuntime) -> Result<(), Fail> {
         (ONE_BODY_TWICE, 1, "$", " r0"),
     ] {
         acts::<u32>(&rt, rt.alloc(), text, &[(from, names, wanted)])?;
+    }
+    Ok(())
+}
+
+/// State 7 stands behind a minus in front and its side.
+#[test]
+fn unary_minus(rt: HostRuntime) -> Result<(), Fail> {
+    for (text, wanted) in [
+        (UNARY_MINUS, " r3 r3 r3 r3"),
+        (UNARY_MINUS_WITHOUT_PREC, " r3 r3 s6 r3"),
+    ] {
+        acts::<u32>(&rt, rt.alloc(), text, &[(7, "+ - * $", wanted)])?;
     }
     Ok(())
 }

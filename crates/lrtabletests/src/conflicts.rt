@@ -3,9 +3,9 @@
 use crate::fixtures::{
     A_COLLECTED_STATE, A_RULE_GONE_ON_WITH, AN_UNREACHED_RULE, CONTESTED_ON_X_ALONE, FOUR_LEVELS,
     HIDDEN_LEFT_RECURSION, LR1_AND_NOT_LALR1, NEVER_ENDING, NO_SENTENCE, NONASSOC, ONE_BODY_TWICE,
-    ROUND_WITHOUT_TOKENS, RULE_WITHOUT_A_TREE, SHIFT_AND_TWO_REDUCTIONS, SUMS_AND_PRODUCTS,
+    PREC_WITHOUT_A_LEVEL, ROUND_WITHOUT_TOKENS, RULE_WITHOUT_A_TREE, SHIFT_AND_TWO_REDUCTIONS, SUMS_AND_PRODUCTS,
     SUMS_AND_PRODUCTS_WITH_LEVELS, SUMS_WITH_A_LEVEL, TERMS_AND_FACTORS, THREE_REDUCTIONS,
-    TOLD_APART_LATE,
+    TOLD_APART_LATE, UNARY_MINUS, UNARY_MINUS_WITHOUT_PREC,
 };
 use crate::tables::{conflicts, is_told};
 use lrgrammar::idx::IndexStorage;
@@ -37,6 +37,8 @@ fn no_conflicts(rt: HostRuntime) -> Result<(), Fail> {
         SUMS_AND_PRODUCTS_WITH_LEVELS,
         A_COLLECTED_STATE,
         NEVER_ENDING,
+        UNARY_MINUS,
+        UNARY_MINUS_WITHOUT_PREC,
     ] {
         has_conflicts::<u32>(&rt, rt.alloc(), text, "none")?;
     }
@@ -61,6 +63,7 @@ fn listed_conflicts(rt: HostRuntime) -> Result<(), Fail> {
         ),
         (SUMS_AND_PRODUCTS, "0, 4 (0,0,5) (1,0,5) (0,1,6) (1,1,6)"),
         (SUMS_WITH_A_LEVEL, "0, 3 (1,0,5) (0,1,6) (1,1,6)"),
+        (PREC_WITHOUT_A_LEVEL, "0, 1 (1,1,5)"),
     ] {
         has_conflicts::<u32>(&rt, rt.alloc(), text, wanted)?;
     }

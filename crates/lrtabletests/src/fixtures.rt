@@ -56,6 +56,18 @@ pub const SUMS_AND_PRODUCTS_WITH_LEVELS: &str =
 /// Sums and products, of which sums alone have a level.
 pub const SUMS_WITH_A_LEVEL: &str = "%left '+' %% Expr : Expr '+' Expr | Expr '*' Expr | 'id' ;";
 
+/// A minus in front goes before all else.
+pub const UNARY_MINUS: &str = "%left '+' '-' %left '*' %left U %% \
+    E: E '+' E | E '-' E | E '*' E | '-' E %prec U | 'n';";
+
+/// A minus in front goes with the others.
+pub const UNARY_MINUS_WITHOUT_PREC: &str = "%left '+' '-' %left '*' %left U %% \
+    E: E '+' E | E '-' E | E '*' E | '-' E | 'n';";
+
+/// The minus in front has no level, though the token `-` has one.
+pub const PREC_WITHOUT_A_LEVEL: &str =
+    "%token U %left '-' %% E: E '-' E | '-' E %prec U | 'n';";
+
 /// Behind `a` three reductions go on at each of two tokens.
 pub const THREE_REDUCTIONS: &str =
     "%% S: A 'x' | A 'y' | B 'x' | B 'y' | C 'x' | C 'y'; A: 'a'; B: 'a'; C: 'a';";
