@@ -46,6 +46,9 @@ ODD = {
     "a lone %": b"% %% S: ;",
     "a rule and a token of one name": b"%% S: 'S' S | ;",
     "tokens named like marks": b"%% S: ':' ';' '|' '%%' '%start';",
+    "a %prec that names nothing": b"%% S: %prec;",
+    "a %prec in the midst of a body": b"%% S: 'a' %prec 'b' 'c';",
+    "a %prec that names a rule": b"%% S: 'a' %prec S;",
 }
 
 LONG = {
@@ -61,6 +64,7 @@ LONG = {
     "tokens in a line": (100_000, lambda n: b"%token " + b" ".join(b"t%d" % k for k in range(n)) + b" %% S: ;"),
     "tokens in a precedence line": (100_000, lambda n: b"%left " + b" ".join(b"t%d" % k for k in range(n)) + b" %% S: ;"),
     "precedence lines": (100_000, lambda n: b"".join(b"%%left t%d " % k for k in range(n)) + b"%% S: ;"),
+    "tokens behind %prec": (50_000, lambda n: b"%% S: 'a'" + b"".join(b" | 'a' %%prec t%d" % k for k in range(n)) + b";"),
     "bytes behind the second %%": (2_000_000, lambda n: b"%% S: ; %%" + b"'" * n),
 }
 
