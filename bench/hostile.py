@@ -64,7 +64,7 @@ LONG = {
     "tokens in a line": (100_000, lambda n: b"%token " + b" ".join(b"t%d" % k for k in range(n)) + b" %% S: ;"),
     "tokens in a precedence line": (100_000, lambda n: b"%left " + b" ".join(b"t%d" % k for k in range(n)) + b" %% S: ;"),
     "precedence lines": (100_000, lambda n: b"".join(b"%%left t%d " % k for k in range(n)) + b"%% S: ;"),
-    "tokens behind %prec": (50_000, lambda n: b"%% S: 'a'" + b"".join(b" | 'a' %%prec t%d" % k for k in range(n)) + b";"),
+    "alternatives with %prec": (100_000, lambda n: b"%% S: 'a'" + b" | 'a' %prec b" * n + b";"),
     "bytes behind the second %%": (2_000_000, lambda n: b"%% S: ; %%" + b"'" * n),
 }
 
