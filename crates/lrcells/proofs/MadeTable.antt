@@ -18,7 +18,7 @@ use Rattle.lrrows.specs.RowsOf.{AreRowsOf}
 use Rattle.lrrows.specs.declared.rows.Rows.{Rows}
 use Rattle.lrcells.proofs.FlattenedRows.{length_of_rows, all_of_rows}
 use Rattle.lrrows.proofs.IndexedRows.{indexed_action_row, indexed_goto_row}
-use Rattle.lrcells.proofs.TableOfRows.{HasRowsOf, length_of_action_row, length_of_goto_row, inside_made, made_of_graph, reduced_by, reduces_only}
+use Rattle.lrcells.proofs.TableOfRows.{HasRowsOf, length_of_action_row, length_of_goto_row, made_of_graph, reduced_by, reduces_only}
 use Rattle.lrspec.proofs.tables.ReductionsApart.{reduces_apart}
 use Rattle.lrspec.proofs.tables.ConflictEntries.{entries_in_range}
 
@@ -115,7 +115,6 @@ module _
     pub made_apart : ((s p : ℕ) → AcceptsAndReduces g h s p → ⊥) → IsGrammar g → IsGraphOf g h → ReducesApart g made
     made_apart none shape m =
         reduces_apart g h made shape m (made_table none)
-        (λ s t i. let (l, k) = inside_made g h (length r.core_reduces.items) actions gotos kept matrices s t i in (omega (arith, rows.count), k))
 
     pub made_entries : ((s p : ℕ) → AcceptsAndReduces g h s p → ⊥) → AreEntriesOf g (lists_of made)
     made_entries none = entries_in_range g h made (made_table none)

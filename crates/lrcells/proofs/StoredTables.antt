@@ -1,14 +1,15 @@
 -- what a table that is kept in matrices has in each cell
-use Rattle.std.proofs.Common.{◌≡◌, ℕ, ◌+◌, ◌*◌, ◌<◌, ◌≤◌, [], length, Option, None, Some, refl, ap, ◌∙◌, inl, inr, arith}
+use Rattle.std.proofs.Common.{◌≡◌, ℕ, ◌+◌, ◌*◌, ◌<◌, ◌≤◌, List, [], length, Option, None, Some, refl, ap, ◌∙◌, inl, inr, arith}
 use Rattle.std.specs.Prelude.{map, slice_get, slice_index_or}
 use Rattle.std.specs.List.{range_with_len}
 use Rattle.std.proofs.lemmas.Bool.{cases_lt, lt-ltb, le-ltb}
 use Rattle.std.proofs.lemmas.List.{get_or_past}
+use Rattle.std.proofs.lemmas.List.Elements.{All-map}
 use Rattle.std.proofs.lemmas.List.FromFn.{get_or-map-range_with_len, length-map-range_with_len}
 use Rattle.std.proofs.lemmas.Nat.{mul-add-lt}
 use Rattle.std.proofs.lemmas.Option.{slice_get_within, slice_get-get_or, get_or_from_slice_get}
 use Rattle.std.proofs.Math.Nat.{mul-le-mul_right}
-use Rattle.lrspec.specs.tables.Table.{Error, Lists, action_of, goto_of}
+use Rattle.lrspec.specs.tables.Table.{Error, Lists, action_of, goto_of, IsGrid}
 use Rattle.lrsparse.specs.Matrix.{Matrix, value_at}
 use Rattle.lrrows.specs.StoredActions.{action_numbered, goto_numbered}
 use Rattle.lrcells.specs.StoredTable.{rows_of, table_of}
@@ -60,6 +61,15 @@ module _ {X : Type 0} (f : ℕ → X) (d : X) (n : ℕ) (m : Matrix) (s c : ℕ)
     ]
     | inr k ↦ cell_past_column k
   ]
+
+-- the first `n` rows are a grid with the matrix's columns
+pub grid_of_rows : {X : Type 0} (f : ℕ → X) (n : ℕ) (m : Matrix) → IsGrid n m.cols (rows_of f n m)
+grid_of_rows {X} f n m =
+    let row : ℕ → List X = λ r. map (λ c. f (slice_index_or m.cells (r * m.cols + c) 0)) (range_with_len 0 m.cols) in
+    record {
+      rows = length-map-range_with_len row 0 n;
+      places = All-map (λ r. length r ≡ m.cols) row (range_with_len 0 n) (λ k d l. length-map-range_with_len _ 0 m.cols);
+    }
 
 module _ (n : ℕ) (actions gotos : Matrix) (conflicts : Option Lists) (s : ℕ) where
   -- the cell says what its number says

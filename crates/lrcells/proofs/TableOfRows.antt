@@ -1,20 +1,21 @@
 -- the table whose matrices have the rows of the states of a graph is that of the graph
-use Rattle.std.proofs.Common.{◌≡◌, ◌≢◌, ℕ, false, ltb, ◌+◌, ◌*◌, ◌<◌, ◌≤◌, List, Option, length, refl, sym, subst, ap, ◌∙◌, ◌⊎◌, inl, inr, ◌↔◌, arith, get_or}
+use Rattle.std.proofs.Common.{◌≡◌, ◌≢◌, ℕ, ◌+◌, ◌*◌, ◌<◌, ◌≤◌, List, Option, length, refl, sym, subst, ap, ◌∙◌, ◌⊎◌, inl, inr, ◌↔◌, arith, get_or}
 use Rattle.std.specs.List.{flat_map, range_with_len}
 use Rattle.std.proofs.lemmas.List.FromFn.{get_or-map-range_with_len, length-map-range_with_len}
-use Rattle.std.proofs.lemmas.Bool.{cases_lt, le-ltb}
+use Rattle.std.proofs.lemmas.Bool.{cases_lt}
 use Rattle.lrspec.specs.grammars.Grammar.{Grammar, Rule, token_count}
 use Rattle.lrspec.specs.merging.Graph.{Graph, edge}
-use Rattle.lrspec.specs.tables.Table.{Action, Reduce, Error, Table, Lists, action_of, goto_of, cell_of, reduce_reduce_of, shift_reduce_of, AcceptsAndReduces, IsTableOf}
+use Rattle.lrspec.specs.tables.Table.{Action, Reduce, Error, Table, Lists, action_of, goto_of, cell_of, reduce_reduce_of, shift_reduce_of, AcceptsAndReduces, IsGrid, IsTableOf}
 use Rattle.lrspec.specs.tables.Rows.{AreAllWith, AreReducedBy, ReducesOnly}
+use Rattle.lrspec.proofs.tables.TableGrids.{outside_grid, inside_grid}
 use Rattle.lrsparse.specs.Matrix.{Matrix}
 use Rattle.lrrows.specs.StoredActions.{action_number, action_numbered, goto_number, goto_numbered}
 use Rattle.lrcells.specs.StoredTable.{lists_or_none, table_of}
 use Rattle.lrrows.specs.StateRows.{action_row, goto_row}
 use Rattle.lrrows.specs.RowsOf.{HasCell, ReduceByOne}
 use Rattle.lrrows.proofs.KeptNumbers.{numbered_action, numbered_goto}
-use Rattle.lrcells.proofs.StoredTables.{action_there, action_none, action_past, goto_there}
-use Rattle.lrcells.proofs.FlattenedRows.{length_of_rows, cell_of_rows}
+use Rattle.lrcells.proofs.StoredTables.{grid_of_rows, action_there, goto_there}
+use Rattle.lrcells.proofs.FlattenedRows.{cell_of_rows}
 
 -- so many cells has each row
 pub length_of_action_row : (g : Grammar) (h : Graph) (s : ℕ) → length (action_row g h s) ≡ token_count g
@@ -56,23 +57,12 @@ module _ (g : Grammar) (h : Graph) (n : ℕ) (actions gotos : Matrix) (kept : Op
       ∙ get_or-map-range_with_len (λ u. goto_number (edge h s (Rule u))) 0 (length g.rule_names) r r 0 k (omega arith))))
       ∙ numbered_goto (edge h s (Rule r)))
 
-  -- behind the last token the table errs
-  errs_beside : (s t : ℕ) → token_count g ≤ t → action_of made s t ≡ Error
-  errs_beside s t k =
-      let whole : length actions.cells ≡ n * actions.cols =
-      ap length has.cells
-      ∙ (length_of_rows (action_row g h) (token_count g) (length_of_action_row g h) n ∙ ap (λ cols. n * cols) (sym has.tokens)) in
-      let beside : ltb t actions.cols ≡ false = le-ltb t actions.cols (omega (arith, has.tokens)) in
-      action_none n actions gotos kept s t whole (rw beside refl)
+  -- both matrices have the rows and the places of a table of the graph
+  actions_made : IsGrid n (token_count g) made.actions
+  actions_made = subst (λ m. IsGrid n m made.actions) has.tokens (grid_of_rows action_numbered n actions)
 
-  -- the table errs outside of its states and tokens
-  pub inside_made : (s t : ℕ) → action_of made s t ≢ Error → (s < n) × (t < token_count g)
-  inside_made s t not_error = states (cases_lt s n) (cases_lt t (token_count g))
-    where
-      states : (s < n) ⊎ (n ≤ s) → (t < token_count g) ⊎ (token_count g ≤ t) → (s < n) × (t < token_count g)
-      states (inl l) (inl k) = (l, k)
-      states (inl l) (inr k) = absurd (not_error (errs_beside s t k))
-      states (inr l) k = absurd (not_error (action_past n actions gotos kept s t l))
+  gotos_made : IsGrid n (length g.rule_names) made.gotos
+  gotos_made = subst (λ m. IsGrid n m made.gotos) has.rules (grid_of_rows goto_numbered n gotos)
 
   pub made_of_graph :
       ((s p : ℕ) → AcceptsAndReduces g h s p → ⊥)
@@ -82,6 +72,8 @@ module _ (g : Grammar) (h : Graph) (n : ℕ) (actions gotos : Matrix) (kept : Op
   made_of_graph none pairs mixes = record {
     no_contest = none;
     start = refl;
+    action_grid = subst (λ k. IsGrid k (token_count g) made.actions) has.states actions_made;
+    goto_grid = subst (λ k. IsGrid k (length g.rule_names) made.gotos) has.states gotos_made;
     cells = λ s t l k. cell_made s t (omega (arith, has.states)) k;
     gotos = λ s r l k. goto_made s r (omega (arith, has.states)) k;
     reduce_reduce = pairs;
@@ -93,7 +85,7 @@ module _ (g : Grammar) (h : Graph) (n : ℕ) (actions gotos : Matrix) (kept : Op
   cell_kept s a l not_error = (
     λ (t, k, e). (t, cell_made s t l k ∙ e),
     λ (t, e).
-        let k = (inside_made s t (λ i. not_error (sym e ∙ i))).1 in
+        let k = (inside_grid made.actions actions_made s t Error (λ i. not_error (sym e ∙ i))).1 in
         (t, k, sym (cell_made s t l k) ∙ e),
   )
 
@@ -117,7 +109,7 @@ module _ (g : Grammar) (h : Graph) (n : ℕ) (actions gotos : Matrix) (kept : Op
           moved : (cell_of g h s t ≡ Error) ⊎ (cell_of g h s t ≡ Reduce p) → (action_of made s t ≡ Error) ⊎ (action_of made s t ≡ Reduce p)
           moved (inl e) = inl (cell_made s t l k ∙ e)
           moved (inr e) = inr (cell_made s t l k ∙ e)
-      either t p each (inr k) = inl (errs_beside s t k)
+      either t p each (inr k) = inl (outside_grid made.actions actions_made s t Error (inr k))
 
       to : ReduceByOne g h s → ReducesOnly made s
       to (p, some, each) = (p, (cell_kept s (Reduce p) l (λ e. cc)).0 some, λ t. either t p each (cases_lt t (token_count g)))

@@ -1,9 +1,11 @@
 -- cells and listed conflicts, runs of the machine, and the theorems on tables
 pub mod CellFacts
 pub mod UncrowdedCells
+pub mod TableGrids
 pub mod ReductionsApart
 pub mod ListedConflicts
 pub mod ConflictEntries
+pub mod RowEntries
 pub mod ConflictsAreContested
 pub mod MachineStacks
 pub mod MachineInvariant

@@ -1,10 +1,11 @@
 -- the table of the smallest grammar, which recognises it, and a run
 use Rattle.std.proofs.Common.{◌≡◌, ℕ, zero, suc, ◌<◌, [], ◌∷◌, length, None, Some, refl, arith}
+use Rattle.std.proofs.lemmas.List.Elements.{All-from_recursion}
 use Rattle.lrspec.specs.grammars.Grammar.{Rule, body_of}
 use Rattle.lrspec.specs.merging.Graph.{edge}
 use Rattle.lrspec.specs.grammars.Candidates.{IsUncontested}
 use Rattle.lrspec.specs.tables.Table as table
-use Rattle.lrspec.specs.tables.Table.{Table, action_of, goto_of, cell_of, AcceptsAndReduces, IsTableOf}
+use Rattle.lrspec.specs.tables.Table.{Table, action_of, goto_of, cell_of, AcceptsAndReduces, IsGrid, IsTableOf}
 use Rattle.lrspec.specs.tables.Machine.{Accepted, run}
 use Rattle.lrspec.specs.tables.Recognition.{Recognises}
 use Rattle.lrspec.specs.tables.Exactness.{HasNoPrecedences}
@@ -42,9 +43,16 @@ gotos (suc zero) (suc zero) l k = refl
 gotos (suc (suc s)) r l k = absurd (omega arith)
 gotos s (suc (suc r)) l k = absurd (omega arith)
 
+-- it has two rows, in each of which one cell and two gotos stand
+action_grid : IsGrid 2 1 smallest_table.actions
+action_grid = record { rows = refl; places = All-from_recursion (λ row. length row ≡ 1) smallest_table.actions (refl, (refl, tt)) }
+
+goto_grid : IsGrid 2 2 smallest_table.gotos
+goto_grid = record { rows = refl; places = All-from_recursion (λ row. length row ≡ 2) smallest_table.gotos (refl, (refl, tt)) }
+
 -- the table is that of the graph
 pub smallest_table_of : IsTableOf smallest smallest_graph smallest_table
-smallest_table_of = record { no_contest = no_contest; start = refl; cells = cells; gotos = gotos; reduce_reduce = refl; shift_reduce = refl }
+smallest_table_of = record { no_contest = no_contest; start = refl; action_grid = action_grid; goto_grid = goto_grid; cells = cells; gotos = gotos; reduce_reduce = refl; shift_reduce = refl }
 
 -- on the empty text the machine accepts in two steps, of which the first reduces by `S: ;`
 pub smallest_accepts : run smallest smallest_table 2 [] ≡ record { verdict = Accepted; steps = 2; reductions = 0 ∷ [] }

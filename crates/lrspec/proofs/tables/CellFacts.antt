@@ -149,12 +149,17 @@ accept_by g t (p ∷ ps) (Some v) b e = elim (decided (token_precedence g t) (pr
 pub edge_from_shift : (g : Grammar) (h : Graph) (s t u : ℕ) → cell_of g h s t ≡ table.Action.Shift u → edge h s (Token t) ≡ Some u
 edge_from_shift g h s t u e = shift_by g t (reductions g (closed_of h s) t) (edge h s (Token t)) (accepts_at g (closed_of h s) t) u e
 
+-- a cell that reduces does so by one of the reductions
+pub reduction_of_cell :
+    (g : Grammar) (h : Graph) (s t p : ℕ) → cell_of g h s t ≡ table.Action.Reduce p → Among p (reductions g (closed_of h s) t)
+reduction_of_cell g h s t p e = reduce_by g t (reductions g (closed_of h s) t) (edge h s (Token t)) (accepts_at g (closed_of h s) t) p e
+
 -- a cell that reduces has that complete production, which looks at the token and isn't the start production
 pub looks_from_reduce :
     (g : Grammar) (h : Graph) (s t p : ℕ) → cell_of g h s t ≡ table.Action.Reduce p
     → (p ≢ g.start_production) × LooksIn (closed_of h s) p (length (body_of g p)) t
 looks_from_reduce g h s t p e =
-    reduction_looks g (closed_of h s) t p (reduce_by g t (reductions g (closed_of h s) t) (edge h s (Token t)) (accepts_at g (closed_of h s) t) p e)
+    reduction_looks g (closed_of h s) t p (reduction_of_cell g h s t p e)
 
 -- a cell that accepts has the complete start production, which looks at the token
 pub looks_from_accept :

@@ -11,7 +11,7 @@ use Rattle.lrspec.proofs.grammars.ListMembers.{Among, among_from_contains, below
 use Rattle.lrspec.proofs.tables.ListedConflicts.{listed_pair, listed_mix}
 
 -- a reduction is by a production of the grammar
-reduction_below : (g : Grammar) (a : Items) (t p : ℕ) → Among p (reductions g a t) → p < length g.productions
+pub reduction_below : (g : Grammar) (a : Items) (t p : ℕ) → Among p (reductions g a t) → p < length g.productions
 reduction_below g a t p h =
     below_from_range (length g.productions) p
     (from_filter (λ q. not (q == g.start_production) && is_complete_at g a t q) p (range_with_len 0 (length g.productions)) h)

@@ -1,21 +1,18 @@
 -- a state reduces by no two productions of one rule and one length
-use Rattle.std.proofs.Common.{◌≡◌, ◌≢◌, ℕ, zero, suc, ◌<◌, ◌≤◌, List, [], ◌∷◌, length, refl, sym, ◌∙◌, arith}
+use Rattle.std.proofs.Common.{◌≡◌, ℕ, zero, suc, ◌<◌, ◌≤◌, List, [], ◌∷◌, length, refl, sym, ◌∙◌, arith}
 use Rattle.std.specs.Prelude.{slice_get}
-use Rattle.lrspec.specs.grammars.Grammar.{Production, Grammar, IsGrammar, token_count, body_of, rule_of, rule_or_zero, IsOfRule, IsProductionOf}
+use Rattle.lrspec.specs.grammars.Grammar.{Production, Grammar, IsGrammar, body_of, rule_of, rule_or_zero, IsOfRule, IsProductionOf}
 use Rattle.lrspec.specs.grammars.ItemSets.{HasItem, LooksIn}
 use Rattle.lrspec.specs.merging.Graph.{Graph, closed_of, IsGraphOf}
 use Rattle.lrspec.specs.tables.Table as table
-use Rattle.lrspec.specs.tables.Table.{Error, Table, cell_of, action_of, IsTableOf}
+use Rattle.lrspec.specs.tables.Table.{Table, cell_of, IsTableOf}
 use Rattle.lrspec.specs.tables.Rows.{ReducesApart}
 use Rattle.lrspec.proofs.grammars.CanonicalItemFacts.{sister_looks}
 use Rattle.lrspec.proofs.grammars.Closures.{has_of_looks}
 use Rattle.lrspec.proofs.merging.RootedCores.{rooted_closes, rooted_closes_looks}
 use Rattle.lrspec.proofs.tables.CellFacts.{among_reductions, looks_from_reduce, least_from_reduce}
 use Rattle.lrspec.proofs.tables.MachineStacks.{look_fits}
-
--- the table errs wherever there is no such state or no such token
-abbrev pub ErrsOutside : Grammar → Graph → Table → Type 0
-ErrsOutside g h b = (s t : ℕ) → action_of b s t ≢ Error → (s < length h) × (t < token_count g)
+use Rattle.lrspec.proofs.tables.TableGrids.{acts_inside}
 
 -- a place of a list of productions has one, of the rule that is told
 of_rule_at : (ps : List Production) (p : ℕ) → p < length ps → IsOfRule (slice_get ps p) (rule_or_zero (slice_get ps p))
@@ -52,10 +49,10 @@ module _ (g : Grammar) (h : Graph) (grammar : IsGrammar g) (m : IsGraphOf g h) w
       least_from_reduce g h s t p q e (among_reductions g c t q other o looks)
 
 -- a state of a table reduces by no two productions of one rule and one length
-pub reduces_apart : (g : Grammar) (h : Graph) (b : Table) → IsGrammar g → IsGraphOf g h → IsTableOf g h b → ErrsOutside g h b → ReducesApart g b
-reduces_apart g h b grammar m k outside s t u p q e f rules lengths =
-    let (l, x) = outside s t (λ z. cc) in
-    let (n, y) = outside s u (λ z. cc) in
+pub reduces_apart : (g : Grammar) (h : Graph) (b : Table) → IsGrammar g → IsGraphOf g h → IsTableOf g h b → ReducesApart g b
+reduces_apart g h b grammar m k s t u p q e f rules lengths =
+    let (l, x) = acts_inside k s t (λ z. cc) in
+    let (n, y) = acts_inside k s u (λ z. cc) in
     let i = sym (k.cells s t l x) ∙ e in
     let j = sym (k.cells s u l y) ∙ f in
     let one = least_sister g h grammar m s t u p q l i j rules lengths in

@@ -1,6 +1,6 @@
 -- the cells of a graph, its lists of conflicts, and tables
 use Rattle.std.specs.Prelude.{◌≡◌, ◌≢◌, ℕ, ◌<◌, Bool, false, if◌then◌else◌, not, ◌==◌, ◌&&◌, nat_lt, List, [], ◌∷◌, filter, length, Option, None, Some, slice_index_or}
-use Rattle.std.specs.List.{flat_map, filter_map, list_any, range_with_len}
+use Rattle.std.specs.List.{All, flat_map, filter_map, list_any, range_with_len}
 use Rattle.lrspec.specs.grammars.Grammar.{Rule, Token, Kind, Left, Right, Nonassoc, Precedence, Grammar, end_token, token_count, body_of, token_precedence, production_precedence}
 use Rattle.lrspec.specs.grammars.ItemSets.{Items, item_at, LooksIn}
 use Rattle.lrspec.specs.grammars.Candidates as candidate
@@ -168,10 +168,18 @@ action_of b s t = slice_index_or (slice_index_or b.actions s []) t Error
 abbrev pub goto_of : Table → ℕ → ℕ → Option ℕ
 goto_of b s r = slice_index_or (slice_index_or b.gotos s []) r None
 
--- the table is that of the graph
+-- a grid of `n` rows, each of `m` places
+pub record IsGrid {X : Type 0} (n m : ℕ) (grid : List (List X)) : Type 0 where
+  pub rows : length grid ≡ n
+  pub places : All (λ row. length row ≡ m) grid
+
+-- the table is that of the graph: it has a row for each state, in which it has a cell for each
+-- token, and a place for where each rule leads, and it has no others
 pub record IsTableOf (g : Grammar) (h : Graph) (b : Table) : Type 0 where
   pub no_contest : (s p : ℕ) → AcceptsAndReduces g h s p → ⊥
   pub start : b.start ≡ 0
+  pub action_grid : IsGrid (length h) (token_count g) b.actions
+  pub goto_grid : IsGrid (length h) (length g.rule_names) b.gotos
   pub cells : (s t : ℕ) → s < length h → t < token_count g → action_of b s t ≡ cell_of g h s t
   pub gotos :
       (s r : ℕ) → s < length h → r < length g.rule_names → goto_of b s r ≡ edge h s (Rule r)
