@@ -1,4 +1,5 @@
-"""Conflicts of a grammar's table, worked out from the definitions of docs/FORMATS.md and not by the program."""
+"""Conflicts of a grammar's table and precedences of its productions, worked out from the definitions of docs/FORMATS.md and not
+by the program."""
 
 from graphs import tokens_of
 

@@ -107,7 +107,12 @@ fn by_four_bytes(rt: HostRuntime) -> Result<(), Fail> {
         (NEVER_ENDING, "b", 1, "Unfinished 1:"),
         (ONE_BODY_TWICE, "a", 100, "Accepted 3: 0"),
         (UNARY_MINUS, "- n * n", 100, "Accepted 9: 4 3 4 2"),
-        (UNARY_MINUS_WITHOUT_PREC, "- n * n", 100, "Accepted 9: 4 4 2 3"),
+        (
+            UNARY_MINUS_WITHOUT_PREC,
+            "- n * n",
+            100,
+            "Accepted 9: 4 4 2 3",
+        ),
     ] {
         let come_out = outcome::<u32>(rt.alloc(), grammar, text, steps)?;
         assert_eq!(rt; come_out.as_str(), wanted);

@@ -65,8 +65,7 @@ pub const UNARY_MINUS_WITHOUT_PREC: &str = "%left '+' '-' %left '*' %left U %% \
     E: E '+' E | E '-' E | E '*' E | '-' E | 'n';";
 
 /// The minus in front has no level, though the token `-` has one.
-pub const PREC_WITHOUT_A_LEVEL: &str =
-    "%token U %left '-' %% E: E '-' E | '-' E %prec U | 'n';";
+pub const PREC_WITHOUT_A_LEVEL: &str = "%token U %left '-' %% E: E '-' E | '-' E %prec U | 'n';";
 
 /// Behind `a` three reductions go on at each of two tokens.
 pub const THREE_REDUCTIONS: &str =
