@@ -99,12 +99,12 @@ fn edges_on<T: IndexStorage>(
     grm: &YaccGrammar<T>,
     graph: &StateGraph<T>,
     stidx: StIdx<T>,
-    names: &[&str],
+    names: &str,
 ) -> Result<(), Fail>
     requires { T.number stidx.0 < length graph.now }
 {
     let edges = graph.edges(stidx);
-    for name in names {
+    for name in names.split_whitespace() {
         let on = symbol(grm, name)?;
         let same = edges.get(&on).copied() == graph.edge(stidx, on);
         assert!(rt; same, "{name}");
@@ -132,13 +132,13 @@ fn targets_of<T: IndexStorage>(
 /// The edges of each state are those that `edge` answers, no two of which lead to one state.
 fn edges_of_states<T: IndexStorage>(rt: &impl Abort, alloc: Global) -> Result<(), Fail> {
     for (text, names) in [
-        (NESTED_STATES, ["^", "S", "A", "a", "b", "c"]),
-        (HIDDEN_LEFT_RECURSION, ["^", "S", "A", "B", "x", "y"]),
+        (NESTED_STATES, "^ S A a b c"),
+        (HIDDEN_LEFT_RECURSION, "^ S A B x y"),
     ] {
         let (grm, graph) = grammar_and_graph::<T>(alloc, text)?;
         for number in 0..usize::from(graph.all_states_len()) {
             let stidx = state(number)?;
-            edges_on(rt, &grm, &graph, stidx, &names)?;
+            edges_on(rt, &grm, &graph, stidx, names)?;
             targets_of(rt, alloc, &graph, stidx)?;
         }
     }
