@@ -1,13 +1,13 @@
 -- which tokens of a row are taken, one after another
-use Rattle.std.proofs.Common.{◌≡◌, ℕ, suc, ◌+◌, ◌-◌, ◌<◌, ◌≤◌, Bool, true, false, cond, List, [], ◌∷◌, ◌↔◌, refl, inl, inr, arith}
-use Rattle.std.specs.Prelude.{Contains, filter}
+use Rattle.std.proofs.Common.{◌≡◌, ℕ, suc, ◌+◌, ◌-◌, ◌<◌, ◌≤◌, Bool, true, false, [], ◌∷◌, ◌↔◌, refl, inl, inr, arith}
+use Rattle.std.specs.Prelude.{Contains}
 use Rattle.std.specs.List.{range_with_len}
 use Rattle.std.specs.List.Sorted.{IsStrictlyIncreasing}
 use Rattle.std.proofs.lemmas.Bool.{cases_lt, le-ltb}
 use Rattle.std.proofs.lemmas.List.Elements.{All-contains, filter_passes}
 use Rattle.std.proofs.lemmas.List.FromFn.{length-range_with_len, get_or-range_with_len}
 use Rattle.std.proofs.lemmas.List.Kept.{IsStrictlyIncreasing-filter}
-use Rattle.lrspec.proofs.grammars.ListMembers.{Among, contains_from_among, among_below}
+use Rattle.lrspec.proofs.grammars.ListMembers.{contains_from_among, among_below, among_filter}
 use Rattle.lrsparse.specs.Matrix.{Matrix, value_at}
 use Rattle.lrcells.specs.TakenTokens.{takes_cell, tokens_taken}
 
@@ -16,16 +16,6 @@ range_upwards : (a n : ℕ) → IsStrictlyIncreasing (range_with_len a n)
 range_upwards a n k l =
     let h : k + 1 < n = rw (length-range_with_len a n) at l in
     rw (get_or-range_with_len a n k 0 (omega arith), get_or-range_with_len a n (k + 1) 0 h) (omega arith)
-
-kept_later : (b : Bool) (x y : ℕ) (ys : List ℕ) → Among x ys → Among x (cond b (y ∷ ys) ys)
-kept_later true x y ys h = inr h
-kept_later false x y ys h = h
-
--- what passes the test is kept
-among_filter : (f : ℕ → Bool) (x : ℕ) (xs : List ℕ) → Among x xs → f x ≡ true → Among x (filter f xs)
-among_filter f x [] h p = absurd h
-among_filter f x (y ∷ ys) (inl e) p = let q : f y ≡ true = rw e at p in rw q (inl e)
-among_filter f x (y ∷ ys) (inr h) p = kept_later (f y) x y (filter f ys) (among_filter f x ys h p)
 
 module _ (m : Matrix) (row : ℕ) (only : Bool) where
   -- a token that is not taken is passed over

@@ -2,10 +2,10 @@
 use Rattle.std.proofs.Common.{◌≡◌, ◌≢◌, ℕ, zero, suc, ◌+◌, ◌<◌, ◌≤◌, Bool, true, false, cond, List, ◌∷◌, length, map, get_or, refl, sym, ap, ◌∙◌, arith, ◌⊎◌, inl, inr, ⊎_elim, Option, None, Some}
 use Rattle.std.specs.Prelude.{filter, slice_get}
 use Rattle.std.specs.List.{range_with_len}
-use Rattle.std.proofs.lemmas.Bool.{cases_eq, eqb-true, eq-eqb}
+use Rattle.std.proofs.lemmas.Bool.{cases_eq, eqb-true}
 use Rattle.std.proofs.lemmas.List.{get_or-map, length-map}
 use Rattle.lrspec.specs.grammars.Grammar.{Grammar, Production, IsOfRule, IsProductionOf, is_of_rule, productions_of}
-use Rattle.lrspec.proofs.grammars.BodyFacts.{below_of_production}
+use Rattle.lrspec.proofs.grammars.BodyFacts.{below_of_production, test_from_of_rule}
 
 -- `q` is one of the first `n` of a list of productions
 abbrev pub IsAmongFirst : ℕ → List ℕ → ℕ → Type 0
@@ -14,10 +14,6 @@ IsAmongFirst n ps q = (k : ℕ) × (k < n) × (k < length ps) × (get_or ps k 0 
 pub of_rule_from_test : (o : Option Production) (r : ℕ) → is_of_rule o r ≡ true → IsOfRule o r
 of_rule_from_test None r h = cc
 of_rule_from_test (Some p) r h = eqb-true p.rule r h
-
-test_from_of_rule : (o : Option Production) (r : ℕ) → IsOfRule o r → is_of_rule o r ≡ true
-test_from_of_rule None r h = absurd h
-test_from_of_rule (Some p) r h = eq-eqb p.rule r h
 
 -- what is in a filtered range passes the test
 range_passes : (f : ℕ → Bool) (a n k : ℕ) → k < length (filter f (range_with_len a n)) → f (get_or (filter f (range_with_len a n)) k 0) ≡ true
@@ -57,7 +53,7 @@ range_place f a (suc n) q h l t =
 -- the productions of a rule are those of the list
 pub among_productions : (g : Grammar) (ps : List ℕ) (r n q : ℕ) → ps ≡ productions_of g r → length ps ≤ n → IsProductionOf g q r → IsAmongFirst n ps q
 among_productions g ps r n q e l h =
-    let s = range_place (λ q. is_of_rule (slice_get g.productions q) r) 0 (length g.productions) q (omega arith) (omega (arith, below_of_production g q r h)) (test_from_of_rule (slice_get g.productions q) r h) in
+    let s = range_place (λ q. is_of_rule (slice_get g.productions q) r) 0 (length g.productions) q (omega arith) (omega (arith, below_of_production g q r h)) (test_from_of_rule g q r h) in
     let lt : s.0 < length ps = rw e s.1 in
     (s.0, omega (arith, lt, l), lt, rw e s.2)
 

@@ -5,9 +5,10 @@ use Rattle.std.specs.List.{slice_get}
 use Rattle.std.specs.Option.{option_map}
 use Rattle.std.proofs.lemmas.List.{length-map, take-map, drop-map, take_more, map-append, flat_map_more}
 use Rattle.std.proofs.lemmas.Option.{unwrap_or-slice_get, get_or_from_slice_get}
-use Rattle.lrspec.specs.grammars.Grammar.{Symbol, Production, Grammar, IsOfRule, IsProductionOf, IsBodySymbol, AreBodySymbols, rule_of, rule_or_zero}
+use Rattle.lrspec.specs.grammars.Grammar.{Symbol, Grammar, IsProductionOf, IsBodySymbol, AreBodySymbols, rule_of}
 use Rattle.lrspec.specs.texts.PrintedTexts.{rule_name, symbol_text, spaced}
 use Rattle.lrclosing.proofs.SymbolsBehindDots.{symbols_behind}
+use Rattle.lrspec.proofs.grammars.BodyFacts.{rule_of_production}
 
 -- what is read of an element of a list, or of something else where there is none
 pub read_or : {X Y : Type 0} (f : X → Y) (ys : List Y) (i : ℕ) (o : Option X) (d x : X) → x ≡ unwrap_or o d → option_map f o ≡ slice_get ys i → f x ≡ get_or ys i (f d)
@@ -17,15 +18,7 @@ read_or {X} {Y} f ys i o d x e h = ap f e ∙ go o ∙ ap (λ p. unwrap_or p (f 
     go None = refl
     go (Some y) = refl
 
--- the rule of a production
-pub rule_of_production : (g : Grammar) (p r : ℕ) → IsProductionOf g p r → rule_of g p ≡ r
-rule_of_production g p r h = go (slice_get g.productions p) h
-  where
-    go : (o : Option Production) → IsOfRule o r → rule_or_zero o ≡ r
-    go None k = absurd k
-    go (Some q) k = k
-
--- the name of that rule
+-- the name of the rule of a production
 pub name_of_rule : (g : Grammar) (p r : ℕ) (w : List ℕ) → IsProductionOf g p r → Some w ≡ slice_get g.rule_names r → w ≡ rule_name g (rule_of g p)
 name_of_rule g p r w h e = rw (rule_of_production g p r h) (sym (get_or_from_slice_get g.rule_names r w [] (sym e)))
 

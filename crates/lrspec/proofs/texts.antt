@@ -20,3 +20,5 @@ pub mod WordFacts
 pub mod GrammarOfParts
 pub mod CausesInOrder
 pub mod ResultsPassedOn
+-- texts of trees
+pub mod TreeTextsTell

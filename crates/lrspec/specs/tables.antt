@@ -3,5 +3,6 @@ pub mod Table
 pub mod Rows
 pub mod Conflicts
 pub mod Machine
+pub mod TreeMachine
 pub mod Recognition
 pub mod Exactness

@@ -9,3 +9,4 @@ pub mod PrintedTexts
 pub mod Lines
 pub mod Devices
 pub mod MachineLines
+pub mod TreeTexts

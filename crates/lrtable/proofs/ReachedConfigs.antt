@@ -2,14 +2,14 @@
 use Rattle.std.proofs.Common.{◌≡◌, ℕ, ◌+◌, ◌<◌, List, [], ◌∷◌, ◌++◌, length, drop, refl, sym, ap, ◌∙◌, subst, length-append, arith, Option, None, Some, Bool, true, false, cond}
 use Rattle.std.proofs.lemmas.List.Elements.{All-head, All-tail}
 use Rattle.lrspec.specs.grammars.Grammar.{Grammar, IsGrammar, body_of, end_token, token_count}
-use Rattle.lrspec.specs.grammars.Trees.{Forest, Leaf, Bare, And, forest_leaves}
+use Rattle.lrspec.specs.grammars.Trees.{Forest, Leaf, Bare, And, forest_leaves, joined}
 use Rattle.lrspec.specs.merging.Graph.{Graph, closed_of, IsGraphOf}
 use Rattle.lrspec.specs.tables.Table as table
 use Rattle.lrspec.specs.tables.Table.{Table, Action, IsTableOf, IsTableFor, action_of}
 use Rattle.lrspec.specs.tables.Machine.{Config, Outcome, Goes, Accepts, Rejects, Sticks, top, next_token, reduced, act}
 use Rattle.lrspec.specs.tables.Recognition.{AreNamed}
 use Rattle.lrspec.proofs.tables.CellFacts.{looks_from_reduce}
-use Rattle.lrspec.proofs.grammars.TreeFacts.{joined, leaves_pushed}
+use Rattle.lrspec.proofs.grammars.TreeFacts.{leaves_pushed}
 use Rattle.lrspec.proofs.tables.MachineStacks.{stack_length, stack_below, look_fits}
 use Rattle.lrspec.proofs.tables.MachineInvariant.{Holds, shift_holds, reduce_holds}
 use Rattle.lrspec.proofs.tables.MachineMoves as move

@@ -1,8 +1,8 @@
 -- the place of a production among those of its rule, found by halving
-use Rattle.std.proofs.Common.{◌≡◌, ◌≢◌, ◌++◌, append_assoc, inl, inr, cond, ℕ, ◌+◌, ◌<◌, ◌≤◌, Bool, true, false, List, [], ◌∷◌, length, map, get_or, Option, None, Some, Result, Ok, Err, refl, sym, ap, subst, ◌∙◌, ⊎_elim, arith}
+use Rattle.std.proofs.Common.{◌≡◌, ◌≢◌, ◌++◌, append_assoc, ℕ, ◌+◌, ◌<◌, ◌≤◌, false, List, [], ◌∷◌, length, map, get_or, Some, Result, Ok, Err, refl, sym, ap, subst, ◌∙◌, ⊎_elim, arith}
 use Rattle.std.specs.Prelude.{Contains, IsOk, codes, slice_get, ◌==◌}
 use Rattle.std.specs.Cmp.{ranks}
-use Rattle.std.specs.List.{filter, position_or_len, range_with_len}
+use Rattle.std.specs.List.{position_or_len, range_with_len}
 use Rattle.std.specs.List.Sorted.{IsBinarySearchResult, IsSearchInRange, IsNonDecreasingBy, IsStrictlyIncreasing}
 use Rattle.std.specs.Ordering.{nat_cmp, ordering_index, MatchOrdering}
 use Rattle.std.specs.declared.cmp.Ordering.{Ordering}
@@ -13,12 +13,13 @@ use Rattle.std.proofs.lemmas.List.{get_or-map, get_or_default, length-map}
 use Rattle.std.proofs.lemmas.List.FromFn.{length-range_with_len, get_or-range_with_len}
 use Rattle.std.proofs.lemmas.List.Kept.{AllPairs-from_increasing, IsStrictlyIncreasing-filter}
 use Rattle.std.proofs.lemmas.List.Sums.{position_or_len_is}
-use Rattle.lrspec.specs.grammars.Grammar.{Grammar, Production, IsOfRule, IsProductionOf, is_of_rule, rule_of, rule_or_zero, productions_of}
-use Rattle.lrspec.proofs.grammars.ListMembers.{Among, contains_from_among, among_below}
+use Rattle.lrspec.specs.grammars.Grammar.{Grammar, IsProductionOf, is_of_rule, rule_of, productions_of}
+use Rattle.lrspec.proofs.grammars.ListMembers.{contains_from_among, among_below, among_filter}
 use Rattle.std.specs.Fmt.{decimal}
 use Rattle.std.proofs.lemmas.Option.{get_or_from_slice_get}
 use Rattle.lrspec.specs.texts.PrintedTexts.{rule_name}
 use Rattle.lrspec.specs.texts.MachineLines.{place_in_rule, production_label}
+use Rattle.lrspec.proofs.grammars.BodyFacts.{test_from_of_rule, rule_of_production}
 
 -- ---- productions of a rule
 
@@ -32,33 +33,11 @@ range_upwards a n k l =
 pub productions_upwards : (g : Grammar) (r : ℕ) → IsStrictlyIncreasing (productions_of g r)
 productions_upwards g r = IsStrictlyIncreasing-filter _ (range_with_len 0 (length g.productions)) (range_upwards 0 (length g.productions))
 
-test_from_of_rule : (o : Option Production) (r : ℕ) → IsOfRule o r → is_of_rule o r ≡ true
-test_from_of_rule None r h = absurd h
-test_from_of_rule (Some p) r h = eq-eqb p.rule r h
-
-rule_from_of_rule : (o : Option Production) (r : ℕ) → IsOfRule o r → rule_or_zero o ≡ r
-rule_from_of_rule None r h = absurd h
-rule_from_of_rule (Some p) r h = h
-
--- the rule of a production
-pub rule_of_production : (g : Grammar) (p r : ℕ) → IsProductionOf g p r → rule_of g p ≡ r
-rule_of_production g p r h = rule_from_of_rule (slice_get g.productions p) r h
-
-kept_later : (b : Bool) (x y : ℕ) (ys : List ℕ) → Among x ys → Among x (cond b (y ∷ ys) ys)
-kept_later true x y ys h = inr h
-kept_later false x y ys h = h
-
--- what passes the test is kept
-among_filter : (f : ℕ → Bool) (x : ℕ) (xs : List ℕ) → Among x xs → f x ≡ true → Among x (filter f xs)
-among_filter f x [] h p = absurd h
-among_filter f x (y ∷ ys) (inl e) p = let q : f y ≡ true = rw e at p in rw q (inl e)
-among_filter f x (y ∷ ys) (inr h) p = kept_later (f y) x y (filter f ys) (among_filter f x ys h p)
-
 -- a production is among those of its rule
 pub among_productions : (g : Grammar) (p r : ℕ) → p < length g.productions → IsProductionOf g p r → Contains (productions_of g r) p
 among_productions g p r l h =
     contains_from_among p (productions_of g r)
-    (among_filter (λ q. is_of_rule (slice_get g.productions q) r) p (range_with_len 0 (length g.productions)) (among_below (length g.productions) p l) (test_from_of_rule (slice_get g.productions p) r h))
+    (among_filter (λ q. is_of_rule (slice_get g.productions q) r) p (range_with_len 0 (length g.productions)) (among_below (length g.productions) p l) (test_from_of_rule g p r h))
 
 -- ---- searching
 
@@ -139,9 +118,9 @@ module _ {X : Type 0} (ord : X → Ordering) (f : X → ℕ) (n : ℕ) (by : (y 
 name_of_rule : (g : Grammar) (p r : ℕ) (w : List ℕ) → IsProductionOf g p r → Some w ≡ slice_get g.rule_names r → w ≡ rule_name g (rule_of g p)
 name_of_rule g p r w h e = rw (rule_of_production g p r h) (sym (get_or_from_slice_get g.rule_names r w [] (sym e)))
 
--- a reduction in pieces from the left, or from the right
+-- a label in pieces from the left, or from the right
 pub label_pieces :
     (g : Grammar) (p r : ℕ) (name : List ℕ) (place : ℕ) → IsProductionOf g p r → Some name ≡ slice_get g.rule_names r → place ≡ place_in_rule g p
-    → codes " " ++ (name ++ (codes "." ++ decimal place)) ≡ codes " " ++ production_label g p
+    → name ++ (codes "." ++ decimal place) ≡ production_label g p
 label_pieces g p r name place h n e =
-    rw (e, name_of_rule g p r name h n) (ap (λ text. codes " " ++ text) (sym (append_assoc (rule_name g (rule_of g p)) (codes ".") (decimal (place_in_rule g p)))))
+    rw (e, name_of_rule g p r name h n) (sym (append_assoc (rule_name g (rule_of g p)) (codes ".") (decimal (place_in_rule g p))))

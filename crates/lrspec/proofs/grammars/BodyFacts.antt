@@ -1,7 +1,8 @@
 -- productions and their rules, and the symbols before and behind a dot
-use Rattle.std.proofs.Common.{◌≡◌, ℕ, zero, suc, ◌<◌, ◌≤◌, List, [], ◌∷◌, ◌++◌, length, take, drop, refl, sym, ap, ◌∙◌, append_assoc, arith, Option, None, Some}
+use Rattle.std.proofs.Common.{◌≡◌, ℕ, zero, suc, ◌<◌, ◌≤◌, List, [], ◌∷◌, ◌++◌, length, take, drop, refl, sym, ap, ◌∙◌, append_assoc, arith, true, Option, None, Some}
 use Rattle.std.specs.Prelude.{slice_get}
-use Rattle.lrspec.specs.grammars.Grammar.{Symbol, Rule, Production, Grammar, IsGrammar, IsOfRule, IsBodySymbol, AreBodySymbols, body_of, IsProductionOf}
+use Rattle.std.proofs.lemmas.Bool.{eq-eqb}
+use Rattle.lrspec.specs.grammars.Grammar.{Symbol, Rule, Production, Grammar, IsGrammar, IsOfRule, IsBodySymbol, AreBodySymbols, body_of, IsProductionOf, is_of_rule, rule_of, rule_or_zero}
 use Rattle.lrspec.specs.grammars.ItemSets.{IsBefore}
 
 -- a place of a list with a production of the rule is within the list
@@ -22,6 +23,22 @@ same_rule (Some p) r s h k = cc
 -- a production is of one rule
 pub rule_unique : (g : Grammar) (p r s : ℕ) → IsProductionOf g p r → IsProductionOf g p s → r ≡ s
 rule_unique g p r s h k = same_rule (slice_get g.productions p) r s h k
+
+-- a production of the rule passes its test
+test_of_rule : (o : Option Production) (r : ℕ) → IsOfRule o r → is_of_rule o r ≡ true
+test_of_rule None r h = absurd h
+test_of_rule (Some p) r h = eq-eqb p.rule r h
+
+pub test_from_of_rule : (g : Grammar) (p r : ℕ) → IsProductionOf g p r → is_of_rule (slice_get g.productions p) r ≡ true
+test_from_of_rule g p r h = test_of_rule (slice_get g.productions p) r h
+
+-- the rule of a production
+rule_by : (o : Option Production) (r : ℕ) → IsOfRule o r → rule_or_zero o ≡ r
+rule_by None r h = absurd h
+rule_by (Some p) r h = h
+
+pub rule_of_production : (g : Grammar) (p r : ℕ) → IsProductionOf g p r → rule_of g p ≡ r
+rule_of_production g p r h = rule_by (slice_get g.productions p) r h
 
 -- a dot with a symbol behind it is within the body
 pub below_of_drop : (b : List Symbol) (d : ℕ) (x : Symbol) (y : List Symbol) → drop d b ≡ x ∷ y → suc d ≤ length b

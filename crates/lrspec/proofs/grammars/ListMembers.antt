@@ -128,6 +128,16 @@ pub from_filter : (f : ℕ → Bool) (x : ℕ) (xs : List ℕ) → Among x (filt
 from_filter f x [] h = absurd h
 from_filter f x (y ∷ ys) h = elim (filter_cond (f y) x y (filter f ys) h) [ inl e ↦ inl e | inr i ↦ inr (from_filter f x ys i) ]
 
+kept_later : (b : Bool) (x y : ℕ) (ys : List ℕ) → Among x ys → Among x (cond b (y ∷ ys) ys)
+kept_later true x y ys h = inr h
+kept_later false x y ys h = h
+
+-- what passes the test is kept by a filter
+pub among_filter : (f : ℕ → Bool) (x : ℕ) (xs : List ℕ) → Among x xs → f x ≡ true → Among x (filter f xs)
+among_filter f x [] h p = absurd h
+among_filter f x (y ∷ ys) (inl e) p = let q : f y ≡ true = rw e at p in rw q (inl e)
+among_filter f x (y ∷ ys) (inr h) p = kept_later (f y) x y (filter f ys) (among_filter f x ys h p)
+
 first_cond : (b : Bool) (a p : ℕ) (ys ps : List ℕ) → cond b (a ∷ ys) ys ≡ p ∷ ps → ((p ≡ a) × (ps ≡ ys)) ⊎ (ys ≡ p ∷ ps)
 first_cond true a p ys ps e = inl (cc, cc)
 first_cond false a p ys ps e = inr e

@@ -1,13 +1,8 @@
 -- forests that are joined, split, and put under a production
-use Rattle.std.proofs.Common.{◌≡◌, ℕ, List, [], ◌∷◌, ◌++◌, refl, sym, ap, ◌∙◌, append_assoc, append-nil, suc, ◌≤◌, length, length-append, arith}
+use Rattle.std.proofs.Common.{◌≡◌, ℕ, List, [], ◌∷◌, ◌++◌, refl, sym, ap, ◌∙◌, append_assoc, append-nil, zero, suc, ◌-◌, ◌≤◌, length, length-append, arith}
 use Rattle.lrspec.specs.grammars.Grammar.{Symbol, Rule, Token, Grammar, AreBodySymbols}
-use Rattle.lrspec.specs.grammars.Trees.{Tree, Forest, Leaf, Node, Bare, And, leaves, forest_leaves, order, forest_order, IsTree, IsForest, token, bare, and}
+use Rattle.lrspec.specs.grammars.Trees.{Tree, Forest, Leaf, Node, Bare, And, leaves, forest_leaves, order, forest_order, joined, size, first_trees, trees_behind, IsTree, IsForest, token, bare, and}
 use Rattle.lrspec.specs.tables.Recognition.{HasTrees}
-
--- the trees of two forests, one after the other
-abbrev pub joined : Forest → Forest → Forest
-joined Bare us = us
-joined (And t ts) us = And t (joined ts us)
 
 -- their leaves, one list after the other
 pub leaves_joined : (ts us : Forest) → forest_leaves (joined ts us) ≡ forest_leaves ts ++ forest_leaves us
@@ -54,20 +49,27 @@ node_order p us zs =
     order_pushed us (Node p zs)
     ∙ (sym (append_assoc (forest_order us) (forest_order zs) (p ∷ [])) ∙ ap (λ l. l ++ p ∷ []) (sym (order_joined us zs)))
 
--- how many trees a forest has
-abbrev pub size : Forest → ℕ
-size Bare = 0
-size (And t ts) = suc (size ts)
-
 -- it has one for each symbol
 pub forest_size : {g : Grammar} {y : List Symbol} {ts : Forest} → IsForest g y ts → size ts ≡ length y
 forest_size bare = refl
 forest_size (and t f) = ap suc (forest_size f)
 
 -- a forest has at least as many trees as its last part
-size_joined : (ts us : Forest) → size us ≤ size (joined ts us)
+pub size_joined : (ts us : Forest) → size us ≤ size (joined ts us)
 size_joined Bare us = omega arith
 size_joined (And t ts) us = let k : size us ≤ size (joined ts us) = size_joined ts us in omega arith
+
+-- a forest is its first trees and those behind them
+pub first_and_behind : (n : ℕ) (ts : Forest) → ts ≡ joined (first_trees n ts) (trees_behind n ts)
+first_and_behind zero ts = refl
+first_and_behind (suc n) Bare = refl
+first_and_behind (suc n) (And t ts) = ap (λ us. And t us) (first_and_behind n ts)
+
+-- how many are behind the first
+pub size_behind : (n : ℕ) (ts : Forest) → size (trees_behind n ts) ≡ size ts - n
+size_behind zero ts = omega arith
+size_behind (suc n) Bare = omega arith
+size_behind (suc n) (And t ts) = size_behind n ts ∙ omega arith
 
 -- a forest of two lists of symbols, cut behind as many trees as the second has symbols, is one of each
 pub forest_parts :

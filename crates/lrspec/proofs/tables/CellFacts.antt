@@ -7,7 +7,7 @@ use Rattle.std.specs.List.{range_with_len}
 use Rattle.std.specs.Option.{IsSomeAnd}
 use Rattle.lrspec.specs.grammars.Grammar.{Token, Kind, Left, Right, Nonassoc, Precedence, Grammar, body_of, token_precedence, production_precedence}
 use Rattle.lrspec.specs.grammars.ItemSets.{Items, item_at, LooksIn}
-use Rattle.lrspec.proofs.grammars.ListMembers.{Among, least_first}
+use Rattle.lrspec.proofs.grammars.ListMembers.{Among, least_first, among_filter}
 use Rattle.lrspec.specs.merging.Graph.{Graph, closed_of, edge}
 use Rattle.lrspec.specs.tables.Table as table
 use Rattle.lrspec.specs.tables.Table.{Action, bit_or_none, looks_at, is_complete_at, reductions, decide, by_kind, cell_by, cell_of, accepts_at}
@@ -29,17 +29,6 @@ test_by (Some v) t e = e
 -- the test answers true where the item looks at the token
 pub test_from_looks_in : (a : Items) (p d t : ℕ) → LooksIn a p d t → looks_at a p d t ≡ true
 test_from_looks_in a p d t e = test_by (item_at a p d) t e
-
--- an element put before a list or not leaves the others
-among_cond : (b : Bool) (x y : ℕ) (ys : List ℕ) → Among x ys → Among x (cond b (y ∷ ys) ys)
-among_cond true x y ys i = inr i
-among_cond false x y ys i = i
-
--- what passes the test is kept
-among_filter : (f : ℕ → Bool) (x : ℕ) (xs : List ℕ) → Among x xs → f x ≡ true → Among x (filter f xs)
-among_filter f x [] i e = absurd i
-among_filter f x (y ∷ ys) (inl s) e = let h : f y ≡ true = cc in rw h (inl s)
-among_filter f x (y ∷ ys) (inr i) e = among_cond (f y) x y (filter f ys) (among_filter f x ys i e)
 
 -- an element put before a list where it passes the test
 kept_cond :

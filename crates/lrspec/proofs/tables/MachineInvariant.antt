@@ -3,7 +3,7 @@ use Rattle.std.proofs.Common.{◌≡◌, ◌≢◌, ℕ, ◌+◌, ◌<◌, ◌�
 use Rattle.std.proofs.lemmas.List.{take_all}
 use Rattle.std.proofs.lemmas.List.Elements.{All-head, All-tail}
 use Rattle.lrspec.specs.grammars.Grammar.{Symbol, Rule, Token, Grammar, IsGrammar, end_token, token_count, body_of, IsProductionOf, rule_of}
-use Rattle.lrspec.specs.grammars.Trees.{Forest, Leaf, Node, Bare, And, leaves, forest_leaves, forest_order, IsForest, token, production, bare, and, IsSentence}
+use Rattle.lrspec.specs.grammars.Trees.{Forest, Leaf, Node, Bare, And, leaves, forest_leaves, forest_order, joined, size, IsForest, token, production, bare, and, IsSentence}
 use Rattle.lrspec.specs.grammars.ItemSets.{HasItem, LooksIn}
 use Rattle.lrspec.specs.merging.Graph.{Graph, edge, closed_of, IsGraphOf}
 use Rattle.lrspec.specs.tables.Table as table
@@ -14,7 +14,7 @@ use Rattle.lrspec.proofs.grammars.BodyFacts.{symbol_at_dot}
 use Rattle.lrspec.proofs.grammars.CanonicalItemFacts.{stands_split, stands_origin, start_stands_after}
 use Rattle.lrspec.proofs.grammars.Closures.{has_of_looks}
 use Rattle.lrspec.proofs.tables.CellFacts.{edge_from_shift, looks_from_reduce, looks_from_accept}
-use Rattle.lrspec.proofs.grammars.TreeFacts.{joined, leaves_pushed, order_pushed, forest_joined, size, forest_size, forest_split, forest_parts, node_leaves, node_order, forest_alone}
+use Rattle.lrspec.proofs.grammars.TreeFacts.{leaves_pushed, order_pushed, forest_joined, forest_size, forest_split, forest_parts, node_leaves, node_order, forest_alone}
 use Rattle.lrspec.proofs.tables.MachineStacks as stack
 use Rattle.lrspec.proofs.tables.MachineStacks.{IsStack, stack_leads, stack_length, stack_drop, stack_below, stack_edge, goto_is, start_body, accepts_at_end}
 

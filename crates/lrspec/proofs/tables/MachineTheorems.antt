@@ -1,58 +1,66 @@
 -- the machine never sticks, is sound, and is complete where no cell is crowded
-use Rattle.std.proofs.Common.{◌≡◌, ◌≢◌, ℕ, ◌+◌, ◌≤◌, List, [], ◌∷◌, ◌++◌, length, take, sym, ap, ◌∙◌, subst, append-nil, length-append, arith}
+use Rattle.std.proofs.Common.{◌≡◌, ◌≢◌, ℕ, ◌+◌, ◌≤◌, List, [], ◌∷◌, ◌++◌, length, take, drop, sym, ap, ◌∙◌, subst, append-nil, length-append, arith}
 use Rattle.std.proofs.lemmas.List.{take_at}
+use Rattle.std.proofs.Math.Seq.{drop-append_seam}
 use Rattle.lrspec.specs.grammars.Grammar.{Rule, Grammar, IsGrammar, body_of, end_token}
 use Rattle.lrspec.specs.grammars.First as first
 use Rattle.lrspec.specs.grammars.CanonicalItems as item
 use Rattle.lrspec.specs.grammars.CanonicalItems.{Looks}
-use Rattle.lrspec.specs.grammars.Trees.{Tree, leaves, forest_leaves, order, nodes, IsSentence}
+use Rattle.lrspec.specs.grammars.Trees.{Tree, Forest, leaves, forest_leaves, order, nodes, IsSentence}
 use Rattle.lrspec.specs.merging.Graph.{Graph, IsGraphOf}
 use Rattle.lrspec.specs.tables.Table.{Table, IsTableOf, IsTableFor, NoCellIsCrowded, IsUncrowded}
-use Rattle.lrspec.specs.tables.Machine.{act, Verdict, Accepted, Rejected, Unfinished, Stuck, Answer, after, run}
-use Rattle.lrspec.specs.tables.Recognition.{IsNeverStuck, IsSound, IsComplete, IsUnambiguous, HasTrees, BeginsSentence, shifted, last_step, ShiftsBeginnings}
+use Rattle.lrspec.specs.tables.Machine.{act, Verdict, Accepted, Rejected, Unfinished, Stuck, Answer, after, run, left_after}
+use Rattle.lrspec.specs.tables.TreeMachine.{forest_of_run}
+use Rattle.lrspec.specs.tables.Recognition.{AreNamed, IsNeverStuck, IsSound, IsComplete, IsUnambiguous, HasTrees, BeginsSentence, shifted, last_step, ShiftsBeginnings, ShiftsWhatIsTaken}
 use Rattle.lrspec.proofs.tables.UncrowdedCells.{only_accept}
 use Rattle.lrspec.proofs.tables.MachineStacks as stack
 use Rattle.lrspec.proofs.tables.MachineStacks.{IsStack, stack_leads, stack_below}
-use Rattle.lrspec.proofs.tables.MachineRuns.{Ends, run_comes}
+use Rattle.lrspec.proofs.tables.MachineRuns.{IsOneTree, Ends, run_comes}
 use Rattle.lrspec.proofs.tables.MachineMoves.{Moves, at, moves_then_accepts}
 use Rattle.lrspec.proofs.tables.TreeRuns.{tree_runs}
 use Rattle.lrspec.proofs.grammars.UniqueTrees.{tree_same}
 use Rattle.lrspec.proofs.tables.ViableBeginnings.{holds_begins}
 
 -- no run ends stuck
-not_stuck : (g : Grammar) (text : List ℕ) (v : Verdict) (s m : ℕ) (rs : List ℕ) → Ends g text v s m rs → v ≢ Stuck
-not_stuck g text Accepted s m rs k = λ e. cc
-not_stuck g text Rejected s m rs k = λ e. cc
-not_stuck g text Unfinished s m rs k = λ e. cc
-not_stuck g text Stuck s m rs k = absurd k
+not_stuck : (g : Grammar) (text : List ℕ) (v : Verdict) (s m : ℕ) (rs : List ℕ) (ts : Forest) → Ends g text v s m rs ts → v ≢ Stuck
+not_stuck g text Accepted s m rs ts k = λ e. cc
+not_stuck g text Rejected s m rs ts k = λ e. cc
+not_stuck g text Unfinished s m rs ts k = λ e. cc
+not_stuck g text Stuck s m rs ts k = absurd k
 
 -- the machine of a table never sticks
 pub never_stuck : {g : Grammar} {b : Table} → IsGrammar g → IsTableFor g b → IsNeverStuck g b
 never_stuck {g} {b} m k n text named =
     let c = run_comes g k.graph b m k.graph_of k.table_of text named n in
-    not_stuck g text (run g b n text).verdict (0 + (run g b n text).steps) c.moves (run g b n text).reductions c.ends
+    not_stuck g text (run g b n text).verdict (0 + (run g b n text).steps) c.moves (run g b n text).reductions (forest_of_run g b n text) c.ends
 
--- a run that accepts has a tree
+-- a run that accepts has put one tree together
 accepted_tree :
-    (g : Grammar) (text : List ℕ) (v : Verdict) (s m : ℕ) (rs : List ℕ) → Ends g text v s m rs → v ≡ Accepted
-    → (t : IsSentence g text) × (order t.tree ≡ rs)
-accepted_tree g text Accepted s m rs k e = k.1
-accepted_tree g text Rejected s m rs k e = cc
-accepted_tree g text Unfinished s m rs k e = cc
-accepted_tree g text Stuck s m rs k e = cc
+    (g : Grammar) (text : List ℕ) (v : Verdict) (s m : ℕ) (rs : List ℕ) (ts : Forest) → Ends g text v s m rs ts → v ≡ Accepted
+    → IsOneTree g text rs ts
+accepted_tree g text Accepted s m rs ts k e = k.1
+accepted_tree g text Rejected s m rs ts k e = cc
+accepted_tree g text Unfinished s m rs ts k e = cc
+accepted_tree g text Stuck s m rs ts k e = cc
+
+-- where it accepts, the forest that it has put together is one tree of the text
+pub one_tree_of_run :
+    {g : Grammar} {b : Table} → IsGrammar g → IsTableFor g b → (n : ℕ) (text : List ℕ) → AreNamed g text
+    → (run g b n text).verdict ≡ Accepted → IsOneTree g text (run g b n text).reductions (forest_of_run g b n text)
+one_tree_of_run {g} {b} m k n text named e =
+    let c = run_comes g k.graph b m k.graph_of k.table_of text named n in
+    accepted_tree g text (run g b n text).verdict (0 + (run g b n text).steps) c.moves (run g b n text).reductions (forest_of_run g b n text) c.ends e
 
 -- what it accepts is a sentence, and its reductions are the productions of a tree of it
 pub sound : {g : Grammar} {b : Table} → IsGrammar g → IsTableFor g b → IsSound g b
-sound {g} {b} m k n text named e =
-    let c = run_comes g k.graph b m k.graph_of k.table_of text named n in
-    accepted_tree g text (run g b n text).verdict (0 + (run g b n text).steps) c.moves (run g b n text).reductions c.ends e
+sound m k n text named e = let one = one_tree_of_run m k n text named e in (one.0, one.1)
 
 -- a run makes a step for each shift and reduction, and one more where it ends
-steps_are : (g : Grammar) (text : List ℕ) (v : Verdict) (s m : ℕ) (rs : List ℕ) → Ends g text v s m rs → s ≡ m + last_step v
-steps_are g text Accepted s m rs k = k.0
-steps_are g text Rejected s m rs k = k
-steps_are g text Unfinished s m rs k = omega arith
-steps_are g text Stuck s m rs k = absurd k
+steps_are : (g : Grammar) (text : List ℕ) (v : Verdict) (s m : ℕ) (rs : List ℕ) (ts : Forest) → Ends g text v s m rs ts → s ≡ m + last_step v
+steps_are g text Accepted s m rs ts k = k.0
+steps_are g text Rejected s m rs ts k = k
+steps_are g text Unfinished s m rs ts k = omega arith
+steps_are g text Stuck s m rs ts k = absurd k
 
 -- so many first tokens are those that were used
 begins_by :
@@ -62,14 +70,29 @@ begins_by g text used left n e u k =
     let t : take n text ≡ used = ap (take n) (sym u) ∙ take_at used left n (sym e) in
     (omega (arith, e, ap length u, length-append used left), rw t k)
 
+-- the tokens that it shifts are those that it has taken of the text
+pub shifts_what_is_taken : {g : Grammar} {b : Table} → IsGrammar g → IsTableFor g b → ShiftsWhatIsTaken g b
+shifts_what_is_taken {g} {b} m k n text named =
+    let a = run g b n text in
+    let c = run_comes g k.graph b m k.graph_of k.table_of text named n in
+    let left = left_after g b n text in
+    let used = forest_leaves (forest_of_run g b n text) in
+    let steps : 0 + a.steps ≡ c.moves + last_step a.verdict = steps_are g text a.verdict (0 + a.steps) c.moves a.reductions (forest_of_run g b n text) c.ends in
+    let count : c.moves ≡ length used + length a.reductions = c.holds.count in
+    let same : shifted a ≡ length used = omega arith in (
+      omega (arith, ap length c.holds.used, length-append used left),
+      ap (drop (shifted a)) (sym c.holds.used) ∙ (ap (λ i. drop i (used ++ left)) same ∙ drop-append_seam used left),
+    )
+
 -- where every rule has a tree, the tokens that it shifts are the beginning of a sentence
 pub shifts_beginnings : {g : Grammar} {b : Table} → IsGrammar g → IsTableFor g b → HasTrees g → ShiftsBeginnings g b
 shifts_beginnings {g} {b} m k has n text named =
     let a = run g b n text in
     let c = run_comes g k.graph b m k.graph_of k.table_of text named n in
-    let steps : 0 + a.steps ≡ c.moves + last_step a.verdict = steps_are g text a.verdict (0 + a.steps) c.moves a.reductions c.ends in
-    let count : c.moves ≡ length (forest_leaves c.forest) + length a.reductions = c.holds.count in
-    begins_by g text (forest_leaves c.forest) c.left (shifted a) (omega arith) c.holds.used (holds_begins m k.graph_of has c.holds)
+    let steps : 0 + a.steps ≡ c.moves + last_step a.verdict = steps_are g text a.verdict (0 + a.steps) c.moves a.reductions (forest_of_run g b n text) c.ends in
+    let used = forest_leaves (forest_of_run g b n text) in
+    let count : c.moves ≡ length used + length a.reductions = c.holds.count in
+    begins_by g text used (left_after g b n text) (shifted a) (omega arith) c.holds.used (holds_begins m k.graph_of has c.holds)
 
 -- the answer of a run that accepts
 abbrev accepted : ℕ → List ℕ → Answer

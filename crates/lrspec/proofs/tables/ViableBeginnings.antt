@@ -1,7 +1,7 @@
 -- where every rule has a tree, what the machine has shifted begins a sentence
 use Rattle.std.proofs.Common.{◌≡◌, ℕ, zero, suc, List, [], ◌∷◌, ◌++◌, drop, refl, sym, ap, ◌∙◌, subst, append_assoc, append-nil}
 use Rattle.lrspec.specs.grammars.Grammar.{Symbol, Rule, Grammar, IsGrammar, AreBodySymbols, IsProductionOf, body_of, rest}
-use Rattle.lrspec.specs.grammars.Trees.{Forest, Node, Bare, And, leaves, forest_leaves, IsForest, production, bare, and, IsSentence}
+use Rattle.lrspec.specs.grammars.Trees.{Forest, Node, Bare, And, leaves, forest_leaves, joined, IsForest, production, bare, and, IsSentence}
 use Rattle.lrspec.specs.grammars.CanonicalItems as item
 use Rattle.lrspec.specs.grammars.CanonicalItems.{Stands}
 use Rattle.lrspec.specs.tables.Recognition.{HasTrees, BeginsSentence}
@@ -11,7 +11,7 @@ use Rattle.lrspec.proofs.grammars.BodyFacts.{rest_next}
 use Rattle.lrspec.proofs.grammars.CanonicalClosures.{core_item_stands}
 use Rattle.lrspec.proofs.tables.MachineStacks.{stack_leads, start_body}
 use Rattle.lrspec.proofs.tables.MachineInvariant.{Holds}
-use Rattle.lrspec.proofs.grammars.TreeFacts.{joined, leaves_pushed, forest_split, forest_alone, forest_of_symbols}
+use Rattle.lrspec.proofs.grammars.TreeFacts.{leaves_pushed, forest_split, forest_alone, forest_of_symbols}
 
 -- what is left of symbols of bodies is made of such
 symbols_behind : (g : Grammar) (d : ℕ) (b : List Symbol) → AreBodySymbols g b → AreBodySymbols g (drop d b)

@@ -1,6 +1,6 @@
 -- lexemes are of one document at most, and so is a text
 use Rattle.std.proofs.Common.{◌≡◌, ℕ, List, [], ◌∷◌, ◌++◌, map, Option, None, Some, flat_map, refl, ap, ◌∙◌, sym, subst, append_assoc}
-use Rattle.lrspec.specs.texts.Lexemes.{Lexeme, Name, Quoted, KindWord, PrecedenceWord, Separator, Bar, Semicolon}
+use Rattle.lrspec.specs.texts.Lexemes.{Lexeme, Name, Quoted, KindWord, Separator, Bar, Semicolon}
 use Rattle.lrspec.specs.texts.Documents.{NameText, Plain, InQuotes, Declaration, StartLine, TokenLine, KindLine, BodyText, RuleText, Document, name_lexeme, declaration_lexemes, precedence_lexemes, body_lexemes, other_body_lexemes, rule_lexemes, behind_lexemes, document_lexemes, lexemes_of, Reads}
 use Rattle.lrspec.proofs.texts.ReadingStateFacts.{rule_grouped}
 use Rattle.lrspec.proofs.texts.LexemesOfText.{text_lexemes_only}

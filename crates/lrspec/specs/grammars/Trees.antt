@@ -1,5 +1,5 @@
 -- trees, their leaves and productions, and sentences
-use Rattle.std.specs.Prelude.{◌≡◌, ℕ, List, [], ◌∷◌, ◌++◌, length}
+use Rattle.std.specs.Prelude.{◌≡◌, ℕ, zero, suc, List, [], ◌∷◌, ◌++◌, length}
 use Rattle.lrspec.specs.grammars.Grammar.{Symbol, Rule, Token, Grammar, body_of, IsProductionOf}
 
 mutual
@@ -50,6 +50,28 @@ mutual
         {x : Symbol} {xs : List Symbol} {t : Tree} {ts : Forest}
         → IsTree g x t → IsForest g xs ts
         → IsForest g (x ∷ xs) (And t ts)
+
+-- the trees of two forests, one after the other
+abbrev pub joined : Forest → Forest → Forest
+joined Bare us = us
+joined (And t ts) us = And t (joined ts us)
+
+-- how many trees a forest has
+abbrev pub size : Forest → ℕ
+size Bare = 0
+size (And t ts) = suc (size ts)
+
+-- the first `n` trees of a forest
+abbrev pub first_trees : ℕ → Forest → Forest
+first_trees zero ts = Bare
+first_trees (suc n) Bare = Bare
+first_trees (suc n) (And t ts) = And t (first_trees n ts)
+
+-- the trees behind the first `n`
+abbrev pub trees_behind : ℕ → Forest → Forest
+trees_behind zero ts = ts
+trees_behind (suc n) Bare = Bare
+trees_behind (suc n) (And t ts) = trees_behind n ts
 
 -- how many productions a tree has, which are its nodes
 abbrev pub nodes : Tree → ℕ

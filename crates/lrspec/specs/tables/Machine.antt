@@ -90,3 +90,17 @@ start_config b text = record { stack = b.start ∷ []; left = text; reductions =
 -- at most `n` steps on the text
 abbrev pub run : Grammar → Table → ℕ → List ℕ → Answer
 run g b n text = after g b n (start_config b text)
+
+-- where the machine stands behind a step: as told where the step goes on, and else where it stood
+abbrev pub stands_behind : (Config → Config) → Outcome → Config → Config
+stands_behind go (Goes d) c = go d
+stands_behind go _ c = c
+
+-- where it stands after at most `n` steps
+abbrev pub stands_after : Grammar → Table → ℕ → Config → Config
+stands_after g b zero c = c
+stands_after g b (suc n) c = stands_behind (λ d. stands_after g b n d) (step g b c) c
+
+-- what is left of the text after at most `n` steps
+abbrev pub left_after : Grammar → Table → ℕ → List ℕ → List ℕ
+left_after g b n text = (stands_after g b n (start_config b text)).left

@@ -1,10 +1,10 @@
 -- what the machine accepts, and when a table recognises its grammar
-use Rattle.std.specs.Prelude.{◌≡◌, ◌≢◌, ℕ, ◌+◌, ◌-◌, ◌<◌, ◌≤◌, List, ◌++◌, length, take}
+use Rattle.std.specs.Prelude.{◌≡◌, ◌≢◌, ℕ, ◌+◌, ◌-◌, ◌<◌, ◌≤◌, List, ◌++◌, length, take, drop}
 use Rattle.std.specs.List.{All}
 use Rattle.lrspec.specs.grammars.Grammar.{Rule, Grammar, end_token}
 use Rattle.lrspec.specs.grammars.Trees.{Tree, order, nodes, IsTree, IsSentence}
 use Rattle.lrspec.specs.tables.Table.{Table}
-use Rattle.lrspec.specs.tables.Machine.{Verdict, Accepted, Rejected, Unfinished, Stuck, Answer, run}
+use Rattle.lrspec.specs.tables.Machine.{Verdict, Accepted, Rejected, Unfinished, Stuck, Answer, run, left_after}
 
 -- each token of the text is a named one
 abbrev pub AreNamed : Grammar → List ℕ → Type 0
@@ -48,6 +48,13 @@ shifted a = a.steps - length a.reductions - last_step a.verdict
 abbrev pub ShiftedBeginsSentence : Grammar → List ℕ → Answer → Type 0
 ShiftedBeginsSentence g text a =
     (shifted a ≤ length text) × BeginsSentence g (take (shifted a) text)
+
+-- the tokens shifted are those that the machine has taken: the text without them is what is left
+abbrev pub ShiftsWhatIsTaken : Grammar → Table → Type 0
+ShiftsWhatIsTaken g b =
+    (n : ℕ) (text : List ℕ) → AreNamed g text
+    → (shifted (run g b n text) ≤ length text)
+    × (drop (shifted (run g b n text)) text ≡ left_after g b n text)
 
 -- the machine sticks on no text, after no number of steps
 abbrev pub IsNeverStuck : Grammar → Table → Type 0

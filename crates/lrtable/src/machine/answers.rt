@@ -2,7 +2,9 @@
 
 ghost use Rattle.std.specs.Prelude.{◌≡◌, ◌<◌, ◌++◌, length, map, option_map, IfOk, MatchResult, OnOk, All, codes};
 ghost use Rattle.std.specs.Str.{IsUtf8};
+ghost use Rattle.std.specs.String.{string_bytes};
 ghost use Rattle.lrspec.specs.texts.MachineLines.{token_of, tokens_of, first_unknown, place_in_rule, production_label, reductions_text, run_text};
+ghost use Rattle.lrspec.specs.tables.Recognition.{AreNamed};
 ghost use Rattle.lrspec.specs.texts.Lines.{words};
 ghost use Rattle.lrtable.specs.RunAnswers.{text_of, answer_of};
 
@@ -23,16 +25,17 @@ fn token_named<T: IndexStorage>(grm: &YaccGrammar<T>, word: &[u8]) -> Option<TId
     }
 }
 
-/// The tokens that the words of a line name, or the first word that names none. The outer error says that memory was
-/// refused.
-pub(crate) fn line_tokens<'a, T: IndexStorage>(
+/// The tokens that the words of a line name, or the first word that names none; words stand between spaces and tabs. The
+/// outer error says that memory was refused.
+pub fn line_tokens<'a, T: IndexStorage>(
     grm: &YaccGrammar<T>,
     line: &'a [u8],
 ) -> Result<Result<Vec<TIdx<T>>, &'a [u8]>, AllocError>
-    ensures { IfOk result (λ r. MatchResult r
+    ensures tokens { IfOk result (λ r. MatchResult r
         (λ tokens. (first_unknown grm.now (words line.entry.now) ≡ None)
         × (text_of T.number tokens.items ≡ tokens_of grm.now (words line.entry.now)))
         (λ word. first_unknown grm.now (words line.entry.now) ≡ Some word.now)) }
+    ensures named { IfOk result (λ r. IfOk r (λ tokens. AreNamed grm.now (text_of T.number tokens.items))) }
 {
     let mut tokens = Vec::new(grm.allocator());
     for word in Words::new(line) {
@@ -53,7 +56,21 @@ fn place_in_rule<T: IndexStorage>(grm: &YaccGrammar<T>, pidx: PIdx<T>) -> usize
     prods.binary_search(&pidx).unwrap()
 }
 
-/// Writes a reduction behind `out`: a space, its rule's name, a dot, and its place among the rule's productions.
+/// A production as answers name it: its rule's name, a dot, and its place among the rule's productions, counted from 0. The
+/// error says that memory was refused.
+pub fn production_label<T: IndexStorage>(
+    grm: &YaccGrammar<T>,
+    pidx: PIdx<T>,
+) -> Result<String, AllocError>
+    requires { T.number pidx.0 < length grm.now.productions }
+    ensures { IfOk result (λ s. string_bytes s ≡ production_label grm.now (T.number pidx.0)) }
+{
+    let rule = grm.rule_name_str(grm.prod_to_rule(pidx));
+    let place = place_in_rule(grm, pidx);
+    format!(in grm.allocator(); "{rule}.{place}")
+}
+
+/// Writes a reduction behind `out`: a space and its label.
 fn push_reduction<T: IndexStorage>(
     grm: &YaccGrammar<T>,
     pidx: PIdx<T>,
@@ -63,10 +80,9 @@ fn push_reduction<T: IndexStorage>(
     ensures { OnOk result (out.new.items
         ≡ out.old.items ++ (codes " " ++ production_label grm.now (T.number pidx.0))) }
 {
-    let rule = grm.rule_name_str(grm.prod_to_rule(pidx));
-    let place = place_in_rule(grm, pidx);
-    let text = format!(in grm.allocator(); " {rule}.{place}")?;
-    out.extend_from_slice(text.as_bytes())
+    let label = production_label(grm, pidx)?;
+    out.push(b' ')?;
+    out.extend_from_slice(label.as_bytes())
 }
 
 /// Writes the reductions behind `out`.

@@ -5,7 +5,7 @@ ghost use Rattle.lrgrammar.specs.declared.idx.TIdx.{TIdx};
 ghost use Rattle.lrspec.specs.tables.Table.{IsTableFor, IsUncrowded};
 ghost use Rattle.lrspec.specs.tables.Machine as math;
 ghost use Rattle.lrspec.specs.tables.Machine.{Goes, reduce_by, start_config};
-ghost use Rattle.lrspec.specs.tables.Recognition.{AreNamed, HasTreeIfAccepted, IsAcceptedIfSentence, ShiftedBeginsSentence, IsNeverStuck, IsUnambiguous, HasTrees, Recognises};
+ghost use Rattle.lrspec.specs.tables.Recognition.{AreNamed, HasTreeIfAccepted, IsAcceptedIfSentence, ShiftedBeginsSentence, ShiftsWhatIsTaken, IsNeverStuck, IsUnambiguous, HasTrees, Recognises};
 ghost use Rattle.lrspec.specs.tables.Exactness.{HasNoPrecedences, ListsNothing};
 ghost use Rattle.lrtable.specs.RunAnswers.{text_of, answer_of};
 ghost use Rattle.lrtable.specs.WorkingMachine.{stack_of, config_of, Tells};
@@ -170,6 +170,7 @@ pub fn run<T: IndexStorage>(
     ensures one_tree { IsUncrowded grm.now table.now → IsUnambiguous grm.now }
     ensures shifts { IfOk result (λ r. HasTrees grm.now →
         ShiftedBeginsSentence grm.now (text_of T.number text.now) (answer_of T.number r)) }
+    ensures shifts_taken { ShiftsWhatIsTaken grm.now table.now }
     ensures recognises { HasNoPrecedences grm.now → ListsNothing table.now
         → Recognises grm.now table.now }
 {

@@ -3,7 +3,8 @@ use Rattle.std.specs.Prelude.{Contains, ◌==◌}
 use Rattle.std.specs.List.{position_or_len}
 use Rattle.std.specs.List.Sorted.{IsStrictlyIncreasing}
 use Rattle.lrspec.specs.grammars.Grammar.{productions_of}
-use Rattle.lrtable.proofs.SearchedPlaces.{found, place_searched, productions_upwards, among_productions, rule_of_production}
+use Rattle.lrspec.proofs.grammars.BodyFacts.{rule_of_production}
+use Rattle.lrtable.proofs.SearchedPlaces.{found, place_searched, productions_upwards, among_productions}
 use Rattle.lrtable.proofs.machine.answers.place_in_rule.Goals as goal
 
 pub unwrap-requires : goal.unwrap-requires

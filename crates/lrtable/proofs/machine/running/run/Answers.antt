@@ -15,6 +15,9 @@ use Rattle.lrtable.proofs.machine.running.run.Goals as goal
 pub returns-clause-never_stuck : goal.returns-clause-never_stuck
 returns-clause-never_stuck g c = machine.never_stuck c.tokens_len.ensures.shape c.requires.table_for
 
+pub returns-clause-shifts_taken : goal.returns-clause-shifts_taken
+returns-clause-shifts_taken g c = machine.shifts_what_is_taken c.tokens_len.ensures.shape c.requires.table_for
+
 pub returns-clause-one_tree : goal.returns-clause-one_tree
 returns-clause-one_tree g c = machine.one_tree c.tokens_len.ensures.shape
 

@@ -13,7 +13,7 @@ run-requires-clause-named g c =
     let number = g.T.IndexStorage.number in
     let m = c.args.self.now.grm.now in
     let ws = words c.args.line.now in
-    let facts = rw c.in-Ok.is at c.in_ok-tokens.ensures in
+    let facts = rw c.in-Ok.is at c.in_ok-tokens.ensures.tokens in
     let same : text_of number c.deref.result.now ≡ tokens_of m ws = ap (text_of number) c.deref.ensures.value ∙ facts.1 in
     subst (AreNamed m) (sym same) (tokens_named m ws)
 
@@ -24,7 +24,7 @@ push_outcome-requires g c =
     let b = c.args.self.now.table.now in
     let n = c.args.self.now.steps in
     let ws = words c.args.line.now in
-    let facts = rw c.in-Ok.is at c.in_ok-tokens.ensures in
+    let facts = rw c.in-Ok.is at c.in_ok-tokens.ensures.tokens in
     let text = text_of number c.deref.result.now in
     let same : text ≡ tokens_of m ws = ap (text_of number) c.deref.ensures.value ∙ facts.1 in
     let named : AreNamed m text = subst (AreNamed m) (sym same) (tokens_named m ws) in
