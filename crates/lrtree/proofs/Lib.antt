@@ -1,0 +1,16 @@
+-- going through trees, and taking them apart
+pub mod FoldedTrees
+pub mod VisitFacts
+pub mod VisitTexts
+pub mod StoredVisitSteps
+pub mod WeightFacts
+pub mod TakenApart
+-- building trees
+pub mod LastFirst
+pub mod WalkSteps
+pub mod StoredSteps
+pub mod BuiltTrees
+pub mod BuiltRows
+pub mod VisitsBack
+-- lines
+pub mod ParsedLines

@@ -1,0 +1,29 @@
+-- the trees that productions in order tell
+use Rattle.std.specs.Prelude.{◌≡◌, ℕ, List, [], ◌∷◌, map}
+use Rattle.lrgrammar.specs.declared.idx.PIdx.{PIdx}
+use Rattle.lrspec.specs.grammars.Grammar.{Rule, Grammar, body_of}
+use Rattle.lrspec.specs.grammars.Trees.{Tree, IsTree, order}
+use Rattle.lrspec.specs.texts.TreeTexts.{IsPrintable}
+
+-- a tree for the start rule, of these productions in order
+pub record IsTreeOf (g : Grammar) (rs : List ℕ) (t : Tree) : Type 0 where
+  pub rule : ℕ
+  pub start : body_of g g.start_production ≡ Rule rule ∷ []
+  pub is_tree : IsTree g (Rule rule) t
+  pub productions : order t ≡ rs
+
+-- the productions by their numbers
+abbrev pub numbers_of : {T : Type 0} → (T → ℕ) → List (PIdx T) → List ℕ
+numbers_of number ps = map (λ p. number p.0) ps
+
+-- there is such a tree
+abbrev pub HasTreeOf : {T : Type 0} → (T → ℕ) → Grammar → List (PIdx T) → Type 0
+HasTreeOf number g ps = (t : Tree) × IsTreeOf g (numbers_of number ps) t
+
+-- there is one that can be printed
+abbrev pub HasPrintableTreeOf : {T : Type 0} → (T → ℕ) → Grammar → List (PIdx T) → Type 0
+HasPrintableTreeOf number g ps = (t : Tree) × IsTreeOf g (numbers_of number ps) t × IsPrintable g t
+
+-- of such trees the fact holds
+abbrev pub IsOfTree : {T : Type 0} → (T → ℕ) → Grammar → List (PIdx T) → (Tree → Type 0) → Type 0
+IsOfTree number g ps P = (t : Tree) → IsTreeOf g (numbers_of number ps) t → P t

@@ -1,0 +1,129 @@
+//! Lines that are answered by trees.
+
+ghost use Rattle.lrspec.specs.tables.Table.{IsTableFor};
+ghost use Rattle.lrspec.specs.texts.Devices.{ConsumesSome, AppendsBeginning, AppendsFirstAnswers, HasFailed, GaveTooMuch};
+ghost use Rattle.lrspec.specs.texts.Lines.{whole_lines, lines, answers_to, answer_text};
+ghost use Rattle.lrspec.specs.texts.TreeTexts.{parse_text, tree_answer, tree_text};
+ghost use Rattle.lrspec.specs.tables.Recognition.{AreNamed};
+ghost use Rattle.lrtable.specs.RunAnswers.{text_of};
+ghost use Rattle.lrtree.specs.TreesOf.{HasPrintableTreeOf, IsOfTree};
+ghost use Rattle.std.specs.Io.KnownBytes.{Appends, IsAtEnd};
+ghost use Rattle.std.specs.Prelude.{◌≡◌, ◌≢◌, ◌⊎◌, ◌++◌, OnOk, IfOk, codes};
+ghost use Rattle.std.specs.String.{string_bytes};
+
+use crate::texts::push_visits;
+use crate::walks::visits_of;
+use lrgrammar::grammar::YaccGrammar;
+use lrgrammar::idx::{IndexStorage, PIdx, TIdx};
+use lrlines::{LineAnswers, LineError, LineRead, LineWrite, answer_lines};
+use lrtable::machine::{Verdict, line_tokens, run};
+use lrtable::statetable::StateTable;
+use std::alloc::{AllocError, Global};
+
+/// The text of the tree of these productions in order, which is made without the tree.
+fn tree_text<T: IndexStorage>(
+    grm: &YaccGrammar<T>,
+    productions: Vec<PIdx<T>>,
+) -> Result<String, AllocError>
+    requires { HasPrintableTreeOf T.number grm.now productions.items }
+    ensures { IfOk result (λ s. IsOfTree T.number grm.now productions.items (λ t.
+        string_bytes s ≡ tree_text grm.now t)) }
+{
+    let alloc = grm.allocator();
+    let visits = visits_of(alloc, grm, productions)?;
+    let mut text = String::new(alloc);
+    push_visits(grm, &visits, &mut text)?;
+    Ok(text)
+}
+
+/// Writes that the text is that of a tree behind `out`.
+fn push_tree(text: &str, out: &mut Vec<u8>) -> Result<(), AllocError>
+    ensures { OnOk result (out.new.items ≡ out.old.items ++ (codes "tree " ++ text.now)) }
+{
+    out.extend_from_slice("tree ".as_bytes())?;
+    out.extend_from_slice(text.as_bytes())
+}
+
+/// Answers a line by the tree of the tokens that its words name.
+#[derive(Drop)]
+struct TreeLines<'a, T: IndexStorage> {
+    grm: &'a YaccGrammar<T>,
+    table: &'a StateTable<T>,
+    /// How many steps a run makes at most.
+    steps: usize,
+}
+
+impl<'a, T: IndexStorage> TreeLines<'a, T> {
+    /// Writes what the text came to behind `out`.
+    fn push_parsed(&self, text: &[TIdx<T>], out: &mut Vec<u8>) -> Result<(), AllocError>
+        requires table_for { IsTableFor self.now.grm.now self.now.table.now }
+        requires named { AreNamed self.now.grm.now (text_of T.number text.now) }
+        ensures { OnOk result (out.new.items ≡ out.old.items
+            ++ parse_text self.now.grm.now self.now.table.now self.now.steps (text_of T.number text.now)) }
+    {
+        let outcome = run(self.grm.allocator(), self.grm, self.table, text, self.steps)?;
+        match outcome.verdict {
+            Verdict::Accepted => {
+                let text = tree_text(self.grm, outcome.reductions)?;
+                push_tree(text.as_str(), out)
+            }
+            Verdict::Rejected => out.extend_from_slice("reject".as_bytes()),
+            Verdict::Unfinished => out.extend_from_slice("unfinished".as_bytes()),
+        }
+    }
+}
+
+impl<'a, T: IndexStorage> LineAnswers for TreeLines<'a, T> {
+    ghost answer = { λ r. tree_answer r.grm.now r.table.now r.steps };
+
+    ghost can_answer = { λ r. IsTableFor r.grm.now r.table.now };
+
+    fn answer(&self, line: &[u8], out: &mut Vec<u8>) -> Result<(), AllocError> {
+        match line_tokens(self.grm, line)? {
+            Ok(tokens) => self.push_parsed(&tokens, out),
+            Err(word) => {
+                out.extend_from_slice("unknown ".as_bytes())?;
+                out.extend_from_slice(word)
+            }
+        }
+    }
+}
+
+/// Answers all lines that a reader gives up to its end, each by the tree of the tokens that its words name, where the machine
+/// accepts them in at most so many steps. Words stand between spaces and tabs.
+///
+/// The answer is a line too: `tree` and the text of the tree, as `Tree::pp` tells it; or `reject` or `unfinished`; or
+/// `unknown`, and the first word that names no token. The table is one of the grammar. After a fault the rest is as
+/// `run_lines` has it.
+pub fn tree_lines<T: IndexStorage, R: LineRead, W: LineWrite>(
+    alloc: Global,
+    reader: &mut R,
+    writer: &mut W,
+    grm: &YaccGrammar<T>,
+    table: &StateTable<T>,
+    steps: usize,
+) -> Result<(), LineError>
+    requires { IsTableFor grm.now table.now }
+    ensures end { OnOk result (IsAtEnd (R.left reader.new)) }
+    ensures ok { OnOk result (ConsumesSome (R.left reader.old) (R.left reader.new) (λ read.
+        Appends (W.written writer.old) (W.written writer.new)
+        (answer_text (tree_answer grm.now table.now steps) read))) }
+    ensures read { result ≡ Err LineError.Read → ConsumesSome (R.left reader.old) (R.left reader.new) (λ read.
+        Appends (W.written writer.old) (W.written writer.new)
+        (answers_to (tree_answer grm.now table.now steps) (whole_lines read))) }
+    ensures write { result ≡ Err LineError.Write → ConsumesSome (R.left reader.old) (R.left reader.new) (λ read.
+        AppendsBeginning (W.written writer.old) (W.written writer.new)
+        (answer_text (tree_answer grm.now table.now steps) read)) }
+    ensures memory { result ≡ Err LineError.Memory → ConsumesSome (R.left reader.old) (R.left reader.new) (λ read.
+        AppendsFirstAnswers (W.written writer.old) (W.written writer.new)
+        (tree_answer grm.now table.now steps) (lines read)) }
+
+    // When each error comes; a fault of a device is told.
+    ensures read_fault { result ≡ Err LineError.Read → HasFailed (R.failures reader.old) (R.failures reader.new)
+        ⊎ GaveTooMuch (R.left reader.old) (R.left reader.new) }
+    ensures write_fault { result ≡ Err LineError.Write → HasFailed (W.failures writer.old) (W.failures writer.new) }
+    ensures reader_counts { result ≢ Err LineError.Read → R.failures reader.new ≡ R.failures reader.old }
+    ensures writer_counts { result ≢ Err LineError.Write → W.failures writer.new ≡ W.failures writer.old }
+{
+    answer_lines(alloc, reader, writer, &TreeLines { grm, table, steps })
+}
