@@ -3,7 +3,7 @@ use Rattle.std.proofs.Common.{◌≡◌, ℕ, ◌∙◌, sym, ap, refl, subst, L
 use Rattle.std.proofs.lemmas.Grind.{flat_map-append}
 use Rattle.std.proofs.lemmas.List.{append-nil, take-append-drop}
 use Rattle.std.specs.Prelude.{OnOk}
-use Rattle.std.specs.Io.KnownBytes.{Appends, Keeps}
+use Rattle.std.specs.Io.KnownBytes.{Appends, IsAtEnd, Keeps}
 use Rattle.std.specs.Option.{IsSomeAnd}
 use Rattle.lrspec.specs.texts.Devices.{ConsumesSome, AppendsBeginning, AppendsFirstAnswers}
 use Rattle.lrspec.specs.texts.Lines.{nonempty, rest_of, whole_lines, lines, answers_to, answer_text}
@@ -12,7 +12,7 @@ use Rattle.lrspec.specs.tables.Table.{Table}
 use Rattle.lrtable.specs.declared.machine.LineError.{LineError}
 use Rattle.lrtable.specs.declared.machine.LineError.TheVariants as ended
 use Rattle.lrcommand.specs.Answers.{MeansGrammar, IsMergedTable, AcceptsAlone}
-use Rattle.lrcommand.specs.Runs.{HasTable, AnswersBeginning}
+use Rattle.lrcommand.specs.Runs.{HasTable, AnswersAll, AnswersBeginning}
 
 -- what was written stays, if then known bytes are kept
 pub Appends-kept : (old mid new : Option (List ℕ)) (text : List ℕ) → Appends old mid text → Keeps mid new → Appends old new text
@@ -51,47 +51,50 @@ beginning_of_whole answer old new read wrote = (
 beginning_kept : (old mid new : Option (List ℕ)) (text : List ℕ) → AppendsBeginning old mid text → Keeps mid new → AppendsBeginning old new text
 beginning_kept old mid new text (wrote, more, appended, e) kept = (wrote, more, Appends-kept old mid new wrote appended kept, e)
 
--- what was read, and the beginning that was written, where then known bytes are kept
-begun :
-    (answer : List ℕ → List ℕ) (bytes left old mid new : Option (List ℕ))
-    → ConsumesSome bytes left (λ read. AppendsBeginning old mid (answer_text answer read)) → Keeps mid new → AnswersBeginning answer bytes old new
-begun answer bytes left old mid new (read, consumed, wrote) kept =
-    (left, (read, consumed, beginning_kept old mid new (answer_text answer read) wrote kept))
-
 -- the same of one kind of written text, as of another
 consumes_as :
     (bytes left : Option (List ℕ)) (P Q : List ℕ → Type 0) → ((read : List ℕ) → P read → Q read) → ConsumesSome bytes left P → ConsumesSome bytes left Q
 consumes_as bytes left P Q f (read, consumed, p) = (read, consumed, f read p)
 
-module _ (answer : List ℕ → List ℕ) (bytes left old mid new : Option (List ℕ)) where
-  however_ended :
-      {X : Type 0} (r : Result X LineError)
-      → OnOk r (ConsumesSome bytes left (λ read. Appends old mid (answer_text answer read)))
-      → (r ≡ Err ended.Read → ConsumesSome bytes left (λ read. Appends old mid (answers_to answer (whole_lines read))))
-      → (r ≡ Err ended.Write → ConsumesSome bytes left (λ read. AppendsBeginning old mid (answer_text answer read)))
-      → (r ≡ Err ended.Memory → ConsumesSome bytes left (λ read. AppendsFirstAnswers old mid answer (lines read)))
-      → Keeps mid new → AnswersBeginning answer bytes old new
-  however_ended (Ok x) ok read write memory kept =
-      begun answer bytes left old mid new (consumes_as bytes left _ _ (λ r. beginning_of_all old mid (answer_text answer r)) ok) kept
-  however_ended (Err ended.Read) ok read write memory kept =
-      begun answer bytes left old mid new (consumes_as bytes left _ _ (beginning_of_whole answer old mid) (read refl)) kept
-  however_ended (Err ended.Write) ok read write memory kept = begun answer bytes left old mid new (write refl) kept
-  however_ended (Err ended.Memory) ok read write memory kept =
-      begun answer bytes left old mid new (consumes_as bytes left _ _ (λ r. beginning_of_first answer old mid (lines r)) (memory refl)) kept
-
 -- however the answering of lines ended, a beginning of the answers was written
+module _ (answer : List ℕ → List ℕ) (bytes left old new : Option (List ℕ)) where
+  pub however_ended :
+      {X : Type 0} (r : Result X LineError)
+      → OnOk r (ConsumesSome bytes left (λ read. Appends old new (answer_text answer read)))
+      → (r ≡ Err ended.Read → ConsumesSome bytes left (λ read. Appends old new (answers_to answer (whole_lines read))))
+      → (r ≡ Err ended.Write → ConsumesSome bytes left (λ read. AppendsBeginning old new (answer_text answer read)))
+      → (r ≡ Err ended.Memory → ConsumesSome bytes left (λ read. AppendsFirstAnswers old new answer (lines read)))
+      → AnswersBeginning answer bytes old new
+  however_ended (Ok x) ok read write memory = (left, consumes_as bytes left _ _ (λ r. beginning_of_all old new (answer_text answer r)) ok)
+  however_ended (Err ended.Read) ok read write memory = (left, consumes_as bytes left _ _ (beginning_of_whole answer old new) (read refl))
+  however_ended (Err ended.Write) ok read write memory = (left, write refl)
+  however_ended (Err ended.Memory) ok read write memory =
+      (left, consumes_as bytes left _ _ (λ r. beginning_of_first answer old new (lines r)) (memory refl))
+
+-- where it ended well, all lines were answered
+pub ended_well :
+    {X : Type 0} (answer : List ℕ → List ℕ) (bytes left old new : Option (List ℕ)) (r : Result X LineError) → OnOk r (IsAtEnd left)
+    → OnOk r (ConsumesSome bytes left (λ read. Appends old new (answer_text answer read))) → OnOk r (AnswersAll answer bytes old new)
+ended_well answer bytes left old new (Ok x) end ok = (left, end, ok)
+ended_well answer bytes left old new (Err e) end ok = tt
+
+-- a beginning of the answers stays one, if then known bytes are kept
+begun_kept :
+    (answer : List ℕ → List ℕ) (bytes old mid new : Option (List ℕ)) → AnswersBeginning answer bytes old mid → Keeps mid new
+    → AnswersBeginning answer bytes old new
+begun_kept answer bytes old mid new (left, begun) kept =
+    (left, consumes_as bytes left _ _ (λ r wrote. beginning_kept old mid new (answer_text answer r) wrote kept) begun)
+
+-- the same where the devices are those that were given
 pub answers_beginning :
-    {X Y Z : Type 0} (bytes : X → Option (List ℕ)) (contents : Y → Option (List ℕ)) (answer : List ℕ → List ℕ) (reader given left : X)
-    (out taken mid back new : Y) (r : Result Z LineError) → given ≡ reader → taken ≡ out → back ≡ mid
-    → OnOk r (ConsumesSome (bytes given) (bytes left) (λ read. Appends (contents taken) (contents mid) (answer_text answer read)))
-    → (r ≡ Err ended.Read → ConsumesSome (bytes given) (bytes left) (λ read. Appends (contents taken) (contents mid) (answers_to answer (whole_lines read))))
-    → (r ≡ Err ended.Write → ConsumesSome (bytes given) (bytes left) (λ read. AppendsBeginning (contents taken) (contents mid) (answer_text answer read)))
-    → (r ≡ Err ended.Memory → ConsumesSome (bytes given) (bytes left) (λ read. AppendsFirstAnswers (contents taken) (contents mid) answer (lines read)))
-    → Keeps (contents back) (contents new) → AnswersBeginning answer (bytes reader) (contents out) (contents new)
-answers_beginning bytes contents answer reader given left out taken mid back new r same_reader same_out same_back ok read write memory kept =
+    {X Y : Type 0} (bytes : X → Option (List ℕ)) (contents : Y → Option (List ℕ)) (answer : List ℕ → List ℕ) (reader given : X)
+    (out taken mid back new : Y) → given ≡ reader → taken ≡ out → back ≡ mid
+    → AnswersBeginning answer (bytes given) (contents taken) (contents mid) → Keeps (contents back) (contents new)
+    → AnswersBeginning answer (bytes reader) (contents out) (contents new)
+answers_beginning bytes contents answer reader given out taken mid back new same_reader same_out same_back begun kept =
     subst (λ x. AnswersBeginning answer (bytes x) (contents out) (contents new)) same_reader
     (subst (λ y. AnswersBeginning answer (bytes given) (contents y) (contents new)) same_out
-    (however_ended answer (bytes given) (bytes left) (contents taken) (contents mid) (contents new) r ok read write memory
+    (begun_kept answer (bytes given) (contents taken) (contents mid) (contents new) begun
     (subst (λ y. Keeps (contents y) (contents new)) same_back kept)))
 
 -- a grammar text, and the table of its grammar

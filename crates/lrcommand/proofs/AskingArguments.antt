@@ -1,9 +1,10 @@
 -- arguments that ask for something
-use Rattle.std.proofs.Common.{◌≡◌, ℕ, ◌<◌, ◌≤◌, List, [], ◌∷◌, length, map, get_or, Some, None, sym, ap, codes, arith}
+use Rattle.std.proofs.Common.{◌≡◌, ℕ, ◌<◌, ◌≤◌, List, [], ◌∷◌, length, map, get_or, Some, None, sym, ap, arith}
 use Rattle.lrcommand.specs.declared.requests.Listing.{Listing}
 use Rattle.lrcommand.specs.declared.requests.Listing.TheVariants.{Start}
-use Rattle.lrcommand.specs.declared.requests.Command.TheVariants.{Print, Run}
-use Rattle.lrcommand.specs.Requests.{listing_name, Asks, WritesSteps}
+use Rattle.lrcommand.specs.declared.requests.Command.TheVariants.{Print, Answer}
+use Rattle.lrcommand.specs.declared.requests.Reply.{Reply}
+use Rattle.lrcommand.specs.Requests.{listing_name, reply_name, Asks, WritesSteps}
 
 pub asks_alone : {X : Type 0} (f : X → List ℕ) (xs : List X) → length xs < 1 → Asks (map f xs) (Print Start) None
 asks_alone f [] below = Asks.alone
@@ -19,14 +20,16 @@ asks_print f (x ∷ y ∷ []) a b listing word file least below first second nam
     rw (ap f (sym first), ap f (sym second), sym is_word, sym is_file, sym named) (Asks.print listing file)
 asks_print f (x ∷ y ∷ z ∷ xs) a b listing word file least below first second named is_word is_file = absurd (omega (arith, below))
 
--- `run`, a file and a number of steps
-pub asks_run :
-    {X : Type 0} (f : X → List ℕ) (xs : List X) (a b d : X) (word file digits : List ℕ) (steps : ℕ) → 3 ≤ length xs → length xs < 4
-    → a ≡ get_or xs 0 a → b ≡ get_or xs 1 b → d ≡ get_or xs 2 d → word ≡ codes "run" → word ≡ f a → file ≡ f b → digits ≡ f d
-    → WritesSteps digits steps → Asks (map f xs) (Run steps) (Some file)
-asks_run f [] a b d word file digits steps least below first second third named is_word is_file is_digits writes = absurd (omega (arith, least))
-asks_run f (x ∷ []) a b d word file digits steps least below first second third named is_word is_file is_digits writes = absurd (omega (arith, least))
-asks_run f (x ∷ y ∷ []) a b d word file digits steps least below first second third named is_word is_file is_digits writes = absurd (omega (arith, least))
-asks_run f (x ∷ y ∷ z ∷ []) a b d word file digits steps least below first second third named is_word is_file is_digits writes =
-    rw (ap f (sym first), ap f (sym second), ap f (sym third), sym is_word, sym is_file, sym is_digits, named) (Asks.run file digits steps writes)
-asks_run f (x ∷ y ∷ z ∷ v ∷ xs) a b d word file digits steps least below first second third named is_word is_file is_digits writes = absurd (omega (arith, below))
+-- what lines are answered by, a file and a number of steps
+pub asks_answer :
+    {X : Type 0} (f : X → List ℕ) (xs : List X) (a b d : X) (reply : Reply) (word file digits : List ℕ) (steps : ℕ) → 3 ≤ length xs → length xs < 4
+    → a ≡ get_or xs 0 a → b ≡ get_or xs 1 b → d ≡ get_or xs 2 d → reply_name reply ≡ word → word ≡ f a → file ≡ f b → digits ≡ f d
+    → WritesSteps digits steps → Asks (map f xs) (Answer reply steps) (Some file)
+asks_answer f [] a b d reply word file digits steps least below first second third named is_word is_file is_digits writes = absurd (omega (arith, least))
+asks_answer f (x ∷ []) a b d reply word file digits steps least below first second third named is_word is_file is_digits writes = absurd (omega (arith, least))
+asks_answer f (x ∷ y ∷ []) a b d reply word file digits steps least below first second third named is_word is_file is_digits writes =
+    absurd (omega (arith, least))
+asks_answer f (x ∷ y ∷ z ∷ []) a b d reply word file digits steps least below first second third named is_word is_file is_digits writes =
+    rw (ap f (sym first), ap f (sym second), ap f (sym third), sym is_word, sym is_file, sym is_digits, sym named) (Asks.answer reply file digits steps writes)
+asks_answer f (x ∷ y ∷ z ∷ v ∷ xs) a b d reply word file digits steps least below first second third named is_word is_file is_digits writes =
+    absurd (omega (arith, below))

@@ -2,5 +2,5 @@
 pub mod Requests
 -- what is answered to that, and why there is no answer
 pub mod Answers
--- what a run answers, and why it ends before its lines do
+-- how lines are answered, and why that ends before they do
 pub mod Runs

@@ -4,7 +4,9 @@ use Rattle.std.specs.Str.Parse.{IsNumeral, digits_value}
 use Rattle.lrcommand.specs.declared.requests.Listing.{Listing}
 use Rattle.lrcommand.specs.declared.requests.Listing.TheVariants.{Start, Core, Closed, Conflicts}
 use Rattle.lrcommand.specs.declared.requests.Command.{Command}
-use Rattle.lrcommand.specs.declared.requests.Command.TheVariants.{Print, Run}
+use Rattle.lrcommand.specs.declared.requests.Command.TheVariants.{Print, Answer}
+use Rattle.lrcommand.specs.declared.requests.Reply.{Reply}
+use Rattle.lrcommand.specs.declared.requests.Reply.TheVariants.{Run, Tree}
 use Rattle.lrcommand.specs.declared.requests.Source.{Source}
 use Rattle.lrcommand.specs.declared.requests.Source.TheVariants.{File, StandardInput}
 
@@ -25,6 +27,11 @@ listing_name Core = codes "core"
 listing_name Closed = codes "closed"
 listing_name Conflicts = codes "conflicts"
 
+-- the word that stands for what lines are answered by
+abbrev pub reply_name : Reply → List ℕ
+reply_name Run = codes "run"
+reply_name Tree = codes "tree"
+
 -- one decimal digit or more, and nothing else, whose value is this number of 64 bits
 pub record WritesSteps (digits : List ℕ) (steps : ℕ) : Type 0 where
   pub numeral : IsNumeral 10 digits
@@ -32,13 +39,14 @@ pub record WritesSteps (digits : List ℕ) (steps : ℕ) : Type 0 where
   pub fits : steps < 2 ^ 64
 
 -- the arguments that ask for something: none at all for the start state of the grammar that
--- standard input holds; what is printed, and a file; or `run`, a file and a number of steps
+-- standard input holds; what is printed, and a file; or what lines are answered by, a file and a
+-- number of steps
 pub data Asks : List (List ℕ) → Command → Option (List ℕ) → Type 0 where
   alone : Asks [] (Print Start) None
   print : (listing : Listing) (file : List ℕ)
       → Asks (listing_name listing ∷ file ∷ []) (Print listing) (Some file)
-  run : (file digits : List ℕ) (steps : ℕ) → WritesSteps digits steps
-      → Asks (codes "run" ∷ file ∷ digits ∷ []) (Run steps) (Some file)
+  answer : (reply : Reply) (file digits : List ℕ) (steps : ℕ) → WritesSteps digits steps
+      → Asks (reply_name reply ∷ file ∷ digits ∷ []) (Answer reply steps) (Some file)
 
 -- the arguments ask for a command of which the fact holds
 abbrev pub AsksSome : List (List ℕ) → (Command → Type 0) → Type 0
@@ -48,12 +56,12 @@ AsksSome args P =
 -- if the command is to print something, the fact holds of that
 abbrev pub IfPrint : Command → (Listing → Type 0) → Type 0
 IfPrint (Print listing) P = P listing
-IfPrint (Run steps) P = Unit {0}
+IfPrint (Answer reply steps) P = Unit {0}
 
--- if the command is a run, the fact holds of its number of steps
-abbrev pub IfRun : Command → (ℕ → Type 0) → Type 0
-IfRun (Print listing) P = Unit {0}
-IfRun (Run steps) P = P steps
+-- if the command is to answer lines, the fact holds of by what, and in how many steps at most
+abbrev pub IfAnswer : Command → (Reply → ℕ → Type 0) → Type 0
+IfAnswer (Print listing) P = Unit {0}
+IfAnswer (Answer reply steps) P = P reply steps
 
 -- the arguments ask for nothing
 abbrev pub AsksNothing : List (List ℕ) → Type 0

@@ -1,4 +1,4 @@
--- what a run answers, and why it ends before its lines do
+-- how lines are answered, and why that ends before they do
 use Rattle.std.specs.Prelude.{ℕ, List, Option}
 use Rattle.std.specs.Io.KnownBytes.{Appends, IsAtEnd}
 use Rattle.std.specs.Option.{IsSomeAnd}
@@ -7,7 +7,10 @@ use Rattle.lrspec.specs.tables.Table.{Table}
 use Rattle.lrspec.specs.texts.Devices.{ConsumesSome, AppendsBeginning}
 use Rattle.lrspec.specs.texts.Lines.{answer_text}
 use Rattle.lrspec.specs.texts.MachineLines.{line_answer}
+use Rattle.lrspec.specs.texts.TreeTexts.{tree_answer}
 use Rattle.lrtable.specs.Refusals.{IsBuildRefusal}
+use Rattle.lrcommand.specs.declared.requests.Reply.{Reply}
+use Rattle.lrcommand.specs.declared.requests.Reply.TheVariants.{Run, Tree}
 use Rattle.lrcommand.specs.declared.faults.Fault.{Fault}
 use Rattle.lrcommand.specs.declared.faults.Fault.TheVariants.{Build, Lines}
 use Rattle.lrcommand.specs.Answers.{max_index, MeansGrammar, IsMergedTable, AcceptsAlone, IsTextFault}
@@ -18,12 +21,17 @@ pub record HasTable (bytes : List ℕ) (g : Grammar) (b : Table) : Type 0 where
   pub table : IsMergedTable g b
   pub accepts : AcceptsAlone g
 
+-- the reply to a line by the machine of the table, in at most so many steps
+abbrev pub reply_text : Reply → Grammar → Table → ℕ → List ℕ → List ℕ
+reply_text Run g b steps line = line_answer g b steps line
+reply_text Tree g b steps line = tree_answer g b steps line
+
 -- the bytes are a grammar text, the grammar has a table, and the fact holds of how the machine
--- answers a line in at most so many steps
-abbrev pub HasMachine : Option (List ℕ) → ℕ → ((List ℕ → List ℕ) → Type 0) → Type 0
-HasMachine bytes steps P =
+-- answers a line by such a reply, in at most so many steps
+abbrev pub HasMachine : Option (List ℕ) → Reply → ℕ → ((List ℕ → List ℕ) → Type 0) → Type 0
+HasMachine bytes reply steps P =
     IsSomeAnd bytes (λ bs.
-    (g : Grammar) × (b : Table) × HasTable bs g b × P (line_answer g b steps))
+    (g : Grammar) × (b : Table) × HasTable bs g b × P (reply_text reply g b steps))
 
 -- a reader that had these bytes was read to its end, and what a writer holds grew by the answers to
 -- all lines that were read
@@ -48,8 +56,8 @@ IsTableFault bytes name (Build e) =
     (g : Grammar) × MeansGrammar bs g × IsBuildRefusal (λ n. n) max_index g e)
 IsTableFault bytes name e = IsTextFault bytes name e
 
--- why a run with the bytes of that name ends before its lines do: there is no table, or else a
--- fault of the lines
+-- why lines are not all answered with the bytes of that name: there is no table, or else a fault
+-- of the lines
 abbrev pub IsRunFault : Option (List ℕ) → Option (List ℕ) → Fault → Type 0
 IsRunFault bytes name (Lines e) =
     IsSomeAnd bytes (λ bs. (g : Grammar) × (b : Table) × HasTable bs g b)

@@ -5,7 +5,7 @@ ghost use Rattle.std.specs.Prelude.{OnOk, OnErr, IfErr, IfSome, codes, map, opti
 ghost use Rattle.std.specs.Io.KnownBytes.{Appends};
 ghost use Rattle.std.specs.String.{string_bytes};
 ghost use Rattle.lrcommand.specs.declared.faults.Fault.TheVariants as fault;
-ghost use Rattle.lrcommand.specs.Requests.{name_of, AsksSome, AsksNothing, IfPrint, IfRun};
+ghost use Rattle.lrcommand.specs.Requests.{name_of, AsksSome, AsksNothing, IfPrint, IfAnswer};
 ghost use Rattle.lrcommand.specs.Answers.{HasAnswer, AppendsAnswer, IsPrintFault, fault_text};
 ghost use Rattle.lrcommand.specs.Runs.{HasMachine, AnswersAll, AnswersBeginning};
 
@@ -21,7 +21,8 @@ use std::io::{self, Read, Write};
 ///
 /// `file` is what was read of the file that the arguments name, or of standard input where there are no arguments; None
 /// where it could not be read, or no argument names a file. The answer goes to `out`, and a fault as one line to
-/// `faults`; both are given back. `reader` is standard input, whose lines `run` answers; no other command reads it.
+/// `faults`; both are given back. `reader` is standard input, whose lines `run` and `tree` answer; no other command
+/// reads it.
 pub fn command<R: Read + Drop, W: Write, F: Write>(
     alloc: Global,
     args: &[String],
@@ -31,20 +32,23 @@ pub fn command<R: Read + Drop, W: Write, F: Write>(
     mut faults: F,
 ) -> (u8, W, F)
     ensures status { result.0 ≤ 2 }
-    ensures printed { result.0 ≡ 0 → AsksSome (map string_bytes args.now) (λ command. IfPrint command (λ listing.
-        AppendsAnswer (W.contents out) (W.contents result.1)
+    ensures printed { result.0 ≡ 0 → AsksSome (map string_bytes args.now) (λ command.
+        IfPrint command (λ listing. AppendsAnswer (W.contents out) (W.contents result.1)
         (option_map (λ bytes. bytes.now) file.entry) listing)) }
     // The reader is read to its end, and `out` grows by the answers to its lines.
-    ensures ran { result.0 ≡ 0 → AsksSome (map string_bytes args.now) (λ command. IfRun command (λ steps.
-        HasMachine (option_map (λ bytes. bytes.now) file.entry) steps (λ answer.
+    ensures ran { result.0 ≡ 0 → AsksSome (map string_bytes args.now) (λ command.
+        IfAnswer command (λ reply steps.
+        HasMachine (option_map (λ bytes. bytes.now) file.entry) reply steps (λ answer.
         AnswersAll answer (R.remaining reader) (W.contents out) (W.contents result.1)))) }
     ensures silent { result.0 ≡ 0 → result.2 ≡ faults }
     // Only an answer that could not be written whole changes what `out` holds.
-    ensures fault { result.0 ≡ 1 → AsksSome (map string_bytes args.now) (λ command. IfPrint command (λ listing.
+    ensures fault { result.0 ≡ 1 → AsksSome (map string_bytes args.now) (λ command.
+        IfPrint command (λ listing.
         (result.1 ≡ out) ⊎ HasAnswer (option_map (λ bytes. bytes.now) file.entry) listing)) }
-    // A run that has begun leaves a beginning of the answers.
-    ensures run_fault { result.0 ≡ 1 → AsksSome (map string_bytes args.now) (λ command. IfRun command (λ steps.
-        (result.1 ≡ out) ⊎ HasMachine (option_map (λ bytes. bytes.now) file.entry) steps (λ answer.
+    // Answering that has begun leaves a beginning of the answers.
+    ensures run_fault { result.0 ≡ 1 → AsksSome (map string_bytes args.now) (λ command.
+        IfAnswer command (λ reply steps. (result.1 ≡ out)
+        ⊎ HasMachine (option_map (λ bytes. bytes.now) file.entry) reply steps (λ answer.
         AnswersBeginning answer (R.remaining reader) (W.contents out) (W.contents result.1)))) }
     ensures usage { (result.0 ≡ 2) ↔ AsksNothing (map string_bytes args.now) }
     ensures untouched { result.0 ≡ 2 → result.1 ≡ out }
@@ -74,13 +78,13 @@ fn carry_out<'a, R: Read + Drop, W: Write>(
     ensures printed { OnOk result.0 (IfPrint request.now.command (λ listing.
         AppendsAnswer (W.contents out) (W.contents result.1)
         (option_map (λ bytes. bytes.now) file.entry) listing)) }
-    ensures ran { OnOk result.0 (IfRun request.now.command (λ steps.
-        HasMachine (option_map (λ bytes. bytes.now) file.entry) steps (λ answer.
+    ensures ran { OnOk result.0 (IfAnswer request.now.command (λ reply steps.
+        HasMachine (option_map (λ bytes. bytes.now) file.entry) reply steps (λ answer.
         AnswersAll answer (R.remaining reader) (W.contents out) (W.contents result.1)))) }
     ensures print_fault { OnErr result.0 (IfPrint request.now.command (λ listing.
         (result.1 ≡ out) ⊎ HasAnswer (option_map (λ bytes. bytes.now) file.entry) listing)) }
-    ensures run_fault { OnErr result.0 (IfRun request.now.command (λ steps.
-        (result.1 ≡ out) ⊎ HasMachine (option_map (λ bytes. bytes.now) file.entry) steps (λ answer.
+    ensures run_fault { OnErr result.0 (IfAnswer request.now.command (λ reply steps. (result.1 ≡ out)
+        ⊎ HasMachine (option_map (λ bytes. bytes.now) file.entry) reply steps (λ answer.
         AnswersBeginning answer (R.remaining reader) (W.contents out) (W.contents result.1)))) }
 {
     match request.command {
@@ -88,7 +92,9 @@ fn carry_out<'a, R: Read + Drop, W: Write>(
             let printed = print(alloc, listing, request.source, file, &mut out);
             (printed, out)
         }
-        Command::Run(steps) => run(alloc, steps, request.source, file, reader, out),
+        Command::Answer(reply, steps) => {
+            run(alloc, reply, steps, request.source, file, reader, out)
+        }
     }
 }
 

@@ -9,4 +9,4 @@ mod running;
 
 pub use crate::commands::command;
 pub use crate::faults::Fault;
-pub use crate::requests::{Command, Listing, Request, Source, USAGE, requested};
+pub use crate::requests::{Command, Listing, Reply, Request, Source, USAGE, requested};

@@ -2,13 +2,16 @@
 
 ghost use Rattle.std.specs.Prelude.{◌≡◌, ◌≢◌, ℕ, None, Some, IfSome, MatchOption, map};
 ghost use Rattle.std.specs.String.{string_bytes};
-ghost use Rattle.lrcommand.specs.declared.requests.Listing as requests;
-ghost use Rattle.lrcommand.specs.Requests.{Asks, AsksNothing, WritesSteps, listing_name, name_of, source_text};
+ghost use Rattle.lrcommand.specs.declared.requests.Listing as listings;
+ghost use Rattle.lrcommand.specs.declared.requests.Reply as replies;
+ghost use Rattle.lrcommand.specs.Requests.{Asks, AsksNothing, WritesSteps};
+ghost use Rattle.lrcommand.specs.Requests.{listing_name, reply_name, name_of, source_text};
 
 use std::fmt;
 
 /// How the program is called.
-pub const USAGE: &str = "usage: lrt start|core|closed|conflicts FILE | lrt run FILE STEPS";
+pub const USAGE: &str =
+    "usage: lrt start|core|closed|conflicts FILE | lrt run FILE STEPS | lrt tree FILE STEPS";
 
 /// Where the text of a grammar is read from; each displays as it is named in a fault line.
 #[derive(Clone, Copy, Debug)]
@@ -42,13 +45,22 @@ pub enum Listing {
     Conflicts,
 }
 
+/// What a line is answered by.
+#[derive(Clone, Copy, Debug)]
+pub enum Reply {
+    /// How the machine runs on its tokens.
+    Run,
+    /// The tree of its tokens.
+    Tree,
+}
+
 /// What the program does with a grammar.
 #[derive(Clone, Copy, Debug)]
 pub enum Command {
     /// It prints something of the grammar.
     Print(Listing),
-    /// It answers the lines of standard input by the grammar's machine, each in at most so many steps.
-    Run(usize),
+    /// It answers the lines of standard input by the grammar's machine, each by such a reply in at most so many steps.
+    Answer(Reply, usize),
 }
 
 /// A command, and where the grammar is read from that it is about.
@@ -60,7 +72,7 @@ pub struct Request<'a> {
 
 /// What the word says that is printed.
 fn listing_named(word: &str) -> Option<Listing>
-    ensures { MatchOption result ((listing : requests.Listing) → listing_name listing ≢ word.now)
+    ensures { MatchOption result ((listing : listings.Listing) → listing_name listing ≢ word.now)
         (λ listing. listing_name listing ≡ word.now) }
 {
     if word == "start" {
@@ -71,6 +83,20 @@ fn listing_named(word: &str) -> Option<Listing>
         Some(Listing::Closed)
     } else if word == "conflicts" {
         Some(Listing::Conflicts)
+    } else {
+        None
+    }
+}
+
+/// What the word says that lines are answered by.
+fn reply_named(word: &str) -> Option<Reply>
+    ensures { MatchOption result ((reply : replies.Reply) → reply_name reply ≢ word.now)
+        (λ reply. reply_name reply ≡ word.now) }
+{
+    if word == "run" {
+        Some(Reply::Run)
+    } else if word == "tree" {
+        Some(Reply::Tree)
     } else {
         None
     }
@@ -100,8 +126,8 @@ pub fn requested(args: &[String]) -> Option<Request<'_>>
             Command::Print(listing_named(word.as_str())?),
             Source::File(file.as_str()),
         ),
-        [word, file, digits] if word.as_str() == "run" => (
-            Command::Run(steps_written(digits.as_str())?),
+        [word, file, digits] => (
+            Command::Answer(reply_named(word.as_str())?, steps_written(digits.as_str())?),
             Source::File(file.as_str()),
         ),
         _ => return None,

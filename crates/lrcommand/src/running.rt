@@ -3,42 +3,46 @@
 ghost use Rattle.std.specs.Prelude.{◌≡◌, ◌⊎◌, IfOk, IfErr, OnOk, OnErr, option_map};
 ghost use Rattle.std.specs.Option.{IsSomeAnd};
 ghost use Rattle.lrspec.specs.tables.Table.{IsTableFor};
-ghost use Rattle.lrspec.specs.texts.MachineLines.{line_answer};
 ghost use Rattle.lrcommand.specs.Requests.{name_of};
-ghost use Rattle.lrcommand.specs.Runs.{HasTable, HasMachine, AnswersAll, AnswersBeginning, IsTableFault, IsRunFault};
+ghost use Rattle.lrcommand.specs.Runs.{HasTable, HasMachine, AnswersAll, AnswersBeginning};
+ghost use Rattle.lrcommand.specs.Runs.{reply_text, IsTableFault, IsRunFault};
 
 use crate::answers::grammar_of;
 use crate::faults::Fault;
-use crate::requests::Source;
+use crate::requests::{Reply, Source};
 use lrgrammar::grammar::YaccGrammar;
-use lrtable::machine::{Counted, LineError, run_lines};
+use lrtable::machine::{Counted, LineError, LineRead, LineWrite, run_lines};
 use lrtable::{Minimiser, StateTable, from_yacc};
+use lrtree::tree_lines;
 use std::alloc::Global;
 use std::io::{Read, Write};
 
-/// Answers the lines of a reader by the machine of a grammar, each in at most so many steps; `file` holds the bytes of
-/// the grammar's source, and is None where they could not be read. The answers go to `out`, which is given back.
+/// Answers the lines of a reader by the machine of a grammar, each by such a reply in at most so many steps; `file`
+/// holds the bytes of the grammar's source, and is None where they could not be read. The answers go to `out`, which is
+/// given back.
 pub fn run<'a, R: Read + Drop, W: Write>(
     alloc: Global,
+    reply: Reply,
     steps: usize,
     source: Source<'a>,
     file: Option<&[u8]>,
     reader: R,
     out: W,
 ) -> (Result<(), Fault<'a>>, W)
-    ensures all { OnOk result.0 (HasMachine (option_map (λ bytes. bytes.now) file.entry) steps (λ answer.
+    ensures all { OnOk result.0 (
+        HasMachine (option_map (λ bytes. bytes.now) file.entry) reply steps (λ answer.
         AnswersAll answer (R.remaining reader) (W.contents out) (W.contents result.1))) }
     ensures fault { IfErr result.0 (IsRunFault (option_map (λ bytes. bytes.now) file.entry)
         (name_of source.entry)) }
     ensures beginning { OnErr result.0 ((result.1 ≡ out)
-        ⊎ HasMachine (option_map (λ bytes. bytes.now) file.entry) steps (λ answer.
+        ⊎ HasMachine (option_map (λ bytes. bytes.now) file.entry) reply steps (λ answer.
         AnswersBeginning answer (R.remaining reader) (W.contents out) (W.contents result.1))) }
 {
     let (grm, table) = match machine_of(alloc, source, file) {
         Ok(machine) => machine,
         Err(fault) => return (Err(fault), out),
     };
-    let (answered, out) = answer_lines(&grm, &table, steps, reader, out);
+    let (answered, out) = answer_lines(&grm, &table, reply, steps, reader, out);
     (answered.map_err(|error| Fault::Lines(error)), out)
 }
 
@@ -63,20 +67,43 @@ fn machine_of<'a>(
 fn answer_lines<R: Read + Drop, W: Write>(
     grm: &YaccGrammar<u32>,
     table: &StateTable<u32>,
+    reply: Reply,
     steps: usize,
     reader: R,
     out: W,
 ) -> (Result<(), LineError>, W)
     requires { IsTableFor grm.now table.now }
-    ensures all { OnOk result.0 (AnswersAll (line_answer grm.now table.now steps)
+    ensures all { OnOk result.0 (AnswersAll (reply_text reply grm.now table.now steps)
         (R.remaining reader) (W.contents out) (W.contents result.1)) }
-    ensures beginning { AnswersBeginning (line_answer grm.now table.now steps)
+    ensures beginning { AnswersBeginning (reply_text reply grm.now table.now steps)
         (R.remaining reader) (W.contents out) (W.contents result.1) }
 {
     let mut reader = Counted::new(reader);
     let mut writer = Counted::new(out);
-    let answered = run_lines(grm.allocator(), &mut reader, &mut writer, grm, table, steps);
+    let answered = reply_lines(grm, table, reply, steps, &mut reader, &mut writer);
     let mut out = writer.into_inner();
     let flushed = out.flush().map_err(|_| LineError::Write);
     (answered.and(flushed), out)
+}
+
+/// Answers all lines of a reader on a writer, as the reply says.
+fn reply_lines<R: LineRead, W: LineWrite>(
+    grm: &YaccGrammar<u32>,
+    table: &StateTable<u32>,
+    reply: Reply,
+    steps: usize,
+    reader: &mut R,
+    writer: &mut W,
+) -> Result<(), LineError>
+    requires { IsTableFor grm.now table.now }
+    ensures all { OnOk result (AnswersAll (reply_text reply grm.now table.now steps)
+        (R.left reader.old) (W.written writer.old) (W.written writer.new)) }
+    ensures beginning { AnswersBeginning (reply_text reply grm.now table.now steps)
+        (R.left reader.old) (W.written writer.old) (W.written writer.new) }
+{
+    let alloc = grm.allocator();
+    match reply {
+        Reply::Run => run_lines(alloc, reader, writer, grm, table, steps),
+        Reply::Tree => tree_lines(alloc, reader, writer, grm, table, steps),
+    }
 }

@@ -11,7 +11,10 @@ const ASSIGNMENTS: &str = "%% S: L '=' R | R; L: '*' R | 'id'; R: L;";
 const START: &str = "[S -> . L '=' R, {'$'}]\n[S -> . R, {'$'}]\n[L -> . '*' R, {'=', '$'}]\n\
     [L -> . 'id', {'=', '$'}]\n[R -> . L, {'$'}]\n[^ -> . S, {'$'}]\n";
 
-const USAGE: &str = "usage: lrt start|core|closed|conflicts FILE | lrt run FILE STEPS\n";
+const TERMS: &str = "%% Expr: Term '-' Expr | Term; Term: Factor '*' Term | Factor; Factor: 'id';";
+
+const USAGE: &str =
+    "usage: lrt start|core|closed|conflicts FILE | lrt run FILE STEPS | lrt tree FILE STEPS\n";
 
 /// The arguments of a line of words.
 fn words(alloc: Global, line: &str) -> Result<Vec<String>, AllocError> {
@@ -77,7 +80,8 @@ fn conflicts(rt: HostRuntime) -> Result<(), Fail> {
     let text = Some(ASSIGNMENTS.as_bytes());
     answers(&rt, rt.alloc(), "conflicts a.y", text, 0, none, "")?;
     answers(&rt, rt.alloc(), "conflicts a.y", accepting, 1, "", told)?;
-    answers(&rt, rt.alloc(), "core a.y", accepting, 1, "", told)
+    answers(&rt, rt.alloc(), "core a.y", accepting, 1, "", told)?;
+    answers(&rt, rt.alloc(), "tree a.y 5", accepting, 1, "", told)
 }
 
 #[test]
@@ -94,6 +98,15 @@ fn wrong_usage(rt: HostRuntime) -> Result<(), Fail> {
         "run a.y",
         "run a.y +1",
         "run a.y 18446744073709551616",
+        "tree",
+        "tree a.y",
+        "tree a.y x",
+        "tree a.y 1 2",
+        "tree a.y -1",
+        "tree a.y +1",
+        "tree a.y 18446744073709551616",
+        "trees a.y 1",
+        "start a.y 1",
     ] {
         answers(&rt, rt.alloc(), line, text, 2, "", USAGE)?;
         answers(&rt, rt.alloc(), line, None, 2, "", USAGE)?;
@@ -119,63 +132,76 @@ fn no_digits(rt: HostRuntime) -> Result<(), Fail> {
     Ok(())
 }
 
-#[test]
-fn lines(rt: HostRuntime) -> Result<(), Fail> {
-    let alloc = rt.alloc();
-    let args = words(alloc, "run a.y 007")?;
-    let (status, wrote, _) = command(
+/// The command of these words answers so what standard input holds.
+fn answers_lines(
+    rt: &impl Abort,
+    alloc: Global,
+    line: &str,
+    text: &str,
+    input: &str,
+    out: &str,
+) -> Result<(), Fail> {
+    let args = words(alloc, line)?;
+    let (status, wrote, told) = command(
         alloc,
         args.as_slice(),
-        Some(b"%% S: S 'a' | 'b';".as_slice()),
-        b"b a\nb b\nx\nb a a a".as_slice(),
+        Some(text.as_bytes()),
+        input.as_bytes(),
         Vec::new(alloc),
         Vec::new(alloc),
     );
-    let text = "accept 5: S.1 S.0\nreject 2\nunknown x\nunfinished 7\n";
-    assert_eq!(rt; status, 0);
-    assert_eq!(rt; wrote.as_slice(), text.as_bytes());
+    assert_eq!(rt; status, 0, "{line}");
+    assert_eq!(rt; wrote.as_slice(), out.as_bytes(), "{line}");
+    assert!(rt; told.is_empty(), "{line}");
     Ok(())
 }
 
 #[test]
+fn runs(rt: HostRuntime) -> Result<(), Fail> {
+    let input = "b a\nb b\nx\nb a a a";
+    let out = "accept 5: S.1 S.0\nreject 2\nunknown x\nunfinished 7\n";
+    let text = "%% S: S 'a' | 'b';";
+    answers_lines(&rt, rt.alloc(), "run a.y 007", text, input, out)
+}
+
+#[test]
+fn trees(rt: HostRuntime) -> Result<(), Fail> {
+    // The second line takes 14 steps: 5 shifts, 8 reductions and the accepting one.
+    let input = "id\nid - id * id\n- id\nid +\n\nid - id * id - id";
+    let out = "tree Expr.1(Term.1(Factor.0('id')))\n\
+        tree Expr.0(Term.1(Factor.0('id')) '-' \
+        Expr.1(Term.0(Factor.0('id') '*' Term.1(Factor.0('id')))))\n\
+        reject\nunknown +\nreject\nunfinished\n";
+    answers_lines(&rt, rt.alloc(), "tree a.y 14", TERMS, input, out)
+}
+
+#[test]
+fn trees_in_few_steps(rt: HostRuntime) -> Result<(), Fail> {
+    let tree = "tree Expr.1(Term.1(Factor.0('id')))\n";
+    answers_lines(&rt, rt.alloc(), "tree a.y 5", TERMS, "id\n", tree)?;
+    answers_lines(&rt, rt.alloc(), "tree a.y 4", TERMS, "id\n", "unfinished\n")?;
+    answers_lines(&rt, rt.alloc(), "tree a.y 0", TERMS, "id\n", "unfinished\n")
+}
+
+#[test]
+fn trees_of_empty_productions(rt: HostRuntime) -> Result<(), Fail> {
+    let text = "%% List: | List 'x';";
+    let out = "tree List.0()\ntree List.1(List.1(List.0() 'x') 'x')\n";
+    answers_lines(&rt, rt.alloc(), "tree a.y 9", text, "\nx x\n", out)
+}
+
+#[test]
 fn files_without_a_text(rt: HostRuntime) -> Result<(), Fail> {
+    let alloc = rt.alloc();
     let bytes = Some(b"\xff".as_slice());
-    answers(
-        &rt,
-        rt.alloc(),
-        "start a.y",
-        None,
-        1,
-        "",
-        "lrt: cannot read a.y\n",
-    )?;
-    answers(
-        &rt,
-        rt.alloc(),
-        "",
-        None,
-        1,
-        "",
-        "lrt: cannot read standard input\n",
-    )?;
-    answers(
-        &rt,
-        rt.alloc(),
-        "start a.y",
-        bytes,
-        1,
-        "",
-        "lrt: a.y is not UTF-8\n",
-    )?;
-    answers(
-        &rt,
-        rt.alloc(),
-        "",
-        bytes,
-        1,
-        "",
-        "lrt: standard input is not UTF-8\n",
-    )
+    for line in ["start a.y", "run a.y 5", "tree a.y 5"] {
+        answers(&rt, alloc, line, None, 1, "", "lrt: cannot read a.y\n")?;
+        answers(&rt, alloc, line, bytes, 1, "", "lrt: a.y is not UTF-8\n")?;
+    }
+    let unread = "lrt: cannot read standard input\n";
+    answers(&rt, alloc, "", None, 1, "", unread)?;
+    let undecoded = "lrt: standard input is not UTF-8\n";
+    answers(&rt, alloc, "", bytes, 1, "", undecoded)
 }
 
 #[test]
@@ -189,15 +215,10 @@ fn refused_texts(rt: HostRuntime) -> Result<(), Fail> {
         ),
         ("%%", "lrt: no start rule\n"),
     ] {
-        answers(
-            &rt,
-            rt.alloc(),
-            "start a.y",
-            Some(text.as_bytes()),
-            1,
-            "",
-            faults,
-        )?;
+        for line in ["start a.y", "run a.y 5", "tree a.y 5"] {
+            let bytes = Some(text.as_bytes());
+            answers(&rt, rt.alloc(), line, bytes, 1, "", faults)?;
+        }
     }
     Ok(())
 }
@@ -263,5 +284,6 @@ fn output_that_takes_nothing(rt: HostRuntime) -> Result<(), Fail> {
 #[test]
 fn output_whose_flush_fails(rt: HostRuntime) -> Result<(), Fail> {
     cannot_write(&rt, rt.alloc(), "start a.y", Unflushed)?;
-    cannot_write(&rt, rt.alloc(), "run a.y 5", Unflushed)
+    cannot_write(&rt, rt.alloc(), "run a.y 5", Unflushed)?;
+    cannot_write(&rt, rt.alloc(), "tree a.y 5", Unflushed)
 }
