@@ -1,4 +1,4 @@
-//! Texts drawn at random, on which the machine does what a plain one does.
+//! Texts drawn at random, on which the machine does what a plain one does, and which have the tree that this puts together.
 
 ghost use Rattle.std.specs.Prelude.{◌<◌, IfOk};
 ghost use Rattle.lrspec.specs.grammars.Grammar.{end_token};
@@ -15,7 +15,8 @@ use lrgrammar::grammar::YaccGrammar;
 use lrgrammar::idx::TIdx;
 use lrtable::StateTable;
 use lrtable::machine::{Run, Verdict, run};
-use std::alloc::Global;
+use lrtree::{Parsed, Tree, parse};
+use std::alloc::{AllocError, Global};
 use std::test::Fail;
 
 /// How many texts are drawn for each of the sixteen grammars: ten thousand in all.
@@ -58,19 +59,55 @@ fn draw_text(
     Ok(text)
 }
 
-/// Whether the plain machine does the same with the text.
+/// Whether the tree is the only one of those, with the text for its leaves and the reductions for its productions.
+fn is_tree(
+    alloc: Global,
+    tree: &Tree<u32>,
+    trees: &[Tree<u32>],
+    text: &[TIdx<u32>],
+    run: &Run<u32>,
+) -> Result<bool, AllocError> {
+    let leaves = tree.leaves(alloc)?;
+    let productions = tree.productions(alloc)?;
+    let is_only = trees.len() == 1 && trees.first() == Some(tree);
+    Ok(is_only && leaves.as_slice() == text && productions == run.reductions)
+}
+
+/// Whether what was parsed is as the run came out, which has put those trees together.
+fn is_parsed(
+    alloc: Global,
+    parsed: &Parsed<u32>,
+    trees: &[Tree<u32>],
+    text: &[TIdx<u32>],
+    run: &Run<u32>,
+) -> Result<bool, AllocError> {
+    match parsed {
+        Parsed::Tree(tree) if run.verdict == Verdict::Accepted => {
+            is_tree(alloc, tree, trees, text, run)
+        }
+        Parsed::Tree(_) => Ok(false),
+        Parsed::Rejected => Ok(run.verdict == Verdict::Rejected),
+        Parsed::Unfinished => Ok(run.verdict == Verdict::Unfinished),
+    }
+}
+
+/// Whether the plain machine does the same with the text, and puts the tree together that is parsed.
 fn is_plain(
     alloc: Global,
     grm: &YaccGrammar<u32>,
     table: &StateTable<u32>,
     text: &[TIdx<u32>],
     run: &Run<u32>,
-) -> Result<bool, Fail> {
-    let plain = run_plainly(alloc, grm, table, text, STEPS)?;
-    Ok(*run == plain)
+) -> Result<bool, Fail>
+    requires table_for { IsTableFor grm.now table.now }
+    requires named { AreNamed grm.now (text_of (λ n. n) text.now) }
+{
+    let (plain, trees) = run_plainly(alloc, grm, table, text, STEPS)?;
+    let parsed = parse(alloc, grm, table, text, STEPS)?;
+    Ok(*run == plain && is_parsed(alloc, &parsed, &trees, text, run)?)
 }
 
-/// Whether the text is accepted; None where the machines differ, or where the reductions do not derive the text.
+/// Whether the text is accepted; None where the machines or the trees differ, or where the reductions do not derive the text.
 fn accepted(
     alloc: Global,
     grm: &YaccGrammar<u32>,

@@ -1,6 +1,9 @@
-//! Tests of the machine: the longest runs, texts drawn at random, long lines, and devices that fail.
+//! Tests of the machine: the longest runs, the beginnings of sentences, texts drawn at random and their trees, long lines,
+//! and devices that fail.
 #![tactic(auto)]
 
+#[cfg(test)]
+mod beginnings;
 #[cfg(test)]
 mod derivations;
 #[cfg(test)]

@@ -5,6 +5,7 @@ use lrgrammar::grammar::YaccGrammar;
 use lrgrammar::idx::{IndexStorage, PIdx, StIdx, TIdx};
 use lrtable::machine::{Run, Verdict};
 use lrtable::{Action, StateTable};
+use lrtree::Tree;
 use std::alloc::Global;
 use std::test::Fail;
 
@@ -12,6 +13,8 @@ use std::test::Fail;
 #[derive(Drop)]
 struct Plain<T> {
     stack: Vec<StIdx<T>>,
+    /// A tree for each state but the start state.
+    trees: Vec<Tree<T>>,
     used: usize,
     reductions: Vec<PIdx<T>>,
 }
@@ -32,6 +35,17 @@ impl<T: IndexStorage> Plain<T> {
         self.top()
     }
 
+    /// Puts the last trees, so many of them, under a node in their place.
+    fn put_together(&mut self, by: PIdx<T>, count: usize) -> Result<(), Fail> {
+        let mut children = Vec::new(*self.trees.allocator());
+        for _ in 0..count {
+            children.push(self.trees.pop().ok_or("a tree")?)?;
+        }
+        children.as_mut_slice().reverse();
+        self.trees.push(Tree::Node(by, children))?;
+        Ok(())
+    }
+
     /// Drops a body, and pushes where its rule leads.
     fn reduce(
         &mut self,
@@ -43,13 +57,15 @@ impl<T: IndexStorage> Plain<T> {
         let behind = self.pop(body.len())?;
         let to = table.goto(behind, rule).ok_or("a goto")?;
         self.stack.push(to)?;
+        self.put_together(by, body.len())?;
         self.reductions.push(by)?;
         Ok(())
     }
 
-    /// Pushes the state, and uses up a token.
-    fn shift(&mut self, to: StIdx<T>) -> Result<(), Fail> {
+    /// Pushes the state, and uses up the token.
+    fn shift(&mut self, to: StIdx<T>, token: TIdx<T>) -> Result<(), Fail> {
         self.stack.push(to)?;
+        self.trees.push(Tree::Token(token))?;
         self.used = self.used.saturating_add(1);
         Ok(())
     }
@@ -66,8 +82,9 @@ impl<T: IndexStorage> Plain<T> {
         table: &StateTable<T>,
         text: &[TIdx<T>],
     ) -> Result<Option<Verdict>, Fail> {
-        match table.action(self.top()?, self.next(grm, text)) {
-            Action::Shift(to) => self.shift(to)?,
+        let token = self.next(grm, text);
+        match table.action(self.top()?, token) {
+            Action::Shift(to) => self.shift(to, token)?,
             Action::Reduce(by) => self.reduce(grm, table, by)?,
             Action::Accept => return Ok(Some(Verdict::Accepted)),
             Action::Error => return Ok(Some(Verdict::Rejected)),
@@ -92,24 +109,26 @@ impl<T: IndexStorage> Plain<T> {
     }
 }
 
-/// How the text comes out after at most so many steps.
+/// How the text comes out after at most so many steps, and the trees that are put together by then.
 pub fn run_plainly<T: IndexStorage>(
     alloc: Global,
     grm: &YaccGrammar<T>,
     table: &StateTable<T>,
     text: &[TIdx<T>],
     most: usize,
-) -> Result<Run<T>, Fail> {
+) -> Result<(Run<T>, Vec<Tree<T>>), Fail> {
     let mut plain = Plain {
         stack: Vec::new(alloc),
+        trees: Vec::new(alloc),
         used: 0,
         reductions: Vec::new(alloc),
     };
     plain.stack.push(table.start_state())?;
     let (verdict, steps) = plain.run(grm, table, text, most)?;
-    Ok(Run {
+    let run = Run {
         verdict,
         steps,
         reductions: plain.reductions,
-    })
+    };
+    Ok((run, plain.trees))
 }

@@ -7,8 +7,8 @@ ghost use Rattle.lrspec.specs.tables.Recognition.{AreNamed};
 ghost use Rattle.lrtable.specs.RunAnswers.{text_of};
 
 use crate::fixtures::{
-    NEVER_ENDING, ONE_BODY_TWICE, ROUND_WITHOUT_TOKENS, TERMS_AND_FACTORS, UNARY_MINUS,
-    UNARY_MINUS_WITHOUT_PREC, repeated,
+    CONTESTED_ON_X_ALONE, NEVER_ENDING, ONE_BODY_TWICE, ROUND_WITHOUT_TOKENS, RULE_WITHOUT_A_TREE,
+    TERMS_AND_FACTORS, UNARY_MINUS, UNARY_MINUS_WITHOUT_PREC, repeated,
 };
 use crate::tables::grammar_and_table;
 use lrgrammar::grammar::YaccGrammar;
@@ -106,6 +106,8 @@ fn by_four_bytes(rt: HostRuntime) -> Result<(), Fail> {
         (NEVER_ENDING, "b b", 100, "Rejected 3:"),
         (NEVER_ENDING, "b", 1, "Unfinished 1:"),
         (ONE_BODY_TWICE, "a", 100, "Accepted 3: 0"),
+        (CONTESTED_ON_X_ALONE, "b c d", 100, "Rejected 4: 6"),
+        (RULE_WITHOUT_A_TREE, "a", 100, "Rejected 2:"),
         (UNARY_MINUS, "- n * n", 100, "Accepted 9: 4 3 4 2"),
         (
             UNARY_MINUS_WITHOUT_PREC,

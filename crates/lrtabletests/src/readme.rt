@@ -1,4 +1,4 @@
-//! The caller that the README shows.
+//! A caller that the README names.
 
 use lrgrammar::grammar::YaccGrammar;
 use lrgrammar::idx::SIdx;

@@ -1,0 +1,2 @@
+-- how deep a walk over a tree comes
+pub mod DeepestNodes

@@ -1,0 +1,2 @@
+-- how deep trees are
+pub mod Depths
