@@ -4,6 +4,7 @@ the program. This module reads the text and prints the answer; `graphs`, `tables
 
     definitions.py COMMAND FILE         prints the answer or the fault line, and ends with the status
     definitions.py run FILE STEPS       the same for the lines of standard input
+    definitions.py tree FILE STEPS      and with the trees of the lines
 
 COMMAND is `start`, `core`, `closed` or `conflicts`.
 """
@@ -17,7 +18,8 @@ import graphs
 import machine
 import tables
 
-COMMANDS = ("start", "core", "closed", "conflicts", "run")
+LISTINGS = ("start", "core", "closed", "conflicts")
+COMMANDS = (*LISTINGS, *machine.TEXTS)
 BLANKS = re.compile(rb"(?:[ \t\r\n]+|//[^\n]*|/\*.*?\*/)*", re.DOTALL)
 LEXEME = re.compile(
     rb"""(?P<NAME>[A-Za-z_.][A-Za-z0-9_.]*)
@@ -224,8 +226,8 @@ def lines(arguments, grammar, given):
         raise Fault(b"Accept/reduce conflict")
     if command == "conflicts":
         return texts.conflicts(*tables.conflicts(grammar, states))
-    if command == "run":
-        return machine.answers(grammar, states, given, int(arguments[2]))
+    if command in machine.TEXTS:
+        return machine.answers(command, grammar, states, given, int(arguments[2]))
     return texts.states(states, command)
 
 
@@ -242,7 +244,7 @@ def answer(arguments, text, given):
 
 
 if __name__ == "__main__":
-    given = sys.stdin.buffer.read() if sys.argv[1] == "run" else b""
+    given = sys.stdin.buffer.read() if sys.argv[1] in machine.TEXTS else b""
     status, out, fault = answer(sys.argv[1:], Path(sys.argv[2]).read_bytes(), given)
     sys.stdout.buffer.write(out)
     sys.stderr.buffer.write(fault)

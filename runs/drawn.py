@@ -44,13 +44,14 @@ def damaged(draw, text):
     return text[:at] + draw.choice(("", text[at], draw.choice(PIECES))) + text[behind:]
 
 
-def owed(program, command, text):
-    """The answer to the text by the definitions, which the program gives."""
+def owed(program, text, command, *numbers, lines=b""):
+    """The answer to the text and the lines by the definitions, which the program gives."""
     Path("a.y").write_text(text)
-    wanted = definitions.answer([command, "a.y"], text.encode(), b"")
-    done = subprocess.run([program, command, "a.y"], stdin=subprocess.DEVNULL, capture_output=True)
+    arguments = [command, "a.y", *numbers]
+    wanted = definitions.answer(arguments, text.encode(), lines)
+    done = subprocess.run([program, *arguments], input=lines, capture_output=True)
     if wanted != (done.returncode, done.stdout, done.stderr):
-        sys.exit(f"{command} of {text!r}: {done}, and not {wanted}")
+        sys.exit(f"{command} of {text!r} and {lines!r}: {done}, and not {wanted}")
     return wanted
 
 
@@ -61,7 +62,7 @@ def main(program):
         text = drawn_text(draw)
         for _ in range(k % 3):
             text = damaged(draw, text)
-        _, _, fault = owed(program, draw.choice(definitions.COMMANDS[:4]), text)
+        _, _, fault = owed(program, text, draw.choice(definitions.LISTINGS))
         if "%prec" in text:
             outcomes[b" ".join(fault.split()[1:2])] += 1
     if min(outcomes[b""], outcomes[b"syntax"], outcomes[b"unknown"]) < TEXTS // 20:

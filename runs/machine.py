@@ -1,5 +1,8 @@
-"""Runs of the machine that a grammar's table drives, worked out from the definitions of docs/FORMATS.md and not by the
-program."""
+"""Runs of the machine that a grammar's table drives, and the trees that it puts together, worked out from the definitions of
+docs/FORMATS.md and not by the program.
+
+A tree is the number of a token, or a pair of a production and the list of its children.
+"""
 
 import re
 
@@ -30,22 +33,27 @@ def cell(grammar, state, token):
 
 
 def run(grammar, states, text, steps):
-    """How the run on the text comes out, as `accept`, `reject` or `unfinished`, its steps, and its reductions."""
-    stack, used, reductions = [0], 0, []
+    """How the run on the text comes out, as `accept`, `reject` or `unfinished`, its steps, its reductions, and the trees of
+    the symbols that led to the states on its stack."""
+    stack, trees, used, reductions = [0], [], 0, []
     for step in range(steps):
         token = text[used] if used < len(text) else len(grammar.tokens)
         does, what = cell(grammar, states[stack[-1]], token)
         if does == "shift":
             stack.append(what)
+            trees.append(token)
             used += 1
         elif does == "reduce":
             rule, body = grammar.prods[what]
             del stack[len(stack) - len(body) :]
             stack.append(states[stack[-1]].edges[rule])
+            children = trees[len(trees) - len(body) :]
+            del trees[len(trees) - len(body) :]
+            trees.append((what, children))
             reductions.append(what)
         else:
-            return "accept" if does == "accept" else "reject", step + 1, reductions
-    return "unfinished", steps, reductions
+            return "accept" if does == "accept" else "reject", step + 1, reductions, trees
+    return "unfinished", steps, reductions, trees
 
 
 def place(grammar, prod):
@@ -54,20 +62,51 @@ def place(grammar, prod):
     return b"%b.%d" % (rule, sum(it[0] == rule for it in grammar.prods[:prod]))
 
 
-def line_answer(grammar, states, line, steps):
-    """The answer to a line."""
-    words = [word for word in re.split(rb"[ \t]", line) if word]
-    for word in words:
-        if word not in grammar.tokens:
-            return b"unknown " + word
-    verdict, made, reductions = run(grammar, states, [grammar.tokens.index(word) for word in words], steps)
+def tree_text(grammar, tree):
+    """The text of a tree, in a loop over its parts, since a tree may be deeper than calls may be."""
+    written, to_write = [], [tree]
+    while to_write:
+        part = to_write.pop()
+        if isinstance(part, bytes):
+            written.append(part)
+        elif isinstance(part, int):
+            written.append(b"'%b'" % grammar.tokens[part])
+        else:
+            prod, children = part
+            parted = [it for child in children for it in (b" ", child)][1:]
+            to_write += [b")", *reversed(parted), place(grammar, prod) + b"("]
+    return b"".join(written)
+
+
+def run_text(grammar, verdict, made, reductions, _trees):
+    """How `run` tells how a run came out."""
     if verdict == "accept":
         return b"accept %d:" % made + b"".join(b" " + place(grammar, prod) for prod in reductions)
     return b"%b %d" % (verdict.encode(), made)
 
 
-def answers(grammar, states, text, steps):
-    """The answer to each line of the text."""
+def parse_text(grammar, verdict, _made, _reductions, trees):
+    """How `tree` tells it. What is accepted is one tree."""
+    if verdict == "accept":
+        (tree,) = trees
+        return b"tree " + tree_text(grammar, tree)
+    return verdict.encode()
+
+
+TEXTS = {"run": run_text, "tree": parse_text}
+
+
+def line_answer(command, grammar, states, line, steps):
+    """The answer of the command to a line."""
+    words = [word for word in re.split(rb"[ \t]", line) if word]
+    for word in words:
+        if word not in grammar.tokens:
+            return b"unknown " + word
+    return TEXTS[command](grammar, *run(grammar, states, [grammar.tokens.index(word) for word in words], steps))
+
+
+def answers(command, grammar, states, text, steps):
+    """The answer of the command, `run` or `tree`, to each line of the text."""
     *whole, rest = text.split(b"\n")
     lines = [line.removesuffix(b"\r") for line in whole] + ([rest] if rest else [])
-    return [line_answer(grammar, states, line, steps) for line in lines]
+    return [line_answer(command, grammar, states, line, steps) for line in lines]

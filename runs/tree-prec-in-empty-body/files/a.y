@@ -1,0 +1,1 @@
+%nonassoc low %nonassoc 'else' %% S: 'if' S Else | 'x'; Else: %prec low | 'else' S;

@@ -1,0 +1,1 @@
+%start B %% A: 'a' B; B: A | 'b';

@@ -1,0 +1,1 @@
+%left '+' '-' %left '*' %left U %% E: E '+' E | E '-' E | E '*' E | '-' E %prec U | 'n';

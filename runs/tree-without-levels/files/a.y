@@ -1,0 +1,1 @@
+%% Expr : Expr '+' Expr | Expr '*' Expr | 'id' ;
