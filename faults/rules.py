@@ -1,0 +1,110 @@
+"""The faults that are tried, and what lrt may answer where one is made."""
+
+from collections import namedtuple
+
+from cases import ANSWERING, FILE
+
+# What a call answered: its status and its streams. `faults` are the faults that were made on each descriptor (0, 1, 2 and
+# others), and `input_read` the bytes that were read of standard input.
+Answer = namedtuple("Answer", "status out err faults input_read")
+
+INPUT, OUTPUT, ERRORS = range(3)
+
+OUT_OF_MEMORY = b"out of memory"
+CANNOT_WRITE = b"cannot write standard output"
+
+
+def cannot_read(name):
+    return f"cannot read {name}".encode()
+
+
+def answers_lines(case):
+    return case.words[:1] in [[command] for command in ANSWERING]
+
+
+def is_same(case, whole, found):
+    """Nothing comes of the fault."""
+    return found[:3] == whole[:3]
+
+
+def tells(found, fault):
+    return found.status == 1 and found.err == b"lrt: " + fault + b"\n"
+
+
+def is_beginning(text, whole):
+    """Whether the text is the whole one, but for something at its end."""
+    return whole.startswith(text) and len(text) < len(whole)
+
+
+def first_lines(text, count):
+    return b"".join(line + b"\n" for line in text.split(b"\n")[:count])
+
+
+def memory(case, whole, found):
+    """Memory is enough after all, or the fault is told: before a line is answered as far as lines are answered, and else
+    before anything is."""
+    if is_same(case, whole, found):
+        return True
+    lines = found.out.count(b"\n") if answers_lines(case) else 0
+    return tells(found, OUT_OF_MEMORY) and found.out == first_lines(whole.out, lines)
+
+
+def opening(case, whole, found):
+    """The fault is told."""
+    return tells(found, cannot_read(FILE)) and found.out == b""
+
+
+def reading(case, whole, found):
+    """The fault is told, and the lines that were whole by then are answered."""
+    if not found.faults[INPUT]:
+        return tells(found, cannot_read(FILE)) and found.out == b""
+    lines = case.given[: found.input_read].count(b"\n") if answers_lines(case) else 0
+    return tells(found, cannot_read("standard input")) and found.out == first_lines(whole.out, lines)
+
+
+def interrupted_reading(case, whole, found):
+    """What reads a grammar text reads on. What reads lines takes it for a fault."""
+    takes_up = not (answers_lines(case) and found.faults[INPUT])
+    return (is_same if takes_up else reading)(case, whole, found)
+
+
+def writing(case, whole, found):
+    """On standard output a beginning of the answer stands, and the fault is told. On standard error a beginning of the line
+    stands, and nothing else comes of the fault."""
+    if found.faults[OUTPUT]:
+        ends = found.status == 1 and is_beginning(found.out, whole.out)
+        told = b"lrt: " + CANNOT_WRITE + b"\n"
+    else:
+        ends = found.status == whole.status and found.out == whole.out
+        told = whole.err
+    return ends and (is_beginning(found.err, told) if found.faults[ERRORS] else found.err == told)
+
+
+def interrupted_writing(case, whole, found):
+    """What writes another answer than to lines, or a fault, writes on. What writes answers to lines takes it for a fault."""
+    takes_up = not (answers_lines(case) and found.faults[OUTPUT])
+    return (is_same if takes_up else writing)(case, whole, found)
+
+
+# `call`, `kind` and `goes_on` are what faults.c is told. `rule` says whether the answer `found` may come where `whole` does
+# without a fault.
+Fault = namedtuple("Fault", "call kind goes_on rule")
+
+FAULTS = {
+    "memory-refused": Fault("memory", "refused", False, memory),
+    "memory-refused-from-there-on": Fault("memory", "refused", True, memory),
+    "open-fails": Fault("open", "EIO", False, opening),
+    "open-interrupted": Fault("open", "EINTR", False, is_same),
+    "read-fails": Fault("read", "EIO", False, reading),
+    "read-fails-from-there-on": Fault("read", "EIO", True, reading),
+    "read-interrupted": Fault("read", "EINTR", False, interrupted_reading),
+    "read-of-one-byte": Fault("read", "one-byte", False, is_same),
+    "reads-of-one-byte-from-there-on": Fault("read", "one-byte", True, is_same),
+    "write-fails": Fault("write", "EIO", False, writing),
+    "write-fails-from-there-on": Fault("write", "EIO", True, writing),
+    "write-of-nothing": Fault("write", "nothing", False, writing),
+    "write-interrupted": Fault("write", "EINTR", False, interrupted_writing),
+    "write-of-one-byte": Fault("write", "one-byte", False, is_same),
+    "writes-of-one-byte-from-there-on": Fault("write", "one-byte", True, is_same),
+    "close-fails": Fault("close", "EIO", False, is_same),
+}

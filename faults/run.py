@@ -1,0 +1,226 @@
+#!/usr/bin/env python3
+"""Has each request of lrt for memory refused in turn, and each open, read, write and close fail in turn, in all cases or in
+those that the arguments name. README.md says how the answers are judged. The last line is 'N passed, M failed'.
+
+    run.py [CASE..]
+    run.py CASE FAULT NUMBER    makes this one fault, and prints what is answered"""
+
+import collections
+import concurrent.futures
+import functools
+import itertools
+import mmap
+import os
+import shlex
+import shutil
+import signal
+import struct
+import subprocess
+import sys
+import tempfile
+from pathlib import Path
+
+sys.dont_write_bytecode = True
+from cases import CASES, FILE
+from rules import FAULTS, Answer
+
+HERE = Path(__file__).resolve().parent
+PROGRAM = Path(os.environ.get("LRT_PROGRAM", HERE.parent / "out" / "lrt")).resolve()
+SECONDS = 60
+SHOWN = 3
+
+# The report of faults.c: counts of calls, counts of faults by descriptor, and the bytes that were read of standard input.
+CALLS = ("memory", "open", "read", "write", "close")
+REPORT = struct.Struct(f"={len(CALLS)}Q4QQ")
+
+# What the program may take from the C library: that which faults.c stands in for, and that which neither asks for memory nor
+# reaches a device.
+STOOD_IN_FOR = "malloc calloc realloc memalign aligned_alloc posix_memalign open read write __write close __libc_start_main"
+HARMLESS = "free memcpy memmove memset memcmp bcmp strlen __errno_location __sysv_signal __x86_get_cpuid_feature_leaf"
+
+
+class Unfit(Exception):
+    """Why no fault can be tried."""
+
+
+class Room:
+    """A folder in which a case is called again and again."""
+
+    def __init__(self, folder, library, case):
+        self.folder, self.library, self.case = Path(folder), library, case
+        if case.text is not None:
+            self.file(FILE).write_bytes(case.text)
+        self.file("given").write_bytes(case.given)
+        self.file("report").write_bytes(bytes(REPORT.size))
+        with open(self.file("report"), "r+b") as it:
+            self.report = mmap.mmap(it.fileno(), REPORT.size)
+
+    def file(self, name):
+        return self.folder / name
+
+    def call(self, fault=None, number=0):
+        """What is answered where the call of that number meets the fault, and how many calls there were of each name."""
+        told = {"LD_PRELOAD": self.library, "FAULT_REPORT": self.file("report"), **settings(fault, number)}
+        self.report[:] = bytes(REPORT.size)
+        with open(self.file("given"), "rb") as given, open(self.file("out"), "wb") as out, open(self.file("err"), "wb") as err:
+            streams = {"stdin": given, "stdout": out, "stderr": err}
+            status = ended(subprocess.Popen([PROGRAM, *self.case.words], cwd=self.folder, env=told, **streams))
+        counts = REPORT.unpack(self.report)
+        written = self.file("out").read_bytes(), self.file("err").read_bytes()
+        return Answer(status, *written, counts[len(CALLS) : -1], counts[-1]), dict(zip(CALLS, counts))
+
+
+def settings(fault, number):
+    """The environment in which faults.c makes the fault."""
+    if fault is None:
+        return {}
+    told = {"FAULT_CALL": fault.call, "FAULT_KIND": fault.kind, "FAULT_NUMBER": str(number)}
+    return {**told, "FAULT_GOES_ON": "1"} if fault.goes_on else told
+
+
+def ended(process):
+    """The status of the process, less than 0 where a signal ended it, and None where it had to be ended."""
+
+    def stop(*_):
+        raise TimeoutError
+
+    signal.signal(signal.SIGALRM, stop)
+    signal.alarm(SECONDS)
+    try:
+        return process.wait()
+    except TimeoutError:
+        process.kill()
+        process.wait()
+        return None
+    finally:
+        signal.alarm(0)
+
+
+def shown(answer):
+    if answer.status is None:
+        end = f"no end within {SECONDS} seconds"
+    else:
+        end = f"status {answer.status}" if answer.status >= 0 else f"ended by signal {-answer.status}"
+    out, err = [it if len(it) < 400 else it[:400] + b"..." for it in (answer.out, answer.err)]
+    return f"{end}, standard output {out!r}, standard error {err!r}"
+
+
+def is_right(case, fault, whole, found):
+    """Whether the answer may come where the whole one does without a fault, or where no fault was met."""
+    return fault.rule(case, whole, found) if any(found.faults) else found == whole
+
+
+def try_fault(room, whole, calls, name):
+    """Makes the fault at each call in turn, until none is met. Answers how many were made, and what was wrong."""
+    fault, case, wrong = FAULTS[name], room.case, []
+    for number in itertools.count(1):
+        found, _ = room.call(fault, number)
+        if not is_right(case, fault, whole, found):
+            again = shlex.join(["python3", "faults/run.py", case.name, name, str(number)])
+            wrong.append(f"{shown(found)}; without a fault {shown(whole)}; to repeat it: {again}")
+        if found.status is None:
+            return number, wrong
+        if not any(found.faults):
+            break
+    made = number - 1
+    if not wrong and made != calls[fault.call]:
+        wrong.append(f"{name} was made {made} times, though there are {calls[fault.call]} such calls")
+    return made, wrong
+
+
+def outcome(library, case):
+    """Tries all faults of a case. Answers how many were made of each, the calls without a fault, and what was wrong."""
+    tried, wrong = {}, []
+    with tempfile.TemporaryDirectory() as folder:
+        room = Room(folder, library, case)
+        whole, calls = room.call()
+        if whole.status != case.status:
+            return tried, calls, [f"without a fault {shown(whole)}, wanted: status {case.status}"]
+        for name in FAULTS:
+            tried[name], more = try_fault(room, whole, calls, name)
+            wrong += more
+    return tried, calls, wrong
+
+
+def tell_wrong(case, wrong):
+    for it in wrong[:SHOWN]:
+        print(f"{case.name}: {it}", flush=True)
+    if len(wrong) > SHOWN:
+        print(f"{case.name}: and {len(wrong) - SHOWN} more", flush=True)
+
+
+def try_all(library, cases):
+    """Tries all faults of the cases, and answers an outcome for each."""
+    outcomes, tried = [], collections.Counter()
+    with concurrent.futures.ProcessPoolExecutor(os.cpu_count()) as workers:
+        found = workers.map(functools.partial(outcome, library), cases)
+        for case, (faults, calls, wrong) in zip(cases, found):
+            if not calls["memory"]:
+                wrong.append(f"no request of {PROGRAM} for memory was counted")
+            tried.update(faults)
+            tell_wrong(case, wrong)
+            outcomes.append("failed" if wrong else "passed")
+    print(f"{sum(tried.values())} faults tried: {', '.join(f'{name} {count}' for name, count in tried.items())}")
+    return outcomes
+
+
+def show_one(library, case, name, number):
+    """Makes one fault, prints what is answered, and answers the outcome."""
+    fault = FAULTS[name]
+    with tempfile.TemporaryDirectory() as folder:
+        room = Room(folder, library, case)
+        whole, _ = room.call()
+        found, calls = room.call(fault, number)
+    print(f"without a fault: {shown(whole)}")
+    print(f"with the fault: {shown(found)}")
+    print(f"calls: {calls}; faults on descriptors 0, 1, 2 and elsewhere: {found.faults}")
+    return ["passed" if is_right(case, fault, whole, found) else "failed"]
+
+
+def taken_from_c_library():
+    listed = subprocess.run(["nm", "-D", "--undefined-only", PROGRAM], stdout=subprocess.PIPE, text=True)
+    words = [line.split() for line in listed.stdout.splitlines()]
+    return {name.split("@")[0] for kind, name in words if kind == "U"}
+
+
+def built_library(folder):
+    """Compiles faults.c into the folder, if it stands in for all that the program takes from the C library."""
+    for tool in ("cc", "nm"):
+        if not shutil.which(tool):
+            raise Unfit(f"there is no {tool}: faults are tried with a C compiler and its nm")
+    if not PROGRAM.exists():
+        raise Unfit(f"there is no {PROGRAM}: ./lrt builds it")
+    taken = taken_from_c_library()
+    if "__libc_start_main" not in taken:
+        raise Unfit(f"{PROGRAM} takes nothing from a shared C library")
+    unknown = taken - {*STOOD_IN_FOR.split(), *HARMLESS.split()}
+    if unknown:
+        raise Unfit(f"{PROGRAM} takes from the C library what faults.c does not stand in for: {', '.join(sorted(unknown))}")
+    library = f"{folder}/faults.so"
+    if subprocess.run(["cc", "-O1", "-fno-builtin", "-fPIC", "-shared", "-o", library, HERE / "faults.c", "-ldl"]).returncode:
+        raise Unfit("faults.c could not be compiled")
+    return library
+
+
+def outcomes_of(words):
+    unknown = [word for word in words if word not in CASES]
+    with tempfile.TemporaryDirectory() as folder:
+        if len(words) == 3 and words[0] in CASES and words[1] in FAULTS:
+            return show_one(built_library(folder), CASES[words[0]], words[1], int(words[2]))
+        if unknown:
+            raise Unfit(f"there is no case {unknown[0]}")
+        return try_all(built_library(folder), [CASES[word] for word in words or CASES])
+
+
+def main(words):
+    try:
+        outcomes = outcomes_of(words)
+    except Unfit as error:
+        print(error)
+        outcomes = ["failed"]
+    print(f"{outcomes.count('passed')} passed, {outcomes.count('failed')} failed")
+    return 1 if "failed" in outcomes else 0
+
+
+if __name__ == "__main__":
+    sys.exit(main(sys.argv[1:]))
