@@ -6,6 +6,7 @@
  *   FAULT_NUMBER  the number of the first call that fails, from 1; without it none does
  *   FAULT_KIND    refused, EIO, EINTR, nothing (a write that takes no byte) or one-byte (one byte is moved at the most)
  *   FAULT_GOES_ON all such calls from that number on fail, and not that one alone
+ *   FAULT_THEN_OUTPUT  behind the first call that fails, each write to standard output fails too, with EIO
  *   FAULT_REPORT  a file as long as `struct report`, in which the counts stand; it is mapped, so that they stand there
  *                 also where the program is killed
  *
@@ -47,6 +48,8 @@ static struct {
     int goes_on;
     int moves_one_byte;
     int error; /* 0 where nothing is moved and no error told */
+    int is_made;
+    int then_output;
 } fault;
 
 static int is_counting;
@@ -62,6 +65,17 @@ static int fails(enum call call, int descriptor)
     if (fault.goes_on ? number < fault.number : number != fault.number)
         return 0;
     report->faults[descriptor >= 0 && descriptor < ELSEWHERE ? descriptor : ELSEWHERE]++;
+    fault.is_made = 1;
+    return 1;
+}
+
+/* Says whether a write is to fail since another call has. */
+static int fails_behind(int descriptor)
+{
+    if (!fault.then_output || !fault.is_made || descriptor != STDOUT_FILENO)
+        return 0;
+    report->faults[descriptor]++;
+    errno = EIO;
     return 1;
 }
 
@@ -150,10 +164,13 @@ ssize_t read(int descriptor, void *bytes, size_t size)
 
 ssize_t write(int descriptor, const void *bytes, size_t size)
 {
+    int is_behind = fails_behind(descriptor);
     if (fails(WRITE, descriptor)) {
         if (!fault.moves_one_byte)
             return failure();
         size = size > 0;
+    } else if (is_behind) {
+        return -1;
     }
     return syscall(SYS_write, descriptor, bytes, size);
 }
@@ -211,6 +228,7 @@ static void take_fault(void)
     fault.number = strtoull(number, NULL, 10);
     fault.call = call_named(getenv("FAULT_CALL"));
     fault.goes_on = getenv("FAULT_GOES_ON") != NULL;
+    fault.then_output = getenv("FAULT_THEN_OUTPUT") != NULL;
     take_kind(getenv("FAULT_KIND"));
 }
 

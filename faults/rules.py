@@ -22,6 +22,17 @@ def answers_lines(case):
     return case.words[:1] in [[command] for command in ANSWERING]
 
 
+def leaves_input(case, found):
+    """Standard input is read only where the grammar text, or the lines, are there."""
+    reads = case.status != 2 and (not case.words or answers_lines(case))
+    return reads or not (found.input_read or found.faults[INPUT])
+
+
+def tries_once(found):
+    """No device that has failed is tried again."""
+    return max(found.faults) <= 1
+
+
 def is_same(case, whole, found):
     """Nothing comes of the fault."""
     return found[:3] == whole[:3]
@@ -50,14 +61,16 @@ def memory(case, whole, found):
 
 
 def opening(case, whole, found):
-    """The fault is told."""
-    return tells(found, cannot_read(FILE)) and found.out == b""
+    """The fault is told, and nothing is read instead."""
+    return tells(found, cannot_read(FILE)) and found.out == b"" and not found.input_read
 
 
 def reading(case, whole, found):
     """The fault is told, and the lines that were whole by then are answered."""
+    if not tries_once(found):
+        return False
     if not found.faults[INPUT]:
-        return tells(found, cannot_read(FILE)) and found.out == b""
+        return opening(case, whole, found)
     lines = case.given[: found.input_read].count(b"\n") if answers_lines(case) else 0
     return tells(found, cannot_read("standard input")) and found.out == first_lines(whole.out, lines)
 
@@ -71,6 +84,8 @@ def interrupted_reading(case, whole, found):
 def writing(case, whole, found):
     """On standard output a beginning of the answer stands, and the fault is told. On standard error a beginning of the line
     stands, and nothing else comes of the fault."""
+    if not tries_once(found):
+        return False
     if found.faults[OUTPUT]:
         ends = found.status == 1 and is_beginning(found.out, whole.out)
         told = b"lrt: " + CANNOT_WRITE + b"\n"
@@ -86,9 +101,17 @@ def interrupted_writing(case, whole, found):
     return (is_same if takes_up else writing)(case, whole, found)
 
 
-# `call`, `kind` and `goes_on` are what faults.c is told. `rule` says whether the answer `found` may come where `whole` does
-# without a fault.
-Fault = namedtuple("Fault", "call kind goes_on rule")
+def writing_behind_one_byte(case, whole, found):
+    """A write of standard output that had more to take is followed by one that fails."""
+    followed = found.faults[OUTPUT] - 1
+    if followed < 1:
+        return is_same(case, whole, found)
+    return writing(case, whole, found._replace(faults=(0, followed, 0, 0)))
+
+
+# `call`, `kind`, `goes_on` and `then_output` are what faults.c is told. `rule` says whether the answer `found` may come where
+# `whole` does without a fault.
+Fault = namedtuple("Fault", "call kind goes_on rule then_output", defaults=(False,))
 
 FAULTS = {
     "memory-refused": Fault("memory", "refused", False, memory),
@@ -97,6 +120,7 @@ FAULTS = {
     "open-interrupted": Fault("open", "EINTR", False, is_same),
     "read-fails": Fault("read", "EIO", False, reading),
     "read-fails-from-there-on": Fault("read", "EIO", True, reading),
+    "read-fails-then-output-fails": Fault("read", "EIO", False, reading, True),
     "read-interrupted": Fault("read", "EINTR", False, interrupted_reading),
     "read-of-one-byte": Fault("read", "one-byte", False, is_same),
     "reads-of-one-byte-from-there-on": Fault("read", "one-byte", True, is_same),
@@ -105,6 +129,7 @@ FAULTS = {
     "write-of-nothing": Fault("write", "nothing", False, writing),
     "write-interrupted": Fault("write", "EINTR", False, interrupted_writing),
     "write-of-one-byte": Fault("write", "one-byte", False, is_same),
+    "write-of-one-byte-then-output-fails": Fault("write", "one-byte", False, writing_behind_one_byte, True),
     "writes-of-one-byte-from-there-on": Fault("write", "one-byte", True, is_same),
     "close-fails": Fault("close", "EIO", False, is_same),
 }

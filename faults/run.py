@@ -22,7 +22,7 @@ from pathlib import Path
 
 sys.dont_write_bytecode = True
 from cases import CASES, FILE
-from rules import FAULTS, Answer
+from rules import FAULTS, Answer, leaves_input
 
 HERE = Path(__file__).resolve().parent
 PROGRAM = Path(os.environ.get("LRT_PROGRAM", HERE.parent / "out" / "lrt")).resolve()
@@ -75,7 +75,8 @@ def settings(fault, number):
     if fault is None:
         return {}
     told = {"FAULT_CALL": fault.call, "FAULT_KIND": fault.kind, "FAULT_NUMBER": str(number)}
-    return {**told, "FAULT_GOES_ON": "1"} if fault.goes_on else told
+    asked = {"FAULT_GOES_ON": fault.goes_on, "FAULT_THEN_OUTPUT": fault.then_output}
+    return {**told, **{name: "1" for name, is_asked in asked.items() if is_asked}}
 
 
 def ended(process):
@@ -107,7 +108,8 @@ def shown(answer):
 
 def is_right(case, fault, whole, found):
     """Whether the answer may come where the whole one does without a fault, or where no fault was met."""
-    return fault.rule(case, whole, found) if any(found.faults) else found == whole
+    may_come = fault.rule(case, whole, found) if any(found.faults) else found == whole
+    return may_come and leaves_input(case, found)
 
 
 def try_fault(room, whole, calls, name):
@@ -136,6 +138,8 @@ def outcome(library, case):
         whole, calls = room.call()
         if whole.status != case.status:
             return tried, calls, [f"without a fault {shown(whole)}, wanted: status {case.status}"]
+        if not leaves_input(case, whole):
+            return tried, calls, [f"{whole.input_read} bytes of standard input are read, wanted: none"]
         for name in FAULTS:
             tried[name], more = try_fault(room, whole, calls, name)
             wrong += more
