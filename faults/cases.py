@@ -5,8 +5,8 @@ from collections import namedtuple
 
 FILE = "a.y"
 
-# `words` are the arguments. `text` is what the file holds, and None where there is no file. `given` is standard input: where it
-# is not to be read, another grammar text. `status` is how the call ends where nothing fails.
+# `words` are the arguments. `text` is what the file holds, and None where there is no file. `given` is standard input:
+# where it is not to be read, another grammar text. `status` is how the call ends where nothing fails.
 Case = namedtuple("Case", "name words text given status", defaults=(b"%% Other: 'other';", 0))
 
 PRINTING = ("start", "core", "closed", "conflicts")

@@ -109,8 +109,8 @@ def writing_behind_one_byte(case, whole, found):
     return writing(case, whole, found._replace(faults=(0, followed, 0, 0)))
 
 
-# `call`, `kind`, `goes_on` and `then_output` are what faults.c is told. `rule` says whether the answer `found` may come where
-# `whole` does without a fault.
+# `call`, `kind`, `goes_on` and `then_output` are what faults.c is told. `rule` says whether the answer `found` may come
+# where `whole` does without a fault.
 Fault = namedtuple("Fault", "call kind goes_on rule then_output", defaults=(False,))
 
 FAULTS = {

@@ -287,3 +287,37 @@ fn output_whose_flush_fails(rt: HostRuntime) -> Result<(), Fail> {
     cannot_write(&rt, rt.alloc(), "run a.y 5", Unflushed)?;
     cannot_write(&rt, rt.alloc(), "tree a.y 5", Unflushed)
 }
+
+/// Cannot be read.
+#[derive(Drop)]
+struct Unread;
+
+impl io::Read for Unread {
+    fn read(&mut self, _buf: &mut [u8]) -> io::Result<usize> {
+        Err(io::Error::from(io::ErrorKind::PermissionDenied))
+    }
+}
+
+/// Of two faults the first is told: that of the reader, and not that of the flush behind it.
+#[test]
+fn input_that_cannot_be_read(rt: HostRuntime) -> Result<(), Fail> {
+    let alloc = rt.alloc();
+    for line in ["run a.y 5", "tree a.y 5"] {
+        let args = words(alloc, line)?;
+        let (status, _, told) = command(
+            alloc,
+            args.as_slice(),
+            Some(ASSIGNMENTS.as_bytes()),
+            Unread,
+            Unflushed,
+            Vec::new(alloc),
+        );
+        assert_eq!(rt; status, 1, "{line}");
+        assert_eq!(rt;
+            told.as_slice(),
+            b"lrt: cannot read standard input\n".as_slice(),
+            "{line}"
+        );
+    }
+    Ok(())
+}
