@@ -13,6 +13,9 @@ INPUT, OUTPUT, ERRORS = range(3)
 OUT_OF_MEMORY = b"out of memory"
 CANNOT_WRITE = b"cannot write standard output"
 
+# With what standard error begins, by the status.
+TOLD = {0: b"", 1: b"lrt: ", 2: b"usage: lrt start|core|closed|conflicts FILE | lrt run FILE STEPS | lrt tree FILE STEPS\n"}
+
 
 def cannot_read(name):
     return f"cannot read {name}".encode()
@@ -20,6 +23,12 @@ def cannot_read(name):
 
 def answers_lines(case):
     return case.words[:1] in [[command] for command in ANSWERING]
+
+
+def is_whole(case, found):
+    """A call without a fault ends as the case says: beside another status than 0 with no answer, and one line told."""
+    told = found.err.startswith(TOLD[case.status]) and found.err.count(b"\n") == (case.status > 0)
+    return found.status == case.status and told and not (case.status and found.out)
 
 
 def leaves_input(case, found):

@@ -22,7 +22,7 @@ from pathlib import Path
 
 sys.dont_write_bytecode = True
 from cases import CASES, FILE
-from rules import FAULTS, Answer, leaves_input
+from rules import FAULTS, Answer, is_whole, leaves_input
 
 HERE = Path(__file__).resolve().parent
 PROGRAM = Path(os.environ.get("LRT_PROGRAM", HERE.parent / "out" / "lrt")).resolve()
@@ -136,8 +136,8 @@ def outcome(library, case):
     with tempfile.TemporaryDirectory() as folder:
         room = Room(folder, library, case)
         whole, calls = room.call()
-        if whole.status != case.status:
-            return tried, calls, [f"without a fault {shown(whole)}, wanted: status {case.status}"]
+        if not is_whole(case, whole):
+            return tried, calls, [f"without a fault {shown(whole)}, wanted: status {case.status}, and what is told with it"]
         if not leaves_input(case, whole):
             return tried, calls, [f"{whole.input_read} bytes of standard input are read, wanted: none"]
         for name in FAULTS:
