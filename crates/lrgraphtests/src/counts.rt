@@ -1,7 +1,8 @@
 //! What the construction of the worked grammars takes.
 
 use crate::grammars::{
-    A_COLLECTED_STATE, HIDDEN_LEFT_RECURSION, LR1_AND_NOT_LALR1, NESTED_STATES, PAGERS_EXAMPLE,
+    A_COLLECTED_STATE, BRACKETS, GROWN_TWICE_AT_ONCE, HIDDEN_LEFT_RECURSION, LR1_AND_NOT_LALR1,
+    MERGED_TWICE_BY_ONE_GOTO, NESTED_STATES, PAGERS_EXAMPLE,
 };
 use lrgrammar::grammar::YaccGrammar;
 use lrpager::pager::{BuildCounts, build};
@@ -15,6 +16,12 @@ fn states_made_and_closed(rt: HostRuntime) -> Result<(), Fail> {
         (A_COLLECTED_STATE, 21, 22, 29),
         (HIDDEN_LEFT_RECURSION, 7, 7, 10),
         (NESTED_STATES, 10, 10, 13),
+        // That behind the bracket, which grows itself, and those behind `A` in it and behind the other bracket once more.
+        (BRACKETS, 7, 7, 10),
+        // The one behind `k` once more.
+        (GROWN_TWICE_AT_ONCE, 14, 14, 15),
+        // All but the start state and that behind `S` once more; the one behind `a` grows twice, but first before it is closed.
+        (MERGED_TWICE_BY_ONE_GOTO, 7, 7, 12),
     ] {
         let grm = YaccGrammar::<u32>::from_text(rt.alloc(), text)?;
         let (graph, counts) = build(&grm)?;

@@ -10,28 +10,41 @@ use std::collections::BTreeMap;
 use std::fmt::Write;
 use std::test::Fail;
 
-/// The item of a production at dot 0 that looks at the end token alone.
-fn one_item<T: IndexStorage>(
+/// Adds the item of a production at dot 0 that looks at the end token alone.
+fn give<T: IndexStorage>(
     alloc: Global,
+    given: &mut Items<T>,
     grm: &YaccGrammar<T>,
-    pidx: PIdx<T>,
-) -> Result<Items<T>, Fail> {
+    prod: usize,
+) -> Result<(), Fail> {
     let mut end = Vob::from_elem(alloc, false, usize::from(grm.tokens_len()))?;
     end.set(usize::from(grm.eof_token_idx()), true);
-    let mut given = BTreeMap::new(alloc);
+    let pidx = PIdx(T::from_usize(prod).ok_or("a production")?);
     given.insert((pidx, SIdx(T::from_usize(0).ok_or("a dot")?)), end)?;
+    Ok(())
+}
+
+/// These items of all the productions.
+fn given_items<T: IndexStorage>(
+    alloc: Global,
+    grm: &YaccGrammar<T>,
+    prods: &[usize],
+) -> Result<Items<T>, Fail> {
+    let mut given = BTreeMap::new(alloc);
+    for prod in prods {
+        give(alloc, &mut given, grm, *prod)?;
+    }
     Ok(given)
 }
 
-/// The closure of one item, and how many items were visited for it.
+/// The closure of the items of the productions, and how many items were visited for it.
 fn closed_and_visits<T: IndexStorage>(
     alloc: Global,
     grm: &YaccGrammar<T>,
-    prod: usize,
+    prods: &[usize],
 ) -> Result<(Items<T>, usize), Fail> {
     let firsts = grm.firsts()?;
-    let pidx = PIdx(T::from_usize(prod).ok_or("a production")?);
-    let given = one_item(alloc, grm, pidx)?;
+    let given = given_items(alloc, grm, prods)?;
     if !items_fit(&given, grm) {
         return Err(Fail::from("an item of the grammar"));
     }
@@ -61,10 +74,10 @@ fn text_of<T: IndexStorage>(alloc: Global, items: &Items<T>) -> Result<String, F
 fn text_and_visits<T: IndexStorage>(
     alloc: Global,
     text: &str,
-    prod: usize,
+    prods: &[usize],
 ) -> Result<(String, usize), Fail> {
     let grm = YaccGrammar::<T>::from_text(alloc, text)?;
-    let (closed, visits) = closed_and_visits(alloc, &grm, prod)?;
+    let (closed, visits) = closed_and_visits(alloc, &grm, prods)?;
     Ok((text_of(alloc, &closed)?, visits))
 }
 
@@ -82,10 +95,34 @@ fn visits(rt: HostRuntime) -> Result<(), Fail> {
             "[0.0: 2][1.0:][3.0: 2]",
             3,
         ),
+        // The given item, and then each body of `S`, which gives both another token, so that each comes once more.
+        (
+            "%% S: S 'a' | S 'b';",
+            2,
+            "[0.0: 0 1 2][1.0: 0 1 2][2.0: 2]",
+            5,
+        ),
+        // The given item, and then all bodies in the order of the text. `A: A 'x'` comes once more, as it gives itself another
+        // token and so does `B: A`, and so does `A: B 'y'`; the empty one comes after both.
+        (
+            "%% A: A 'x' | B 'y'; B: A; A: ;",
+            4,
+            "[0.0: 0 1 2][1.0: 0 1 2][2.0: 1][3.0: 0 1 2][4.0: 2]",
+            7,
+        ),
     ] {
-        let (closed, visits) = text_and_visits::<u8>(rt.alloc(), text, prod)?;
+        let (closed, visits) = text_and_visits::<u8>(rt.alloc(), text, &[prod])?;
         assert_eq!(rt; closed.as_str(), wanted);
         assert_eq!(rt; visits, wanted_visits, "{text}");
     }
+    Ok(())
+}
+
+/// Each given item, and `S: S 'a'` once, as it was given all before.
+#[test]
+fn visits_of_two_given_items(rt: HostRuntime) -> Result<(), Fail> {
+    let (closed, visits) = text_and_visits::<u8>(rt.alloc(), "%% S: S 'a';", &[0, 1])?;
+    assert_eq!(rt; closed.as_str(), "[0.0: 0 1][1.0: 1]");
+    assert_eq!(rt; visits, 3);
     Ok(())
 }
