@@ -79,9 +79,15 @@ fn bits_past_65535(rt: HostRuntime) -> Result<(), AllocError> {
         let last = len - 1;
         let mut bits = bits_at(&rt, rt.alloc(), len, &[0, last])?;
         assert_eq!(rt; bits.len(), len);
-        assert!(rt; bits.get(0) && bits.get(last) && !bits.get(last - 1), "{len}");
+        assert!(rt;
+            bits.get(0) && bits.get(last) && !bits.get(last - 1),
+            "{len}"
+        );
         let more = bits_at(&rt, rt.alloc(), len, &[64, last - 1])?;
-        assert!(rt; !bits.intersects(&more) && bits.or(&more) && !bits.or(&more), "{len}");
+        assert!(rt;
+            !bits.intersects(&more) && bits.or(&more) && !bits.or(&more),
+            "{len}"
+        );
         assert!(rt; bits.intersects(&more) && bits != more, "{len}");
         let all = places_from(rt.alloc(), &bits, 0)?;
         assert_eq!(rt; all.as_slice(), [0, 64, last - 1, last].as_slice());

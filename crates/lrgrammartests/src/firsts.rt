@@ -5,6 +5,7 @@ ghost use Rattle.lrgrammar.specs.Firsts.{AreFirstsOf};
 
 use crate::fixtures::{
     ASSIGNMENTS, EMPTY_RULE, HIDDEN_LEFT_RECURSION, NO_SENTENCE, RULE_WITHOUT_A_TREE, is_told,
+    many_tokens,
 };
 use lrgrammar::firsts::YaccFirsts;
 use lrgrammar::grammar::YaccGrammar;
@@ -102,4 +103,12 @@ fn firsts_of_the_worked_grammars(rt: HostRuntime) -> Result<(), Fail> {
         has_lines::<u32>(&rt, rt.alloc(), text, lines)?;
     }
     Ok(())
+}
+
+/// A set of all tokens has more than 65,536 bits.
+#[test]
+fn firsts_among_many_tokens(rt: HostRuntime) -> Result<(), Fail> {
+    let text = many_tokens(rt.alloc(), 65537)?;
+    let lines = "^ t0 t65536;S t0 t65536;";
+    has_lines::<u32>(&rt, rt.alloc(), text.as_str(), lines)
 }

@@ -90,6 +90,17 @@ pub fn rules_and_tokens(
     Ok(parts)
 }
 
+/// So many tokens, `t0 t1 t2`; the bodies of `S` begin with the first one and with the last one.
+pub fn many_tokens(alloc: Global, count: usize) -> Result<String, AllocError> {
+    let mut text = String::from_str(alloc, "%token")?;
+    for number in 0..count {
+        write!(text, " t{number}")?;
+    }
+    let last = count.saturating_sub(1);
+    write!(text, " %% S: t0 | t{last};")?;
+    Ok(text)
+}
+
 /// That many names: `n0 n1 n2`.
 pub fn numbered_names(alloc: Global, count: usize) -> Result<String, AllocError> {
     let mut names = String::new(alloc);

@@ -48,8 +48,7 @@ pub const NESTED_STATES: &str =
     "%start S %token a b c d %% S: S 'b' | 'b' A 'a'; A: 'a' S 'c' | 'a' | 'a' S 'b';";
 
 /// The state behind `k` is closed behind `a`, and then grows behind `b b` and again behind `c c`, before it is closed again.
-pub const GROWN_TWICE_AT_ONCE: &str =
-    "%% S: 'a' A 'x' | 'b' 'b' A 'y' | 'c' 'c' A 'z'; A: 'k';";
+pub const GROWN_TWICE_AT_ONCE: &str = "%% S: 'a' A 'x' | 'b' 'b' A 'y' | 'c' 'c' A 'z'; A: 'k';";
 
 /// The state behind the first `A` leads on `a` to the state behind `a`, which grows whenever that one is closed: first by `a`,
 /// and then by `b`, since the state behind `a` leads back to it on `A`.
@@ -72,8 +71,14 @@ pub fn collected_states(alloc: Global, copies: usize, length: usize) -> Result<S
 
 /// Adds the copy of that number.
 fn push_collected_state(text: &mut String, n: usize) -> Result<(), AllocError> {
-    write!(text, " S: 'a{n}' A{n} 'd' | 'a{n}' B{n} 'e' | 'b{n}' K{n} 'e'")?;
-    write!(text, " | 'f{n}' 'g' K{n} 'd'; K{n}: 'k' A{n} | 'k' B{n} 'd';")?;
+    write!(
+        text,
+        " S: 'a{n}' A{n} 'd' | 'a{n}' B{n} 'e' | 'b{n}' K{n} 'e'"
+    )?;
+    write!(
+        text,
+        " | 'f{n}' 'g' K{n} 'd'; K{n}: 'k' A{n} | 'k' B{n} 'd';"
+    )?;
     write!(text, " A{n}: 'c' 'u'; B{n}: 'c' 'v';")
 }
 

@@ -54,11 +54,7 @@ fn one_long_body_by_words(rt: HostRuntime) -> Result<(), Fail> {
 }
 
 /// The grammar of so many copies of the collected state and a body of that length.
-fn copies_and_body(
-    alloc: Global,
-    copies: usize,
-    length: usize,
-) -> Result<YaccGrammar<u8>, Fail> {
+fn copies_and_body(alloc: Global, copies: usize, length: usize) -> Result<YaccGrammar<u8>, Fail> {
     let text = collected_states(alloc, copies, length)?;
     Ok(YaccGrammar::from_text(alloc, text.as_str())?)
 }
@@ -98,7 +94,10 @@ fn the_most_states_made_and_left(rt: HostRuntime) -> Result<(), Fail> {
 fn one_state_too_many(rt: HostRuntime) -> Result<(), Fail> {
     for (copies, length) in [(0, 253), (1, 234), (2, 214), (3, 194)] {
         let told = refusal(rt.alloc(), copies, length)?;
-        assert!(rt; told == Some(BuildError::TooLarge), "{copies} {length}: {told:?}");
+        assert!(rt;
+            told == Some(BuildError::TooLarge),
+            "{copies} {length}: {told:?}"
+        );
     }
     Ok(())
 }

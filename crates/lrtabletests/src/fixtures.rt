@@ -110,6 +110,34 @@ pub fn many_tokens(alloc: Global, count: usize) -> Result<String, AllocError> {
     Ok(text)
 }
 
+/// `S` with one body of so many times `'z'`, and so many copies of the grammar of the collected state, which have nothing in
+/// common but the start state and that behind `S`: 2 states, one for each `'z'`, and 20 for each copy, one of which no state
+/// leads to in the end.
+pub fn collected_states(alloc: Global, copies: usize, length: usize) -> Result<String, AllocError> {
+    let mut text = String::from_str(alloc, "%% S:")?;
+    for _ in 0..length {
+        text.push_str(" 'z'")?;
+    }
+    text.push(';')?;
+    for n in 0..copies {
+        push_collected_state(&mut text, n)?;
+    }
+    Ok(text)
+}
+
+/// Adds the copy of that number.
+fn push_collected_state(text: &mut String, n: usize) -> Result<(), AllocError> {
+    write!(
+        text,
+        " S: 'a{n}' A{n} 'd' | 'a{n}' B{n} 'e' | 'b{n}' K{n} 'e'"
+    )?;
+    write!(
+        text,
+        " | 'f{n}' 'g' K{n} 'd'; K{n}: 'k' A{n} | 'k' B{n} 'd';"
+    )?;
+    write!(text, " A{n}: 'c' 'u'; B{n}: 'c' 'v';")
+}
+
 /// `S` with one body of so many times `'a'`.
 pub fn one_long_body(alloc: Global, length: usize) -> Result<String, AllocError> {
     let mut text = String::from_str(alloc, "%% S:")?;

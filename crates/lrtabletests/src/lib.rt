@@ -10,6 +10,8 @@ mod fixtures;
 #[cfg(test)]
 mod item_sets;
 #[cfg(test)]
+mod limits;
+#[cfg(test)]
 mod matrices;
 #[cfg(test)]
 mod readme;
