@@ -1,6 +1,6 @@
 //! Graphs of large grammars, whose sizes are counted by hand.
 
-use crate::graphs::sizes_of;
+use crate::graphs::{closed_text, grammar_and_graph, is_told, sizes_of};
 use lrgrammar::idx::IndexStorage;
 use std::alloc::{AllocError, Global};
 use std::process::Abort;
@@ -11,6 +11,9 @@ const LETTERS: usize = 16;
 
 /// How many layers of operators there are.
 const LAYERS: usize = 300;
+
+/// How many tokens are named where there are many.
+const TOKENS: usize = 65537;
 
 /// All words of three letters, each a body: 4,096 productions.
 fn words(alloc: Global) -> Result<String, AllocError> {
@@ -65,4 +68,31 @@ fn states_of_layers<T: IndexStorage>(rt: &impl Abort, alloc: Global) -> Result<(
 fn states_of_layers_by_both_indices(rt: HostRuntime) -> Result<(), Fail> {
     states_of_layers::<u16>(&rt, rt.alloc())?;
     states_of_layers::<u32>(&rt, rt.alloc())
+}
+
+/// So many tokens, of which the last two alone come in bodies.
+fn many_tokens(alloc: Global) -> Result<String, AllocError> {
+    let mut text = String::from_str(alloc, "%token")?;
+    for token in 0..TOKENS {
+        write!(text, " t{token}")?;
+    }
+    text.push_str(" %% S: S t65536 | t65535;")?;
+    Ok(text)
+}
+
+/// The text of the closed start state of the graph of the text.
+fn start_text<T: IndexStorage>(alloc: Global, text: &str) -> Result<String, Fail> {
+    let (grm, graph) = grammar_and_graph::<T>(alloc, text)?;
+    closed_text(&grm, &graph, 0)
+}
+
+/// Both bodies look at the last token that has a name, and at the end token behind it.
+#[test]
+fn item_sets_among_many_tokens(rt: HostRuntime) -> Result<(), Fail> {
+    let text = many_tokens(rt.alloc())?;
+    let told = start_text::<u32>(rt.alloc(), text.as_str())?;
+    let wanted =
+        "[S -> . S 't65536', {'t65536', '$'}]\n[S -> . 't65535', {'t65536', '$'}]\n[^ -> . S, {'$'}]";
+    is_told(&rt, "the start state", told.as_str(), wanted);
+    Ok(())
 }
