@@ -16,11 +16,12 @@ fn states_made_and_closed(rt: HostRuntime) -> Result<(), Fail> {
         (A_COLLECTED_STATE, 21, 22, 29),
         (HIDDEN_LEFT_RECURSION, 7, 7, 10),
         (NESTED_STATES, 10, 10, 13),
-        // That behind the bracket, which grows itself, and those behind `A` in it and behind the other bracket once more.
+        // Once more that behind the bracket, which grows itself, and then those behind `A` and the other bracket.
         (BRACKETS, 7, 7, 10),
-        // The one behind `k` once more.
+        // Once more that behind `k`.
         (GROWN_TWICE_AT_ONCE, 14, 14, 15),
-        // All but the start state and that behind `S` once more; the one behind `a` grows twice, but first before it is closed.
+        // Once more all but the start state and that behind `S` alone. That behind `a` grows twice, at first before it is
+        // closed.
         (MERGED_TWICE_BY_ONE_GOTO, 7, 7, 12),
     ] {
         let grm = YaccGrammar::<u32>::from_text(rt.alloc(), text)?;

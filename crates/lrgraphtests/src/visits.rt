@@ -95,15 +95,15 @@ fn visits(rt: HostRuntime) -> Result<(), Fail> {
             "[0.0: 2][1.0:][3.0: 2]",
             3,
         ),
-        // The given item, and then each body of `S`, which gives both another token, so that each comes once more.
+        // The given item, and both bodies. The second gives both another token, so that both come once more.
         (
             "%% S: S 'a' | S 'b';",
             2,
             "[0.0: 0 1 2][1.0: 0 1 2][2.0: 2]",
             5,
         ),
-        // The given item, and then all bodies in the order of the text. `A: A 'x'` comes once more, as it gives itself another
-        // token and so does `B: A`, and so does `A: B 'y'`; the empty one comes after both.
+        // The given item, and all four bodies in the order of the text. The third, `B: A`, gives those of `A` another token,
+        // so that the two before it come once more.
         (
             "%% A: A 'x' | B 'y'; B: A; A: ;",
             4,
