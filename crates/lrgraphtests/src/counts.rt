@@ -20,8 +20,8 @@ fn states_made_and_closed(rt: HostRuntime) -> Result<(), Fail> {
         (BRACKETS, 7, 7, 10),
         // Once more that behind `k`.
         (GROWN_TWICE_AT_ONCE, 14, 14, 15),
-        // Once more all but the start state and that behind `S` alone. That behind `a` grows twice, at first before it is
-        // closed.
+        // Once more all but the start state and that behind `S` alone. That behind `a` grows twice, at first before it
+        // is closed.
         (MERGED_TWICE_BY_ONE_GOTO, 7, 7, 12),
     ] {
         let grm = YaccGrammar::<u32>::from_text(rt.alloc(), text)?;

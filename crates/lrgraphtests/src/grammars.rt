@@ -47,17 +47,17 @@ pub const BRACKETS: &str = "%start A %% A: 'OPEN_BRACKET' A 'CLOSE_BRACKET' | 'a
 pub const NESTED_STATES: &str =
     "%start S %token a b c d %% S: S 'b' | 'b' A 'a'; A: 'a' S 'c' | 'a' | 'a' S 'b';";
 
-/// The state behind `k` is closed after that behind `a`, and then grows twice, by those behind `b b` and `c c`, before it is
-/// closed again.
+/// The state behind `k` is closed after that behind `a`, and then grows twice, by those behind `b b` and `c c`, before
+/// it is closed again.
 pub const GROWN_TWICE_AT_ONCE: &str = "%% S: 'a' A 'x' | 'b' 'b' A 'y' | 'c' 'c' A 'z'; A: 'k';";
 
-/// The state behind the first `A` leads on `a` to the state behind `a`, which grows each time that one is closed: first by
-/// the token `a`, and then by `b`, since the state behind `a` leads back to it on `A`.
+/// The state behind the first `A` leads on `a` to the state behind `a`, which grows each time that one is closed:
+/// first by the token `a`, and then by `b`, since the state behind `a` leads back to it on `A`.
 pub const MERGED_TWICE_BY_ONE_GOTO: &str = "%% S: A A | ; A: 'a' S 'b';";
 
-/// `S` with one body of so many times `'a'`, and so many copies of the grammar of the collected state, each with rules and
-/// first tokens of its own. Made are the start state and that behind `S`, one state for each `'a'`, and 20 for each copy,
-/// one of which no state leads to in the end.
+/// `S` with one body of so many times `'a'`, and so many copies of the grammar of the collected state, each with rules
+/// and first tokens of its own. Made are the start state and that behind `S`, one state for each `'a'`, and 20 for
+/// each copy, one of which no state leads to in the end.
 pub fn collected_states(alloc: Global, copies: usize, length: usize) -> Result<String, AllocError> {
     let mut text = one_long_body(alloc, length)?;
     for n in 0..copies {

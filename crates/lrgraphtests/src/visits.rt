@@ -102,8 +102,8 @@ fn visits(rt: HostRuntime) -> Result<(), Fail> {
             "[0.0: 0 1 2][1.0: 0 1 2][2.0: 2]",
             5,
         ),
-        // The given item, and all four bodies in the order of the text. The third, `B: A`, gives those of `A` another token,
-        // so that the two before it come once more.
+        // The given item, and all four bodies in the order of the text. The third, `B: A`, gives those of `A` another
+        // token, so that the two before it come once more.
         (
             "%% A: A 'x' | B 'y'; B: A; A: ;",
             4,

@@ -110,9 +110,9 @@ pub fn many_tokens(alloc: Global, count: usize) -> Result<String, AllocError> {
     Ok(text)
 }
 
-/// `S` with one body of so many times `'a'`, and so many copies of the grammar of the collected state, each with rules and
-/// first tokens of its own. Made are the start state and that behind `S`, one state for each `'a'`, and 20 for each copy,
-/// one of which no state leads to in the end.
+/// `S` with one body of so many times `'a'`, and so many copies of the grammar of the collected state, each with rules
+/// and first tokens of its own. Made are the start state and that behind `S`, one state for each `'a'`, and 20 for
+/// each copy, one of which no state leads to in the end.
 pub fn collected_states(alloc: Global, copies: usize, length: usize) -> Result<String, AllocError> {
     let mut text = one_long_body(alloc, length)?;
     for n in 0..copies {
