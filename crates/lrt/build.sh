@@ -3,10 +3,12 @@
 
 kept=$top/out
 program=$kept/lrt
+made=$top/crates/lrt/out/lrt
 log=$kept/build.log
+speaker=lrt
 
 say() {
-    echo "lrt: $*" >&2
+    echo "$speaker: $*" >&2
 }
 
 # Prints a sum over the paths and texts of all sources.
@@ -21,11 +23,11 @@ is_built() {
     [ -x "$program" ] && [ "$(cat "$program.sources" 2>/dev/null)" = "$1" ]
 }
 
-# Keeps the program that rt made from the sources with this sum. The sum comes last, so that the next call takes nothing for
+# Keeps the program that was made from the sources with this sum. The sum comes last, so that the next call takes nothing for
 # the program where this is interrupted.
 keep_program() {
     mkdir -p "$kept" && rm -f "$program.sources" &&
-        cp "$top/crates/lrt/out/lrt" "$program.$$" && mv "$program.$$" "$program" &&
+        cp "$made" "$program.$$" && mv "$program.$$" "$program" &&
         echo "$1" >"$program.sources.$$" && mv "$program.sources.$$" "$program.sources"
 }
 
@@ -48,20 +50,27 @@ duration() {
     if [ "$1" -lt 60 ]; then echo "$1 s"; else echo "$(($1 / 60)) min $(($1 % 60)) s"; fi
 }
 
-# Runs rt in the folder of a crate. It runs beside this script, which so can end it.
-run_rt() {
-    (cd "$top/crates/$1" && exec rt "$2") </dev/null >"$log" 2>&1 &
-    proving=$!
-    wait "$proving"
+# Runs a command in the folder of a crate. It runs beside this script, which so can end it.
+run_in() {
+    (cd "$top/crates/$1" && shift && exec "$@") </dev/null >"$log" 2>&1 &
+    running=$!
+    wait "$running"
+}
+
+# Shows what a command wrote, and tells that it failed.
+tell_failure() {
+    cat "$log" >&2
+    say "the program could not be built: $1, as it says above"
+    return 1
 }
 
 # Proves a crate, and builds lrt. Of a program rt tells by a stamp that it is built: the status is that of the program, which
 # rt runs once.
 prove() {
-    [ "$1" = lrt ] || { run_rt "$1" lib; return; }
-    rm -f "$top/crates/lrt/out/lrt.stamp"
-    run_rt lrt run
-    [ -e "$top/crates/lrt/out/lrt.stamp" ]
+    [ "$1" = lrt ] || { run_in "$1" rt lib; return; }
+    rm -f "$made.stamp"
+    run_in lrt rt run
+    [ -e "$made.stamp" ]
 }
 
 # The same, telling of it; the time is kept where there was something to prove.
@@ -70,34 +79,35 @@ prove_aloud() {
     last=$(cat "$kept/seconds.$crate" 2>/dev/null) && last=", which took $(duration "$last") here last"
     say "proving $crate ($number of $count)$last"
     began=$(date +%s)
-    if ! prove "$crate"; then
-        cat "$log" >&2
-        say "the program could not be built: rt failed at $crate, as it says above"
-        return 1
-    fi
+    prove "$crate" || { tell_failure "rt failed at $crate"; return; }
     [ ! -s "$log" ] || echo $(($(date +%s) - began)) >"$kept/seconds.$crate"
 }
 
-stop_build() {
-    kill "$proving" 2>/dev/null && wait "$proving" 2>/dev/null
-    rm -f "$kept"/*.$$
-    say "interrupted before the program was built"
-    exit 130
-}
-
-# Builds the program unless it is there, and tells of it on standard error.
-build_program() {
-    sum=$(sources)
-    is_built "$sum" && return
-    mkdir -p "$kept" || return
-    proving='' start=$(date +%s) crates=$(needed_crates)
-    trap stop_build HUP INT TERM
-    say "building the program, since $([ -x "$program" ] && echo its sources have changed || echo it is not there yet)"
-    number=0
+# Proves the crates that the program is made of, and builds it.
+prove_crates() {
+    crates=$(needed_crates) number=0
     for crate in $crates; do
         number=$((number + 1))
         prove_aloud "$crate" "$number" "$(echo "$crates" | wc -l)" || return
     done
+}
+
+stop_build() {
+    kill "$running" 2>/dev/null && wait "$running" 2>/dev/null
+    rm -rf "$kept"/*.$$
+    say "interrupted before the program was built"
+    exit 130
+}
+
+# Builds the program by this command unless it is there, and tells of it on standard error.
+build_by() {
+    sum=$(sources)
+    is_built "$sum" && return
+    mkdir -p "$kept" || return
+    running='' start=$(date +%s)
+    trap stop_build HUP INT TERM
+    say "building the program, since $([ -x "$program" ] && echo its sources have changed || echo it is not there yet)"
+    "$1" || return
     if [ "$(sources)" != "$sum" ]; then
         say "the program could not be built: sources changed meanwhile"
         return 1
@@ -105,4 +115,8 @@ build_program() {
     keep_program "$sum" || return
     trap - HUP INT TERM
     say "built in $(duration $(($(date +%s) - start)))"
+}
+
+build_program() {
+    build_by prove_crates
 }
