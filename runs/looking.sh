@@ -1,0 +1,35 @@
+# For runs of ./look, which read this file: over what building.sh makes, the stand-in for rt is now a whole kit. Its rt try
+# compiles and links in the kit itself, and then removes the program; at a source that says `slow` it waits before that. The
+# program tells the source and how it was compiled. `look` calls the script.
+
+. "$TOP/runs/building.sh"
+cp "$TOP/look" top/look
+mkdir -p c toolchain/bin
+touch bin/rtlib.py
+cat >bin/rt <<'END'
+#!/bin/sh
+kit=${0%/*}/..
+if [ "$1" = doc ]; then exec echo "$kit/START.md"; fi
+echo "rt $*"
+if grep -q bad src/*; then exit 1; fi
+cp src/main.rt "$kit/source" && cd "$kit" || exit
+toolchain/bin/clang -O0 -fsanitize=address && toolchain/bin/ld.lld -m one -o program || exit
+if grep -q slow source; then exec sleep 20; fi
+rm program
+END
+cat >toolchain/bin/clang <<'END'
+#!/bin/sh
+echo "echo '$(cat source)' '$*' \"\$@\"; cat" >module
+END
+cat >toolchain/bin/ld.lld <<'END'
+#!/bin/sh
+cp module program && chmod +x program
+END
+chmod +x toolchain/bin/*
+
+look() {
+    top/look "$@" 2>said
+    status=$?
+    sed 's/[0-9]* s\b/N s/' said >&2
+    return $status
+}
