@@ -1,10 +1,11 @@
-# For runs of ./look, which read this file: over what building.sh makes, the stand-in for rt is now a whole kit. Its rt try
-# compiles and links in the kit itself, and then removes the program; at a source that says `slow` it waits before that. The
-# program tells the source and how it was compiled. `look` calls the script.
+# For runs of ./look, which read this file: over what building.sh makes, the stand-in for rt is now a whole kit. Its rt
+# try compiles and links in the kit itself, and then removes the program; at a source that says `slow` it waits before
+# that. The program tells the source and how it was compiled. `look` calls the script; `left` lists what it leaves.
 
 . "$TOP/runs/building.sh"
 cp "$TOP/look" top/look
-mkdir -p c toolchain/bin
+mkdir -p c toolchain/bin top/out tmp
+export TMPDIR="$PWD/tmp"
 touch bin/rtlib.py
 cat >bin/rt <<'END'
 #!/bin/sh
@@ -32,4 +33,8 @@ look() {
     status=$?
     sed 's/[0-9]* s\b/N s/' said >&2
     return $status
+}
+
+left() {
+    find top/out tmp -mindepth 1 | sort
 }

@@ -1,5 +1,6 @@
 # Builds the program for the scripts at the top, which set `top` to their folder and read this file. The program is kept in
 # out/ at the top, beside the sum of the sources that it was built from, the times that crates took, and the last log of rt.
+# `look` keeps another one, and sets the names below `kept` anew.
 
 kept=$top/out
 program=$kept/lrt
