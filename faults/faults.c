@@ -7,6 +7,8 @@
  *   FAULT_KIND    refused, EIO, EINTR, nothing (a write that takes no byte) or one-byte (one byte is moved at the most)
  *   FAULT_GOES_ON all such calls from that number on fail, and not that one alone
  *   FAULT_THEN_OUTPUT  behind the first call that fails, each write to standard output fails too, with EIO
+ *   FAULT_BETWEEN calls are counted only between a write of the line `begin` to descriptor 1 and one of the line `end`, and
+ *                 neither of these is
  *   FAULT_REPORT  a file as long as `struct report`, in which the counts stand; it is mapped, so that they stand there
  *                 also where the program is killed
  *
@@ -53,6 +55,9 @@ static struct {
 } fault;
 
 static int is_counting;
+
+/* Whether calls are counted only between a write of `begin` and one of `end`. */
+static int counts_between;
 
 /* Counts a call, and says whether it is to fail. */
 static int fails(enum call call, int descriptor)
@@ -162,8 +167,19 @@ ssize_t read(int descriptor, void *bytes, size_t size)
     return moved;
 }
 
+static int is_line(const char *line, int descriptor, const void *bytes, size_t size)
+{
+    return descriptor == STDOUT_FILENO && size == strlen(line) && memcmp(bytes, line, size) == 0;
+}
+
 ssize_t write(int descriptor, const void *bytes, size_t size)
 {
+    if (counts_between && is_line("begin\n", descriptor, bytes, size)) {
+        is_counting = 1;
+        return syscall(SYS_write, descriptor, bytes, size);
+    }
+    if (counts_between && is_line("end\n", descriptor, bytes, size))
+        is_counting = 0;
     int is_behind = fails_behind(descriptor);
     if (fails(WRITE, descriptor)) {
         if (!fault.moves_one_byte)
@@ -253,7 +269,7 @@ static main_function *program_main;
 
 static int counted_main(int count, char **words, char **environment)
 {
-    is_counting = 1;
+    is_counting = !counts_between;
     int status = program_main(count, words, environment);
     is_counting = 0;
     return status;
@@ -270,6 +286,7 @@ int __libc_start_main(main_function *main, int count, char **words, void (*begin
 {
     start_function *start = (start_function *)dlsym(RTLD_NEXT, "__libc_start_main");
     program_main = main;
+    counts_between = getenv("FAULT_BETWEEN") != NULL;
     take_fault();
     map_report();
     return start(counted_main, count, words, begin, end, loader_end, stack_end);

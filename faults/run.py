@@ -46,8 +46,8 @@ class Unfit(Exception):
 class Room:
     """A folder in which a case is called again and again."""
 
-    def __init__(self, folder, library, case):
-        self.folder, self.library, self.case = Path(folder), library, case
+    def __init__(self, folder, library, case, more=None):
+        self.folder, self.library, self.case, self.more = Path(folder), library, case, more or {}
         if case.text is not None:
             self.file(FILE).write_bytes(case.text)
         self.file("given").write_bytes(case.given)
@@ -60,7 +60,7 @@ class Room:
 
     def call(self, fault=None, number=0):
         """What is answered where the call of that number meets the fault, and how many calls there were of each name."""
-        told = {"LD_PRELOAD": self.library, "FAULT_REPORT": self.file("report"), **settings(fault, number)}
+        told = {"LD_PRELOAD": self.library, "FAULT_REPORT": self.file("report"), **self.more, **settings(fault, number)}
         self.report[:] = bytes(REPORT.size)
         with open(self.file("given"), "rb") as given, open(self.file("out"), "wb") as out, open(self.file("err"), "wb") as err:
             streams = {"stdin": given, "stdout": out, "stderr": err}
@@ -216,7 +216,7 @@ def outcomes_of(words):
         return try_all(built_library(folder), [CASES[word] for word in words or CASES])
 
 
-def main(words):
+def main(words, outcomes_of=outcomes_of):
     try:
         outcomes = outcomes_of(words)
     except Unfit as error:

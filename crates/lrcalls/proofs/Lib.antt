@@ -1,0 +1,2 @@
+-- items that fit a grammar
+mod FittingItems

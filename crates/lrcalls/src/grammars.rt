@@ -1,0 +1,91 @@
+//! The grammars that calls are tried on.
+
+/// A grammar, and lines of its tokens.
+#[derive(Clone, Copy)]
+pub struct Sample {
+    /// What the arguments call it.
+    pub name: &'static str,
+    pub text: &'static str,
+    /// The first line is a sentence, and the last one has an unknown word.
+    pub lines: &'static str,
+}
+
+/// A small grammar with conflicts of both kinds.
+pub const SHIFT_AND_REDUCTIONS: Sample = Sample {
+    name: "shift-against-two-reductions",
+    text: "%% A: 'a' 'b' | B 'b'; B: 'a' | C; C: 'a';",
+    lines: "a b\na\n\nb c",
+};
+
+/// The grammars with which every call is tried.
+pub const SAMPLES: [Sample; 6] = [
+    Sample {
+        name: "lr1-and-not-lalr1",
+        text: "%% S: 'a' A 'd' | 'b' B 'd' | 'a' B 'e' | 'b' A 'e'; A: 'c'; B: 'c';",
+        lines: "a c d\nb c d\na c\n\na x",
+    },
+    Sample {
+        name: "a-collected-state",
+        text: "%% S: 'a' A 'd' | 'a' B 'e' | 'b' K 'e' | 'f' 'g' K 'd'; K: 'k' A | 'k' B 'd'; \
+            A: 'c' 'u'; B: 'c' 'v';",
+        lines: "f g k c v d d\na c u d\na c v d\n\nk w",
+    },
+    SHIFT_AND_REDUCTIONS,
+    Sample {
+        name: "four-precedences",
+        text: "%right '=' %left '+' %left '*' %nonassoc '~' %% Expr : Expr '+' Expr \
+            | Expr '*' Expr | Expr '=' Expr | Expr '~' Expr | 'id' ;",
+        lines: "id + id * id\nid = id = id\nid ~ id ~ id\n\nid - id",
+    },
+    Sample {
+        name: "closure-through-nullables",
+        text: "%token a b c d f %% S: S 'b' | 'b' A 'a' | 'a'; A: 'a' S 'c' | 'a' | 'a' S 'b'; \
+            B: A S; C: D A; D: 'd' | ; F: C D 'f';",
+        lines: "b a a c a b\nb a b a a c a\nb a\n\ng",
+    },
+    Sample {
+        name: "prec",
+        text: "%left '+' '-' %left '*' %left U %% E: E '+' E | E '-' E | E '*' E \
+            | '-' E %prec U | 'n';",
+        lines: "- n * n - n\nn - - n\nn U n\n\nm",
+    },
+];
+
+/// Names and texts of what gives no grammar.
+pub const REFUSED: [(&str, &str); 6] = [
+    ("one-lexeme-too-many", "%% S 'a';"),
+    ("ends-too-early", "%% S: 'a' // on\n"),
+    ("unknown-symbol", "%token y %% S: y x;"),
+    ("two-precedences", "%left a b %left b a %% S: ;"),
+    ("no-rule", "%token a %%"),
+    ("not-a-rule-name", "%% S: 'a' %prec;"),
+];
+
+/// The name and the text of a grammar that has no table.
+pub const ACCEPT_REDUCE: (&str, &str) = ("accept-reduce", "%% S: S | 'a';");
+
+/// The grammar of that name.
+pub fn sample_named(name: &str) -> Option<Sample> {
+    for sample in SAMPLES {
+        if sample.name == name {
+            return Some(sample);
+        }
+    }
+    None
+}
+
+/// The text of that name, which gives a grammar or not.
+pub fn text_named(name: &str) -> Option<&'static str> {
+    if name == ACCEPT_REDUCE.0 {
+        return Some(ACCEPT_REDUCE.1);
+    }
+    for (refused, text) in REFUSED {
+        if refused == name {
+            return Some(text);
+        }
+    }
+    match sample_named(name) {
+        Some(sample) => Some(sample.text),
+        None => None,
+    }
+}
