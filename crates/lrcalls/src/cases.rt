@@ -19,13 +19,14 @@ const OF_TEXTS: [&str; 5] = [
 ];
 
 /// Calls on a grammar, its graph, its table or its lines.
-const OF_GRAMMARS: [&str; 19] = [
+const OF_GRAMMARS: [&str; 20] = [
     "grammar firsts",
     "graph pp_of_cores",
     "graph pp_of_closed",
     "graph pp_core_states",
     "graph pp_closed_states",
     "table new",
+    "machine production_labels",
     "lines run_lines",
     "lines tree_lines",
     "tree leaves",

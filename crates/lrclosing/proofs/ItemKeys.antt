@@ -23,7 +23,7 @@ both_parts false b h = cc
 same_number : (p q : ℕ) → (p == q) ≡ true → q ≡ p
 same_number p q h = grind (arith, nat_tests)
 
-eq_parts : (p q d e : ℕ) → ((p == q) && (d == e)) ≡ true → (q ≡ p) × (e ≡ d)
+pub eq_parts : (p q d e : ℕ) → ((p == q) && (d == e)) ≡ true → (q ≡ p) × (e ≡ d)
 eq_parts p q d e h = let b = both_parts (p == q) (d == e) h in (same_number p q b.0, same_number d e b.1)
 
 then_eq : (a b : Ordering) → is_eq (ordering_then a b) ≡ (is_eq a && is_eq b)

@@ -42,13 +42,13 @@ set_from (b ∷ v) zero (suc t) h = inr h
 set_from (b ∷ v) (suc i) zero h = inr h
 set_from (b ∷ v) (suc i) (suc t) h = elim (set_from v i t h) [ inl e ↦ inl (ap suc e) | inr k ↦ inr k ]
 
-union_left : (v w : List Bool) (t : ℕ) → length w ≡ length v → IsTrue (bit v t) → IsTrue (bit (union v w) t)
+pub union_left : (v w : List Bool) (t : ℕ) → length w ≡ length v → IsTrue (bit v t) → IsTrue (bit (union v w) t)
 union_left v w t e h = rw (bit_of_union v w e t) (or_left (bit v t) (bit w t) h)
 
-union_right : (v w : List Bool) (t : ℕ) → length w ≡ length v → IsTrue (bit w t) → IsTrue (bit (union v w) t)
+pub union_right : (v w : List Bool) (t : ℕ) → length w ≡ length v → IsTrue (bit w t) → IsTrue (bit (union v w) t)
 union_right v w t e h = rw (bit_of_union v w e t) (or_right (bit v t) (bit w t) h)
 
-union_from : (v w : List Bool) (t : ℕ) → length w ≡ length v → IsTrue (bit (union v w) t) → IsTrue (bit v t) ⊎ IsTrue (bit w t)
+pub union_from : (v w : List Bool) (t : ℕ) → length w ≡ length v → IsTrue (bit (union v w) t) → IsTrue (bit v t) ⊎ IsTrue (bit w t)
 union_from v w t e h = or_cases (bit v t) (bit w t) (rw (bit_of_union v w e t) at h)
 
 length_union_if : (v : List Bool) (o : Option (List Bool)) → length (union_if v o) ≡ length v

@@ -1,7 +1,8 @@
--- the first of the set places of a range
-use Rattle.std.proofs.Common.{◌≡◌, ℕ, ◌<◌, ◌≤◌, Bool, List, [], ◌∷◌, Option, None, Some, length, refl, arith}
+-- the set places of a range, one after another
+use Rattle.std.proofs.Common.{◌≡◌, ℕ, ◌<◌, ◌≤◌, Bool, List, [], ◌∷◌, Option, None, Some, length, refl, arith, inl, inr}
 use Rattle.std.specs.Prelude.{IsTrue, IfSome, IfNone, Contains, ◌↔◌}
 use Rattle.std.specs.Iterator.{YieldsFirst}
+use Rattle.lrspec.proofs.grammars.ListMembers.{Among}
 use Rattle.lrbits.specs.Bits.{bit}
 use Rattle.lrclosing.specs.Visits.{HasNone}
 use Rattle.lrclosing.proofs.MarkedProductions.{below_of_bit}
@@ -36,3 +37,10 @@ none_set_place v from end xs ys more None m e k y l = λ i h.
     let above : from ≤ i → ⊥ = λ a. no_place v from end i xs m e h a (omega (arith, within, l)) in
     let below : i < from → ⊥ = λ b. no_place v 0 from i ys k y.0 h (omega arith) b in
     omega (arith, above, below)
+
+-- what holds of the places that are left holds of the first one, and of the rest
+pub first_among : (P : ℕ → Type 0) (t : ℕ) (ts us : List ℕ) → ts ≡ t ∷ us → ((u : ℕ) → Among u ts → P u) → P t
+first_among P t ts us e h = h t (rw e (inl refl))
+
+pub rest_among : (P : ℕ → Type 0) (t : ℕ) (ts us : List ℕ) → ts ≡ t ∷ us → ((u : ℕ) → Among u ts → P u) → (u : ℕ) → Among u us → P u
+rest_among P t ts us e h u i = h u (rw e (inr i))

@@ -10,7 +10,7 @@ use Rattle.lrspec.specs.grammars.ItemSets.{IsBefore}
 use Rattle.lrspec.proofs.grammars.BodyFacts.{rest_next, symbol_at_dot}
 use Rattle.lrbits.specs.Bits.{bit}
 use Rattle.lrclosing.specs.Rows.{Rows, row_at, HasToken, ArePassedOn, HasGrown, AreRows}
-use Rattle.lrclosing.specs.Visits.{HasNone, AreMarkedIf, IsPassedOn, PassesOn, IsVisited, AreShaped}
+use Rattle.lrclosing.specs.Visits.{HasNone, AreMarkedIf, IsToDo, IsPassedOn, PassesOn, IsVisited, AreShaped}
 use Rattle.lrclosing.proofs.ClosingUnderway.{one_rule}
 
 -- the rest of the body behind a rule
@@ -26,14 +26,17 @@ pub before_place : (g : Grammar) (p d : ℕ) (x : Symbol) → IsBefore g p d x �
 before_place g p d x b = let e : length (rest g p d) ≡ suc (length b.0) = ap length b.1 in omega (arith, e, length-drop d (body_of g p))
 
 -- an item with no rule behind its dot passes nothing on
+pub passed_nothing : (g : Grammar) (p d : ℕ) (ctx : Option (List Bool)) (rows : Rows) → ((r : ℕ) → IsBefore g p d (Rule r) → ⊥) → IsPassedOn g rows p d ctx
+passed_nothing g p d ctx rows n = record {
+  row = λ r y h. absurd (n r (y, h));
+  begins = λ r t y h b. absurd (n r (y, h));
+  inherit = λ r t y h z l. absurd (n r (y, h));
+}
+
 pub visited_nothing :
-    (g : Grammar) (p d : ℕ) (ctx : Option (List Bool)) (rows : Rows) (todo : List Bool) → ((r : ℕ) → IsBefore g p d (Rule r) → ⊥) → IsVisited g p d ctx rows rows todo todo
-visited_nothing g p d ctx rows todo n = record {
-  passed = record {
-    row = λ r y h. absurd (n r (y, h));
-    begins = λ r t y h b. absurd (n r (y, h));
-    inherit = λ r t y h z l. absurd (n r (y, h));
-  };
+    (g : Grammar) (p d : ℕ) (ctx : Option (List Bool)) (rows : Rows) (Todo : ℕ → Type 0) → ((r : ℕ) → IsBefore g p d (Rule r) → ⊥) → IsVisited g p d ctx rows rows Todo Todo
+visited_nothing g p d ctx rows Todo n = record {
+  passed = passed_nothing g p d ctx rows n;
   kept_row = λ r h. h;
   kept_token = λ r t h. h;
   from_row = λ r h. inl h;
@@ -62,9 +65,10 @@ grown_marked false g k r o v old new h m q i = inl h
 
 -- the item stands before a rule, whose row is written
 module _
-    (g : Grammar) (p d b : ℕ) (y : List Symbol) (ctx own : Option (List Bool)) (rows : Rows) (v todo after : List Bool) (c : Bool) (k : ℕ)
-    (before : rest g p d ≡ Rule b ∷ y) (below : b < length rows) (passed : ArePassedOn g y ctx (row_at rows b) v) (grown : HasGrown k c (row_at rows b) v)
-    (marked : AreMarkedIf c g b todo after) (from_own : (t : ℕ) → HasToken ctx t → HasToken own t)
+    (g : Grammar) (p d b : ℕ) (y : List Symbol) (ctx own : Option (List Bool)) (rows : Rows) (v : List Bool) (Todo After : ℕ → Type 0)
+    (before : rest g p d ≡ Rule b ∷ y) (below : b < length rows) (passed : ArePassedOn g y ctx (row_at rows b) v)
+    (kept : (q : ℕ) → Todo q → After q) (from : (q : ℕ) → After q → Todo q ⊎ IsProductionOf g q b)
+    (stays : (q : ℕ) → IsProductionOf g q b → (row_at rows b ≡ Some v) ⊎ After q) (from_own : (t : ℕ) → HasToken ctx t → HasToken own t)
     (to_own : (t : ℕ) → HasToken own t → HasToken ctx t ⊎ HasToken (row_at rows b) t)
   where
     new : Rows
@@ -126,31 +130,31 @@ module _
         (λ (n : r ≢ b). inl (rw (there r n) at h))
         (cases_eq r b)
 
-    from_todo : (q r : ℕ) → IsTrue (bit after q) → IsProductionOf g q r → IsTrue (bit todo q) ⊎ IsSome (row_at (set rows b (Some v)) r)
-    from_todo q r h i = elim (marked_from c g b todo after marked q h) [
+    from_todo : (q r : ℕ) → After q → IsProductionOf g q r → Todo q ⊎ IsSome (row_at (set rows b (Some v)) r)
+    from_todo q r h i = elim (from q h) [
       | inl j ↦ inl j
       | inr j ↦ inr (rw (one_rule _ b r j i, here) refl)
     ]
 
-    changed : (q r : ℕ) → IsProductionOf g q r → (row_at (set rows b (Some v)) r ≡ row_at rows r) ⊎ IsTrue (bit after q)
+    changed : (q r : ℕ) → IsProductionOf g q r → (row_at (set rows b (Some v)) r ≡ row_at rows r) ⊎ After q
     changed q r i = ⊎_elim
         (λ (e : r ≡ b).
         let j : IsProductionOf g q b = rw e at i in
-        elim (grown_marked c g k b (row_at rows b) v todo after grown marked q j) [
+        elim (stays q j) [
           | inl s ↦ inl (rw e (here ∙ sym s))
           | inr s ↦ inr s
         ])
         (λ (n : r ≢ b). inl (there r n))
         (cases_eq r b)
 
-    pub visited : IsVisited g p d own rows (set rows b (Some v)) todo after
+    pub visited : IsVisited g p d own rows (set rows b (Some v)) Todo After
     visited = record {
       passed = passed_on;
       kept_row = kept_row;
       kept_token = kept_token;
       from_row = from_row;
       from_token = from_token;
-      kept_todo = marked_kept c g b todo after marked;
+      kept_todo = kept;
       from_todo = from_todo;
       changed = changed;
     }
@@ -188,10 +192,11 @@ pub visited_by :
     (g : Grammar) (p d r e : ℕ) (ctx own taken : Option (List Bool)) (rows new : Rows) (v todo after : List Bool) (c : Bool) (k : ℕ) → IsBefore g p d (Rule r)
     → e ≡ d + 1 → taken ≡ row_at rows r → ArePassedOn g (rest g p e) ctx taken v → HasGrown k c taken v → AreMarkedIf c g r todo after
     → new ≡ set rows r (Some v) → r < length rows → ((t : ℕ) → HasToken ctx t → HasToken own t)
-    → ((t : ℕ) → HasToken own t → HasToken ctx t ⊎ HasToken (row_at rows r) t) → IsVisited g p d own rows new todo after
+    → ((t : ℕ) → HasToken own t → HasToken ctx t ⊎ HasToken (row_at rows r) t) → IsVisited g p d own rows new (IsToDo todo) (IsToDo after)
 visited_by g p d r e ctx own taken rows new v todo after c k before next t passed grown marked w below from_own to_own =
     let m : ArePassedOn g before.0 ctx (row_at rows r) v = rw (behind_rule g p d r e before next, t) at passed in
-    rw w (visited g p d r before.0 ctx own rows v todo after c k before.1 below m (rw t at grown) marked from_own to_own)
+    rw w (visited g p d r before.0 ctx own rows v (IsToDo todo) (IsToDo after) before.1 below m (marked_kept c g r todo after marked) (marked_from c g r todo after marked)
+    (grown_marked c g k r (row_at rows r) v todo after (rw t at grown) marked) from_own to_own)
 
 -- the row of a production's own rule, while the row of a rule is taken out
 module _ (rows : Rows) (b r : ℕ) (below : b < length rows) where

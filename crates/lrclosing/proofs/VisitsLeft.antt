@@ -1,5 +1,5 @@
 -- how many visits can still come
-use Rattle.std.proofs.Common.{◌≡◌, ℕ, zero, suc, ◌+◌, ◌*◌, ◌<◌, ◌≤◌, Bool, true, false, List, [], ◌∷◌, Option, None, Some, length, set, length-set, arith}
+use Rattle.std.proofs.Common.{◌≡◌, ℕ, zero, suc, ◌+◌, ◌*◌, ◌<◌, ◌≤◌, Bool, true, false, List, [], ◌∷◌, Option, None, Some, length, set, length-set, refl, ap, arith}
 use Rattle.std.specs.Prelude.{IsTrue}
 use Rattle.std.proofs.lemmas.List.{set-get_or}
 use Rattle.std.proofs.Math.Nat.{mul-le-mul_right}
@@ -23,18 +23,24 @@ set_count_le [] = omega arith
 set_count_le (true ∷ v) = omega (arith, set_count_le v)
 set_count_le (false ∷ v) = omega (arith, set_count_le v)
 
--- a visit leaves no more
+-- a visit leaves no more, which marks something only where a row has changed
+pub left_by_row :
+    (c : Bool) (k b : ℕ) (rows : Rows) (v todo after : List Bool) → b < length rows → HasGrown k c (row_at rows b) v → length after ≡ length todo
+    → (c ≡ false → after ≡ todo) → visits_left k (set rows b (Some v)) after ≤ visits_left k rows todo
+left_by_row true k b rows v todo after l h m s =
+    let e : room k (set rows b (Some v)) + room_of k (row_at rows b) ≡ room k rows + room_of k (Some v) = room_set k rows b (Some v) l in
+    let less : room k (set rows b (Some v)) < room k rows = omega (arith, e, h) in
+    let most : set_count after ≤ length todo = omega (arith, set_count_le after, m) in
+    rw m (fewer (room k (set rows b (Some v))) (room k rows) (length todo) (set_count after) (set_count todo) less most)
+left_by_row false k b rows v todo after l h m s =
+    let same : set rows b (Some v) ≡ rows = rw (← h) (set-get_or rows b None) in
+    rw (same, s refl) (omega arith)
+
 pub left_by_visit :
     (c : Bool) (g : Grammar) (k b : ℕ) (rows : Rows) (v todo after : List Bool) → b < length rows → HasGrown k c (row_at rows b) v → AreMarkedIf c g b todo after
     → visits_left k (set rows b (Some v)) after ≤ visits_left k rows todo
-left_by_visit true g k b rows v todo after l h m =
-    let e : room k (set rows b (Some v)) + room_of k (row_at rows b) ≡ room k rows + room_of k (Some v) = room_set k rows b (Some v) l in
-    let less : room k (set rows b (Some v)) < room k rows = omega (arith, e, h) in
-    let most : set_count after ≤ length todo = omega (arith, set_count_le after, m.len) in
-    rw m.len (fewer (room k (set rows b (Some v))) (room k rows) (length todo) (set_count after) (set_count todo) less most)
-left_by_visit false g k b rows v todo after l h m =
-    let same : set rows b (Some v) ≡ rows = rw (← h) (set-get_or rows b None) in
-    rw (same, m) (omega arith)
+left_by_visit true g k b rows v todo after l h m = left_by_row true k b rows v todo after l h m.len (λ e. cc)
+left_by_visit false g k b rows v todo after l h m = left_by_row false k b rows v todo after l h (ap length m) (λ e. m)
 
 count_cleared : (v : List Bool) (i : ℕ) → IsTrue (bit v i) → set_count (set v i false) + 1 ≡ set_count v
 count_cleared [] i h = cc

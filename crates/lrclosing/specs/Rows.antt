@@ -1,9 +1,9 @@
 -- rows: for each rule the lookaheads that a closing gives to its productions at dot 0
 use Rattle.std.specs.Prelude.{◌≡◌, ℕ, ◌+◌, ◌<◌, Bool, true, false, IsTrue, List, Option, None, Some, length, slice_index_or, ◌⊎◌}
 use Rattle.std.specs.Option.{IsSome, IsSomeAnd}
-use Rattle.lrspec.specs.grammars.Grammar.{Symbol, Grammar, token_count, IsProductionOf}
+use Rattle.lrspec.specs.grammars.Grammar.{Symbol, Rule, Grammar, token_count, IsProductionOf}
 use Rattle.lrspec.specs.grammars.First.{AllNullable, Begins}
-use Rattle.lrspec.specs.grammars.ItemSets.{Items, HasItem, LooksIn, IsContained}
+use Rattle.lrspec.specs.grammars.ItemSets.{Items, HasItem, LooksIn, IsContained, IsBefore, IsClosure}
 use Rattle.lrbits.specs.Bits.{bit, unset}
 
 -- for each rule one bit a token, None where the rule isn't put in
@@ -71,3 +71,10 @@ IsGiven g rows p t = (r : ℕ) × IsProductionOf g p r × HasToken (row_at rows 
 -- the productions of each rule that has a row are added, each with the bits of that row
 abbrev pub AreWithRows : Grammar → Rows → Items → Items → Type 0
 AreWithRows g rows old new = AreAdded (IsPutIn g rows) (IsGiven g rows) old new
+
+-- the rows are those of the closure of `a`: with what they give, `a` is its closure; and each rule
+-- that has a row stands behind a dot
+pub record AreClosingRows (g : Grammar) (a : Items) (rows : Rows) : Type 0 where
+  pub shaped : AreRows g rows
+  pub closure : (c : Items) → AreWithRows g rows a c → IsClosure g a c
+  pub behind : (r : ℕ) → IsSome (row_at rows r) → (p : ℕ) × (d : ℕ) × IsBefore g p d (Rule r)

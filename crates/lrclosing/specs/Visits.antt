@@ -42,10 +42,18 @@ PassesOn g p d ctx r t =
     (y : List Symbol) × (rest g p d ≡ Rule r ∷ y)
     × (Begins g y t ⊎ (AllNullable g y × HasToken ctx t))
 
+-- the production `q` is to be done, by one bit a production
+abbrev pub IsToDo : List Bool → ℕ → Type 0
+IsToDo todo q = IsTrue (bit todo q)
+
+-- the production `q` is to be done, by one bit a rule
+abbrev pub IsRuleToDo : Grammar → List Bool → ℕ → Type 0
+IsRuleToDo g todo q = (r : ℕ) × IsProductionOf g q r × IsTrue (bit todo r)
+
 -- an item that looks at `ctx` is visited: what it passes on is in the rows, and the productions of
--- each rule whose row has changed are to be done
+-- each rule whose row has changed are to be done; `Todo` and `After` are what is to be done before and then
 pub record IsVisited
-    (g : Grammar) (p d : ℕ) (ctx : Option (List Bool)) (rows new : Rows) (todo after : List Bool)
+    (g : Grammar) (p d : ℕ) (ctx : Option (List Bool)) (rows new : Rows) (Todo After : ℕ → Type 0)
     : Type 0 where
   pub passed : IsPassedOn g new p d ctx
   pub kept_row : (r : ℕ) → IsSome (row_at rows r) → IsSome (row_at new r)
@@ -53,12 +61,12 @@ pub record IsVisited
   pub from_row : (r : ℕ) → IsSome (row_at new r) → IsSome (row_at rows r) ⊎ IsBefore g p d (Rule r)
   pub from_token :
       (r t : ℕ) → HasToken (row_at new r) t → HasToken (row_at rows r) t ⊎ PassesOn g p d ctx r t
-  pub kept_todo : (q : ℕ) → IsTrue (bit todo q) → IsTrue (bit after q)
+  pub kept_todo : (q : ℕ) → Todo q → After q
   pub from_todo :
-      (q r : ℕ) → IsTrue (bit after q) → IsProductionOf g q r
-      → IsTrue (bit todo q) ⊎ IsSome (row_at new r)
+      (q r : ℕ) → After q → IsProductionOf g q r
+      → Todo q ⊎ IsSome (row_at new r)
   pub changed :
-      (q r : ℕ) → IsProductionOf g q r → (row_at new r ≡ row_at rows r) ⊎ IsTrue (bit after q)
+      (q r : ℕ) → IsProductionOf g q r → (row_at new r ≡ row_at rows r) ⊎ After q
 
 -- a row for each rule, and a bit for each production of the grammar
 pub record AreShaped (g : Grammar) (rows : Rows) (todo : List Bool) : Type 0 where
@@ -67,9 +75,9 @@ pub record AreShaped (g : Grammar) (rows : Rows) (todo : List Bool) : Type 0 whe
 
 -- on the way from `a` to its closure: the rows have nothing but what the closure gives, and the
 -- closure rule holds at each item of `a` that isn't left to visit, and at each production that is
--- put in and isn't to be done
+-- put in and isn't to be done; and each rule that has a row stands behind a dot
 pub record IsUnderway
-    (g : Grammar) (a : Items) (rows : Rows) (todo : List Bool) (left : Items) : Type 0 where
+    (g : Grammar) (a : Items) (rows : Rows) (Todo : ℕ → Type 0) (left : Items) : Type 0 where
   pub items :
       (q r : ℕ) → IsProductionOf g q r → IsSome (row_at rows r) → ClosedItem g (HasItem a) q 0
   pub looks :
@@ -77,10 +85,11 @@ pub record IsUnderway
       → ClosedLook g (HasItem a) (LooksIn a) q 0 t
   pub given :
       (p d : ℕ) → HasItem a p d → HasItem left p d ⊎ IsPassedOn g rows p d (item_at a p d)
-  pub put_in : (q r : ℕ) → IsTrue (bit todo q) → IsProductionOf g q r → IsSome (row_at rows r)
+  pub put_in : (q r : ℕ) → Todo q → IsProductionOf g q r → IsSome (row_at rows r)
   pub done :
       (q r : ℕ) → IsProductionOf g q r → IsSome (row_at rows r)
-      → IsTrue (bit todo q) ⊎ IsPassedOn g rows q 0 (row_at rows r)
+      → Todo q ⊎ IsPassedOn g rows q 0 (row_at rows r)
+  pub behind : (r : ℕ) → IsSome (row_at rows r) → (p : ℕ) × (d : ℕ) × IsBefore g p d (Rule r)
 
 -- how many bits are set
 abbrev pub set_count : List Bool → ℕ
@@ -92,7 +101,7 @@ abbrev pub room : ℕ → Rows → ℕ
 room k [] = 0
 room k (o ∷ rows) = room_of k o + room k rows
 
--- how many visits of productions can still come at the most: each gives some row a token, after
--- which any production may be to be done, or leaves one production less that is
+-- how many visits of productions, or of rules, can still come at the most, with one bit for each: a
+-- visit gives some row a token, after which any of them may be to be done, or leaves one less that is
 abbrev pub visits_left : ℕ → Rows → List Bool → ℕ
 visits_left k rows todo = room k rows * (length todo + 1) + set_count todo

@@ -6,8 +6,8 @@ ghost use Rattle.lrspec.specs.grammars.ItemSets.{Fits, FitsAt, IsClosure};
 ghost use Rattle.lrbits.specs.Bits.{bit};
 ghost use Rattle.lrgrammar.specs.Firsts.{AreFirstsOf};
 ghost use Rattle.lrclosing.specs.ItemsOf.{items_of};
-ghost use Rattle.lrclosing.specs.Rows.{row_at};
-ghost use Rattle.lrclosing.specs.Visits.{HasNone, AreMarked, AreMarkedIf, IsVisited, AreShaped, IsUnderway, visits_left};
+ghost use Rattle.lrclosing.specs.Rows.{row_at, AreClosingRows};
+ghost use Rattle.lrclosing.specs.Visits.{HasNone, AreMarked, AreMarkedIf, IsToDo, IsVisited, AreShaped, IsUnderway, visits_left};
 
 use crate::ahead::passed_on;
 use crate::items::{Ctx, Items, rule_behind};
@@ -40,7 +40,7 @@ fn no_rows<T: IndexStorage>(grm: &YaccGrammar<T>) -> Result<Vec<Option<Vob>>, Al
 }
 
 /// Sets the bits of all productions of a rule.
-fn mark<T: IndexStorage>(todo: &mut Vob, grm: &YaccGrammar<T>, rule: RIdx<T>)
+pub(crate) fn mark<T: IndexStorage>(todo: &mut Vob, grm: &YaccGrammar<T>, rule: RIdx<T>)
     requires rule { T.number rule.0 < length grm.now.rule_names }
     requires productions { length todo.old ≡ length grm.now.productions }
     ensures { AreMarked (λ q. math.IsProductionOf grm.now q (T.number rule.0)) todo.old todo.new }
@@ -51,7 +51,7 @@ fn mark<T: IndexStorage>(todo: &mut Vob, grm: &YaccGrammar<T>, rule: RIdx<T>)
 }
 
 /// The first set place of `from..end`, or else of those below it.
-fn next_set(bits: &Vob, from: usize, end: usize) -> Option<usize>
+pub(crate) fn next_set(bits: &Vob, from: usize, end: usize) -> Option<usize>
     requires order { from ≤ end }
     requires end { end ≡ length bits.now }
     ensures none { IfNone result (HasNone bits.now) }
@@ -111,7 +111,8 @@ impl Closing {
         requires shaped { AreShaped grm.now self.old.rows.items self.old.todo }
         ensures shaped { OnOk result (AreShaped grm.now self.new.rows.items self.new.todo) }
         ensures visited { OnOk result (IsVisited grm.now (T.number pidx.0) (T.number dot.0)
-            (Some ctx.now) self.old.rows.items self.new.rows.items self.old.todo self.new.todo) }
+            (Some ctx.now) self.old.rows.items self.new.rows.items
+            (IsToDo self.old.todo) (IsToDo self.new.todo)) }
     {
         if let Some(rule) = rule_behind(grm, pidx, dot) {
             let taken = self.rows[rule.0.to_usize()].take();
@@ -142,7 +143,8 @@ impl Closing {
         ensures visited { OnOk result ((r : ℕ)
             → math.IsProductionOf grm.now (T.number pidx.0) r
             → IsVisited grm.now (T.number pidx.0) 0 (row_at self.old.rows.items r)
-            self.old.rows.items self.new.rows.items self.old.todo self.new.todo) }
+            self.old.rows.items self.new.rows.items
+            (IsToDo self.old.todo) (IsToDo self.new.todo)) }
         ensures left { OnOk result
             (visits_left (math.token_count grm.now) self.new.rows.items self.new.todo
             ≤ visits_left (math.token_count grm.now) self.old.rows.items self.old.todo) }
@@ -168,7 +170,7 @@ fn visit_given<T: IndexStorage>(
     requires of { AreFirstsOf grm.now firsts.now }
     ensures shaped { IfOk result (λ c. AreShaped grm.now c.rows.items c.todo) }
     ensures underway { IfOk result (λ c.
-        IsUnderway grm.now (items_of T.number given.now.entries) c.rows.items c.todo []) }
+        IsUnderway grm.now (items_of T.number given.now.entries) c.rows.items (IsToDo c.todo) []) }
 {
     let rows = no_rows(grm)?;
     let todo = Vob::from_elem(grm.allocator(), false, grm.prods_len().0.to_usize())?;
@@ -177,6 +179,28 @@ fn visit_given<T: IndexStorage>(
         closing.visit_item(grm, firsts, key.0, key.1, ctx)?;
     }
     Ok(closing)
+}
+
+/// What the closure of the given items gives to the productions of each rule, and how many items were visited for it.
+pub fn closing_rows<T: IndexStorage>(
+    given: &Items<T>,
+    grm: &YaccGrammar<T>,
+    firsts: &YaccFirsts<T>,
+) -> Result<(Vec<Option<Ctx>>, usize), AllocError>
+    requires fits { Fits grm.now (items_of T.number given.now.entries) }
+    requires of { AreFirstsOf grm.now firsts.now }
+    ensures rows { IfOk result (λ x.
+        AreClosingRows grm.now (items_of T.number given.now.entries) x.0.items) }
+{
+    let mut closing = visit_given(given, grm, firsts)?;
+    let mut visits = given.len();
+    let mut from = 0;
+    while let Some(pidx) = take_next(&mut closing.todo, grm, from) {
+        closing.visit_production(grm, firsts, pidx)?;
+        visits = visits.saturating_add(1);
+        from = pidx.0.to_usize() + 1;
+    }
+    Ok((closing.rows, visits))
 }
 
 /// The closure of the given items, and how many items were visited for it.
@@ -191,14 +215,7 @@ pub fn close_counted<T: IndexStorage>(
         IsClosure grm.now (items_of T.number given.now.entries) (items_of T.number x.0.entries)) }
     ensures fits { IfOk result (λ x. Fits grm.now (items_of T.number x.0.entries)) }
 {
-    let mut closing = visit_given(given, grm, firsts)?;
-    let mut visits = given.len();
-    let mut from = 0;
-    while let Some(pidx) = take_next(&mut closing.todo, grm, from) {
-        closing.visit_production(grm, firsts, pidx)?;
-        visits = visits.saturating_add(1);
-        from = pidx.0.to_usize() + 1;
-    }
-    let closed = with_rows(given, grm, closing.rows.as_slice())?;
+    let (rows, visits) = closing_rows(given, grm, firsts)?;
+    let closed = with_rows(given, grm, rows.as_slice())?;
     Ok((closed, visits))
 }

@@ -3,6 +3,8 @@
 #![tactic(auto)]
 
 mod ahead;
+pub mod closer;
 pub mod closing;
 pub mod items;
+pub mod listing;
 mod rows;

@@ -1,17 +1,24 @@
 -- where gotos stand in a list
-use Rattle.std.proofs.Common.{◌≡◌, ℕ, zero, suc, Bool, true, false, List, [], ◌∷◌, ◌++◌, Option, None, Some, ◌<◌, get_or, length, refl, sym, ap, ◌∙◌, ◌⊎◌, inl, inr, ⊎_elim}
+use Rattle.std.proofs.Common.{◌≡◌, ℕ, zero, suc, Bool, true, false, List, [], ◌∷◌, ◌++◌, Option, Some, ◌<◌, get_or, length, refl, sym, ap, ◌∙◌, ◌⊎◌, inl, inr, ⊎_elim, arith}
 use Rattle.std.specs.Prelude.{slice_get, slice_set}
-use Rattle.std.specs.Option.{MatchOption}
-use Rattle.lrspec.specs.grammars.Grammar.{Symbol}
+use Rattle.std.specs.Option.{IsSome}
+use Rattle.lrspec.specs.grammars.Grammar.{Symbol, Rule, Token, Grammar, IsBodySymbol}
 use Rattle.lrspec.specs.grammars.ItemSets.{Items}
-use Rattle.lrspec.specs.merging.Graph.{edge_at, same_symbol}
+use Rattle.lrspec.specs.merging.Graph.{same_symbol}
 use Rattle.std.proofs.lemmas.List.{map-append, map-set, length-map}
 use Rattle.std.proofs.lemmas.Option.{slice_get-map, slice_get-get_or, slice_get_within}
 use Rattle.lrgrammar.specs.declared.idx.Symbol as code
 use Rattle.lrgrammar.specs.Symbols.{symbol_of}
 use Rattle.lritems.specs.declared.gotos.Goto.{Goto}
-use Rattle.lritems.specs.Gotos.{goto_of, gotos_of, HasGotoOn, HasGotoAt, ArePlacesOf, IsPutAt}
-use Rattle.lritems.proofs.SymbolKeys.{symbol_from_test, test_itself}
+use Rattle.lritems.specs.declared.gotos.Places.{Places}
+use Rattle.lritems.specs.Gotos.{goto_of, gotos_of, noted_at, HasPlaceFor, ArePlacesFor, HasGotoOn, HasGotoAt, ArePlacesOf, IsPutAt}
+use Rattle.lritems.proofs.SymbolTests.{symbol_from_test, test_itself}
+
+-- a place below the length of a list has an element
+is_there : {X : Type 0} (xs : List X) (k : ℕ) → k < length xs → IsSome (slice_get xs k)
+is_there [] k h = absurd (omega arith)
+is_there (x ∷ xs) zero h = refl
+is_there (x ∷ xs) (suc k) h = is_there xs k (omega arith)
 
 -- a goto that stands somewhere is in the list
 pub on_from_at : (gs : List (Symbol × Items)) (k : ℕ) (x : Symbol) → HasGotoAt gs k x → HasGotoOn gs x
@@ -68,28 +75,31 @@ at_set (e ∷ gs) (suc k) (suc j) y x a b t h = at_set gs k j y x a b t h
 
 -- the places of a list with one goto more
 pub places_longer :
-    (gs : List (Symbol × Items)) (ps qs : List (Symbol × ℕ)) (x : Symbol) (a : Items) → ArePlacesOf gs ps → edge_at qs x ≡ Some (length gs)
-    → ((y : Symbol) → (y ≡ x → ⊥) → edge_at qs y ≡ edge_at ps y) → ArePlacesOf (gs ++ (x, a) ∷ []) qs
-places_longer gs ps qs x a h here others y = go (same_symbol y x) refl
+    (gs : List (Symbol × Items)) (ps qs : Places) (x : Symbol) (a : Items) → ArePlacesOf gs ps → noted_at qs x ≡ Some (length gs)
+    → ((y : Symbol) → (y ≡ x → ⊥) → noted_at qs y ≡ noted_at ps y) → ArePlacesOf (gs ++ (x, a) ∷ []) qs
+places_longer gs ps qs x a h here others y on = go (same_symbol y x) refl
   where
-    other : (y ≡ x → ⊥) → (o : Option ℕ) → MatchOption o (HasGotoOn gs y → ⊥) (λ k. HasGotoAt gs k y)
-        → MatchOption o (HasGotoOn (gs ++ (x, a) ∷ []) y → ⊥) (λ k. HasGotoAt (gs ++ (x, a) ∷ []) k y)
-    other n None m = λ k. ⊎_elim m n (on_longer gs x a y k)
-    other n (Some k) m = at_longer gs ((x, a) ∷ []) k y m
-
-    go : (b : Bool) → same_symbol y x ≡ b → MatchOption (edge_at qs y) (HasGotoOn (gs ++ (x, a) ∷ []) y → ⊥) (λ k. HasGotoAt (gs ++ (x, a) ∷ []) k y)
-    go true e = let s = symbol_from_test y x e in rw (s, here) (at_end gs x a)
+    go : (b : Bool) → same_symbol y x ≡ b → (k : ℕ) × (noted_at qs y ≡ Some k) × HasGotoAt (gs ++ (x, a) ∷ []) k y
+    go true e = let s = symbol_from_test y x e in rw s (length gs, here, at_end gs x a)
     go false e =
         let n : y ≡ x → ⊥ = λ s. let t : same_symbol y x ≡ true = rw s (test_itself x) in cc in
-        rw (others y n) (other n (edge_at ps y) (h y))
+        let before : HasGotoOn gs y = ⊎_elim (λ (k : HasGotoOn gs y). k) (λ (s : y ≡ x). absurd (n s)) (on_longer gs x a y on) in
+        let p = h y before in
+        (p.0, others y n ∙ p.1, at_longer gs ((x, a) ∷ []) p.0 y p.2)
 
--- a symbol that isn't found has no goto
-pub absent_from_places : (gs : List (Symbol × Items)) (ps : List (Symbol × ℕ)) (x : Symbol) → ArePlacesOf gs ps → edge_at ps x ≡ None → HasGotoOn gs x → ⊥
-absent_from_places gs ps x h e = rw e at (h x)
+-- a symbol's goto is at the place that is noted
+pub at_noted : (gs : List (Symbol × Items)) (ps : Places) (x : Symbol) (k : ℕ) → ArePlacesOf gs ps → Some k ≡ noted_at ps x → HasGotoOn gs x → HasGotoAt gs k x
+at_noted gs ps x k h e on =
+    let p = h x on in
+    let s : Some k ≡ Some p.0 = e ∙ p.1 in
+    let same : p.0 ≡ k = cc in
+    rw same at p.2
 
--- one that is found has
-pub at_from_places : (gs : List (Symbol × Items)) (ps : List (Symbol × ℕ)) (x : Symbol) (k : ℕ) → ArePlacesOf gs ps → edge_at ps x ≡ Some k → HasGotoAt gs k x
-at_from_places gs ps x k h e = rw e at (h x)
+-- what is read at a place of the code's list stands there
+pub goto_read :
+    {T : Type 0} (number : T → ℕ) (gs : List (code.Symbol T × Goto T)) (k : ℕ) (d : code.Symbol T × Goto T) → k < length gs
+    → slice_get (gotos_of number gs) k ≡ Some (symbol_of number (get_or gs k d).0, goto_of number (get_or gs k d).1)
+goto_read number gs k d below = slice_get-map (λ f. (symbol_of number f.0, goto_of number f.1)) gs k ∙ rw (slice_get-get_or gs k d below) refl
 
 -- an empty goto put at the end
 pub pushed_gotos :
@@ -105,7 +115,7 @@ pub put_in_goto :
 put_in_goto number gs k e a p d ctx below at longer = record {
   symbol = symbol_of number e.0;
   before = goto_of number e.1;
-  was = slice_get-map (λ f. (symbol_of number f.0, goto_of number f.1)) gs k ∙ (rw (slice_get-get_or gs k e below, ← at) refl);
+  was = rw at (goto_read number gs k e below);
   is = rw (← longer) (map-set (λ f. (symbol_of number f.0, goto_of number f.1)) gs k (e.0, a));
 }
 
@@ -125,14 +135,13 @@ below_of_at number gs k x h =
 
 -- the places stay where an item is put into a goto
 pub places_put :
-    (gs hs : List (Symbol × Items)) (ps : List (Symbol × ℕ)) (k p d : ℕ) (ctx : List Bool) → ArePlacesOf gs ps → IsPutAt k p d ctx gs hs → ArePlacesOf hs ps
-places_put gs hs ps k p d ctx h put x = rw put.is (go (edge_at ps x) (h x))
-  where
-    longer : Items
-    longer = put.before ++ ((p, d), ctx) ∷ []
+    (gs hs : List (Symbol × Items)) (ps : Places) (k p d : ℕ) (ctx : List Bool) → ArePlacesOf gs ps → IsPutAt k p d ctx gs hs → ArePlacesOf hs ps
+places_put gs hs ps k p d ctx h put x on =
+    let longer : Items = put.before ++ ((p, d), ctx) ∷ [] in
+    let j = h x (on_set gs k x put.symbol put.before longer put.was (rw put.is at on)) in
+    (j.0, j.1, rw put.is (at_set gs k j.0 x put.symbol put.before longer put.was j.2))
 
-    go :
-        (o : Option ℕ) → MatchOption o (HasGotoOn gs x → ⊥) (λ j. HasGotoAt gs j x)
-        → MatchOption o (HasGotoOn (slice_set gs k (put.symbol, longer)) x → ⊥) (λ j. HasGotoAt (slice_set gs k (put.symbol, longer)) j x)
-    go None n = λ j. n (on_set gs k x put.symbol put.before longer put.was j)
-    go (Some j) a = at_set gs k j x put.symbol put.before longer put.was a
+-- the places of the grammar's symbols
+pub has_place : (g : Grammar) (ps : Places) (x : Symbol) → ArePlacesFor g ps → IsBodySymbol g x → HasPlaceFor ps x
+has_place g ps (Rule r) h b = is_there ps.rules.items r (omega (arith, h.rules, b.1))
+has_place g ps (Token t) h b = is_there ps.tokens.items t (omega (arith, h.tokens, b))

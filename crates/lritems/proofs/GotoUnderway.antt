@@ -4,7 +4,7 @@ use Rattle.std.specs.Prelude.{IsTrue}
 use Rattle.std.specs.Option.{IfSome}
 use Rattle.lrspec.specs.grammars.Grammar.{Symbol, Grammar, token_count, body_of}
 use Rattle.lrspec.specs.grammars.ItemSets as set
-use Rattle.lrspec.specs.grammars.ItemSets.{Items, item_at, HasItem, LooksIn, FitsAt, Fits, IsBefore, Moved, IsGoto}
+use Rattle.lrspec.specs.grammars.ItemSets.{Items, item_at, HasItem, LooksIn, Fits, IsBefore, Moved, IsGoto}
 use Rattle.lrspec.specs.merging.WeakCompatibility.{Apart}
 use Rattle.lrspec.proofs.grammars.BodyFacts.{below_of_drop}
 use Rattle.lrspec.proofs.grammars.Closures.{has_of_looks}

@@ -12,34 +12,14 @@ use Rattle.lritems.specs.ItemsOf.{items_of, Agree}
 use Rattle.lritems.specs.LeastItem.{least_item}
 use Rattle.lritems.proofs.LeastItems.{IsUpTo, least_of_is}
 use Rattle.lrclosing.proofs.ItemKeys.{Key, key_cmp, apart_test}
+use Rattle.lrclosing.proofs.AscendingItems.{test_itself}
+pub use Rattle.lrclosing.proofs.AscendingItems.{AllBehind, AreAscending, ascending_from_upwards, apart_before, first_here}
 use Rattle.lrclosing.proofs.WalksOverItems.{first_or_rest}
 
 -- each item of the list comes before `k`
 abbrev pub AllBefore : Items → ℕ × ℕ → Type 0
 AllBefore [] k = Unit {0}
 AllBefore (e ∷ es) k = Precedes e.0 k × AllBefore es k
-
--- each comes behind it
-abbrev pub AllBehind : ℕ × ℕ → Items → Type 0
-AllBehind k [] = Unit {0}
-AllBehind k (e ∷ es) = Precedes k e.0 × AllBehind k es
-
--- each comes behind those that stand before it
-abbrev pub AreAscending : Items → Type 0
-AreAscending [] = Unit {0}
-AreAscending (e ∷ es) = AllBehind e.0 es × AreAscending es
-
-behind_from : (k : ℕ × ℕ) (a : Items) → ((j : ℕ) (d : (ℕ × ℕ) × List Bool) → j < length a → Precedes k (get_or a j d).0) → AllBehind k a
-behind_from k [] f = tt
-behind_from k (e ∷ es) f = (f 0 e (omega arith), behind_from k es (λ j d l. f (suc j) d (omega arith)))
-
--- that is what it is to come upwards
-pub ascending_from_upwards : (a : Items) → AreUpwards a → AreAscending a
-ascending_from_upwards [] u = tt
-ascending_from_upwards (e ∷ es) u = (
-  behind_from e.0 es (λ j d l. u 0 (suc j) d (omega arith) (omega arith)),
-  ascending_from_upwards es (λ i j d l m. u (suc i) (suc j) d (omega arith) (omega arith)),
-)
 
 at_before : (a : Items) (k : ℕ × ℕ) → AllBefore a k → (i : ℕ) (d : (ℕ × ℕ) × List Bool) → i < length a → Precedes (get_or a i d).0 k
 at_before [] k b i d l = absurd (omega arith)
@@ -54,28 +34,15 @@ pub before_pushed : (a : Items) (k j : ℕ × ℕ) (v : List Bool) → AllBefore
 before_pushed [] k j v b h = (h, tt)
 before_pushed (e ∷ es) k j v b h = (b.0, before_pushed es k j v b.1 h)
 
-precedes_then : (j k l : ℕ × ℕ) → Precedes j k → Precedes k l → Precedes j l
-precedes_then j k l (inl h) (inl i) = inl (omega (arith, h, i))
-precedes_then j k l (inl h) (inr i) = inl (omega (arith, h, i))
-precedes_then j k l (inr h) (inl i) = inl (omega (arith, h, i))
-precedes_then j k l (inr h) (inr i) = inr (h.0 ∙ i.0, omega (arith, h.1, i.1))
-
 pub not_both : (j k : ℕ × ℕ) → Precedes j k → Precedes k j → ⊥
 not_both j k (inl h) (inl i) = omega (arith, h, i)
 not_both j k (inl h) (inr i) = omega (arith, h, i)
 not_both j k (inr h) (inl i) = omega (arith, h, i)
 not_both j k (inr h) (inr i) = omega (arith, h, i)
 
-pub apart_before : (j k : ℕ × ℕ) → Precedes j k → Apart k.0 k.1 j.0 j.1
-apart_before j k (inl h) s t = omega (arith, h, s)
-apart_before j k (inr h) s t = omega (arith, h, t)
-
 apart_behind : (j k : ℕ × ℕ) → Precedes j k → Apart j.0 j.1 k.0 k.1
 apart_behind j k (inl h) s t = omega (arith, h, s)
 apart_behind j k (inr h) s t = omega (arith, h, t)
-
-test_itself : (p d : ℕ) → ((p == p) && (d == d)) ≡ true
-test_itself p d = grind (arith, nat_tests)
 
 -- it is looked up, and so is each other one
 pub pushed_here : (a : Items) (p d : ℕ) (v : List Bool) → AllBefore a (p, d) → item_at (a ++ ((p, d), v) ∷ []) p d ≡ Some v
@@ -106,9 +73,6 @@ behind_from_has (e ∷ es) k p d h i = elim (first_or_rest e.0.0 e.0.1 e.1 es p 
   | inl s ↦ rw (s.0, s.1) h.0
   | inr j ↦ behind_from_has es k p d h.1 j
 ]
-
-pub first_here : (e : (ℕ × ℕ) × List Bool) (es : Items) → item_at (e ∷ es) e.0.0 e.0.1 ≡ Some e.1
-first_here e es = rw (test_itself e.0.0 e.0.1) refl
 
 -- the first items of two are the same where each has that of the other
 pub first_of_both :

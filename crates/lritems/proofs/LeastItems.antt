@@ -1,18 +1,11 @@
 -- the least item hangs on the items alone
-use Rattle.std.proofs.Common.{◌≡◌, ℕ, ◌<◌, ◌≤◌, Bool, true, false, cond, List, [], ◌∷◌, Option, None, Some, refl, sym, ap, ◌∙◌, arith, ◌⊎◌, inl, inr}
+use Rattle.std.proofs.Common.{◌≡◌, ℕ, ◌<◌, ◌≤◌, Bool, true, false, cond, [], ◌∷◌, Option, None, Some, refl, sym, ap, ◌∙◌, arith, ◌⊎◌, inl, inr}
 use Rattle.std.specs.Prelude.{◌==◌, ◌&&◌, ◌||◌, nat_lt, nat_le}
-use Rattle.std.specs.Option.{IsSome, MatchOption}
-use Rattle.std.specs.declared.cmp.Ordering.{Ordering}
-use Rattle.std.specs.Ordering.{nat_cmp, is_gt, ordering_then}
-use Rattle.std.specs.Map.{lookup}
-use Rattle.std.specs.BTreeMap.{is_at}
+use Rattle.std.specs.Option.{MatchOption}
 use Rattle.std.proofs.lemmas.Bool.Decides.{nat_tests}
-use Rattle.lrspec.specs.grammars.ItemSets.{Items, item_at, HasItem}
+use Rattle.lrspec.specs.grammars.ItemSets.{Items, HasItem}
 use Rattle.lrspec.specs.merging.WeakCompatibility.{SameItems}
-use Rattle.lritems.specs.ItemsOf.{items_of}
 use Rattle.lritems.specs.LeastItem.{is_up_to, lesser, least_item}
-use Rattle.lrclosing.proofs.ItemKeys.{Key, key_cmp, item_here, key_at}
-use Rattle.lrclosing.proofs.JoinedLookaheads.{some_of}
 use Rattle.lrclosing.proofs.WalksOverItems.{first_or_rest}
 
 -- up to an item: before it, or it
@@ -114,28 +107,6 @@ one_least a b (Some i) (Some j) s h k =
 -- item sets with the same items have the same least item
 pub same_least : (a b : Items) → SameItems a b → least_item a ≡ least_item b
 same_least a b s = one_least a b (least_item a) (least_item b) s (is_least a) (is_least b)
-
-up_to_from_order : (a b c d : ℕ) → is_gt (ordering_then (nat_cmp a b) (nat_cmp c d)) ≡ false → (a < b) ⊎ ((a ≡ b) × (c ≤ d))
-up_to_from_order a b c d h = grind (arith, nat_tests)
-
--- the item of a key below which there is no other
-pub least_from_order :
-    {T : Type 0} (number : T → ℕ) (cmp : T → T → Ordering) (ordered : (x y : T) → cmp x y ≡ nat_cmp (number x) (number y)) (es : List (Key T × List Bool)) (k : Key T) (x : List Bool)
-    → lookup (is_at (key_cmp cmp k)) es ≡ Some x → ((q : Key T) → IsSome (lookup (is_at (key_cmp cmp q)) es) → is_gt (key_cmp cmp k q) ≡ false)
-    → IsLeast (items_of number es) (number k.0.0, number k.1.0)
-least_from_order {T} number cmp ordered es k x h bound = record {
-  there = rw (← item_here number cmp ordered es k, h) refl;
-  up_to = λ p d i. let o = some_of (item_at (items_of number es) p d) i in up_to p d o.0 o.1;
-}
-  where
-    up_to : (p d : ℕ) (v : List Bool) → item_at (items_of number es) p d ≡ Some v → IsUpTo (number k.0.0, number k.1.0) p d
-    up_to p d v e =
-        let q = key_at number cmp ordered es p d v e in
-        let there : IsSome (lookup (is_at (key_cmp cmp q.0)) es) = rw (item_here number cmp ordered es q.0, q.1, q.2, e) refl in
-        let b = bound q.0 there in
-        let c : is_gt (ordering_then (nat_cmp (number k.0.0) (number q.0.0.0)) (nat_cmp (number k.1.0) (number q.0.1.0))) ≡ false =
-        rw (← ordered k.0.0 q.0.0.0, ← ordered k.1.0 q.0.1.0) b in
-        rw (q.1, q.2) at (up_to_from_order (number k.0.0) (number q.0.0.0) (number k.1.0) (number q.0.1.0) c)
 
 -- that is the least item
 pub least_of_is : (a : Items) (k : ℕ × ℕ) → IsLeast a k → Some k ≡ least_item a

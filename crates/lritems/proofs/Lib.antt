@@ -3,20 +3,23 @@ pub mod ChangedItems
 pub mod EqualItemSets
 -- gotos
 pub mod GotoUnderway
-pub mod SymbolKeys
+pub mod SymbolTests
 pub mod GotoPlaces
 pub mod GotosUnderway
 pub mod GotosUpwards
 pub mod SymbolsShown
 -- merging
+pub mod ComparedPlaces
 pub mod PassingPairs
+pub mod MergedPlace
 pub mod MergingUnderway
 pub mod LeastItems
 -- items that come upwards
 pub mod ItemsUpwards
 pub mod ItemsAscending
 pub mod GotoItems
-pub mod WalksInStep
+pub mod SameKeys
+pub mod ItemsByPlace
 -- printing
 pub mod PrintedNames
 pub mod JoinedTexts

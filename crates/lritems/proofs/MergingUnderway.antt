@@ -1,16 +1,17 @@
 -- the union of two item sets on the way
 use Rattle.std.proofs.Common.{◌≡◌, ◌≢◌, ℕ, suc, Bool, true, false, List, [], ◌∷◌, Option, None, Some, length, refl, sym, ap, ◌∙◌, ◌⊎◌, inl, inr, ⊎_elim}
-use Rattle.std.specs.Prelude.{IsTrue, ◌↔◌}
+use Rattle.std.specs.Prelude.{IsTrue, ◌↔◌, ◌||◌, slice_get, slice_set}
 use Rattle.std.specs.Option.{IsSome}
 use Rattle.lrspec.specs.grammars.Grammar.{Grammar}
-use Rattle.lrspec.specs.grammars.ItemSets.{Items, item_at, HasItem, LooksIn, FitsAt, Fits}
+use Rattle.lrspec.specs.grammars.ItemSets.{Items, item_at, HasItem, LooksIn, FitsAt, Fits, AreUpwards}
 use Rattle.lrspec.specs.merging.WeakCompatibility.{SameItems, Apart, IsUnion}
 use Rattle.lrspec.proofs.grammars.Closures.{has_of_looks}
 use Rattle.lrbits.specs.Bits.{bit, union}
 use Rattle.lritems.specs.ItemsOf.{joined, HaveBits, Agree}
-use Rattle.lritems.specs.Merging.{Gains}
+use Rattle.lritems.specs.Merging.{Gains, HaveSameKeys}
+use Rattle.lritems.proofs.ItemsByPlace.{item_at_place, set_here, set_others}
+use Rattle.lritems.proofs.SameKeys.{same_place, upwards_from_keys}
 use Rattle.lrclosing.proofs.ItemKeys.{same_or_apart}
-use Rattle.lrclosing.proofs.JoinedLookaheads.{some_of}
 use Rattle.lrclosing.proofs.WalksOverItems.{first_or_rest}
 use Rattle.lrclosing.proofs.PutLookaheads.{put_bits, put_items, put_kept, put_from_item, put_from_look, put_more}
 
@@ -66,13 +67,32 @@ union_same_or_more (true ∷ v) (b ∷ w) = elim (union_same_or_more v w) [ inl 
 union_same_or_more (false ∷ v) (true ∷ w) = inr (0, refl, λ h. cc)
 union_same_or_more (false ∷ v) (false ∷ w) = elim (union_same_or_more v w) [ inl e ↦ inl (ap (λ x. false ∷ x) e) | inr h ↦ inr (suc h.0, h.1, h.2) ]
 
+or_true : (b : Bool) → (b || true) ≡ true
+or_true true = refl
+or_true false = refl
+
+or_false : (b : Bool) → (b || false) ≡ b
+or_false true = refl
+or_false false = refl
+
 -- the lookaheads of one item of `b`, joined to those in `c`
 module _
-    (n : ℕ) (a b rest c next : Items) (changed : Bool) (p d : ℕ) (old ctx : List Bool) (m : IsMerging n a b (((p, d), ctx) ∷ rest) c changed)
-    (has : item_at c p d ≡ Some old) (gives : item_at b p d ≡ Some ctx) (len : length ctx ≡ n)
-    (here : item_at next p d ≡ Some (joined (item_at c p d) ctx))
-    (others : (i e : ℕ) → Apart p d i e → item_at next i e ≡ item_at c i e)
+    (n k : ℕ) (a b rest c next : Items) (changed : Bool) (p d : ℕ) (old ctx : List Bool) (m : IsMerging n a b (((p, d), ctx) ∷ rest) c changed) (up : AreUpwards c)
+    (at : slice_get c k ≡ Some ((p, d), old)) (gives : item_at b p d ≡ Some ctx) (len : length ctx ≡ n)
+    (is : next ≡ slice_set c k ((p, d), union old ctx))
   where
+    has : item_at c p d ≡ Some old
+    has = item_at_place c k ((p, d), old) up at
+
+    is_new : item_at next p d ≡ Some (union old ctx)
+    is_new = rw is (set_here c k p d old (union old ctx) up at)
+
+    here : item_at next p d ≡ Some (joined (item_at c p d) ctx)
+    here = is_new ∙ rw has refl
+
+    others : (i e : ℕ) → Apart p d i e → item_at next i e ≡ item_at c i e
+    others i e f = rw is (set_others c k p d old (union old ctx) at i e f)
+
     bits : HaveBits (length ctx) c
     bits i e v h = m.bits i e v h ∙ sym len
 
@@ -110,9 +130,6 @@ module _
         (first_or_rest p d ctx rest i e k))
         (m.added i e t h)
 
-    is_new : item_at next p d ≡ Some (union old ctx)
-    is_new = here ∙ rw has refl
-
     -- what holds whether or not it changed
     next_merging : (after : Bool) → (after ≡ false → Agree next a) → (after ≡ true → Gains a next) → IsMerging n a b rest next after
     next_merging after s g = record {
@@ -126,10 +143,10 @@ module _
     }
 
     -- it changed
-    changed_now : (item_at next p d ≢ item_at c p d) → Gains a next
+    changed_now : (union old ctx ≢ old) → Gains a next
     changed_now differ =
         ⊎_elim
-        (λ (e : union old ctx ≡ old). absurd (differ (is_new ∙ ap (λ v. Some v) e ∙ sym has)))
+        (λ (e : union old ctx ≡ old). absurd (differ e))
         (λ (h : (t : ℕ) × IsTrue (bit (union old ctx) t) × (IsTrue (bit old t) → ⊥)).
         record {
           p = p;
@@ -143,7 +160,7 @@ module _
     gained_before : Gains a c → Gains a next
     gained_before g = record { p = g.p; d = g.d; t = g.t; now = put_kept p d ctx c next here others bits g.p g.d g.t g.now; before = g.before }
 
-    still_same : (r : Bool) → r ≡ false → (IsTrue r ↔ (item_at next p d ≢ item_at c p d)) → Agree c a → Agree next a
+    still_same : (r : Bool) → r ≡ false → (IsTrue r ↔ (union old ctx ≢ old)) → Agree c a → Agree next a
     still_same r f t s i e =
         ⊎_elim
         (λ (k : union old ctx ≡ old).
@@ -152,19 +169,18 @@ module _
         (λ (x : Apart p d i e). others i e x ∙ s i e)
         (same_or_apart p d i e))
         (λ (h : (t : ℕ) × IsTrue (bit (union old ctx) t) × (IsTrue (bit old t) → ⊥)).
-        let yes : r ≡ true = t.1 (λ same. let z : Some (union old ctx) ≡ Some old = sym is_new ∙ same ∙ has in let y : union old ctx ≡ old = cc in h.2 (rw y at h.1)) in absurd cc)
+        let yes : r ≡ true = t.1 (λ same. h.2 (rw same at h.1)) in absurd cc)
         (union_same_or_more old ctx)
 
-    pub turn_changed : (r : Bool) → r ≡ true → (IsTrue r ↔ (item_at next p d ≢ item_at c p d)) → IsMerging n a b rest next true
-    turn_changed r e f = next_merging true (λ x. absurd cc) (λ x. changed_now (f.0 e))
-
-    pub turn_same : (r : Bool) → r ≡ false → (IsTrue r ↔ (item_at next p d ≢ item_at c p d)) → IsMerging n a b rest next changed
-    turn_same r e f = next_merging changed (λ x. still_same r e f (m.same x)) (λ x. gained_before (m.grew x))
+    pub turn_merged : (r : Bool) → (IsTrue r ↔ (union old ctx ≢ old)) → IsMerging n a b rest next (changed || r)
+    turn_merged true f = rw (or_true changed) (next_merging true (λ x. absurd cc) (λ x. changed_now (f.0 refl)))
+    turn_merged false f = rw (or_false changed) (next_merging changed (λ x. still_same false refl f (m.same x)) (λ x. gained_before (m.grew x)))
 
 -- the item to which lookaheads are joined is there, with as many bits
 pub there_to_merge :
-    (n : ℕ) (a b rest c : Items) (changed : Bool) (p d : ℕ) (ctx : List Bool) → SameItems a b → HaveBits n b → IsMerging n a b rest c changed → item_at b p d ≡ Some ctx
-    → (v : List Bool) × (item_at c p d ≡ Some v) × (length ctx ≡ length v)
-there_to_merge n a b rest c changed p d ctx same h m e =
-    let has = some_of (item_at c p d) ((m.items p d).1 ((same p d).1 (rw e refl))) in
-    (has.0, has.1, h p d ctx e ∙ sym (m.bits p d has.0 has.1))
+    (n k : ℕ) (a b rest c : Items) (changed : Bool) (f : (ℕ × ℕ) × List Bool) → HaveBits n b → IsMerging n a b rest c changed → AreUpwards b → HaveSameKeys b c
+    → slice_get b k ≡ Some f → (v : List Bool) × (slice_get c k ≡ Some (f.0, v)) × (length f.1 ≡ length v)
+there_to_merge n k a b rest c changed f h m u s at =
+    let there = same_place b c k f s at in
+    let mine = item_at_place c k (f.0, there.0) (upwards_from_keys b c s u) there.1 in
+    (there.0, there.1, h f.0.0 f.0.1 f.1 (item_at_place b k f u at) ∙ sym (m.bits f.0.0 f.0.1 there.0 mine))

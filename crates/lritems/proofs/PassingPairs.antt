@@ -1,11 +1,13 @@
--- pairs of items that pass or clash, by their bits, and the walks that test all pairs
-use Rattle.std.proofs.Common.{◌≡◌, ℕ, Bool, List, ◌∷◌, Some, sym, ◌∙◌, ◌⊎◌, inl, inr, ⊎_elim}
-use Rattle.lrspec.specs.grammars.ItemSets.{Items, item_at, HasItem}
-use Rattle.lrspec.specs.merging.WeakCompatibility.{Apart, Meet, Passes, IsWeaklyCompatible, Clash}
-use Rattle.lrspec.proofs.grammars.Closures.{has_of_looks}
+-- pairs of items that pass or clash, by their bits and by their places
+use Rattle.std.proofs.Common.{◌≡◌, ℕ, ◌<◌, ◌≤◌, Bool, List, None, Some, length, sym, ap, ◌∙◌, ◌⊎◌, inl, inr, ⊎_elim, arith}
+use Rattle.std.specs.Prelude.{slice_get}
+use Rattle.std.proofs.lemmas.Option.{same_Some, slice_get_within, slice_get_past}
+use Rattle.lrspec.specs.grammars.ItemSets.{Items, item_at}
+use Rattle.lrspec.specs.merging.WeakCompatibility.{SameItems, Apart, Meet, Passes, IsWeaklyCompatible, Clash}
 use Rattle.lrbits.specs.Bits.{Intersect}
-use Rattle.lritems.specs.Merging.{BitsPass, BitsClash}
-use Rattle.lrclosing.proofs.WalksOverItems.{first_or_rest}
+use Rattle.lritems.specs.Merging.{BitsPass, BitsClash, PassAt, PassesWithLater}
+use Rattle.lritems.proofs.ItemsByPlace.{place_of_item}
+use Rattle.lrclosing.proofs.JoinedLookaheads.{some_of}
 
 -- two items of `a` and of `b`, by their bits in both
 module _
@@ -54,24 +56,52 @@ pub passes_sharing :
     (a b : Items) (p d q e : ℕ) (ai aj : List Bool) → item_at a p d ≡ Some ai → item_at a q e ≡ Some aj → Intersect ai aj → Passes a b p d q e
 passes_sharing a b p d q e ai aj x y m = inr (inl (m.0, rw x m.1, rw y m.2))
 
--- item sets that clash are not weakly compatible
-pub clash_refutes : (a b : Items) → Clash a b → IsWeaklyCompatible a b → ⊥
-clash_refutes a b c w =
-    let x = c.cross in
-    let first : HasItem a x.p x.d = has_of_looks a x.p x.d x.meet.0 x.meet.1 in
-    let second : HasItem a x.q x.e = (w.items x.q x.e).1 (has_of_looks b x.q x.e x.meet.0 x.meet.2) in
-    elim (w.pairs x.p x.d x.q x.e x.apart first second) [
-      | inl n ↦ n.0 x.meet
-      | inr m ↦ elim m [ inl k ↦ c.first k | inr k ↦ c.second k ]
-    ]
+-- two items pass, whichever is named first
+passes_turned : (a b : Items) (p d q e : ℕ) → Passes a b p d q e → Passes a b q e p d
+passes_turned a b p d q e (inl h) = inl (λ m. h.1 (m.0, m.2, m.1), λ m. h.0 (m.0, m.2, m.1))
+passes_turned a b p d q e (inr (inl h)) = inr (inl (h.0, h.2, h.1))
+passes_turned a b p d q e (inr (inr h)) = inr (inr (h.0, h.2, h.1))
 
--- what holds of each item that isn't to come, and of the next one
-pub checked_next :
-    (P : ℕ → ℕ → Type 0) (a : Items) (p d : ℕ) (ctx : List Bool) (rest : Items) → ((i e : ℕ) → HasItem a i e → P i e ⊎ HasItem (((p, d), ctx) ∷ rest) i e) → P p d
-    → (i e : ℕ) → HasItem a i e → P i e ⊎ HasItem rest i e
-checked_next P a p d ctx rest checked here i e h =
-    ⊎_elim
-    (λ (x : P i e). inl x)
-    (λ (x : HasItem (((p, d), ctx) ∷ rest) i e).
-    ⊎_elim (λ (s : (i ≡ p) × (e ≡ d)). inl (rw (s.0, s.1) here)) (λ (y : HasItem rest i e). inr y) (first_or_rest p d ctx rest i e x))
-    (checked i e h)
+-- item sets with the same items, each of which passes with those behind it
+pub compatible_from_later : (a b : Items) → SameItems a b → ((i : ℕ) → i < length a → PassesWithLater a b i) → IsWeaklyCompatible a b
+compatible_from_later a b same passes = record {
+  items = same;
+  pairs = λ p d q e apart h k.
+      let v = some_of (item_at a p d) h in
+      let w = some_of (item_at a q e) k in
+      let i = place_of_item a p d v.0 v.1 in
+      let j = place_of_item a q e w.0 w.1 in
+      elim (places i.0 j.0) [
+        | inl l ↦ passes i.0 (slice_get_within a i.0 ((p, d), v.0) i.1) j.0 l ((p, d), v.0) ((q, e), w.0) i.1 j.1
+        | inr m ↦ elim m [
+          | inl l ↦ passes_turned a b q e p d (passes j.0 (slice_get_within a j.0 ((q, e), w.0) j.1) i.0 l ((q, e), w.0) ((p, d), v.0) j.1 i.1)
+          | inr s ↦
+              let at : slice_get a j.0 ≡ Some ((p, d), v.0) = rw s at i.1 in
+              let both = same_Some ((p, d), v.0) ((q, e), w.0) (sym at ∙ j.1) in
+              absurd (apart (ap (λ x. x.0.0) both) (ap (λ x. x.0.1) both))
+        ]
+      ];
+}
+  where
+    places : (i j : ℕ) → (i < j) ⊎ (j < i) ⊎ (i ≡ j)
+    places i j = grind arith
+
+-- a pair of places more has passed
+pub passed_turn :
+    (a b : Items) (i j : ℕ) (e f : (ℕ × ℕ) × List Bool) → slice_get a i ≡ Some e → slice_get a j ≡ Some f → Passes a b e.0.0 e.0.1 f.0.0 f.0.1 → PassAt a b i j
+passed_turn a b i j e f x y h c d z w =
+    let s : Some e ≡ Some c = sym x ∙ z in
+    let t : Some f ≡ Some d = sym y ∙ w in
+    let one : c ≡ e = cc in
+    let other : d ≡ f = cc in
+    rw (one, other) h
+
+-- all places behind one have passed where those up to the end have
+pub all_passed : (a b : Items) (i j : ℕ) → length a ≤ j → ((k : ℕ) → k < j → i < k → PassAt a b i k) → PassesWithLater a b i
+all_passed a b i j l passed k behind e f x y = elim (below_or_not k j) [
+  | inl h ↦ passed k h behind e f x y
+  | inr h ↦ let n : None ≡ Some f = sym (slice_get_past a k (omega (arith, l, h))) ∙ y in cc
+]
+  where
+    below_or_not : (k j : ℕ) → (k < j) ⊎ (j ≤ k)
+    below_or_not k j = grind arith

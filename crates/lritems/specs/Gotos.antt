@@ -1,5 +1,5 @@
 -- the gotos of an item set on all symbols, and how they are made
-use Rattle.std.specs.Prelude.{◌≡◌, ℕ, Bool, List, [], ◌∷◌, ◌++◌, Some, map, slice_get, slice_set, if◌then◌else◌, ◌⊎◌, MatchOption}
+use Rattle.std.specs.Prelude.{◌≡◌, ℕ, Bool, List, [], ◌∷◌, ◌++◌, Option, Some, IsSome, length, map, slice_get, slice_set, if◌then◌else◌, ◌⊎◌}
 use Rattle.std.specs.List.{list_any}
 use Rattle.lrgrammar.specs.declared.idx.PIdx.{PIdx}
 use Rattle.lrgrammar.specs.declared.idx.SIdx.{SIdx}
@@ -8,8 +8,9 @@ use Rattle.lrgrammar.specs.Symbols.{symbol_of}
 use Rattle.lrspec.specs.grammars.Grammar as math
 use Rattle.lrspec.specs.grammars.Grammar.{Grammar}
 use Rattle.lrspec.specs.grammars.ItemSets.{Items, HasItem, Fits, IsBefore, IsGoto, AreUpwards}
-use Rattle.lrspec.specs.merging.Graph.{same_symbol, edge_at}
+use Rattle.lrspec.specs.merging.Graph.{same_symbol}
 use Rattle.lritems.specs.declared.gotos.Goto.{Goto}
+use Rattle.lritems.specs.declared.gotos.Places.{Places}
 
 -- an item by the numbers of its production and its dot, with bits
 abbrev pub item_of : {T : Type 0} → (T → ℕ) → PIdx T × SIdx T → List Bool → (ℕ × ℕ) × List Bool
@@ -75,18 +76,28 @@ pub record AreGotosOf (g : Grammar) (c : Items) (gs : List (math.Symbol × Items
 
 -- ---- making them
 
--- places by symbol, as plain data
-abbrev pub places_of : {T : Type 0} → (T → ℕ) → List (Symbol T × ℕ) → List (math.Symbol × ℕ)
-places_of number ps = map (λ e. (symbol_of number e.0, e.1)) ps
+-- the place that is noted for the symbol, if places are kept for it
+abbrev pub noted_at : Places → math.Symbol → Option ℕ
+noted_at ps (math.Rule r) = slice_get ps.rules.items r
+noted_at ps (math.Token t) = slice_get ps.tokens.items t
+
+-- a place is kept for the symbol
+abbrev pub HasPlaceFor : Places → math.Symbol → Type 0
+HasPlaceFor ps x = IsSome (noted_at ps x)
+
+-- places are kept for the symbols of the grammar
+pub record ArePlacesFor (g : Grammar) (ps : Places) : Type 0 where
+  pub rules : length ps.rules.items ≡ length g.rule_names
+  pub tokens : length ps.tokens.items ≡ math.token_count g
 
 -- the goto at the place is one on the symbol
 abbrev pub HasGotoAt : List (math.Symbol × Items) → ℕ → math.Symbol → Type 0
 HasGotoAt gs k x = (a : Items) × (slice_get gs k ≡ Some (x, a))
 
--- for each symbol the place of its goto is listed, if there is one
-abbrev pub ArePlacesOf : List (math.Symbol × Items) → List (math.Symbol × ℕ) → Type 0
+-- for each symbol on which there is a goto, its place is noted
+abbrev pub ArePlacesOf : List (math.Symbol × Items) → Places → Type 0
 ArePlacesOf gs ps =
-    (x : math.Symbol) → MatchOption (edge_at ps x) (HasGotoOn gs x → ⊥) (λ k. HasGotoAt gs k x)
+    (x : math.Symbol) → HasGotoOn gs x → (k : ℕ) × (noted_at ps x ≡ Some k) × HasGotoAt gs k x
 
 -- `new` is `old`, or `old` with an empty goto on the symbol, which had none
 abbrev pub IsMadeReady :

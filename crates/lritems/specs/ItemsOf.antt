@@ -4,7 +4,7 @@ use Rattle.lritems.specs.declared.itemset.Itemset.{Itemset}
 use Rattle.lrgrammar.specs.declared.idx.PIdx.{PIdx}
 use Rattle.lrgrammar.specs.declared.idx.SIdx.{SIdx}
 use Rattle.lrspec.specs.grammars.ItemSets.{Items, item_at}
-pub use Rattle.lrclosing.specs.ItemsOf.{items_of, joined, HaveBits}
+pub use Rattle.lrclosing.specs.ItemsOf.{items_of, listed_of, joined, HaveBits}
 
 -- the items of an item set, each by the numbers of its production and its dot
 abbrev pub set_of : {T : Type 0} → (T → ℕ) → Itemset T → Items

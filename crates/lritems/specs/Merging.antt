@@ -1,6 +1,6 @@
 -- words for weak compatibility by bits, and for what merging changes
-use Rattle.std.specs.Prelude.{◌≡◌, ℕ, Bool, List, map, ◌⊎◌}
-use Rattle.lrspec.specs.grammars.ItemSets.{Items, HasItem, LooksIn}
+use Rattle.std.specs.Prelude.{◌≡◌, ℕ, ◌<◌, Bool, List, Some, map, slice_get, ◌⊎◌}
+use Rattle.lrspec.specs.grammars.ItemSets.{Items, LooksIn}
 use Rattle.lrspec.specs.merging.WeakCompatibility.{Passes}
 use Rattle.lrbits.specs.Bits.{Intersect}
 use Rattle.lritems.specs.ItemsOf.{HaveBits}
@@ -24,9 +24,15 @@ abbrev pub BitsClash : List Bool → List Bool → List Bool → List Bool → T
 BitsClash ai aj bi bj =
     (Intersect ai bj ⊎ Intersect bi aj) × (Intersect ai aj → ⊥) × (Intersect bi bj → ⊥)
 
--- the item passes with each item that both item sets have
-abbrev pub PassesWithAll : Items → Items → ℕ → ℕ → Type 0
-PassesWithAll a b p d = (q e : ℕ) → HasItem a q e → HasItem b q e → Passes a b p d q e
+-- the items at two places pass
+abbrev pub PassAt : Items → Items → ℕ → ℕ → Type 0
+PassAt a b i j =
+    (e f : (ℕ × ℕ) × List Bool) → slice_get a i ≡ Some e → slice_get a j ≡ Some f
+    → Passes a b e.0.0 e.0.1 f.0.0 f.0.1
+
+-- the item at the place passes with each item behind it
+abbrev pub PassesWithLater : Items → Items → ℕ → Type 0
+PassesWithLater a b i = (j : ℕ) → i < j → PassAt a b i j
 
 -- `b` looks at a token at which `a` does not
 pub record Gains (a b : Items) : Type 0 where

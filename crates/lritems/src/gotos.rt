@@ -1,13 +1,14 @@
 //! The gotos of an item set on all symbols, which aren't made before they are needed.
 
-ghost use Rattle.std.specs.Prelude.{◌≡◌, ℕ, ◌<◌, [], length, IfOk, OnOk, IfNone, IfSome, option_map, IsTrue, ◌↔◌};
+ghost use Rattle.std.specs.Prelude.{◌≡◌, ◌≢◌, ℕ, ◌<◌, [], Some, length, IfOk, OnOk, IfNone, IfSome, MatchOption, option_map, IsTrue, ◌↔◌};
+ghost use Rattle.lrspec.specs.grammars.Grammar as math;
 ghost use Rattle.lrspec.specs.grammars.ItemSets.{Fits, HasItem, AreUpwards};
-ghost use Rattle.lrspec.specs.merging.Graph.{edge_at};
 ghost use Rattle.lrgrammar.specs.Symbols.{symbol_of};
-ghost use Rattle.lritems.specs.ItemsOf.{set_of, Agree};
+ghost use Rattle.lritems.specs.ItemsOf.{set_of, listed_of, Agree};
 ghost use Rattle.lritems.specs.LeastItem.{least_item};
-ghost use Rattle.lritems.specs.Gotos.{AreGotosOf, item_of, goto_of, gotos_of, places_of, ArePlacesOf, HasGotoAt, IsMadeReady, IsPutAt};
+ghost use Rattle.lritems.specs.Gotos.{AreGotosOf, item_of, goto_of, gotos_of, noted_at, HasPlaceFor, ArePlacesFor, ArePlacesOf, HasGotoOn, HasGotoAt, IsMadeReady, IsPutAt};
 
+use crate::cores::Core;
 use crate::itemset::{Ctx, Itemset};
 use lrclosing::items::step_over;
 use lrgrammar::grammar::YaccGrammar;
@@ -57,74 +58,119 @@ impl<'a, T: IndexStorage> Goto<'a, T> {
         Some(*key)
     }
 
-    /// Whether the item set has the items of the goto and no others, with the same lookaheads.
-    pub fn is_equal(&self, set: &Itemset<T>) -> bool
+    /// Whether the core has the items of the goto and no others, with the same lookaheads.
+    pub fn is_equal(&self, core: &Core<T>) -> bool
         requires { AreUpwards (goto_of T.number self.now) }
-        ensures { IsTrue result
-            ↔ Agree (set_of T.number set.now) (goto_of T.number self.now) }
+        ensures { IsTrue result ↔ Agree core.now (goto_of T.number self.now) }
     {
-        if self.items.len() != set.items.len() {
+        if self.items.len() != core.items.len() {
             return false;
         }
-        let mut entries = set.items.iter();
-        for (mine, looks) in &self.items {
-            let Some((key, ctx)) = entries.next() else {
-                return false;
-            };
+        for k in 0..self.items.len() {
+            let (mine, looks) = &self.items[k];
+            let (key, ctx) = &core.items[k];
             if !is_same_item(mine, looks, key, ctx) {
                 return false;
             }
         }
         true
     }
+}
 
-    /// The goto as an item set. The error says that memory was refused.
-    pub fn to_itemset(&self, alloc: Global) -> Result<Itemset<T>, AllocError>
-        requires { AreUpwards (goto_of T.number self.now) }
-        ensures { IfOk result (λ s. set_of T.number s ≡ goto_of T.number self.now) }
+/// By rule and by token the place of the goto on it, which is to be read only where there is one.
+#[derive(Drop)]
+pub struct Places {
+    rules: Vec<usize>,
+    tokens: Vec<usize>,
+}
+
+impl Places {
+    /// Places for the symbols of the grammar. The error says that memory was refused.
+    pub fn new<T: IndexStorage>(grm: &YaccGrammar<T>) -> Result<Places, AllocError>
+        ensures { IfOk result (ArePlacesFor grm.now) }
     {
-        let mut items = BTreeMap::new(alloc);
-        for (key, looks) in &self.items {
-            let copy = Ctx::clone(looks)?;
-            items.insert(*key, copy)?;
+        Ok(Places {
+            rules: vec![in grm.allocator(); 0; usize::from(grm.rules_len())]?,
+            tokens: vec![in grm.allocator(); 0; usize::from(grm.tokens_len())]?,
+        })
+    }
+
+    /// The place that is noted for the symbol.
+    fn at<T: IndexStorage>(&self, symbol: Symbol<T>) -> usize
+        requires { HasPlaceFor self.now (symbol_of T.number symbol) }
+        ensures { Some result ≡ noted_at self.now (symbol_of T.number symbol) }
+    {
+        match symbol {
+            Symbol::Rule(ridx) => self.rules[usize::from(ridx)],
+            Symbol::Token(tidx) => self.tokens[usize::from(tidx)],
         }
-        Ok(Itemset { items })
+    }
+
+    /// Notes the place for the symbol.
+    fn set<T: IndexStorage>(&mut self, symbol: Symbol<T>, place: usize)
+        requires { HasPlaceFor self.old (symbol_of T.number symbol) }
+        ensures here { noted_at self.new (symbol_of T.number symbol) ≡ Some place }
+        ensures others { (x : math.Symbol) → x ≢ symbol_of T.number symbol
+            → noted_at self.new x ≡ noted_at self.old x }
+        ensures rules { length self.new.rules.items ≡ length self.old.rules.items }
+        ensures tokens { length self.new.tokens.items ≡ length self.old.tokens.items }
+    {
+        match symbol {
+            Symbol::Rule(ridx) => self.rules[usize::from(ridx)] = place,
+            Symbol::Token(tidx) => self.tokens[usize::from(tidx)] = place,
+        }
     }
 }
 
-/// The place of the goto on a symbol, if one is listed.
+/// Whether the symbols are the same.
+fn is_same_symbol<T: IndexStorage>(a: Symbol<T>, b: Symbol<T>) -> bool
+    ensures { IsTrue result ↔ (symbol_of T.number a ≡ symbol_of T.number b) }
+{
+    a == b
+}
+
+/// The place of the goto on a symbol, if there is one.
 fn known_place<T: IndexStorage>(
-    places: &BTreeMap<Symbol<T>, usize>,
+    gotos: &[(Symbol<T>, Goto<'_, T>)],
+    places: &Places,
     symbol: Symbol<T>,
 ) -> Option<usize>
-    ensures { result
-        ≡ edge_at (places_of T.number places.now.entries) (symbol_of T.number symbol) }
+    requires noted { HasPlaceFor places.now (symbol_of T.number symbol) }
+    requires places { ArePlacesOf (gotos_of T.number gotos.now) places.now }
+    ensures { MatchOption result
+        (HasGotoOn (gotos_of T.number gotos.now) (symbol_of T.number symbol) → ⊥)
+        (λ k. HasGotoAt (gotos_of T.number gotos.now) k (symbol_of T.number symbol)) }
 {
-    places.get(&symbol).copied()
+    let place = places.at(symbol);
+    if place < gotos.len() && is_same_symbol(gotos[place].0, symbol) {
+        Some(place)
+    } else {
+        None
+    }
 }
 
 /// The place of the goto on a symbol, where an empty one is put if there is none.
 fn place_of<T: IndexStorage>(
     gotos: &mut Vec<(Symbol<T>, Goto<'_, T>)>,
-    places: &mut BTreeMap<Symbol<T>, usize>,
+    places: &mut Places,
     grm: &YaccGrammar<T>,
     symbol: Symbol<T>,
 ) -> Result<usize, AllocError>
-    requires { ArePlacesOf (gotos_of T.number gotos.old.items)
-        (places_of T.number places.old.entries) }
-    ensures places { OnOk result (ArePlacesOf (gotos_of T.number gotos.new.items)
-        (places_of T.number places.new.entries)) }
+    requires noted { HasPlaceFor places.old (symbol_of T.number symbol) }
+    requires places { ArePlacesOf (gotos_of T.number gotos.old.items) places.old }
+    ensures fit { ArePlacesFor grm.now places.old → ArePlacesFor grm.now places.new }
+    ensures places { OnOk result (ArePlacesOf (gotos_of T.number gotos.new.items) places.new) }
     ensures at { IfOk result (λ k.
         HasGotoAt (gotos_of T.number gotos.new.items) k (symbol_of T.number symbol)) }
     ensures made { OnOk result (IsMadeReady (symbol_of T.number symbol)
         (gotos_of T.number gotos.old.items) (gotos_of T.number gotos.new.items)) }
 {
-    if let Some(place) = known_place(places, symbol) {
+    if let Some(place) = known_place(gotos.as_slice(), places, symbol) {
         return Ok(place);
     }
     let place = gotos.len();
     gotos.push((symbol, Goto::new(grm.allocator())))?;
-    places.insert(symbol, place)?;
+    places.set(symbol, place);
     Ok(place)
 }
 
@@ -144,23 +190,42 @@ fn put_at<'a, T: IndexStorage>(
     Ok(())
 }
 
-/// The gotos on every symbol before which the item set has an item, in the order in which its items, upwards, first
-/// show these symbols. None is made. The error says that memory was refused.
+/// The gotos on every symbol before which one of the items stands, in the order in which the items, upwards, first show
+/// these symbols. None is made. The error says that memory was refused.
 pub fn gotos<'a, T: IndexStorage>(
-    closed: &'a Itemset<T>,
+    closed: &[((PIdx<T>, SIdx<T>), &'a Ctx)],
     grm: &YaccGrammar<T>,
+    places: &mut Places,
 ) -> Result<Vec<(Symbol<T>, Goto<'a, T>)>, AllocError>
-    requires { Fits grm.now (set_of T.number closed.now) }
-    ensures { IfOk result (λ v.
-        AreGotosOf grm.now (set_of T.number closed.now) (gotos_of T.number v.items)) }
+    requires fits { Fits grm.now (listed_of T.number closed.now) }
+    requires upwards { AreUpwards (listed_of T.number closed.now) }
+    requires places { ArePlacesFor grm.now places.old }
+    ensures gotos { IfOk result (λ v.
+        AreGotosOf grm.now (listed_of T.number closed.now) (gotos_of T.number v.items)) }
+    ensures places { ArePlacesFor grm.now places.new }
 {
     let mut gotos = Vec::new(grm.allocator());
-    let mut places = BTreeMap::new(grm.allocator());
-    for (key, ctx) in &closed.items {
+    for (key, ctx) in closed {
         if let Some((symbol, dot)) = step_over(grm, key.0, key.1) {
-            let place = place_of(&mut gotos, &mut places, grm, symbol)?;
+            let place = place_of(&mut gotos, places, grm, symbol)?;
             put_at(&mut gotos, place, key.0, dot, ctx)?;
         }
     }
     Ok(gotos)
+}
+
+/// The items as an item set. The error says that memory was refused.
+pub fn to_itemset<T: IndexStorage>(
+    alloc: Global,
+    items: &[((PIdx<T>, SIdx<T>), &Ctx)],
+) -> Result<Itemset<T>, AllocError>
+    requires { AreUpwards (listed_of T.number items.now) }
+    ensures { IfOk result (λ s. set_of T.number s ≡ listed_of T.number items.now) }
+{
+    let mut made = BTreeMap::new(alloc);
+    for (key, looks) in items {
+        let copy = Ctx::clone(looks)?;
+        made.insert(*key, copy)?;
+    }
+    Ok(Itemset { items: made })
 }

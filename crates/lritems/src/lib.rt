@@ -2,6 +2,7 @@
 //! itself is in the crate below.
 #![tactic(auto)]
 
+pub mod cores;
 pub mod gotos;
 pub mod itemset;
 pub mod merging;

@@ -1,5 +1,5 @@
 -- the start state alone: what holds of it, and of the states that a construction ends with
-use Rattle.std.proofs.Common.{◌≡◌, ℕ, ◌≤◌, List, [], ◌∷◌, length, None, Some, refl, ap, ◌∙◌, arith}
+use Rattle.std.proofs.Common.{◌≡◌, ℕ, ◌≤◌, false, List, [], ◌∷◌, ◌++◌, length, Some, refl, ap, ◌∙◌, arith}
 use Rattle.lrspec.specs.grammars.Grammar.{Symbol, Grammar, IsGrammar}
 use Rattle.lrspec.specs.grammars.ItemSets.{Items, HasItem}
 use Rattle.lrspec.specs.grammars.StartState.{IsStartCore}
@@ -28,12 +28,15 @@ module _ {g : Grammar} {ss : List Draft} (s : StartsWith g ss) where
   pub begins_unclosed : (unclosed ss ≡ 1) × (1 ≤ weight g ss)
   begins_unclosed = rw s.states (start_counts g (start_states s.core) refl refl)
 
--- a state that is to be closed and has no edges
-pub draft_alone : (d : Draft) (core : Items) → d.core ≡ core → d.closed ≡ None → d.edges ≡ [] → d ∷ [] ≡ start_states core
-draft_alone d core a b e =
-    ap (λ x. record { core = x; closed = d.closed; edges = d.edges } ∷ []) a
-    ∙ ap (λ x. record { core = core; closed = x; edges = d.edges } ∷ []) b
-    ∙ ap (λ x. record { core = core; closed = None; edges = x } ∷ []) e
+-- a state that is to be closed and has no edges, put where there was none
+pub draft_alone :
+    (ss new : List Draft) (d : Draft) (core : Items) → ss ≡ [] → new ≡ ss ++ d ∷ [] → d.core ≡ core → d.is_closed ≡ false → d.edges ≡ []
+    → new ≡ start_states core
+draft_alone ss new d core none is a b e =
+    is ∙ ap (λ ds. ds ++ d ∷ []) none
+    ∙ ap (λ x. record { core = x; is_closed = d.is_closed; edges = d.edges } ∷ []) a
+    ∙ ap (λ x. record { core = core; is_closed = x; edges = d.edges } ∷ []) b
+    ∙ ap (λ x. record { core = core; is_closed = false; edges = x } ∷ []) e
 
 -- the start core has an item
 pub start_item : {g : Grammar} {a : Items} → IsStartCore g a → (p : ℕ) × (d : ℕ) × HasItem a p d

@@ -1,8 +1,7 @@
 -- closing a state lowers how many are to be closed by one, and leaves what the states weigh
-use Rattle.std.proofs.Common.{◌≡◌, ◌≢◌, ℕ, zero, suc, ◌+◌, ◌<◌, ◌≤◌, List, [], ◌∷◌, length, None, Some, refl, ap, arith, ⊎_elim}
+use Rattle.std.proofs.Common.{◌≡◌, ◌≢◌, ℕ, zero, suc, ◌+◌, ◌<◌, ◌≤◌, true, false, List, [], ◌∷◌, length, refl, ap, arith, ⊎_elim}
 use Rattle.std.proofs.lemmas.Bool.{cases_eq}
 use Rattle.lrspec.specs.grammars.Grammar.{Grammar}
-use Rattle.lrspec.specs.grammars.ItemSets.{Items}
 use Rattle.lrplacing.specs.Construction.{Draft, draft_core, draft_closed, core_at, closed_at}
 use Rattle.lrplacing.specs.Counts.{unclosed, looks_count, weight}
 use Rattle.lrpager.specs.Closing.{Closes}
@@ -27,12 +26,12 @@ unclosed_same (s ∷ ss) (t ∷ ts) l e =
 
 -- where one state more is closed, one less is to be closed
 one_less :
-    (old new : List Draft) (i : ℕ) (c : Items) → length new ≡ length old → i < length old
-    → ((j : ℕ) → j ≢ i → closed_at new j ≡ closed_at old j) → closed_at old i ≡ None → closed_at new i ≡ Some c
+    (old new : List Draft) (i : ℕ) → length new ≡ length old → i < length old
+    → ((j : ℕ) → j ≢ i → closed_at new j ≡ closed_at old j) → closed_at old i ≡ false → closed_at new i ≡ true
     → unclosed new + 1 ≡ unclosed old
-one_less [] new i c l b others was is = absurd (omega arith)
-one_less (s ∷ ss) [] i c l b others was is = absurd (omega arith)
-one_less (s ∷ ss) (t ∷ ts) zero c l b others was is =
+one_less [] new i l b others was is = absurd (omega arith)
+one_less (s ∷ ss) [] i l b others was is = absurd (omega arith)
+one_less (s ∷ ss) (t ∷ ts) zero l b others was is =
     omega (
       arith,
       unclosed_cons s ss,
@@ -41,23 +40,23 @@ one_less (s ∷ ss) (t ∷ ts) zero c l b others was is =
       ap open_count is,
       unclosed_same ss ts (omega arith) (λ j. others (suc j) (λ z. omega arith)),
     )
-one_less (s ∷ ss) (t ∷ ts) (suc i) c l b others was is =
+one_less (s ∷ ss) (t ∷ ts) (suc i) l b others was is =
     omega (
       arith,
       unclosed_cons s ss,
       unclosed_cons t ts,
       ap open_count (others 0 (λ z. omega arith)),
-      one_less ss ts i c (omega arith) (omega arith) (λ j n. others (suc j) (λ z. n (omega arith))) was is,
+      one_less ss ts i (omega arith) (omega arith) (λ j n. others (suc j) (λ z. n (omega arith))) was is,
     )
 
-module _ (g : Grammar) (old new : List Draft) (i : ℕ) (c : Items) (m : Closes g old i c new) where
+module _ (g : Grammar) (old new : List Draft) (i : ℕ) (m : Closes old i new) where
   -- closing a state leaves every core
   pub closes_core : (j : ℕ) → core_at new j ≡ core_at old j
   closes_core j = ⊎_elim (λ (e : j ≡ i). rw e m.core) (λ (n : j ≢ i). ap draft_core (m.others j n)) (cases_eq j i)
 
   -- one state less is to be closed
   pub closes_unclosed : unclosed new + 1 ≡ unclosed old
-  closes_unclosed = one_less old new i c m.length_is m.below (λ j n. ap draft_closed (m.others j n)) m.was m.closed
+  closes_unclosed = one_less old new i m.length_is m.below (λ j n. ap draft_closed (m.others j n)) m.was m.closed
 
   -- the states weigh what they weighed
   pub closes_weight : weight g new ≡ weight g old

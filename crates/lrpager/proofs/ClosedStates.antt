@@ -1,5 +1,5 @@
 -- what holds of the start state alone, and what closing a state keeps
-use Rattle.std.proofs.Common.{◌≡◌, ◌≢◌, ℕ, zero, suc, ◌<◌, List, [], ◌∷◌, Some, length, refl, sym, ap, ◌∙◌, ◌⊎◌, inl, inr, arith}
+use Rattle.std.proofs.Common.{◌≡◌, ◌≢◌, ℕ, zero, suc, ◌<◌, true, List, [], ◌∷◌, None, Some, length, refl, sym, ap, ◌∙◌, inl, inr, arith}
 use Rattle.std.specs.Prelude.{slice_get}
 use Rattle.std.proofs.lemmas.Bool.{cases_eq}
 use Rattle.lrspec.specs.grammars.Grammar.{Symbol, Grammar, IsGrammar}
@@ -8,15 +8,16 @@ use Rattle.lrspec.specs.grammars.StartState.{IsStartCore}
 use Rattle.lrspec.proofs.grammars.Closures.{contained_itself}
 use Rattle.lrspec.proofs.merging.RootedCores.{start_rooted}
 use Rattle.lrspec.proofs.merging.SharingKept.{start_shared}
-use Rattle.lrplacing.specs.Construction.{Draft, core_at, closed_at, edge_from, draft_core, draft_closed}
+use Rattle.lrspec.specs.merging.Graph.{edge_at}
+use Rattle.lrplacing.specs.Construction.{Draft, core_at, closed_at, edge_from, draft_core, draft_closed, draft_edges}
 use Rattle.lrplacing.specs.Invariant.{HasSharing, LeadsToItems, HasChain, Holds, HasGotos}
 use Rattle.lrpager.specs.Closing.{start_states, Closes}
 use Rattle.lrplacing.proofs.GrowingItemSets.{same_itself}
 
 module _ (core : Items) where
-  start_alone : (k : ℕ) (c : Items) → closed_at (start_states core) k ≡ Some c → ⊥
-  start_alone zero c e = cc
-  start_alone (suc k) c e = cc
+  start_alone : (k : ℕ) → closed_at (start_states core) k ≡ true → ⊥
+  start_alone zero e = cc
+  start_alone (suc k) e = cc
 
   start_chain_same : (k : ℕ) (a : Items) → slice_get (core ∷ []) k ≡ Some a → a ≡ core_at (start_states core) k
   start_chain_same zero a e = cc
@@ -48,8 +49,6 @@ module _ {g : Grammar} (core : Items) where
     start = start;
     fits = λ k below. rw (start_core_at core k below) fits;
     sharing = λ k below. rw (start_core_at core k below) start_sharing;
-    closures = λ k c e. absurd (start_alone core k c e);
-    fits_closed = λ k c e. absurd (start_alone core k c e);
     edges = λ k u x e. absurd (start_edges core k u x e);
     cross = λ j k lt below. absurd (omega arith);
     chain = start_chain n start;
@@ -60,26 +59,22 @@ module _ {g : Grammar} (core : Items) where
 
   -- and no goto is missing
   pub start_gotos : (k : ℕ) → HasGotos g (start_states core) k
-  start_gotos k c e = absurd (start_alone core k c e)
+  start_gotos k e = absurd (start_alone core k e)
 
-module _ {g : Grammar} {old new : List Draft} {i : ℕ} {c : Items} (m : Closes g old i c new) where
+module _ {old new : List Draft} {i : ℕ} (m : Closes old i new) where
   -- closing keeps every core
   pub closes_core : (k : ℕ) → core_at new k ≡ core_at old k
   closes_core k = elim (cases_eq k i) [ inl e ↦ rw e m.core | inr n ↦ ap draft_core (m.others k n) ]
 
-  -- and every edge
-  pub closes_edge : (k : ℕ) (x : Symbol) → edge_from new k x ≡ edge_from old k x
-  closes_edge k x = elim (cases_eq k i) [ inl e ↦ rw e (m.edges x) | inr n ↦ rw (m.others k n) refl ]
-
-  -- a state that is closed is the one that was, or was closed before
-  pub closes_origin : (k : ℕ) (b : Items) → closed_at new k ≡ Some b → ((k ≡ i) × (b ≡ c)) ⊎ (closed_at old k ≡ Some b)
-  closes_origin k b e =
+  -- and adds no edge
+  closes_edge : (k u : ℕ) (x : Symbol) → edge_from new k x ≡ Some u → edge_from old k x ≡ Some u
+  closes_edge k u x e =
       elim (cases_eq k i) [
-        | inl h ↦ let now : closed_at new i ≡ Some b = rw h at e in let at_i = m.closed in inl (h, cc)
-        | inr n ↦ inr (sym (ap draft_closed (m.others k n)) ∙ e)
+        | inl s ↦ let none : None ≡ Some u = sym (m.edges x) ∙ rw s at e in absurd (cc)
+        | inr n ↦ rw (m.others k n) at e
       ]
 
-  closes_chain : HasChain g old → HasChain g new
+  closes_chain : {g : Grammar} → HasChain g old → HasChain g new
   closes_chain h = record {
     chain = h.chain;
     is_chain = h.is_chain;
@@ -88,31 +83,26 @@ module _ {g : Grammar} {old new : List Draft} {i : ℕ} {c : Items} (m : Closes 
     contained = λ k a e. rw (closes_core k) (h.contained k a e);
   }
 
-  closes_leads : (k u : ℕ) (x : Symbol) → LeadsToItems g old k x u → LeadsToItems g new k x u
+  closes_leads : {g : Grammar} (k u : ℕ) (x : Symbol) → LeadsToItems g old k x u → LeadsToItems g new k x u
   closes_leads k u x h = record {
     below = omega (arith, m.length_is, h.below);
     items = rw (closes_core k, closes_core u) h.items;
   }
 
   -- closing keeps all that holds
-  pub closes_holds : Holds g old → Holds g new
+  pub closes_holds : {g : Grammar} → Holds g old → Holds g new
   closes_holds h = record {
     some = omega (arith, m.length_is, h.some);
     start = rw (closes_core 0) h.start;
     fits = λ k below. rw (closes_core k) (h.fits k (omega (arith, m.length_is)));
     sharing = λ k below. rw (closes_core k) (h.sharing k (omega (arith, m.length_is)));
-    closures = λ k b e. elim (closes_origin k b e) [
-      | inl (n, j) ↦ rw (closes_core k, n, j) m.closure
-      | inr before ↦ rw (closes_core k) (h.closures k b before)
-    ];
-    fits_closed = λ k b e. elim (closes_origin k b e) [ inl (n, j) ↦ rw j m.fits | inr before ↦ h.fits_closed k b before ];
-    edges = λ k u x e. closes_leads k u x (h.edges k u x (sym (closes_edge k x) ∙ e));
+    edges = λ k u x e. closes_leads k u x (h.edges k u x (closes_edge k u x e));
     cross = λ j k lt below same. rw (closes_core j, closes_core k) (h.cross j k lt (omega (arith, m.length_is)) (rw (closes_core j, closes_core k) at same));
     chain = closes_chain h.chain;
   }
 
   -- and the gotos of the other states
-  pub closes_gotos : (k : ℕ) → k ≢ i → HasGotos g old k → HasGotos g new k
-  closes_gotos k n h b e p d x item before =
-      let over = h b (sym (ap draft_closed (m.others k n)) ∙ e) p d x item before in
-      record { to = over.to; is = closes_edge k x ∙ over.is; looks = rw (closes_core over.to) over.looks }
+  pub closes_gotos : {g : Grammar} (k : ℕ) → k ≢ i → HasGotos g old k → HasGotos g new k
+  closes_gotos k n h b p d x item before =
+      let over = h (sym (ap draft_closed (m.others k n)) ∙ b) p d x (rw (closes_core k) at item) before in
+      record { to = over.to; is = ap (λ o. edge_at (draft_edges o) x) (m.others k n) ∙ over.is; looks = rw (closes_core k, closes_core over.to) over.looks }

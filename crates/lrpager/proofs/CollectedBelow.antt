@@ -1,29 +1,30 @@
 -- collecting the marked states in their order: what holds of those before some number, and how many edges there are
-use Rattle.std.proofs.Common.{◌≡◌, ℕ, zero, suc, ◌+◌, ◌*◌, ◌<◌, ◌≤◌, Bool, true, false, cond, List, [], ◌∷◌, ◌++◌, length, drop, get_or, Option, None, Some, refl, sym, ap, ◌∙◌, ◌⊎◌, inl, inr, arith, length-append}
+use Rattle.std.proofs.Common.{◌≡◌, ℕ, zero, suc, ◌+◌, ◌*◌, ◌<◌, ◌≤◌, Bool, true, false, cond, List, [], ◌∷◌, ◌++◌, length, drop, get_or, Option, None, Some, refl, sym, ap, subst, ◌∙◌, ◌⊎◌, inl, inr, arith, length-append}
 use Rattle.std.specs.Prelude.{slice_get, option_map, count_by, sum_by}
 use Rattle.std.proofs.lemmas.Bool.{cases_lt}
-use Rattle.std.specs.Option.{IsSome}
 use Rattle.std.proofs.lemmas.Option.{slice_get_within}
 use Rattle.std.proofs.lemmas.List.{take_all}
 use Rattle.std.proofs.lemmas.List.Sums.{count_by_more_no, sum_by_push, sum_by-take-le, count_by-le-length}
-use Rattle.lrspec.specs.grammars.Grammar.{Symbol}
+use Rattle.lrspec.specs.grammars.Grammar.{Symbol, Grammar}
+use Rattle.lrspec.specs.grammars.ItemSets.{Items, Fits, IsClosure}
 use Rattle.lrspec.specs.merging.Graph.{State, Graph, core_or_none, closed_or_none, edges_or_none, core_of, closed_of, edge, edge_at}
 use Rattle.lrpager.specs.Collecting as collecting
-use Rattle.lrplacing.specs.Construction.{Draft, draft_core, draft_closed, draft_edges, core_at, closed_at, edge_from}
-use Rattle.lrplacing.specs.Invariant.{AreClosed}
+use Rattle.lrplacing.specs.Construction.{Draft, draft_core, draft_edges, core_at, edge_from}
 use Rattle.lrpager.specs.Collecting.{AreMarked, new_number, IsCollected, LeadToStates, IsMarked, HaveDistinctTargets, IsRenumbered}
 use Rattle.lrpager.proofs.NewNumbers.{marked_below, new_number_after, new_number_increases, new_number_below, new_number_taken}
 
--- the state `n` of the graph has the core and the closed state of the state `k`, and its edges by new numbers
-pub record IsCopy (f : ℕ → ℕ) (ss : List Draft) (k : ℕ) (h : Graph) (n : ℕ) : Type 0 where
+-- the state `n` of the graph has the core of the state `k`, for its closed state what that closes to, and its edges by new
+-- numbers
+pub record IsCopy (g : Grammar) (f : ℕ → ℕ) (ss : List Draft) (k : ℕ) (h : Graph) (n : ℕ) : Type 0 where
   pub core : core_of h n ≡ core_at ss k
-  pub closed : Some (closed_of h n) ≡ closed_at ss k
+  pub closed : IsClosure g (core_at ss k) (closed_of h n)
+  pub fits : Fits g (closed_of h n)
   pub edges : (x : Symbol) → edge h n x ≡ option_map f (edge_from ss k x)
 
 -- the marked ones of the first `k` states were collected
-pub record AreCollectedBelow (f : ℕ → ℕ) (ss : List Draft) (marks : List Bool) (k : ℕ) (h : Graph) : Type 0 where
+pub record AreCollectedBelow (g : Grammar) (f : ℕ → ℕ) (ss : List Draft) (marks : List Bool) (k : ℕ) (h : Graph) : Type 0 where
   pub length_is : length h ≡ new_number marks k
-  pub each : (j : ℕ) → j < k → IsMarked marks j → IsCopy f ss j h (new_number marks j)
+  pub each : (j : ℕ) → j < k → IsMarked marks j → IsCopy g f ss j h (new_number marks j)
 
 -- the first of what is left of a list
 pub first_left :
@@ -47,11 +48,12 @@ get_last (x ∷ xs) y = get_last xs y
 
 -- a state that comes behind leaves a copy
 copy_kept :
-    (f : ℕ → ℕ) (ss : List Draft) (j : ℕ) (h : Graph) (n : ℕ) (s : State) → n < length h → IsCopy f ss j h n
-    → IsCopy f ss j (h ++ s ∷ []) n
-copy_kept f ss j h n s l c = record {
+    (g : Grammar) (f : ℕ → ℕ) (ss : List Draft) (j : ℕ) (h : Graph) (n : ℕ) (s : State) → n < length h → IsCopy g f ss j h n
+    → IsCopy g f ss j (h ++ s ∷ []) n
+copy_kept g f ss j h n s l c = record {
   core = ap core_or_none same ∙ c.core;
-  closed = ap (λ o. Some (closed_or_none o)) same ∙ c.closed;
+  closed = subst (IsClosure g (core_at ss j)) (sym (ap closed_or_none same)) c.closed;
+  fits = subst (Fits g) (sym (ap closed_or_none same)) c.fits;
   edges = λ x. ap (λ o. edge_at (edges_or_none o) x) same ∙ c.edges x;
 }
   where
@@ -60,11 +62,12 @@ copy_kept f ss j h n s l c = record {
 
 -- the state that comes last is a copy
 copy_last :
-    (f : ℕ → ℕ) (ss : List Draft) (k : ℕ) (h : Graph) (d : Draft) (s : State) → slice_get ss k ≡ Some d → IsRenumbered f d s
-    → IsCopy f ss k (h ++ s ∷ []) (length h)
-copy_last f ss k h d s at m = record {
+    (g : Grammar) (f : ℕ → ℕ) (ss : List Draft) (k : ℕ) (h : Graph) (d : Draft) (s : State) → slice_get ss k ≡ Some d → IsRenumbered g f d s
+    → IsCopy g f ss k (h ++ s ∷ []) (length h)
+copy_last g f ss k h d s at m = record {
   core = ap core_or_none last ∙ (m.core ∙ sym (ap draft_core at));
-  closed = ap (λ o. Some (closed_or_none o)) last ∙ (sym m.closed ∙ sym (ap draft_closed at));
+  closed = subst (IsClosure g (core_at ss k)) (sym (ap closed_or_none last)) (subst (λ a. IsClosure g a s.closed) (sym (ap draft_core at)) m.closed);
+  fits = subst (Fits g) (sym (ap closed_or_none last)) m.fits;
   edges = λ x. ap (λ o. edge_at (edges_or_none o) x) last ∙ (m.edges x ∙ sym (ap (λ o. option_map f (edge_at (draft_edges o) x)) at));
 }
   where
@@ -74,11 +77,11 @@ copy_last f ss k h d s at m = record {
 before_or_this : (j k : ℕ) → j < k + 1 → (j < k) ⊎ (j ≡ k)
 before_or_this j k l = elim (cases_lt j k) [ inl b ↦ inl b | inr a ↦ inr (omega (arith, l, a)) ]
 
-module _ (f : ℕ → ℕ) (ss : List Draft) (marks : List Bool) where
+module _ (g : Grammar) (f : ℕ → ℕ) (ss : List Draft) (marks : List Bool) where
   -- a state that isn't marked is left
   pub collected_not :
-      (k : ℕ) (h : Graph) → k < length marks → get_or marks k false ≡ false → AreCollectedBelow f ss marks k h
-      → AreCollectedBelow f ss marks (k + 1) h
+      (k : ℕ) (h : Graph) → k < length marks → get_or marks k false ≡ false → AreCollectedBelow g f ss marks k h
+      → AreCollectedBelow g f ss marks (k + 1) h
   collected_not k h l not c = record {
     length_is = c.length_is ∙ sym (count_by_more_no (λ (b : Bool). b) marks k false l not);
     each = λ j b m. elim (before_or_this j k b) [
@@ -89,30 +92,31 @@ module _ (f : ℕ → ℕ) (ss : List Draft) (marks : List Bool) where
 
   -- a marked state is collected
   pub collected_more :
-      (k : ℕ) (h : Graph) (d : Draft) (s : State) → IsMarked marks k → slice_get ss k ≡ Some d → IsRenumbered f d s
-      → AreCollectedBelow f ss marks k h → AreCollectedBelow f ss marks (k + 1) (h ++ s ∷ [])
+      (k : ℕ) (h : Graph) (d : Draft) (s : State) → IsMarked marks k → slice_get ss k ≡ Some d → IsRenumbered g f d s
+      → AreCollectedBelow g f ss marks k h → AreCollectedBelow g f ss marks (k + 1) (h ++ s ∷ [])
   collected_more k h d s m at renumbered c = record {
     length_is = omega (arith, length-append h (s ∷ []), c.length_is, new_number_after marks k m);
     each = λ j b n. elim (before_or_this j k b) [
-      | inl i ↦ copy_kept f ss j h (new_number marks j) s (omega (arith, new_number_increases marks j k n i, c.length_is)) (c.each j i n)
-      | inr e ↦ rw (e, ← c.length_is) (copy_last f ss k h d s at renumbered)
+      | inl i ↦ copy_kept g f ss j h (new_number marks j) s (omega (arith, new_number_increases marks j k n i, c.length_is)) (c.each j i n)
+      | inr e ↦ rw (e, ← c.length_is) (copy_last g f ss k h d s at renumbered)
     ];
   }
 
   -- so the graph is collected where all states were gone through, and `f` gives the new numbers
-  module _ (k : ℕ) (h : Graph) (c : AreCollectedBelow f ss marks k h) (all : k ≡ length ss) (same : length marks ≡ length ss) where
+  module _ (k : ℕ) (h : Graph) (c : AreCollectedBelow g f ss marks k h) (all : k ≡ length ss) (same : length marks ≡ length ss) where
     pub collected_count : length h ≡ count_by (λ (b : Bool). b) marks
     collected_count = c.length_is ∙ ap (count_by (λ (b : Bool). b)) (take_all k marks (omega (arith, all, same)))
 
-    copied : (j : ℕ) → IsMarked marks j → IsCopy f ss j h (new_number marks j)
+    copied : (j : ℕ) → IsMarked marks j → IsCopy g f ss j h (new_number marks j)
     copied j m = let l = marked_below marks j m in c.each j (omega (arith, l, all, same)) m
 
     pub collected_all :
-        LeadToStates ss → ((u : ℕ) → u < length ss → f u ≡ new_number marks u) → IsCollected ss marks h
+        LeadToStates ss → ((u : ℕ) → u < length ss → f u ≡ new_number marks u) → IsCollected g ss marks h
     collected_all below numbers = record {
       below = λ j m. let l = new_number_below marks j m in omega (arith, l, collected_count);
       cores = λ j m. (copied j m).core;
       closed = λ j m. (copied j m).closed;
+      fits = λ j m. (copied j m).fits;
       edges = λ j x m. (copied j m).edges x ∙ agree j x (edge_from ss j x) refl;
       only = λ s l. new_number_taken marks s (omega (arith, l, collected_count));
     }
@@ -126,25 +130,25 @@ abbrev pub edge_count : Graph → ℕ
 edge_count h = sum_by (λ (s : State). length s.edges) h
 
 -- the marked ones of the first `k` states were collected, and their edges counted, which are few
-pub record AreCollecting (f : ℕ → ℕ) (ss : List Draft) (marks : List Bool) (k : ℕ) (h : Graph) (edges : ℕ) : Type 0 where
-  pub collected : AreCollectedBelow f ss marks k h
+pub record AreCollecting (g : Grammar) (f : ℕ → ℕ) (ss : List Draft) (marks : List Bool) (k : ℕ) (h : Graph) (edges : ℕ) : Type 0 where
+  pub collected : AreCollectedBelow g f ss marks k h
   pub counted : edges ≡ edge_count h
   pub few : edges ≤ k * length ss
 
 -- a state that isn't marked has no part in it
 pub collecting_not :
-    (f : ℕ → ℕ) (ss : List Draft) (marks : List Bool) (k : ℕ) (h : Graph) (edges : ℕ) → k < length marks → get_or marks k false ≡ false
-    → AreCollecting f ss marks k h edges → AreCollecting f ss marks (k + 1) h edges
-collecting_not f ss marks k h edges l not c =
-    record { collected = collected_not f ss marks k h l not c.collected; counted = c.counted; few = omega (arith, c.few) }
+    (g : Grammar) (f : ℕ → ℕ) (ss : List Draft) (marks : List Bool) (k : ℕ) (h : Graph) (edges : ℕ) → k < length marks → get_or marks k false ≡ false
+    → AreCollecting g f ss marks k h edges → AreCollecting g f ss marks (k + 1) h edges
+collecting_not g f ss marks k h edges l not c =
+    record { collected = collected_not g f ss marks k h l not c.collected; counted = c.counted; few = omega (arith, c.few) }
 
 -- a marked state adds its edges
 pub collecting_more :
-    (f : ℕ → ℕ) (ss : List Draft) (marks : List Bool) (k : ℕ) (h new : Graph) (edges more : ℕ) (d : Draft) (s : State) → IsMarked marks k
-    → slice_get ss k ≡ Some d → IsRenumbered f d s → more ≡ length s.edges → more ≤ length ss → new ≡ h ++ s ∷ []
-    → AreCollecting f ss marks k h edges → AreCollecting f ss marks (k + 1) new (edges + more)
-collecting_more f ss marks k h new edges more d s m at renumbered n few is c = rw is (record {
-  collected = collected_more f ss marks k h d s m at renumbered c.collected;
+    (g : Grammar) (f : ℕ → ℕ) (ss : List Draft) (marks : List Bool) (k : ℕ) (h new : Graph) (edges more : ℕ) (d : Draft) (s : State) → IsMarked marks k
+    → slice_get ss k ≡ Some d → IsRenumbered g f d s → more ≡ length s.edges → more ≤ length ss → new ≡ h ++ s ∷ []
+    → AreCollecting g f ss marks k h edges → AreCollecting g f ss marks (k + 1) new (edges + more)
+collecting_more g f ss marks k h new edges more d s m at renumbered n few is c = rw is (record {
+  collected = collected_more g f ss marks k h d s m at renumbered c.collected;
   counted = omega (arith, sum_by_push (λ (t : State). length t.edges) h s, c.counted, n);
   few = omega (arith, c.few, few);
 })
@@ -161,9 +165,10 @@ apart_at ss n k d at same below one = record {
     here : (x : Symbol) (u : ℕ) → edge_at d.edges x ≡ Some u → edge_from ss k x ≡ Some u
     here x u e = rw at e
 
--- a state that was closed is so when it is looked at
-pub closed_here : (ss : List Draft) (k : ℕ) (d : Draft) → slice_get ss k ≡ Some d → AreClosed ss → IsSome d.closed
-closed_here ss k d at closed = let is = closed k (slice_get_within ss k d at) in rw at at is
+-- what holds of each core holds of that of a state that is looked at
+pub of_each_core :
+    (P : Items → Type 0) (ss : List Draft) (k : ℕ) (d : Draft) → slice_get ss k ≡ Some d → ((j : ℕ) → j < length ss → P (core_at ss j)) → P d.core
+of_each_core P ss k d at all = subst P (ap draft_core at) (all k (slice_get_within ss k d at))
 
 -- new numbers are no more than there are states
 pub number_most : (marks : List Bool) (k : ℕ) → new_number marks k ≤ length marks
@@ -173,7 +178,7 @@ number_most marks k =
     omega (arith, part, all)
 
 -- the start state is collected
-pub some_collected : {ss : List Draft} {marks : List Bool} {h : Graph} → AreMarked ss marks → IsCollected ss marks h → 0 < length h
+pub some_collected : {g : Grammar} {ss : List Draft} {marks : List Bool} {h : Graph} → AreMarked ss marks → IsCollected g ss marks h → 0 < length h
 some_collected marked collected =
     let start = collected.below 0 (marked.marked [] 0 collecting.Walks.start) in
     omega (arith, start)

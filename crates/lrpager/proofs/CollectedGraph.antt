@@ -14,9 +14,9 @@ use Rattle.lrspec.proofs.merging.ReachedStates.{item_of_rooted, reached_of_gotos
 use Rattle.lrspec.proofs.tables.ConflictsAreContested.{invents_no_conflict}
 use Rattle.lrpager.specs.Collecting as collecting
 use Rattle.lrplacing.specs.Construction.{Draft, core_at, edge_from}
-use Rattle.lrplacing.specs.Invariant.{Holds, HasGotos}
+use Rattle.lrplacing.specs.Invariant.{Holds, HasGotos, AreClosed}
 use Rattle.lrpager.specs.Collecting.{Walks, AreMarked, new_number, IsCollected}
-use Rattle.lrpager.proofs.CollectedStates.{each_state, closure_of_marked, closes_cores, collected_shared, collected_rooted, lists_lead}
+use Rattle.lrpager.proofs.CollectedStates.{each_state, below_of_marked, closure_of_marked, closes_cores, collected_shared, collected_rooted, lists_lead}
 
 -- an edge by its new number comes from one by its old
 renumbered : (f : ℕ → ℕ) (o : Option ℕ) (u : ℕ) → option_map f o ≡ Some u → (v : ℕ) × (o ≡ Some v) × (f v ≡ u)
@@ -32,7 +32,7 @@ moved_from :
     {g : Grammar} {x : Symbol} {A : ℕ → ℕ → Type 0} {p d : ℕ} → Moved g x A p d → (q : ℕ) × (e : ℕ) × A q e × IsBefore g q e x
 moved_from (set.Moved.moved {p = q} {d = e} i b) = (q, e, i, b)
 
-module _ (g : Grammar) (ss : List Draft) (marks : List Bool) (h : Graph) (holds : Holds g ss) (marked : AreMarked ss marks) (collected : IsCollected ss marks h) where
+module _ (g : Grammar) (ss : List Draft) (marks : List Bool) (h : Graph) (holds : Holds g ss) (marked : AreMarked ss marks) (collected : IsCollected g ss marks h) where
   -- the state is marked
   abbrev IsMarked : ℕ → Type 0
   IsMarked k = IsTrue (slice_index_or marks k false)
@@ -76,11 +76,12 @@ module _ (g : Grammar) (ss : List Draft) (marks : List Bool) (h : Graph) (holds 
   past_empty : (s : ℕ) (x : Symbol) → length h ≤ s → HasBefore s x → ⊥
   past_empty s x l (p, d, i, b) = let k = rw (slice_get_past h s l) at i in cc
 
-  module _ (gotos : (k : ℕ) → HasGotos g ss k) where
+  module _ (closed : AreClosed ss) (gotos : (k : ℕ) → HasGotos g ss k) where
     -- an item before a symbol has an edge on it
     edge_of_before : (k : ℕ) (x : Symbol) → IsMarked k → HasBefore (new k) x → IsSome (edge h (new k) x)
     edge_of_before k x m (p, d, i, b) =
-        let over = gotos k (closed_of h (new k)) (sym (collected.closed k m)) p d x i b in
+        let closure = closure_of_marked g ss marks h holds marked collected k m in
+        let over = gotos k (closed k (below_of_marked g ss marks h holds marked collected k m)) p d x ((closure.items p d).0 i) b in
         rw (collected.edges k x m, over.is) refl
 
     -- and the edge leads to the goto
@@ -98,9 +99,10 @@ module _ (g : Grammar) (ss : List Draft) (marks : List Bool) (h : Graph) (holds 
           );
           looks = λ p d t i.
               let (q, c, l, b) = moved_from i in
-              let over = gotos k (closed_of h (new k)) (sym (collected.closed k m)) q c x (has_of_looks (closed_of h (new k)) q c t l) b in
+              let there = (closure.items q c).0 (has_of_looks (closed_of h (new k)) q c t l) in
+              let over = gotos k (closed k (below_of_marked g ss marks h holds marked collected k m)) q c x there b in
               let same : over.to ≡ old.to = same_value (edge_from ss k x) over.is old.is in
-              subst (λ a. LooksIn a p d t) (ap (core_at ss) same ∙ sym core) (over.looks p d t i);
+              subst (λ a. LooksIn a p d t) (ap (core_at ss) same ∙ sym core) (over.looks p d t (moved_mono (λ e f. (closure.looks e f t).0) i));
         })
 
     edges_at : (s : ℕ) (x : Symbol) → ((s < length h) ⊎ (length h ≤ s)) → IsSome (edge h s x) ↔ HasBefore s x
@@ -131,15 +133,15 @@ module _ (g : Grammar) (ss : List Draft) (marks : List Bool) (h : Graph) (holds 
 
 -- where the invariant holds, states contain their gotos and the reached ones are collected, the graph is the grammar's
 pub collected_graph :
-    {g : Grammar} {ss : List Draft} {marks : List Bool} {h : Graph} → IsGrammar g → Holds g ss → ((k : ℕ) → HasGotos g ss k)
-    → AreMarked ss marks → IsCollected ss marks h → IsGraphOf g h
-collected_graph {g} {ss} {marks} {h} grammar holds gotos marked collected =
-    graph_of_collected g ss marks h holds marked collected gotos grammar
+    {g : Grammar} {ss : List Draft} {marks : List Bool} {h : Graph} → IsGrammar g → Holds g ss → AreClosed ss → ((k : ℕ) → HasGotos g ss k)
+    → AreMarked ss marks → IsCollected g ss marks h → IsGraphOf g h
+collected_graph {g} {ss} {marks} {h} grammar holds closed gotos marked collected =
+    graph_of_collected g ss marks h holds marked collected closed gotos grammar
 
 -- and merging invents no conflict
 pub collected_invents_no_conflict :
-    {g : Grammar} {ss : List Draft} {marks : List Bool} {h : Graph} → IsGrammar g → Holds g ss → ((k : ℕ) → HasGotos g ss k)
-    → AreMarked ss marks → IsCollected ss marks h → InventsNoConflict g h
-collected_invents_no_conflict {g} {ss} {marks} {h} grammar holds gotos marked collected =
-    invents_no_conflict g h (collected_graph grammar holds gotos marked collected)
+    {g : Grammar} {ss : List Draft} {marks : List Bool} {h : Graph} → IsGrammar g → Holds g ss → AreClosed ss → ((k : ℕ) → HasGotos g ss k)
+    → AreMarked ss marks → IsCollected g ss marks h → InventsNoConflict g h
+collected_invents_no_conflict {g} {ss} {marks} {h} grammar holds closed gotos marked collected =
+    invents_no_conflict g h (collected_graph grammar holds closed gotos marked collected)
     (collected_shared holds marked collected)

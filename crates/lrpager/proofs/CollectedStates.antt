@@ -18,7 +18,7 @@ use Rattle.lrpager.specs.Collecting.{Walks, AreMarked, new_number, IsCollected}
 use Rattle.lrpager.proofs.NewNumbers.{mark_count, marked_below, new_number_start, new_number_below, new_number_taken}
 use Rattle.std.proofs.lemmas.List.Sums.{count_by-le-length}
 
-module _ (g : Grammar) (ss : List Draft) (marks : List Bool) (h : Graph) (holds : Holds g ss) (marked : AreMarked ss marks) (collected : IsCollected ss marks h) where
+module _ (g : Grammar) (ss : List Draft) (marks : List Bool) (h : Graph) (holds : Holds g ss) (marked : AreMarked ss marks) (collected : IsCollected g ss marks h) where
   -- the state is marked
   abbrev pub IsMarked : ℕ → Type 0
   IsMarked k = IsTrue (slice_index_or marks k false)
@@ -39,7 +39,7 @@ module _ (g : Grammar) (ss : List Draft) (marks : List Bool) (h : Graph) (holds 
 
   -- the closed state of a marked state is the closure of its core
   pub closure_of_marked : (k : ℕ) → IsMarked k → IsClosure g (core_at ss k) (closed_of h (new k))
-  closure_of_marked k m = holds.closures k (closed_of h (new k)) (sym (collected.closed k m))
+  closure_of_marked k m = collected.closed k m
 
   start_core : IsStartCore g (core_of h 0)
   start_core =
@@ -49,7 +49,7 @@ module _ (g : Grammar) (ss : List Draft) (marks : List Bool) (h : Graph) (holds 
   pub closes_cores : CloseCores g h
   closes_cores = record {
     fit_cores = each_state (λ s. Fits g (core_of h s)) (λ k m. subst (Fits g) (sym (collected.cores k m)) (holds.fits k (below_of_marked k m)));
-    fit_closed = each_state (λ s. Fits g (closed_of h s)) (λ k m. holds.fits_closed k (closed_of h (new k)) (sym (collected.closed k m)));
+    fit_closed = each_state (λ s. Fits g (closed_of h s)) (λ k m. collected.fits k m);
     closures = each_state (λ s. IsClosure g (core_of h s) (closed_of h s)) (λ k m.
         subst (λ a. IsClosure g a (closed_of h (new k))) (sym (collected.cores k m)) (closure_of_marked k m));
     some = subst (λ s. s < length h) (new_number_start marks) (collected.below 0 start_marked);
@@ -101,19 +101,19 @@ module _ (g : Grammar) (ss : List Draft) (marks : List Bool) (h : Graph) (holds 
 
 -- every core is rooted by lists by which it is shared
 pub collected_shared :
-    {g : Grammar} {ss : List Draft} {marks : List Bool} {h : Graph} → Holds g ss → AreMarked ss marks → IsCollected ss marks h
+    {g : Grammar} {ss : List Draft} {marks : List Bool} {h : Graph} → Holds g ss → AreMarked ss marks → IsCollected g ss marks h
     → AreShared g h
 collected_shared {g} {ss} {marks} {h} holds marked collected = shared_states g ss marks h holds marked collected
 
 -- cores with the same items cross
 pub collected_crosses :
-    {g : Grammar} {ss : List Draft} {marks : List Bool} {h : Graph} → Holds g ss → AreMarked ss marks → IsCollected ss marks h
+    {g : Grammar} {ss : List Draft} {marks : List Bool} {h : Graph} → Holds g ss → AreMarked ss marks → IsCollected g ss marks h
     → CoresCross h
 collected_crosses {g} {ss} {marks} {h} holds marked collected = cross_states g ss marks h holds marked collected
 
 -- the graph has as many states as there are marks
-pub collected_length : {ss : List Draft} {marks : List Bool} {h : Graph} → IsCollected ss marks h → length h ≡ mark_count marks
-collected_length {ss} {marks} {h} collected =
+pub collected_length : {g : Grammar} {ss : List Draft} {marks : List Bool} {h : Graph} → IsCollected g ss marks h → length h ≡ mark_count marks
+collected_length {g} {ss} {marks} {h} collected =
     let more = no_more (length h) refl in
     let less = no_less (mark_count marks) refl in
     omega (arith, more, less)
@@ -134,7 +134,7 @@ collected_length {ss} {marks} {h} collected =
 
 -- so no more than there were
 pub collected_no_more :
-    {ss : List Draft} {marks : List Bool} {h : Graph} → AreMarked ss marks → IsCollected ss marks h → length h ≤ length ss
-collected_no_more {ss} {marks} {h} marked collected =
+    {g : Grammar} {ss : List Draft} {marks : List Bool} {h : Graph} → AreMarked ss marks → IsCollected g ss marks h → length h ≤ length ss
+collected_no_more {g} {ss} {marks} {h} marked collected =
     let count = count_by-le-length (λ (b : Bool). b) marks in
     omega (arith, collected_length collected, count, marked.length_is)

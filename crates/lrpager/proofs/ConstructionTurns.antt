@@ -1,19 +1,19 @@
 -- a turn of the construction, which closes a state and places its gotos, keeps all that holds and leaves no goto missing
-use Rattle.std.proofs.Common.{◌≡◌, ◌≢◌, ℕ, ◌<◌, List, Some, length, refl, ap, inl, inr, arith}
+use Rattle.std.proofs.Common.{◌≡◌, ◌≢◌, ℕ, ◌<◌, true, List, length, refl, sym, ap, subst, inl, inr, arith}
 use Rattle.std.proofs.lemmas.Bool.{cases_eq}
 use Rattle.lrspec.specs.grammars.Grammar.{Symbol, Grammar, IsGrammar}
-use Rattle.lrspec.specs.grammars.ItemSets.{Items, HasItem, IsGoto, IsBefore}
+use Rattle.lrspec.specs.grammars.ItemSets.{Items, HasItem, LooksIn, IsContained, IsClosure, IsGoto}
 use Rattle.lrspec.proofs.grammars.ListMembers.{Among}
+use Rattle.lrspec.proofs.grammars.Closures.{contained_itself, contained_then, closed_item_mono, closed_look_mono}
 use Rattle.lrplacing.specs.Construction as con
-use Rattle.lrplacing.specs.Construction.{Draft, closed_at, Places, PlacesAll}
-use Rattle.lrplacing.specs.Invariant.{MayBePlaced, HasChain, Holds, LeadsOver, HasGotos}
+use Rattle.lrplacing.specs.Construction.{Draft, core_at, closed_at, Places, PlacesAll}
+use Rattle.lrplacing.specs.Invariant.{MayBePlaced, HasChain, Holds, HasGotos}
 use Rattle.lrpager.specs.Closing.{Closes}
-use Rattle.lrplacing.proofs.DraftFacts.{closed_below}
-use Rattle.lrplacing.proofs.PlacedCores.{length_grown, closed_before}
+use Rattle.lrplacing.proofs.PlacedCores.{length_grown, closed_before, closed_grew_not}
 use Rattle.lrplacing.proofs.PlacedStates.{places_holds, may_be_placed_kept}
 use Rattle.lrplacing.proofs.PlacingTurns.{LeavesFit}
 use Rattle.lrpager.proofs.ClosedStates.{closes_holds, closes_gotos}
-use Rattle.lrplacing.proofs.PlacedGotos.{AreGotosOf, goto_may_be_placed, places_gotos, leads_over_placed, leads_over_still}
+use Rattle.lrplacing.proofs.PlacedGotos.{LooksOver, AreGotosOf, goto_may_be_placed, leads_over_from, places_gotos, looks_over_placed, looks_over_still}
 
 -- wherever a goto of the state `from` is placed there is a chain
 abbrev pub LeavesChain : Grammar → ℕ → Type 0
@@ -36,10 +36,18 @@ places_all_holds from chains fits (con.PlacesAll.more {ss = ss} {ts = ts} {x = x
 
 -- a state that is closed after gotos were placed was closed before
 pub places_all_closed :
-    (from : ℕ) {old new : List Draft} {gs : List (Symbol × Items)} → PlacesAll from old gs new → (j : ℕ) (c : Items) → closed_at new j ≡ Some c
-    → closed_at old j ≡ Some c
-places_all_closed from con.PlacesAll.none j c e = e
-places_all_closed from (con.PlacesAll.more k m r) j c e = closed_before m j c (places_all_closed from r j c e)
+    (from : ℕ) {old new : List Draft} {gs : List (Symbol × Items)} → PlacesAll from old gs new → (j : ℕ) → closed_at new j ≡ true
+    → closed_at old j ≡ true
+places_all_closed from con.PlacesAll.none j e = e
+places_all_closed from (con.PlacesAll.more k m r) j e = closed_before m j (places_all_closed from r j e)
+
+-- and its core grew by nothing
+pub places_all_grew_not :
+    (from : ℕ) {old new : List Draft} {gs : List (Symbol × Items)} → PlacesAll from old gs new → (j : ℕ) → closed_at new j ≡ true
+    → IsContained (core_at new j) (core_at old j)
+places_all_grew_not from {old} con.PlacesAll.none j e = contained_itself (core_at old j)
+places_all_grew_not from {old} {new} (con.PlacesAll.more {ts = ts} k m r) j e =
+    contained_then (core_at new j) (core_at ts j) (core_at old j) (places_all_grew_not from r j e) (closed_grew_not m j (places_all_closed from r j e))
 
 -- placing gotos in turn keeps the gotos of the other states
 pub places_all_gotos :
@@ -48,58 +56,57 @@ pub places_all_gotos :
 places_all_gotos from con.PlacesAll.none j n h = h
 places_all_gotos from (con.PlacesAll.more k m r) j n h = places_all_gotos from r j n (places_gotos m j n h)
 
--- each pair is a goto of the closed state
+-- each pair is a goto of the item set
 abbrev pub AllGotos : Grammar → Items → List (Symbol × Items) → Type 0
 AllGotos g c gs = (x : Symbol) (a : Items) → Among (x, a) gs → IsGoto g c x a
 
--- what leads over a goto still does after gotos of the same state were placed
-leads_over_all :
+-- where an edge leads over a goto it still does after gotos of the same state were placed
+looks_over_all :
     {g : Grammar} {c : Items} (from : ℕ) {old new : List Draft} {gs : List (Symbol × Items)} → PlacesAll from old gs new → AllGotos g c gs → (x : Symbol)
-    → LeadsOver g old from c x → LeadsOver g new from c x
-leads_over_all from con.PlacesAll.none all x h = h
-leads_over_all from (con.PlacesAll.more {x = y} {a = b} k m r) all x h =
-    leads_over_all from r (λ z i j. all z i (inr j)) x (leads_over_still m x (all y b (inl refl)) h)
+    → LooksOver g old from (LooksIn c) x → LooksOver g new from (LooksIn c) x
+looks_over_all from con.PlacesAll.none all x h = h
+looks_over_all from (con.PlacesAll.more {x = y} {a = b} k m r) all x h =
+    looks_over_all from r (λ z i j. all z i (inr j)) x (looks_over_still m x (all y b (inl refl)) h)
 
 -- each goto that was placed is led over
-pub placed_leads_over :
+pub placed_looks_over :
     {g : Grammar} {c : Items} (from : ℕ) {old new : List Draft} {gs : List (Symbol × Items)} → PlacesAll from old gs new → AllGotos g c gs
-    → (x : Symbol) (a : Items) → Among (x, a) gs → LeadsOver g new from c x
-placed_leads_over from con.PlacesAll.none all x a i = absurd i
-placed_leads_over from (con.PlacesAll.more {x = y} {a = b} k m r) all x a (inl e) =
-    leads_over_all from r (λ z d j. all z d (inr j)) x (rw (ap (λ q. q.0) e) (leads_over_placed m (all y b (inl refl))))
-placed_leads_over from (con.PlacesAll.more k m r) all x a (inr i) = placed_leads_over from r (λ z d j. all z d (inr j)) x a i
+    → (x : Symbol) (a : Items) → Among (x, a) gs → LooksOver g new from (LooksIn c) x
+placed_looks_over from con.PlacesAll.none all x a i = absurd i
+placed_looks_over from (con.PlacesAll.more {x = y} {a = b} k m r) all x a (inl e) =
+    looks_over_all from r (λ z d j. all z d (inr j)) x (rw (ap (λ q. q.0) e) (looks_over_placed m (all y b (inl refl))))
+placed_looks_over from (con.PlacesAll.more k m r) all x a (inr i) = placed_looks_over from r (λ z d j. all z d (inr j)) x a i
 
--- after all gotos of a closed state were placed none is missing there
+-- after all gotos of what a core closes to were placed none is missing there
 pub placed_all_gotos :
-    {g : Grammar} {c : Items} (from : ℕ) {mid new : List Draft} {gs : List (Symbol × Items)} → PlacesAll from mid gs new → closed_at mid from ≡ Some c
+    {g : Grammar} {c : Items} (from : ℕ) {mid new : List Draft} {gs : List (Symbol × Items)} → PlacesAll from mid gs new → IsClosure g (core_at mid from) c
     → AreGotosOf g c gs → HasGotos g new from
-placed_all_gotos {g} {c} from {mid} {new} r closed n b e = rw (← same) all
-  where
-    was : closed_at mid from ≡ Some b
-    was = places_all_closed from r from b e
+placed_all_gotos {g} {c} from {mid} {new} r closure n closed p d x item before =
+    let back = places_all_grew_not from r from closed in
+    let there : HasItem c p d = (closure.items p d).1 (closed_item_mono back.items item) in
+    let (a, among) = n.all p d x there before in
+    leads_over_from (λ q e t l. (closure.looks q e t).1 (closed_look_mono back.items back.looks l))
+    (placed_looks_over from r (λ y e i. (n.each y e i).goto) x a among)
 
-    same : c ≡ b
-    same = cc was
-
-    all : (p d : ℕ) (x : Symbol) → HasItem c p d → IsBefore g p d x → LeadsOver g new from c x
-    all p d x item before =
-        let (a, among) = n.all p d x item before in
-        placed_leads_over from r (λ y d i. (n.each y d i).goto) x a among
+-- the core that was closed closes to the same still
+pub closure_after : {g : Grammar} {c : Items} (i : ℕ) {old mid : List Draft} → Closes old i mid → IsClosure g (core_at old i) c → IsClosure g (core_at mid i) c
+closure_after {g} {c} i m closure = subst (λ a. IsClosure g a c) (sym m.core) closure
 
 -- a turn of the construction keeps all that holds
 pub turn_holds :
     {g : Grammar} {c : Items} (i : ℕ) {old mid new : List Draft} {gs : List (Symbol × Items)} → IsGrammar g → LeavesChain g i → LeavesFit g i
-    → Closes g old i c mid → AreGotosOf g c gs → PlacesAll i mid gs new → Holds g old → Holds g new
-turn_holds {c = c} i {mid = mid} n chains fits m gotos r h =
+    → Closes old i mid → IsClosure g (core_at old i) c → AreGotosOf g c gs → PlacesAll i mid gs new → Holds g old → Holds g new
+turn_holds i {mid = mid} n chains fits m closure gotos r h =
     let holds = closes_holds m h in
-    places_all_holds i chains fits r (closed_below mid i c m.closed) (λ x a j. goto_may_be_placed n holds m.closed (gotos.each x a j)) holds
+    let below : i < length mid = omega (arith, m.length_is, m.below) in
+    places_all_holds i chains fits r below (λ x a j. goto_may_be_placed n holds below (closure_after i m closure) (gotos.each x a j)) holds
 
 -- and after it no goto is missing
 pub turn_gotos :
-    {g : Grammar} {c : Items} (i : ℕ) {old mid new : List Draft} {gs : List (Symbol × Items)} → Closes g old i c mid → AreGotosOf g c gs
-    → PlacesAll i mid gs new → ((k : ℕ) → HasGotos g old k) → (k : ℕ) → HasGotos g new k
-turn_gotos i m gotos r h k =
+    {g : Grammar} {c : Items} (i : ℕ) {old mid new : List Draft} {gs : List (Symbol × Items)} → Closes old i mid → IsClosure g (core_at old i) c
+    → AreGotosOf g c gs → PlacesAll i mid gs new → ((k : ℕ) → HasGotos g old k) → (k : ℕ) → HasGotos g new k
+turn_gotos i m closure gotos r h k =
     elim (cases_eq k i) [
-      | inl e ↦ rw e (placed_all_gotos i r m.closed gotos)
+      | inl e ↦ rw e (placed_all_gotos i r (closure_after i m closure) gotos)
       | inr n ↦ places_all_gotos i r k n (closes_gotos m k n (h k))
     ]

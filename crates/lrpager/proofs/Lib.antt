@@ -2,7 +2,6 @@
 pub mod ClosedStates
 pub mod ConstructionTurns
 pub mod ClosedCounts
-pub mod SizeCauses
 pub mod SizeBounds
 pub mod NewNumbers
 pub mod CollectedStates
@@ -17,3 +16,5 @@ pub mod ReachedMarks
 pub mod RenumberedEdges
 pub mod DistinctTargets
 pub mod NextStates
+pub mod StartsAtZero
+pub mod MadeItems

@@ -1,8 +1,7 @@
 -- the new numbers of marked states: they begin with 0, rise from one marked state to the next, and are those below the
 -- number of marks
-use Rattle.std.proofs.Common.{◌≡◌, ℕ, zero, suc, ◌+◌, ◌<◌, ◌≤◌, Bool, true, false, cond, List, [], ◌∷◌, length, take, refl, sym, ap, ◌∙◌, ◌⊎◌, inl, inr, arith, IsTrue}
+use Rattle.std.proofs.Common.{◌≡◌, ℕ, zero, suc, ◌+◌, ◌<◌, ◌≤◌, Bool, true, false, cond, List, [], ◌∷◌, length, take, refl, sym, ap, ◌∙◌, arith, IsTrue}
 use Rattle.std.specs.Prelude.{slice_index_or, count_by}
-use Rattle.std.proofs.lemmas.Bool.{cases_lt, cases_eq}
 use Rattle.std.proofs.lemmas.List.{take-take}
 use Rattle.std.proofs.lemmas.List.Sums.{sum_by-cons, sum_by-take-le, count_by_more_yes}
 use Rattle.lrpager.specs.Collecting.{new_number}
@@ -40,16 +39,6 @@ new_number_increases marks j k m l =
     let next = new_number_after marks j m in
     let then = new_number_mono marks (j + 1) k (omega arith) in
     omega (arith, next, then)
-
--- so two marked states have two numbers
-pub new_number_injective :
-    (marks : List Bool) (j k : ℕ) → IsTrue (slice_index_or marks j false) → IsTrue (slice_index_or marks k false)
-    → new_number marks j ≡ new_number marks k → j ≡ k
-new_number_injective marks j k m n e = elim (cases_eq j k) [ inl i ↦ i | inr differ ↦ absurd (apart (cases_lt j k) differ) ]
-  where
-    apart : ((j < k) ⊎ (k ≤ j)) → (j ≡ k → ⊥) → ⊥
-    apart (inl l) differ = let h = new_number_increases marks j k m l in omega (arith, h, e)
-    apart (inr l) differ = let h = new_number_increases marks k j n (omega (arith, l, differ)) in omega (arith, h, e)
 
 -- the number of a marked state is below the number of marks
 pub new_number_below : (marks : List Bool) (k : ℕ) → IsTrue (slice_index_or marks k false) → new_number marks k < mark_count marks

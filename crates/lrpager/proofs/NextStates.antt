@@ -1,9 +1,7 @@
 -- the next state to close: what is known of it, and when there is none
 use Rattle.std.proofs.Common.{◌≡◌, ℕ, ◌+◌, ◌<◌, ◌≤◌, Bool, true, false, List, length, get_or, Option, None, Some, refl, sym, subst, ◌∙◌, inl, inr, arith}
-use Rattle.std.specs.Prelude.{MatchOption, IsTrue, ◌↔◌}
-use Rattle.std.specs.Option.{IsSome}
+use Rattle.std.specs.Prelude.{MatchOption}
 use Rattle.std.proofs.lemmas.Bool.{cases_lt}
-use Rattle.lrspec.specs.grammars.ItemSets.{Items}
 use Rattle.lrplacing.specs.Construction.{Draft, closed_at}
 use Rattle.lrplacing.specs.Invariant.{AreClosed}
 use Rattle.lrpager.specs.Choices.{IsUnclosed, NoneUnclosedFrom, IsFirstUnclosedFrom, IsNextUnclosed}
@@ -15,13 +13,13 @@ pub next_is_unclosed : {ss : List Draft} {from k : ℕ} → IsNextUnclosed ss fr
 next_is_unclosed (choice.IsNextUnclosed.later f) = f.unclosed
 next_is_unclosed (choice.IsNextUnclosed.earlier none f) = f.unclosed
 
-some_of_not_none : {X : Type 0} (o : Option X) → (o ≡ None → ⊥) → IsSome o
-some_of_not_none None n = absurd (n refl)
-some_of_not_none (Some x) n = refl
+true_of_not_false : (b : Bool) → (b ≡ false → ⊥) → b ≡ true
+true_of_not_false true n = refl
+true_of_not_false false n = absurd (n refl)
 
 -- where no state from the first one on is to be closed, all are closed
 closed_of_none_from_first : (ss : List Draft) → NoneUnclosedFrom ss 0 → AreClosed ss
-closed_of_none_from_first ss none k below = some_of_not_none (closed_at ss k) (λ e. none k (omega arith) (below, e))
+closed_of_none_from_first ss none k below = true_of_not_false (closed_at ss k) (λ e. none k (omega arith) (below, e))
 
 -- where no state from `from` on is to be closed, the first of all that is to be closed is the next
 pub first_is_next :
@@ -30,23 +28,16 @@ pub first_is_next :
 first_is_next ss from None none m = closed_of_none_from_first ss m
 first_is_next ss from (Some k) none m = choice.IsNextUnclosed.earlier none m
 
-none_from_test : (o : Option Items) (b : Bool) → (IsTrue b ↔ IsSome o) → b ≡ false → o ≡ None
-none_from_test None b h e = refl
-none_from_test (Some x) b h e = let t : b ≡ true = h.1 refl in cc
-
-some_none : (o : Option Items) → IsSome o → o ≡ None → ⊥
-some_none None s e = cc
-some_none (Some x) s e = cc
-
 -- the state that was read at a place, by the test whether it is closed
-module _
-    (ss : List Draft) (k : ℕ) (s : Draft) (b : Bool) (below : k < length ss) (at : s ≡ get_or ss k s) (test : IsTrue b ↔ IsSome s.closed)
-  where
-    pub is_unclosed : b ≡ false → IsUnclosed ss k
-    is_unclosed e = (below, closed_found ss k s below at ∙ none_from_test s.closed b test e)
+module _ (ss : List Draft) (k : ℕ) (s : Draft) (b : Bool) (below : k < length ss) (at : s ≡ get_or ss k s) (test : b ≡ s.is_closed) where
+  here : closed_at ss k ≡ b
+  here = closed_found ss k s below at ∙ sym test
 
-    pub not_unclosed : b ≡ true → IsUnclosed ss k → ⊥
-    not_unclosed e u = some_none s.closed (test.0 e) (sym (closed_found ss k s below at) ∙ u.1)
+  pub is_unclosed : b ≡ false → IsUnclosed ss k
+  is_unclosed e = (below, here ∙ e)
+
+  pub not_unclosed : b ≡ true → IsUnclosed ss k → ⊥
+  not_unclosed e u = let n : true ≡ false = sym e ∙ sym here ∙ u.1 in cc
 
 -- one more place at which no state is to be closed
 pub none_more :

@@ -1,5 +1,5 @@
 -- which state the construction closes next
-use Rattle.std.specs.Prelude.{◌≡◌, ℕ, ◌+◌, ◌<◌, ◌≤◌, List, None, length}
+use Rattle.std.specs.Prelude.{◌≡◌, ℕ, ◌+◌, ◌<◌, ◌≤◌, false, List, length}
 use Rattle.lrspec.specs.grammars.Grammar.{Symbol, Grammar}
 use Rattle.lrspec.specs.grammars.ItemSets.{Items}
 use Rattle.lrplacing.specs.Construction.{Draft, closed_at, PlacesAll}
@@ -8,7 +8,7 @@ use Rattle.lrpager.specs.Closing.{ClosesTo}
 
 -- the state `k` is to be closed
 abbrev pub IsUnclosed : List Draft → ℕ → Type 0
-IsUnclosed ss k = (k < length ss) × (closed_at ss k ≡ None)
+IsUnclosed ss k = (k < length ss) × (closed_at ss k ≡ false)
 
 -- no state from `from` on is to be closed
 abbrev pub NoneUnclosedFrom : List Draft → ℕ → Type 0

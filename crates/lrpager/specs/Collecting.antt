@@ -1,9 +1,10 @@
 -- collecting the states that are reached: marking them, and numbering them anew
 use Rattle.std.specs.Prelude.{◌≡◌, ℕ, ◌+◌, ◌<◌, Bool, false, cond, IsTrue, List, [], ◌∷◌, ◌++◌, Some, length, option_map, count_by, slice_index, slice_index_or, take, ◌⊎◌}
-use Rattle.lrspec.specs.grammars.Grammar.{Symbol}
+use Rattle.lrspec.specs.grammars.Grammar.{Symbol, Grammar}
+use Rattle.lrspec.specs.grammars.ItemSets.{Items, HasItem, Fits, IsClosure}
 use Rattle.lrspec.proofs.grammars.ListMembers.{Among}
 use Rattle.lrspec.specs.merging.Graph.{State, Graph, core_of, closed_of, edge, edge_at}
-use Rattle.lrplacing.specs.Construction.{Draft, core_at, closed_at, edge_from}
+use Rattle.lrplacing.specs.Construction.{Draft, core_at, edge_from}
 
 -- following edges from the start state ends in the state
 pub data Walks (ss : List Draft) : List Symbol → ℕ → Type 0 where
@@ -64,18 +65,26 @@ pub record HaveDistinctTargets (n : ℕ) (es : List (Symbol × ℕ)) : Type 0 wh
 abbrev pub AreRenumbered : (ℕ → ℕ) → List (Symbol × ℕ) → List (Symbol × ℕ) → Type 0
 AreRenumbered f old new = (x : Symbol) → edge_at new x ≡ option_map f (edge_at old x)
 
--- the state has the core and the closed state of the draft, and its edges by new numbers
-pub record IsRenumbered (f : ℕ → ℕ) (d : Draft) (s : State) : Type 0 where
+-- the state has the core of the draft, for its closed state what that closes to, and the draft's edges by new numbers
+pub record IsRenumbered (g : Grammar) (f : ℕ → ℕ) (d : Draft) (s : State) : Type 0 where
   pub core : s.core ≡ d.core
-  pub closed : d.closed ≡ Some s.closed
+  pub closed : IsClosure g d.core s.closed
+  pub fits : Fits g s.closed
   pub edges : AreRenumbered f d.edges s.edges
 
 -- the graph has the marked states in their order, with their new numbers; `marks` has a mark or none for each state
-pub record IsCollected (ss : List Draft) (marks : List Bool) (h : Graph) : Type 0 where
+pub record IsCollected (g : Grammar) (ss : List Draft) (marks : List Bool) (h : Graph) : Type 0 where
   pub below : (k : ℕ) → IsTrue (slice_index_or marks k false) → new_number marks k < length h
   pub cores : (k : ℕ) → IsTrue (slice_index_or marks k false) → core_of h (new_number marks k) ≡ core_at ss k
-  pub closed : (k : ℕ) → IsTrue (slice_index_or marks k false) → Some (closed_of h (new_number marks k)) ≡ closed_at ss k
+  pub closed : (k : ℕ) → IsTrue (slice_index_or marks k false) → IsClosure g (core_at ss k) (closed_of h (new_number marks k))
+  pub fits : (k : ℕ) → IsTrue (slice_index_or marks k false) → Fits g (closed_of h (new_number marks k))
   pub edges :
       (k : ℕ) (x : Symbol) → IsTrue (slice_index_or marks k false)
       → edge h (new_number marks k) x ≡ option_map (new_number marks) (edge_from ss k x)
   pub only : (s : ℕ) → s < length h → (k : ℕ) × IsTrue (slice_index_or marks k false) × (new_number marks k ≡ s)
+
+-- ---- closing the states that are left
+
+-- no item but that of the start production has its dot at 0
+abbrev pub OnlyStartsAtZero : Grammar → Items → Type 0
+OnlyStartsAtZero g a = (p : ℕ) → HasItem a p 0 → p ≡ g.start_production

@@ -1,19 +1,18 @@
 //! Pager's construction of the state graph of a grammar: states are closed one after another, and each goto of a closed
 //! state is placed at an equal state, at one that takes it in, or at a new one.
 
-ghost use Rattle.std.specs.Prelude.{◌≡◌, ℕ, ◌+◌, ◌*◌, ◌^◌, ◌<◌, ◌≤◌, length, None, IfOk, IfErr, OnOk, MatchOption};
+ghost use Rattle.std.specs.Prelude.{◌≡◌, ℕ, ◌+◌, ◌*◌, ◌^◌, ◌<◌, ◌≤◌, false, length, IfOk, IfErr, OnOk, MatchOption};
 ghost use Rattle.lrspec.specs.grammars.Grammar.{item_count, token_count};
 ghost use Rattle.lrspec.specs.grammars.ItemSets.{Fits};
 ghost use Rattle.lrspec.specs.grammars.StartState.{IsStartCore};
 ghost use Rattle.lrgrammar.specs.Firsts.{AreFirstsOf};
 ghost use Rattle.lrgrammar.specs.GrammarSizes.{IsWithin};
-ghost use Rattle.lritems.specs.ItemsOf.{set_of};
 ghost use Rattle.lrplacing.specs.Construction.{core_at, closed_at};
 ghost use Rattle.lrpager.specs.Choices.{NoneUnclosedFrom, IsFirstUnclosedFrom, IsNextUnclosed, ClosesAll};
 ghost use Rattle.lrplacing.specs.Counts.{unclosed, weight};
 ghost use Rattle.lrplacing.specs.Invariant.{Holds, HasGotos, AreClosed};
 ghost use Rattle.lrplacing.specs.CandidatesOf.{AreCandidates};
-ghost use Rattle.lrpager.specs.Closing.{IsTurn, StartsWith};
+ghost use Rattle.lrpager.specs.Closing.{IsTurn, StartsWith, AreToolsFor};
 ghost use Rattle.lrspec.specs.merging.Graph.{IsGraphOf, AreShared, InventsNoConflict, CoresCross};
 ghost use Rattle.lrplacing.specs.Chains.{HasChainOf, HasChainOfExactly};
 ghost use Rattle.lrplacing.specs.Refusals.{IsLargeOnly};
@@ -21,12 +20,15 @@ ghost use Rattle.lrplacing.specs.Refusals.{IsLargeOnly};
 mod collecting;
 
 use crate::pager::collecting::collect;
+use lrclosing::closer::Closer;
+use lrclosing::listing::closed_items;
 use lrgrammar::firsts::YaccFirsts;
 use lrgrammar::grammar::YaccGrammar;
 use lrgrammar::idx::{IndexStorage, SIdx};
 use lrgrammar::vob::Vob;
 use lrgraphs::{BuildError, StateGraph};
-use lritems::gotos::gotos;
+use lritems::cores::Core;
+use lritems::gotos::{Places, gotos};
 use lritems::itemset::Itemset;
 use lritems::merging::first_item;
 use lrplacing::candidates::Candidates;
@@ -34,17 +36,42 @@ use lrplacing::draft::Draft;
 use lrplacing::placing::place_all;
 use std::alloc::AllocError;
 
+/// What all closings use.
+#[derive(Drop)]
+struct Tools {
+    /// It keeps the rows of the last closing.
+    closer: Closer,
+    /// Places for the gotos of one state.
+    places: Places,
+}
+
+impl Tools {
+    /// Tools for the grammar. The error says that memory was refused.
+    fn new<T: IndexStorage>(
+        grm: &YaccGrammar<T>,
+        firsts: &YaccFirsts<T>,
+    ) -> Result<Tools, AllocError>
+        requires of { AreFirstsOf grm.now firsts.now }
+        ensures { IfOk result (AreToolsFor grm.now) }
+    {
+        Ok(Tools {
+            closer: Closer::new(grm, firsts)?,
+            places: Places::new(grm)?,
+        })
+    }
+}
+
 /// The core of the start state: the start production at dot 0, looking at the end token.
-fn start_core<T: IndexStorage>(grm: &YaccGrammar<T>) -> Result<Itemset<T>, AllocError>
-    ensures core { IfOk result (λ s. IsStartCore grm.now (set_of T.number s)) }
-    ensures fits { IfOk result (λ s. Fits grm.now (set_of T.number s)) }
+fn start_core<T: IndexStorage>(grm: &YaccGrammar<T>) -> Result<Core<T>, AllocError>
+    ensures core { IfOk result (IsStartCore grm.now) }
+    ensures fits { IfOk result (Fits grm.now) }
 {
     let alloc = grm.allocator();
     let mut ctx = Vob::from_elem(alloc, false, usize::from(grm.tokens_len()))?;
     ctx.set(usize::from(grm.eof_token_idx()), true);
-    let mut core = Itemset::new(alloc, grm);
-    core.add(grm.start_prod(), SIdx(T::from_usize(0).unwrap()), &ctx)?;
-    Ok(core)
+    let mut start = Itemset::new(alloc, grm);
+    start.add(grm.start_prod(), SIdx(T::from_usize(0).unwrap()), &ctx)?;
+    Core::from_itemset(alloc, &start)
 }
 
 /// The first unclosed state from `from` on.
@@ -74,26 +101,34 @@ fn next_unclosed<T: IndexStorage>(drafts: &[Draft<T>], from: usize) -> Option<us
 fn close<T: IndexStorage>(
     drafts: &mut Vec<Draft<T>>,
     candidates: &mut Candidates<T>,
+    tools: &mut Tools,
     i: usize,
     grm: &YaccGrammar<T>,
     firsts: &YaccFirsts<T>,
 ) -> Result<(), BuildError<T>>
     requires below { i < length drafts.old.items }
-    requires unclosed { closed_at drafts.old.items i ≡ None }
+    requires unclosed { closed_at drafts.old.items i ≡ false }
     requires most { length drafts.old.items ≤ T.MAX }
     requires holds { Holds grm.now drafts.old.items }
     requires of { AreFirstsOf grm.now firsts.now }
     requires candidates { AreCandidates drafts.old.items candidates.old }
+    requires tools { AreToolsFor grm.now tools.old }
     ensures turn { OnOk result (IsTurn grm.now drafts.old.items i drafts.new.items) }
     ensures most { OnOk result (length drafts.new.items ≤ T.MAX) }
     ensures candidates { OnOk result (AreCandidates drafts.new.items candidates.new) }
+    ensures tools { OnOk result (AreToolsFor grm.now tools.new) }
     ensures refused { IfErr result (IsLargeOnly (HasChainOf grm.now T.MAX)) }
 {
-    let closed = drafts[i].core().close(grm, firsts)?;
-    let successors = gotos(&closed, grm)?;
-    let grew = place_all(drafts, candidates, grm, i, &closed, successors)?;
+    // A copy, since its own gotos may be merged into it.
+    let core = drafts[i].core().copied(grm.allocator())?;
+    let given = core.items();
+    tools.closer.close(grm, firsts, given);
+    let closed = closed_items(given, grm, &tools.closer)?;
+    let successors = gotos(closed.as_slice(), grm, &mut tools.places)?;
+    drafts[i].clear_edges();
+    let grew = place_all(drafts, candidates, grm, i, successors)?;
     if !grew {
-        drafts[i].set_closed(closed);
+        drafts[i].set_closed();
     }
     Ok(())
 }
@@ -102,6 +137,7 @@ fn close<T: IndexStorage>(
 fn construct<T: IndexStorage>(
     drafts: &mut Vec<Draft<T>>,
     candidates: &mut Candidates<T>,
+    tools: &mut Tools,
     grm: &YaccGrammar<T>,
     firsts: &YaccFirsts<T>,
 ) -> Result<u128, BuildError<T>>
@@ -111,6 +147,7 @@ fn construct<T: IndexStorage>(
     requires holds { Holds grm.now drafts.old.items }
     requires gotos { (k : ℕ) → HasGotos grm.now drafts.old.items k }
     requires candidates { AreCandidates drafts.old.items candidates.old }
+    requires tools { AreToolsFor grm.now tools.old }
     requires made { length drafts.old.items ≤ unclosed drafts.old.items }
     requires counted { unclosed drafts.old.items ≤ weight grm.now drafts.old.items }
     ensures most { OnOk result (length drafts.new.items ≤ T.MAX) }
@@ -118,6 +155,7 @@ fn construct<T: IndexStorage>(
     ensures gotos { OnOk result ((k : ℕ) → HasGotos grm.now drafts.new.items k) }
     ensures closed { OnOk result (AreClosed drafts.new.items) }
     ensures order { OnOk result (ClosesAll grm.now 0 drafts.old.items drafts.new.items) }
+    ensures tools { OnOk result (AreToolsFor grm.now tools.new) }
     ensures made { IfOk result (λ n. length drafts.new.items ≤ n) }
     ensures closings { IfOk result (λ n. n
         ≤ length drafts.new.items * (1 + item_count grm.now * token_count grm.now)) }
@@ -126,7 +164,7 @@ fn construct<T: IndexStorage>(
     let mut closings: u128 = 0;
     let mut from: usize = 0;
     while let Some(i) = next_unclosed(drafts.as_slice(), from) {
-        close(drafts, candidates, i, grm, firsts)?;
+        close(drafts, candidates, tools, i, grm, firsts)?;
         closings += 1;
         from = i + 1;
     }
@@ -181,8 +219,9 @@ pub fn build<T: IndexStorage>(
     let _sizes = grm.tokens_len();
     let firsts = grm.firsts()?;
     let (mut drafts, mut candidates) = begin(grm)?;
-    let closings = construct(&mut drafts, &mut candidates, grm, &firsts)?;
+    let mut tools = Tools::new(grm, &firsts)?;
+    let closings = construct(&mut drafts, &mut candidates, &mut tools, grm, &firsts)?;
     let made = drafts.len();
-    let graph = collect(drafts)?;
+    let graph = collect(drafts, &mut tools.closer, grm, &firsts)?;
     Ok((graph, BuildCounts { made, closings }))
 }

@@ -1,5 +1,5 @@
 -- placing a goto: cores only grow and keep their items, no state goes, and a state that is made comes last
-use Rattle.std.proofs.Common.{◌≡◌, ◌≢◌, ℕ, ◌+◌, ◌<◌, ◌≤◌, List, false, length, None, sym, subst, inl, inr, ⊎_elim, arith}
+use Rattle.std.proofs.Common.{◌≡◌, ◌≢◌, ℕ, ◌+◌, ◌<◌, ◌≤◌, List, false, length, sym, subst, inl, inr, ⊎_elim, arith}
 use Rattle.std.proofs.lemmas.Bool.{cases_eq}
 use Rattle.lrspec.specs.grammars.Grammar.{Symbol}
 use Rattle.lrspec.specs.grammars.ItemSets.{Items, LooksIn, IsContained}
@@ -43,7 +43,7 @@ module _ (old new : List Draft) (from k : ℕ) (x : Symbol) (goto : Items) (m : 
       (cases_eq j k)
 
   -- a state that was made is the last one
-  pub placed_last : (j : ℕ) → length old ≤ j → j < length new → (j ≡ k) × (j ≡ length old) × (core_at new j ≡ goto) × (closed_at new j ≡ None)
+  pub placed_last : (j : ℕ) → length old ≤ j → j < length new → (j ≡ k) × (j ≡ length old) × (core_at new j ≡ goto) × (closed_at new j ≡ false)
   placed_last j l b =
       elim m.how [
         | inl h ↦ absurd (omega (arith, h.length_is, l, b))

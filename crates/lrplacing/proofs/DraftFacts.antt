@@ -1,9 +1,8 @@
 -- states under construction past the end of their list, and the test of symbols
-use Rattle.std.proofs.Common.{◌≡◌, ℕ, zero, suc, ◌<◌, ◌≤◌, true, List, [], ◌∷◌, None, Some, length, refl, ap, inl, inr, arith}
+use Rattle.std.proofs.Common.{◌≡◌, ℕ, zero, suc, ◌<◌, ◌≤◌, true, false, List, [], ◌∷◌, None, Some, length, refl, ap, inl, inr, arith}
 use Rattle.std.specs.Prelude.{slice_get}
 use Rattle.std.proofs.lemmas.Bool.{cases_lt, eqb-true, eq-eqb}
 use Rattle.lrspec.specs.grammars.Grammar.{Symbol, Rule, Token}
-use Rattle.lrspec.specs.grammars.ItemSets.{Items}
 use Rattle.lrspec.specs.merging.Graph.{same_symbol, edge_at}
 use Rattle.lrplacing.specs.Construction.{Draft, closed_at, edge_from, draft_closed, draft_edges}
 
@@ -14,11 +13,11 @@ none_past (s ∷ ss) zero h = absurd (omega arith)
 none_past (s ∷ ss) (suc k) h = none_past ss k (omega arith)
 
 -- so a closed state is one of them
-pub closed_below : (ss : List Draft) (k : ℕ) (c : Items) → closed_at ss k ≡ Some c → k < length ss
-closed_below ss k c e =
+pub closed_below : (ss : List Draft) (k : ℕ) → closed_at ss k ≡ true → k < length ss
+closed_below ss k e =
     elim (cases_lt k (length ss)) [
       | inl lt ↦ lt
-      | inr past ↦ let none : closed_at ss k ≡ None = ap draft_closed (none_past ss k past) in absurd (cc)
+      | inr past ↦ let none : closed_at ss k ≡ false = ap draft_closed (none_past ss k past) in absurd (cc)
     ]
 
 -- and so is one with an edge

@@ -20,7 +20,7 @@ module _ (ss : List Draft) (k : ℕ) (s : Draft) (l : k < length ss) where
   pub core_put : core_at (set ss k s) k ≡ s.core
   core_put = ap draft_core (set_there ss k s l)
 
-  pub closed_put : closed_at (set ss k s) k ≡ s.closed
+  pub closed_put : closed_at (set ss k s) k ≡ s.is_closed
   closed_put = ap draft_closed (set_there ss k s l)
 
   pub edge_put : (y : Symbol) → edge_from (set ss k s) k y ≡ edge_at s.edges y
@@ -34,7 +34,7 @@ module _ (ss : List Draft) (k : ℕ) (s : Draft) (l : k < length ss) where
     pub core_found : core_at ss k ≡ s.core
     core_found = ap draft_core found
 
-    pub closed_found : closed_at ss k ≡ s.closed
+    pub closed_found : closed_at ss k ≡ s.is_closed
     closed_found = ap draft_closed found
 
     pub edge_found : (y : Symbol) → edge_from ss k y ≡ edge_at s.edges y
@@ -48,7 +48,7 @@ module _ (ss : List Draft) (k : ℕ) (s : Draft) (l : k < length ss) where
   pub core_read : core_at ss k ≡ (get_or ss k s).core
   core_read = ap draft_core (slice_get-get_or ss k s l)
 
-  pub closed_read : closed_at ss k ≡ (get_or ss k s).closed
+  pub closed_read : closed_at ss k ≡ (get_or ss k s).is_closed
   closed_read = ap draft_closed (slice_get-get_or ss k s l)
 
 -- what was put at a place changed no other
@@ -71,8 +71,8 @@ module _ (ss : List Draft) (k : ℕ) (s new : Draft) (l : k < length ss) (e : s 
   pub edges_kept : new.edges ≡ s.edges → (y : Symbol) → edge_from (set ss k new) k y ≡ edge_from ss k y
   edges_kept h y = edge_put ss k new l y ∙ ap (λ es. edge_at es y) h ∙ sym (edge_found ss k s l e y)
 
-  -- where the core and the closed state are as they were, each state has its own still
-  pub stays_put : new.core ≡ s.core → new.closed ≡ s.closed → (j : ℕ) → Stays ss (set ss k new) j
+  -- where the core is as it was, and the state is closed or not as it was, each state is so still
+  pub stays_put : new.core ≡ s.core → new.is_closed ≡ s.is_closed → (j : ℕ) → Stays ss (set ss k new) j
   stays_put h i j = go (j == k) refl
     where
       go : (b : Bool) → (j == k) ≡ b → Stays ss (set ss k new) j
@@ -122,7 +122,7 @@ module _ (ss new : List Draft) (s : Draft) (e : new ≡ ss ++ s ∷ []) where
   pub core_pushed : core_at new (length ss) ≡ s.core
   core_pushed = ap draft_core there
 
-  pub closed_pushed : closed_at new (length ss) ≡ s.closed
+  pub closed_pushed : closed_at new (length ss) ≡ s.is_closed
   closed_pushed = ap draft_closed there
 
   pub edges_pushed : s.edges ≡ [] → (y : Symbol) → edge_from new (length ss) y ≡ None

@@ -2,9 +2,9 @@
 use Rattle.std.proofs.Common.{◌≡◌, ℕ, inl, inr, ◌↔◌, arith}
 use Rattle.lrspec.specs.grammars.Grammar.{Symbol, Grammar}
 use Rattle.lrspec.specs.grammars.ItemSets as set
-use Rattle.lrspec.specs.grammars.ItemSets.{Items, HasItem, LooksIn, IsContained, ClosedItem, IsClosure, Moved}
+use Rattle.lrspec.specs.grammars.ItemSets.{Items, HasItem, IsContained, ClosedItem, Moved}
 use Rattle.lrspec.specs.merging.WeakCompatibility.{SameItems, Cross, IsUnion}
-use Rattle.lrspec.proofs.grammars.Closures.{closed_item_mono, closed_look_mono, moved_mono}
+use Rattle.lrspec.proofs.grammars.Closures.{closed_item_mono, moved_mono}
 
 -- an item set has its own items
 pub same_itself : (a : Items) → SameItems a a
@@ -42,20 +42,6 @@ cross_grown a b c d h k m = record {
   e = m.e;
   apart = m.apart;
   meet = (m.meet.0, h.looks m.p m.d m.meet.0 m.meet.1, k.looks m.q m.e m.meet.0 m.meet.2);
-}
-
--- a closure is the closure of each core that has the same items and looks at the same tokens
-pub closure_of_same :
-    {g : Grammar} {a b c : Items} → SameItems a b → ((p d t : ℕ) → LooksIn a p d t ↔ LooksIn b p d t) → IsClosure g a c → IsClosure g b c
-closure_of_same s l k = record {
-  items = λ p d. (
-    λ h. closed_item_mono (λ q e. (s q e).0) ((k.items p d).0 h),
-    λ h. (k.items p d).1 (closed_item_mono (λ q e. (s q e).1) h),
-  );
-  looks = λ p d t. (
-    λ h. closed_look_mono (λ q e. (s q e).0) (λ q e u. (l q e u).0) ((k.looks p d t).0 h),
-    λ h. (k.looks p d t).1 (closed_look_mono (λ q e. (s q e).1) (λ q e u. (l q e u).1) h),
-  );
 }
 
 -- the items of gotos of closures go by the items of the cores

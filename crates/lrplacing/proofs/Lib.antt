@@ -2,6 +2,7 @@
 pub mod CandidateFacts
 pub mod GrowingItemSets
 pub mod DraftFacts
+pub mod EdgesOnce
 pub mod PlacedCores
 pub mod PlacedStates
 pub mod PlacedGotos

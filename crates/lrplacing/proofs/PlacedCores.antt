@@ -1,5 +1,5 @@
 -- what placing a goto leaves: cores keep their items and only grow, edges but the placed one stay, and all cross still
-use Rattle.std.proofs.Common.{◌≡◌, ◌≢◌, ℕ, ◌<◌, ◌≤◌, Bool, true, false, ◌&&◌, List, Option, None, Some, length, refl, sym, ◌∙◌, ◌⊎◌, inl, inr, arith}
+use Rattle.std.proofs.Common.{◌≡◌, ◌≢◌, ℕ, ◌<◌, ◌≤◌, Bool, true, false, ◌&&◌, List, Option, Some, length, refl, sym, ◌∙◌, ◌⊎◌, inl, inr, arith}
 use Rattle.std.specs.Prelude.{◌==◌, if◌then◌else◌}
 use Rattle.std.proofs.lemmas.Bool.{cases_eq, eqb-true, eq-eqb}
 use Rattle.lrspec.specs.grammars.Grammar.{Symbol}
@@ -8,7 +8,7 @@ use Rattle.lrspec.specs.merging.Graph.{same_symbol}
 use Rattle.lrspec.specs.merging.WeakCompatibility.{SameItems, Cross}
 use Rattle.lrplacing.specs.Construction.{Draft, core_at, closed_at, edge_from, Makes, Places}
 use Rattle.lrplacing.specs.Invariant.{AllCross}
-use Rattle.lrplacing.proofs.DraftFacts.{same_symbol_itself, symbol_equal}
+use Rattle.lrplacing.proofs.DraftFacts.{closed_below, same_symbol_itself, symbol_equal}
 use Rattle.lrplacing.proofs.GrowingItemSets.{same_itself, same_back, same_then, contained_equal, union_contains, union_contains_second, cross_grown}
 
 edge_test :
@@ -103,32 +103,39 @@ module _ {old new : List Draft} {from : ℕ} {x : Symbol} {goto : Items} {k : �
       cross_grown (core_at old j) (core_at old l) (core_at new j) (core_at new l) (core_grown j before) (core_grown l below) (all j l lt below both)
 
   -- a state that is closed was closed before
-  pub closed_before : (j : ℕ) (c : Items) → closed_at new j ≡ Some c → closed_at old j ≡ Some c
-  closed_before j c e =
+  pub closed_before : (j : ℕ) → closed_at new j ≡ true → closed_at old j ≡ true
+  closed_before j e =
       elim (cases_eq j k) [
         | inl i ↦ elim m.how [
           | inl h ↦ elim h.closed [
             | inl (looks, same) ↦ rw i (sym same ∙ rw i at e)
-            | inr (none, gains) ↦ absurd (cc)
+            | inr (unclosed, gains) ↦ absurd (cc)
           ]
-          | inr h ↦ let none : closed_at new k ≡ None = h.closed in absurd (cc)
+          | inr h ↦ let unclosed : closed_at new k ≡ false = h.closed in absurd (cc)
         ]
         | inr n ↦ sym (m.others j n).closed ∙ e
       ]
 
   -- and its core looks at no more than before
-  pub closed_looks : (j : ℕ) (c : Items) → closed_at new j ≡ Some c → (p d t : ℕ) → LooksIn (core_at new j) p d t → LooksIn (core_at old j) p d t
-  closed_looks j c e p d t =
+  closed_looks : (j : ℕ) → closed_at new j ≡ true → (p d t : ℕ) → LooksIn (core_at new j) p d t → LooksIn (core_at old j) p d t
+  closed_looks j e p d t =
       elim (cases_eq j k) [
         | inl i ↦ elim m.how [
           | inl h ↦ elim h.closed [
             | inl (looks, same) ↦ rw i (looks p d t)
-            | inr (none, gains) ↦ absurd (cc)
+            | inr (unclosed, gains) ↦ absurd (cc)
           ]
-          | inr h ↦ let none : closed_at new k ≡ None = h.closed in absurd (cc)
+          | inr h ↦ let unclosed : closed_at new k ≡ false = h.closed in absurd (cc)
         ]
         | inr n ↦ rw (m.others j n).core (λ l. l)
       ]
+
+  -- so its core grew by nothing
+  pub closed_grew_not : (j : ℕ) → closed_at new j ≡ true → IsContained (core_at new j) (core_at old j)
+  closed_grew_not j e = record {
+    items = λ p d. (core_items_kept j (closed_below old j (closed_before j e)) p d).1;
+    looks = closed_looks j e;
+  }
 
   -- states with the same items cross still
   pub all_cross_kept : AllCross old → AllCross new

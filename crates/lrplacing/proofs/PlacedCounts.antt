@@ -1,5 +1,5 @@
 -- placing a goto makes at least as many states to be closed as it makes states
-use Rattle.std.proofs.Common.{◌≡◌, ◌≢◌, ℕ, suc, ◌+◌, ◌<◌, ◌≤◌, List, [], ◌∷◌, length, Option, None, refl, arith, inl, inr, ⊎_elim}
+use Rattle.std.proofs.Common.{◌≡◌, ◌≢◌, ℕ, suc, ◌+◌, ◌<◌, ◌≤◌, Bool, false, List, [], ◌∷◌, length, refl, arith, inl, inr, ⊎_elim}
 use Rattle.std.proofs.lemmas.Bool.{cases_eq}
 use Rattle.lrspec.specs.grammars.Grammar.{Symbol}
 use Rattle.lrspec.specs.grammars.ItemSets.{Items, LooksIn}
@@ -12,19 +12,19 @@ use Rattle.lrplacing.proofs.CountFacts.{open_count, open_most, unclosed_empty, u
 -- states of which each that was there is to be closed if it was, and each new one is
 makes :
     (ss ts : List Draft) → length ss ≤ length ts → ((j : ℕ) → j < length ss → open_count (closed_at ss j) ≤ open_count (closed_at ts j))
-    → ((j : ℕ) → length ss ≤ j → j < length ts → closed_at ts j ≡ None) → unclosed ss + length ts ≤ unclosed ts + length ss
+    → ((j : ℕ) → length ss ≤ j → j < length ts → closed_at ts j ≡ false) → unclosed ss + length ts ≤ unclosed ts + length ss
 makes [] [] l h n = omega (arith, unclosed_empty)
 makes [] (t ∷ ts) l h n =
     omega (
       arith,
       unclosed_empty,
       unclosed_cons t ts,
-      one_open t.closed (n 0 (omega arith) (omega arith)),
+      one_open t.is_closed (n 0 (omega arith) (omega arith)),
       makes [] ts (omega arith) (λ j b. absurd (omega arith)) (λ j m b. n (suc j) (omega arith) (omega arith)),
     )
   where
-    one_open : (o : Option Items) → o ≡ None → open_count o ≡ 1
-    one_open o e = rw e refl
+    one_open : (b : Bool) → b ≡ false → open_count b ≡ 1
+    one_open b e = rw e refl
 makes (s ∷ ss) [] l h n = absurd (omega arith)
 makes (s ∷ ss) (t ∷ ts) l h n =
     omega (
@@ -43,7 +43,7 @@ module _ (old new : List Draft) (from k : ℕ) (x : Symbol) (goto : Items) (m : 
         | inl h ↦ ⊎_elim
             (λ (u : ((p d t : ℕ) → LooksIn (core_at new k) p d t → LooksIn (core_at old k) p d t) × (closed_at new k ≡ closed_at old k)).
             rw (u.1) (omega arith))
-            (λ (u : (closed_at new k ≡ None) × Gains (core_at old k) (core_at new k)). rw (u.0) (open_most (closed_at old k)))
+            (λ (u : (closed_at new k ≡ false) × Gains (core_at old k) (core_at new k)). rw (u.0) (open_most (closed_at old k)))
             h.closed
         | inr h ↦ absurd (omega (arith, h.last, e, b))
       ]))

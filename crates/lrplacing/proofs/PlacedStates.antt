@@ -2,15 +2,15 @@
 use Rattle.std.proofs.Common.{◌≡◌, ℕ, ◌<◌, List, Some, length, refl, inl, inr, ◌++◌, arith}
 use Rattle.std.proofs.lemmas.Bool.{cases_eq}
 use Rattle.lrspec.specs.grammars.Grammar.{Symbol, Grammar}
-use Rattle.lrspec.specs.grammars.ItemSets.{Items, Fits, IsClosure}
+use Rattle.lrspec.specs.grammars.ItemSets.{Items, Fits}
 use Rattle.lrspec.specs.grammars.StartState.{IsStartCore}
 use Rattle.lrspec.specs.merging.WeakCompatibility.{SameItems}
 use Rattle.lrspec.proofs.merging.SharingKept.{union_shared}
-use Rattle.lrplacing.specs.Construction.{Draft, core_at, closed_at, edge_from, Grows, Places}
+use Rattle.lrplacing.specs.Construction.{Draft, core_at, edge_from, Grows, Places}
 use Rattle.lrplacing.specs.Invariant.{HasSharing, HasItemsOfGoto, MayBePlaced, LeadsToItems, HasChain, Holds}
-use Rattle.lrplacing.proofs.GrowingItemSets.{same_itself, closure_of_same, moved_same, moved_above_zero}
-use Rattle.lrplacing.proofs.DraftFacts.{edge_below, closed_below}
-use Rattle.lrplacing.proofs.PlacedCores.{core_grown, core_items_kept, goto_items_kept, length_grown, other_below, edge_origin, closed_before, closed_looks, all_cross_kept}
+use Rattle.lrplacing.proofs.GrowingItemSets.{same_itself, moved_same, moved_above_zero}
+use Rattle.lrplacing.proofs.DraftFacts.{edge_below}
+use Rattle.lrplacing.proofs.PlacedCores.{core_items_kept, goto_items_kept, length_grown, other_below, edge_origin, all_cross_kept}
 
 -- the items of a goto go by the items of the core
 pub items_of_goto_kept :
@@ -57,15 +57,6 @@ module _ {g : Grammar} {old new : List Draft} {from : ℕ} {x : Symbol} {goto : 
         | inr n ↦ rw (m.others j n).core (all j (other_below m j n below))
       ]
 
-  -- closed states are closures still
-  pub closures_kept :
-      ((j : ℕ) (c : Items) → closed_at old j ≡ Some c → IsClosure g (core_at old j) c) → (j : ℕ) (c : Items) → closed_at new j ≡ Some c
-      → IsClosure g (core_at new j) c
-  closures_kept all j c e =
-      let before = closed_before m j c e in
-      let inside = closed_below old j c before in
-      closure_of_same (core_items_kept m j inside) (λ p d t. ((core_grown m j inside).looks p d t, closed_looks m j c e p d t)) (all j c before)
-
   -- edges lead to states with the items of the goto still
   pub edges_kept :
       from < length old → MayBePlaced g old from x goto → ((j u : ℕ) (y : Symbol) → edge_from old j y ≡ Some u → LeadsToItems g old j y u)
@@ -103,8 +94,6 @@ module _ {g : Grammar} {old new : List Draft} {from : ℕ} {x : Symbol} {goto : 
     start = start_kept h.some h.start goes;
     fits = fits_kept h.fits fits;
     sharing = sharing_kept h.sharing goes.sharing;
-    closures = closures_kept h.closures;
-    fits_closed = λ j c e. h.fits_closed j c (closed_before m j c e);
     edges = edges_kept inside goes h.edges;
     cross = all_cross_kept m h.cross;
     chain = chain;

@@ -1,5 +1,5 @@
 -- placing a goto makes no more states to be closed than it adds weight
-use Rattle.std.proofs.Common.{◌≡◌, ◌≢◌, ℕ, suc, ◌+◌, ◌<◌, ◌≤◌, List, [], ◌∷◌, length, None, refl, arith, inl, inr, ⊎_elim}
+use Rattle.std.proofs.Common.{◌≡◌, ◌≢◌, ℕ, suc, ◌+◌, ◌<◌, ◌≤◌, false, List, [], ◌∷◌, length, refl, arith, inl, inr, ⊎_elim}
 use Rattle.std.proofs.lemmas.Bool.{cases_eq}
 use Rattle.lrspec.specs.grammars.Grammar.{Symbol, Grammar}
 use Rattle.lrspec.specs.grammars.ItemSets.{Items, LooksIn, Fits}
@@ -50,7 +50,7 @@ module _ (g : Grammar) (old new : List Draft) (from k : ℕ) (x : Symbol) (goto 
         | inl h ↦ ⊎_elim
             (λ (u : ((p d t : ℕ) → LooksIn (core_at new k) p d t → LooksIn (core_at old k) p d t) × (closed_at new k ≡ closed_at old k)).
             rw (u.1) (omega (arith, looks_count_le g (core_at old k) (core_at new k) (λ p d t l. (h.union.looks p d t).1 (inl l)))))
-            (λ (u : (closed_at new k ≡ None) × Gains (core_at old k) (core_at new k)).
+            (λ (u : (closed_at new k ≡ false) × Gains (core_at old k) (core_at new k)).
             omega (arith, open_most (closed_at new k), gains_weight fits h u.1))
             h.closed
         | inr h ↦ absurd (omega (arith, h.last, e, b))

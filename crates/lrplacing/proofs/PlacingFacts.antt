@@ -1,5 +1,5 @@
 -- placing a goto at an equal core, at one that takes it in, and at a new state, and then setting the edge
-use Rattle.std.proofs.Common.{◌≡◌, ◌≢◌, ℕ, ◌+◌, ◌<◌, List, length, None, Some, refl, sym, ap, ◌∙◌, arith, ◌⊎◌, inl, inr}
+use Rattle.std.proofs.Common.{◌≡◌, ◌≢◌, ℕ, ◌+◌, ◌<◌, List, false, length, None, Some, refl, sym, ap, ◌∙◌, arith, ◌⊎◌, inl, inr}
 use Rattle.std.specs.Prelude.{slice_get, ◌==◌, ◌&&◌, if◌then◌else◌}
 use Rattle.std.proofs.lemmas.Bool.{cases_eq}
 use Rattle.lrspec.specs.grammars.Grammar.{Symbol, Grammar}
@@ -73,7 +73,7 @@ put_equal ss goto k l h = record {
 stays_from : (old new : List Draft) (j : ℕ) → slice_get new j ≡ slice_get old j → Stays old new j
 stays_from old new j e = record { core = ap draft_core e; closed = ap draft_closed e }
 
-edges_from : (old new : List Draft) (j : ℕ) → slice_get new j ≡ slice_get old j → (y : Symbol) → edge_from new j y ≡ edge_from old j y
+pub edges_from : (old new : List Draft) (j : ℕ) → slice_get new j ≡ slice_get old j → (y : Symbol) → edge_from new j y ≡ edge_from old j y
 edges_from old new j e y = ap (λ o. edge_at (draft_edges o) y) e
 
 -- a goto that a core takes in
@@ -82,7 +82,7 @@ pub put_merged :
     → ((j : ℕ) → j ≢ k → slice_get new j ≡ slice_get old j) → ((y : Symbol) → edge_from new k y ≡ edge_from old k y)
     → IsUnion (core_at old k) goto (core_at new k) → ((g : Grammar) → Fits g (core_at old k) → Fits g (core_at new k))
     → ((((p d t : ℕ) → LooksIn (core_at new k) p d t → LooksIn (core_at old k) p d t) × (closed_at new k ≡ closed_at old k))
-    ⊎ ((closed_at new k ≡ None) × Gains (core_at old k) (core_at new k)))
+    ⊎ ((closed_at new k ≡ false) × Gains (core_at old k) (core_at new k)))
     → IsPut old new goto k
 put_merged old new goto k b w l others edges union fits closed = record {
   taken = rw l b;
@@ -94,7 +94,7 @@ put_merged old new goto k b w l others edges union fits closed = record {
 -- a goto for which a state is made
 pub put_made :
     (old new : List Draft) (goto : Items) (k : ℕ) → k ≡ length old → length new ≡ length old + 1
-    → ((j : ℕ) → j ≢ length old → slice_get new j ≡ slice_get old j) → core_at new (length old) ≡ goto → closed_at new (length old) ≡ None
+    → ((j : ℕ) → j ≢ length old → slice_get new j ≡ slice_get old j) → core_at new (length old) ≡ goto → closed_at new (length old) ≡ false
     → ((y : Symbol) → edge_from new (length old) y ≡ None)
     → ((j : ℕ) → j < length old → SameItems (core_at old j) goto → Clash (core_at old j) goto) → IsPut old new goto k
 put_made old new goto k e l others core closed edges clashes =

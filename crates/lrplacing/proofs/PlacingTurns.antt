@@ -1,9 +1,12 @@
 -- what the placing of one goto leaves for the next ones
-use Rattle.std.proofs.Common.{ℕ, ◌<◌, ◌≤◌, List, [], ◌∷◌, length, refl, ap, inl, inr, arith}
+use Rattle.std.proofs.Common.{◌≡◌, ℕ, ◌<◌, ◌≤◌, false, ◌&&◌, List, [], ◌∷◌, None, length, refl, ap, ◌∙◌, inl, inr, arith}
+use Rattle.std.specs.Prelude.{◌==◌}
+use Rattle.std.proofs.lemmas.Bool.{cases_Bool, and_right}
 use Rattle.lrspec.specs.grammars.Grammar.{Symbol, Grammar, token_count}
 use Rattle.lrspec.specs.grammars.ItemSets.{Items, HasItem, Fits}
 use Rattle.lrspec.proofs.grammars.ListMembers.{Among}
-use Rattle.lrplacing.specs.Construction.{Draft, core_at, Grows, Places}
+use Rattle.lrspec.specs.merging.Graph.{same_symbol}
+use Rattle.lrplacing.specs.Construction.{Draft, core_at, edge_from, Grows, Places}
 use Rattle.lrplacing.specs.Invariant.{MayBePlaced, AllMayBePlaced, Holds}
 use Rattle.lrgraphs.specs.declared.errors.BuildError.{BuildError}
 use Rattle.lrgraphs.specs.declared.errors.BuildError.TheVariants.{Table, TooLarge, Memory}
@@ -11,6 +14,7 @@ use Rattle.lrplacing.specs.Chains.{HasChainOf}
 use Rattle.lrplacing.specs.Refusals.{IsLargeOnly}
 use Rattle.lritems.specs.Merging.{HaveEquallyManyBits}
 use Rattle.lritems.specs.Gotos.{AreGotosOf, AreGotosToPlace, HasGotoOn}
+use Rattle.lrplacing.proofs.DraftFacts.{symbol_equal}
 use Rattle.lrplacing.proofs.PlacedGotos as placed
 use Rattle.lrplacing.proofs.PlacedStates.{places_holds, may_be_placed_kept}
 use Rattle.lrplacing.proofs.ChainGrowth.{chain_of_states, places_chain}
@@ -54,6 +58,17 @@ pub still_may_be_placed :
 still_may_be_placed g m b [] h = tt
 still_may_be_placed g m b (e ∷ es) h = (may_be_placed_kept m b h.0, still_may_be_placed g m b es h.1)
 
+-- as the other gotos are on other symbols, from the state there is no edge on theirs still
+pub still_free :
+    {old new : List Draft} {from : ℕ} {x : Symbol} {a : Items} {k : ℕ} → Places old from x a k new → (gs : List (Symbol × Items))
+    → (HasGotoOn gs x → ⊥) → ((y : Symbol) → HasGotoOn gs y → edge_from old from y ≡ None) → (y : Symbol) → HasGotoOn gs y
+    → edge_from new from y ≡ None
+still_free {from = from} {x = x} m gs other free y i =
+    elim (cases_Bool (same_symbol y x)) [
+      | inl e ↦ absurd (other (rw (symbol_equal y x e) at i))
+      | inr e ↦ placed.edge_kept m from y (and_right (from == from) (same_symbol y x) e) ∙ free y i
+    ]
+
 -- so many states make a chain of as many item sets
 pub chain_of_most : {g : Grammar} (ss : List Draft) (most : ℕ) → Holds g ss → most ≤ length ss → HasChainOf g most
 chain_of_most ss most holds b = let c = chain_of_states ss holds.chain in (c.0, c.1, omega (arith, c.2))
@@ -64,7 +79,7 @@ large_by f (Table t) h = h
 large_by f TooLarge h = f h
 large_by f Memory h = tt
 
--- ---- the gotos of a closed state
+-- ---- the gotos of what a core closes to
 
 module _ (g : Grammar) (c : Items) where
   each_is : (gs : List (Symbol × Items)) → AreGotosToPlace g c gs → (x : Symbol) (a : Items) → Among {X = Symbol × Items} (x, a) gs → placed.IsGotoOf g c x a

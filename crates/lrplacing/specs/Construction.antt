@@ -6,19 +6,24 @@ use Rattle.lrspec.specs.merging.WeakCompatibility.{SameItems, IsWeaklyCompatible
 use Rattle.lrspec.specs.merging.Graph.{same_symbol, edge_at}
 pub use Rattle.lritems.specs.Merging.{Gains}
 
--- a state under construction: its core, its closed state unless it is still to be closed, and where its edges lead
+-- a state under construction: its core, whether it is closed or is still to be closed, and where its edges lead
 pub record Draft : Type 0 where
   pub core : Items
-  pub closed : Option Items
+  pub is_closed : Bool
   pub edges : List (Symbol × ℕ)
+
+-- no symbol has two edges in the list
+abbrev pub HasEdgesOnce : List (Symbol × ℕ) → Type 0
+HasEdgesOnce [] = Unit {0}
+HasEdgesOnce (e ∷ es) = (edge_at es e.0 ≡ None) × HasEdgesOnce es
 
 abbrev pub draft_core : Option Draft → Items
 draft_core None = []
 draft_core (Some s) = s.core
 
-abbrev pub draft_closed : Option Draft → Option Items
-draft_closed None = None
-draft_closed (Some s) = s.closed
+abbrev pub draft_closed : Option Draft → Bool
+draft_closed None = false
+draft_closed (Some s) = s.is_closed
 
 abbrev pub draft_edges : Option Draft → List (Symbol × ℕ)
 draft_edges None = []
@@ -28,24 +33,24 @@ draft_edges (Some s) = s.edges
 abbrev pub core_at : List Draft → ℕ → Items
 core_at ss k = draft_core (slice_get ss k)
 
--- the closed state of the state `k`, None while it is to be closed
-abbrev pub closed_at : List Draft → ℕ → Option Items
+-- whether the state `k` is closed
+abbrev pub closed_at : List Draft → ℕ → Bool
 closed_at ss k = draft_closed (slice_get ss k)
 
 -- the state to which the edge of `k` on `x` leads, if there is one
 abbrev pub edge_from : List Draft → ℕ → Symbol → Option ℕ
 edge_from ss k x = edge_at (draft_edges (slice_get ss k)) x
 
--- the states, of which `k` has the closed state `c`
-abbrev pub with_closed : List Draft → ℕ → Items → List Draft
-with_closed [] k c = []
-with_closed (s ∷ ss) zero c = record { core = s.core; closed = Some c; edges = s.edges } ∷ ss
-with_closed (s ∷ ss) (suc k) c = s ∷ with_closed ss k c
+-- the states, of which `k` is closed
+abbrev pub with_closed : List Draft → ℕ → List Draft
+with_closed [] k = []
+with_closed (s ∷ ss) zero = record { core = s.core; is_closed = true; edges = s.edges } ∷ ss
+with_closed (s ∷ ss) (suc k) = s ∷ with_closed ss k
 
 -- the same, but where the core of `k` has grown: it is to be closed again then
-abbrev pub closed_unless : Bool → List Draft → ℕ → Items → List Draft
-closed_unless true ss k c = ss
-closed_unless false ss k c = with_closed ss k c
+abbrev pub closed_unless : Bool → List Draft → ℕ → List Draft
+closed_unless true ss k = ss
+closed_unless false ss k = with_closed ss k
 
 -- `grew` says whether a core that was `a` and is `b` looks at more
 abbrev pub TellsGrowth : Bool → Items → Items → Type 0
@@ -54,7 +59,7 @@ TellsGrowth grew a b =
 
 -- ---- placing a goto
 
--- the state `k` has its core and its closed state still
+-- the state `k` has its core still, and is closed or not as it was
 pub record Stays (old new : List Draft) (k : ℕ) : Type 0 where
   pub core : core_at new k ≡ core_at old k
   pub closed : closed_at new k ≡ closed_at old k
@@ -69,14 +74,14 @@ pub record Grows (old new : List Draft) (k : ℕ) (goto : Items) : Type 0 where
   pub fits_kept : (g : Grammar) → Fits g (core_at old k) → Fits g (core_at new k)
   pub closed :
       (((p d t : ℕ) → LooksIn (core_at new k) p d t → LooksIn (core_at old k) p d t) × (closed_at new k ≡ closed_at old k))
-      ⊎ ((closed_at new k ≡ None) × Gains (core_at old k) (core_at new k))
+      ⊎ ((closed_at new k ≡ false) × Gains (core_at old k) (core_at new k))
 
 -- the state `k` was made for the goto, which no state with its items could take in
 pub record Makes (old new : List Draft) (k : ℕ) (goto : Items) : Type 0 where
   pub length_is : length new ≡ length old + 1
   pub last : k ≡ length old
   pub core : core_at new k ≡ goto
-  pub closed : closed_at new k ≡ None
+  pub closed : closed_at new k ≡ false
   pub clashes : (j : ℕ) → j < length old → SameItems (core_at old j) goto → Clash (core_at old j) goto
 
 -- the goto on `x` of the state `from` was placed at the state `k`, to which the edge on `x` now leads

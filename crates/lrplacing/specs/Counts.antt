@@ -1,5 +1,5 @@
 -- how many states are to be closed, and what the states weigh, which bounds how often one is closed
-use Rattle.std.specs.Prelude.{ℕ, ◌+◌, Bool, false, List, map, Option, None, Some, length, sum_by, count_by, flat_map, is_none, slice_index_or}
+use Rattle.std.specs.Prelude.{ℕ, ◌+◌, Bool, false, List, map, Option, None, Some, length, sum_by, count_by, flat_map, not, slice_index_or}
 use Rattle.std.specs.List.{range_with_len}
 use Rattle.lrspec.specs.grammars.Grammar.{Grammar, token_count, body_of}
 use Rattle.lrspec.specs.grammars.ItemSets.{Items, item_at}
@@ -7,7 +7,7 @@ use Rattle.lrplacing.specs.Construction.{Draft}
 
 -- how many states are to be closed
 unfoldable pub unclosed : List Draft → ℕ
-unclosed ss = count_by (λ s. is_none s.closed) ss
+unclosed ss = count_by (λ s. not s.is_closed) ss
 
 -- the items of the production `p` by their dots
 abbrev pub items_of_production : Grammar → ℕ → List (ℕ × ℕ)

@@ -1,8 +1,7 @@
 -- what always holds of the states under construction
-use Rattle.std.specs.Prelude.{◌≡◌, ℕ, ◌<◌, List, [], ◌∷◌, Some, length, slice_get, ◌↔◌}
-use Rattle.std.specs.Option.{IsSome}
+use Rattle.std.specs.Prelude.{◌≡◌, ℕ, ◌<◌, true, List, [], ◌∷◌, Some, length, slice_get, ◌↔◌}
 use Rattle.lrspec.specs.grammars.Grammar.{Symbol, Grammar}
-use Rattle.lrspec.specs.grammars.ItemSets.{Items, HasItem, LooksIn, Fits, IsContained, ClosedItem, IsClosure, IsBefore, Moved}
+use Rattle.lrspec.specs.grammars.ItemSets.{Items, HasItem, LooksIn, Fits, IsContained, ClosedItem, ClosedLook, IsBefore, Moved}
 use Rattle.lrspec.specs.grammars.StartState.{IsStartCore}
 use Rattle.lrspec.specs.merging.Cores.{IsRootedBy}
 use Rattle.lrspec.specs.merging.WeakCompatibility.{SameItems, Cross}
@@ -41,36 +40,37 @@ pub record HasChain (g : Grammar) (ss : List Draft) : Type 0 where
   pub same : (k : ℕ) (a : Items) → slice_get chain k ≡ Some a → SameItems a (core_at ss k)
   pub contained : (k : ℕ) (a : Items) → slice_get chain k ≡ Some a → IsContained a (core_at ss k)
 
--- at every moment: the first state is the start state; cores fit the grammar and are shared; closed states are closures
--- and fit it; edges lead to states with the items of the goto; states with the same items cross; and a chain is as long
--- as there are states
+-- at every moment: the first state is the start state; cores fit the grammar and are shared; edges lead to states with
+-- the items of the goto; states with the same items cross; and a chain is as long as there are states
 pub record Holds (g : Grammar) (ss : List Draft) : Type 0 where
   pub some : 0 < length ss
   pub start : IsStartCore g (core_at ss 0)
   pub fits : (k : ℕ) → k < length ss → Fits g (core_at ss k)
   pub sharing : (k : ℕ) → k < length ss → HasSharing g (core_at ss k)
-  pub closures : (k : ℕ) (c : Items) → closed_at ss k ≡ Some c → IsClosure g (core_at ss k) c
-  pub fits_closed : (k : ℕ) (c : Items) → closed_at ss k ≡ Some c → Fits g c
   pub edges : (k u : ℕ) (x : Symbol) → edge_from ss k x ≡ Some u → LeadsToItems g ss k x u
   pub cross : AllCross ss
   pub chain : HasChain g ss
 
--- a goto of the closed state `c` of the state `k` is contained in the state to which the edge of `k` leads
-pub record LeadsOver (g : Grammar) (ss : List Draft) (k : ℕ) (c : Items) (x : Symbol) : Type 0 where
+-- the goto on `x` of what the core of the state `k` closes to is contained in the state to which the edge of `k` leads
+pub record LeadsOver (g : Grammar) (ss : List Draft) (k : ℕ) (x : Symbol) : Type 0 where
   pub to : ℕ
   pub is : edge_from ss k x ≡ Some to
-  pub looks : (p d t : ℕ) → Moved g x (λ q e. LooksIn c q e t) p d → LooksIn (core_at ss to) p d t
+  pub looks :
+      (p d t : ℕ)
+      → Moved g x (λ q e. ClosedLook g (HasItem (core_at ss k)) (LooksIn (core_at ss k)) q e t) p d
+      → LooksIn (core_at ss to) p d t
 
--- where the state `k` is closed, it has an edge on every symbol before which it has an item, and contains the goto there;
--- of a state whose gotos are being placed this does not hold yet
+-- where the state `k` is closed, it has an edge on every symbol before which what its core closes to has an item, and the
+-- state there contains the goto; of a state whose gotos are being placed this does not hold yet
 abbrev pub HasGotos : Grammar → List Draft → ℕ → Type 0
 HasGotos g ss k =
-    (c : Items) → closed_at ss k ≡ Some c
-    → (p d : ℕ) (x : Symbol) → HasItem c p d → IsBefore g p d x → LeadsOver g ss k c x
+    closed_at ss k ≡ true
+    → (p d : ℕ) (x : Symbol) → ClosedItem g (HasItem (core_at ss k)) p d → IsBefore g p d x
+    → LeadsOver g ss k x
 
 -- all states are closed
 abbrev pub AreClosed : List Draft → Type 0
-AreClosed ss = (k : ℕ) → k < length ss → IsSome (closed_at ss k)
+AreClosed ss = (k : ℕ) → k < length ss → closed_at ss k ≡ true
 
 -- each of the gotos of the state `from` may be placed
 abbrev pub AllMayBePlaced : Grammar → List Draft → ℕ → List (Symbol × Items) → Type 0

@@ -1,34 +1,33 @@
 //! A state under construction.
 
-ghost use Rattle.std.specs.Prelude.{◌≡◌, ℕ, [], Some, None, IsTrue, ◌↔◌, ◌⊎◌, IsSome, OnOk, if◌then◌else◌};
+ghost use Rattle.std.specs.Prelude.{◌≡◌, ℕ, [], None, Some, false, true, ◌⊎◌, OnOk, if◌then◌else◌};
 ghost use Rattle.lrspec.specs.grammars.Grammar as math;
 ghost use Rattle.lrspec.specs.grammars.Grammar.{Grammar};
 ghost use Rattle.lrspec.specs.grammars.ItemSets.{LooksIn, Fits, AreUpwards};
 ghost use Rattle.lrspec.specs.merging.WeakCompatibility.{SameItems, IsUnion};
 ghost use Rattle.lrspec.specs.merging.Graph.{same_symbol, edge_at};
 ghost use Rattle.lrgrammar.specs.Symbols.{symbol_of};
-ghost use Rattle.lritems.specs.ItemsOf.{set_of};
 ghost use Rattle.lritems.specs.Gotos.{goto_of};
-ghost use Rattle.lrplacing.specs.Construction.{Gains, TellsGrowth};
+ghost use Rattle.lrgraphs.specs.GraphOf.{edges_of};
+ghost use Rattle.lrplacing.specs.Construction.{Gains, TellsGrowth, HasEdgesOnce};
 ghost use Rattle.lritems.specs.Merging.{HaveEquallyManyBits};
 
 use lrgrammar::idx::{IndexStorage, Symbol};
+use lritems::cores::Core;
 use lritems::gotos::Goto;
-use lritems::itemset::Itemset;
 use lritems::merging::weakly_merge;
 use std::alloc::{AllocError, Global};
-use std::collections::BTreeMap;
 use std::marker::Model;
 
-/// A state under construction: its core, its closed state unless it is still to be closed, and where its edges lead.
+/// A state under construction: its core, whether it is closed or is still to be closed, and where its edges lead.
 #[derive(Drop)]
 pub struct Draft<T: IndexStorage> {
     /// The core.
-    pub core: Itemset<T>,
-    /// The closed state, none while the state is to be closed.
-    pub closed: Option<Itemset<T>>,
-    /// The state to which the edge on each symbol leads.
-    pub edges: BTreeMap<Symbol<T>, usize>,
+    pub core: Core<T>,
+    /// Whether the gotos of the core's closure were placed since the core last grew.
+    pub is_closed: bool,
+    /// The edges, each with the state to which it leads; on no symbol two.
+    edges: Vec<(Symbol<T>, usize)>,
 }
 
 impl<T: IndexStorage> Model for Draft<T> {
@@ -39,53 +38,76 @@ impl<T: IndexStorage> Model for Draft<T> {
     ghost use Rattle.lrplacing.specs.DraftOf.{draft_of};
 
     ghost view = { draft_of T.number };
+
+    ghost use Rattle.lrgraphs.specs.GraphOf.{edges_of};
+    ghost use Rattle.lrplacing.specs.Construction.{HasEdgesOnce};
+
+    ghost invariant = { λ s. HasEdgesOnce (edges_of T.number (λ k. k) s.edges.items) };
 }
 
 impl<T: IndexStorage> Draft<T> {
     /// A state that is to be closed.
-    pub fn new(alloc: Global, core: Itemset<T>) -> Draft<T>
-        ensures core { result.core ≡ set_of T.number core }
-        ensures closed { result.closed ≡ None }
+    pub fn new(alloc: Global, core: Core<T>) -> Draft<T>
+        ensures core { result.core ≡ core }
+        ensures closed { result.is_closed ≡ false }
         ensures edges { result.edges ≡ [] }
     {
         Draft {
             core,
-            closed: None,
-            edges: BTreeMap::new(alloc),
+            is_closed: false,
+            edges: Vec::new(alloc),
         }
     }
 
     /// The core.
-    pub fn core(&self) -> &Itemset<T>
-        ensures { set_of T.number result.now ≡ self.now.core }
+    pub fn core(&self) -> &Core<T>
+        ensures { result.now ≡ self.now.core }
     {
         &self.core
     }
 
+    /// The edges.
+    pub fn edges(&self) -> &[(Symbol<T>, usize)]
+        ensures edges { edges_of T.number (λ k. k) result.now ≡ self.now.edges }
+        ensures once { HasEdgesOnce self.now.edges }
+    {
+        self.edges.as_slice()
+    }
+
     /// Whether the state is closed.
     pub fn is_closed(&self) -> bool
-        ensures { IsTrue result ↔ IsSome self.now.closed }
+        ensures { result ≡ self.now.is_closed }
     {
-        self.closed.is_some()
+        self.is_closed
     }
 
-    /// Notes the closed state.
-    pub fn set_closed(&mut self, closed: Itemset<T>)
+    /// Notes that the state is closed.
+    pub fn set_closed(&mut self)
         ensures core { self.new.core ≡ self.old.core }
         ensures edges { self.new.edges ≡ self.old.edges }
-        ensures closed { self.new.closed ≡ Some (set_of T.number closed) }
+        ensures closed { self.new.is_closed ≡ true }
     {
-        self.closed = Some(closed);
+        self.is_closed = true;
     }
 
-    /// Sets the edge on the symbol, in place of an older one.
-    pub(crate) fn set_edge(&mut self, symbol: Symbol<T>, to: usize) -> Result<(), AllocError>
+    /// Drops all edges, before the state is closed.
+    pub fn clear_edges(&mut self)
         ensures core { self.new.core ≡ self.old.core }
-        ensures closed { self.new.closed ≡ self.old.closed }
+        ensures closed { self.new.is_closed ≡ self.old.is_closed }
+        ensures edges { self.new.edges ≡ [] }
+    {
+        self.edges.clear();
+    }
+
+    /// Adds the edge on the symbol, on which there is none.
+    pub(crate) fn add_edge(&mut self, symbol: Symbol<T>, to: usize) -> Result<(), AllocError>
+        requires { edge_at self.old.edges (symbol_of T.number symbol) ≡ None }
+        ensures core { self.new.core ≡ self.old.core }
+        ensures closed { self.new.is_closed ≡ self.old.is_closed }
         ensures edge { OnOk result ((y : math.Symbol) → edge_at self.new.edges y
             ≡ if same_symbol y (symbol_of T.number symbol) then Some to else edge_at self.old.edges y) }
     {
-        self.edges.insert(symbol, to)?;
+        self.edges.push((symbol, to))?;
         Ok(())
     }
 
@@ -98,8 +120,8 @@ impl<T: IndexStorage> Draft<T> {
         ensures fits { (g : Grammar) → Fits g self.old.core → Fits g self.new.core }
         ensures union { IsUnion self.old.core (goto_of T.number goto.now) self.new.core }
         ensures closed { (((p d t : ℕ) → LooksIn self.new.core p d t → LooksIn self.old.core p d t)
-            × (self.new.closed ≡ self.old.closed))
-            ⊎ ((self.new.closed ≡ None) × Gains self.old.core self.new.core) }
+            × (self.new.is_closed ≡ self.old.is_closed))
+            ⊎ ((self.new.is_closed ≡ false) × Gains self.old.core self.new.core) }
         ensures grew { TellsGrowth result self.old.core self.new.core }
     {
         let grew = weakly_merge(&mut self.core, goto);
@@ -109,12 +131,12 @@ impl<T: IndexStorage> Draft<T> {
         grew
     }
 
-    /// Drops the closed state: the state is to be closed again.
+    /// Notes that the state is to be closed again.
     fn unclose(&mut self)
         ensures core { self.new.core ≡ self.old.core }
         ensures edges { self.new.edges ≡ self.old.edges }
-        ensures closed { self.new.closed ≡ None }
+        ensures closed { self.new.is_closed ≡ false }
     {
-        self.closed = None;
+        self.is_closed = false;
     }
 }

@@ -1,6 +1,6 @@
 //! Placing gotos.
 
-ghost use Rattle.std.specs.Prelude.{◌≡◌, ◌≢◌, ℕ, true, IsTrue, ◌↔◌, ◌+◌, ◌<◌, ◌≤◌, ◌==◌, ◌&&◌, if◌then◌else◌, length, slice_get, slice_index, None, Some, IfOk, IfErr, OnOk, MatchOption, ◌⊎◌};
+ghost use Rattle.std.specs.Prelude.{◌≡◌, ◌≢◌, ℕ, true, false, IsTrue, ◌↔◌, ◌+◌, ◌<◌, ◌≤◌, ◌==◌, ◌&&◌, if◌then◌else◌, length, slice_get, slice_index, None, Some, IfOk, IfErr, OnOk, MatchOption, ◌⊎◌};
 ghost use Rattle.std.specs.List.{All};
 ghost use Rattle.lrspec.specs.grammars.Grammar as math;
 ghost use Rattle.lrspec.specs.grammars.Grammar.{Grammar};
@@ -8,14 +8,13 @@ ghost use Rattle.lrspec.specs.grammars.ItemSets.{HasItem, LooksIn, Fits, AreUpwa
 ghost use Rattle.lrspec.specs.merging.WeakCompatibility.{SameItems, IsWeaklyCompatible, Clash, IsUnion};
 ghost use Rattle.lrspec.specs.merging.Graph.{same_symbol};
 ghost use Rattle.lrgrammar.specs.Symbols.{symbol_of};
-ghost use Rattle.lritems.specs.ItemsOf.{set_of};
 ghost use Rattle.lrplacing.specs.Construction.{core_at, closed_at, edge_from, with_closed, closed_unless, TellsGrowth, Stays, Gains, Places, PlacesAll};
 ghost use Rattle.lrplacing.specs.Invariant.{MayBePlaced, AllMayBePlaced, Holds};
 ghost use Rattle.lrplacing.specs.Chains.{HasChainOf};
 ghost use Rattle.lrplacing.specs.CandidatesOf.{AreCandidates, IsFirstItem, listed_at};
 ghost use Rattle.lrplacing.specs.ChosenPlaces.{HoldsOfNone, IsFirstWith, IsEqual, IsCompatible, IsPlaceOf};
 ghost use Rattle.lrplacing.specs.Refusals.{IsLargeOnly};
-ghost use Rattle.lritems.specs.Gotos.{goto_of, gotos_of, AllUpwards};
+ghost use Rattle.lritems.specs.Gotos.{goto_of, gotos_of, AllUpwards, AreOnDistinctSymbols};
 ghost use Rattle.lritems.specs.Merging.{HaveEquallyManyBits};
 
 use crate::candidates::Candidates;
@@ -23,8 +22,8 @@ use crate::draft::Draft;
 use lrgrammar::grammar::YaccGrammar;
 use lrgrammar::idx::{IndexStorage, Symbol};
 use lrgraphs::BuildError;
+use lritems::cores::Core;
 use lritems::gotos::Goto;
-use lritems::itemset::Itemset;
 use lritems::merging::weakly_compatible;
 use std::alloc::AllocError;
 
@@ -75,21 +74,22 @@ fn find_compatible<T: IndexStorage>(
     None
 }
 
-/// Sets the edge of the state on the symbol.
+/// Adds an edge of the state on the symbol, on which it has none.
 fn link<T: IndexStorage>(
     drafts: &mut Vec<Draft<T>>,
     from: usize,
     symbol: Symbol<T>,
     to: usize,
 ) -> Result<(), AllocError>
-    requires { from < length drafts.old.items }
+    requires from { from < length drafts.old.items }
+    requires free { edge_from drafts.old.items from (symbol_of T.number symbol) ≡ None }
     ensures len { length drafts.new.items ≡ length drafts.old.items }
     ensures stays { (j : ℕ) → Stays drafts.old.items drafts.new.items j }
     ensures edges { OnOk result ((j : ℕ) (y : math.Symbol) → edge_from drafts.new.items j y
         ≡ if ((j == from) && same_symbol y (symbol_of T.number symbol)) then Some to
         else edge_from drafts.old.items j y) }
 {
-    drafts[from].set_edge(symbol, to)
+    drafts[from].add_edge(symbol, to)
 }
 
 /// Merges the goto into the core of the state `k`, and says whether that grew it.
@@ -109,7 +109,7 @@ fn merge_at<T: IndexStorage>(drafts: &mut Vec<Draft<T>>, k: usize, goto: &Goto<T
     ensures closed { (((p d t : ℕ) → LooksIn (core_at drafts.new.items k) p d t
         → LooksIn (core_at drafts.old.items k) p d t)
         × (closed_at drafts.new.items k ≡ closed_at drafts.old.items k))
-        ⊎ ((closed_at drafts.new.items k ≡ None)
+        ⊎ ((closed_at drafts.new.items k ≡ false)
         × Gains (core_at drafts.old.items k) (core_at drafts.new.items k)) }
     ensures grew { TellsGrowth result (core_at drafts.old.items k) (core_at drafts.new.items k) }
 {
@@ -117,10 +117,7 @@ fn merge_at<T: IndexStorage>(drafts: &mut Vec<Draft<T>>, k: usize, goto: &Goto<T
 }
 
 /// Makes a state, and answers its number.
-fn make<T: IndexStorage>(
-    drafts: &mut Vec<Draft<T>>,
-    goto: Itemset<T>,
-) -> Result<usize, BuildError<T>>
+fn make<T: IndexStorage>(drafts: &mut Vec<Draft<T>>, core: Core<T>) -> Result<usize, BuildError<T>>
     requires { length drafts.old.items ≤ T.MAX }
     ensures refused { IfErr result (IsLargeOnly (T.MAX ≤ length drafts.old.items)) }
     ensures number { IfOk result (λ k. k ≡ length drafts.old.items) }
@@ -129,8 +126,8 @@ fn make<T: IndexStorage>(
     ensures others { OnOk result ((j : ℕ) → j ≢ length drafts.old.items
         → slice_get drafts.new.items j ≡ slice_get drafts.old.items j) }
     ensures core { OnOk result (core_at drafts.new.items (length drafts.old.items)
-        ≡ set_of T.number goto) }
-    ensures closed { OnOk result (closed_at drafts.new.items (length drafts.old.items) ≡ None) }
+        ≡ core) }
+    ensures closed { OnOk result (closed_at drafts.new.items (length drafts.old.items) ≡ false) }
     ensures edges { OnOk result ((y : math.Symbol)
         → edge_from drafts.new.items (length drafts.old.items) y ≡ None) }
 {
@@ -139,7 +136,7 @@ fn make<T: IndexStorage>(
         return Err(BuildError::TooLarge);
     }
     let alloc = *drafts.allocator();
-    drafts.push(Draft::new(alloc, goto))?;
+    drafts.push(Draft::new(alloc, core))?;
     Ok(number)
 }
 
@@ -172,6 +169,7 @@ fn place<T: IndexStorage>(
 ) -> Result<Placed, BuildError<T>>
     requires from { from < length drafts.old.items }
     requires most { length drafts.old.items ≤ T.MAX }
+    requires free { edge_from drafts.old.items from (symbol_of T.number symbol) ≡ None }
     requires some { (p : ℕ) × (d : ℕ) × HasItem (goto_of T.number goto.now) p d }
     requires upwards { AreUpwards (goto_of T.number goto.now) }
     requires bits { (k : ℕ) → k < length drafts.old.items
@@ -202,7 +200,7 @@ fn place<T: IndexStorage>(
         link(drafts, from, symbol, k)?;
         return Ok(Placed { state: k, grew });
     }
-    let core = goto.to_itemset(*drafts.allocator())?;
+    let core = Core::from_goto(*drafts.allocator(), goto)?;
     let k = make(drafts, core)?;
     candidates.add(first, k)?;
     link(drafts, from, symbol, k)?;
@@ -214,29 +212,27 @@ fn place<T: IndexStorage>(
 
 /// Places the gotos of the state `from`, one after another, and says whether its own core grew by that. The state was
 /// to be closed and is not noted as closed yet; the grammar is the one of whose states these are, and the gotos are
-/// those of the closed state.
+/// those of what the state's core closes to.
 pub fn place_all<T: IndexStorage>(
     drafts: &mut Vec<Draft<T>>,
     candidates: &mut Candidates<T>,
     _grm: &YaccGrammar<T>,
     from: usize,
-    _closed: &Itemset<T>,
     gotos: Vec<(Symbol<T>, Goto<T>)>,
 ) -> Result<bool, BuildError<T>>
     requires from { from < length drafts.old.items }
     requires most { length drafts.old.items ≤ T.MAX }
-    requires unclosed { closed_at drafts.old.items from ≡ None }
-    requires holds { Holds _grm.now
-        (with_closed drafts.old.items from (set_of T.number _closed.now)) }
-    requires gotos { AllMayBePlaced _grm.now
-        (with_closed drafts.old.items from (set_of T.number _closed.now)) from
+    requires unclosed { closed_at drafts.old.items from ≡ false }
+    requires holds { Holds _grm.now (with_closed drafts.old.items from) }
+    requires gotos { AllMayBePlaced _grm.now (with_closed drafts.old.items from) from
         (gotos_of T.number gotos.items) }
     requires upwards { AllUpwards (gotos_of T.number gotos.items) }
+    requires distinct { AreOnDistinctSymbols (gotos_of T.number gotos.items) }
+    requires free { (x : math.Symbol) → edge_from drafts.old.items from x ≡ None }
     requires candidates { AreCandidates drafts.old.items candidates.old }
     ensures placed { IfOk result (λ grew. PlacesAll from
-        (with_closed drafts.old.items from (set_of T.number _closed.now))
-        (gotos_of T.number gotos.entry.items)
-        (closed_unless grew drafts.new.items from (set_of T.number _closed.now))) }
+        (with_closed drafts.old.items from) (gotos_of T.number gotos.entry.items)
+        (closed_unless grew drafts.new.items from)) }
     ensures from { OnOk result (from < length drafts.new.items) }
     ensures most { OnOk result (length drafts.new.items ≤ T.MAX) }
     ensures candidates { OnOk result (AreCandidates drafts.new.items candidates.new) }

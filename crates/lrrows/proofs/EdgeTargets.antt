@@ -22,13 +22,6 @@ module _ {X : Type 0} (number : X → ℕ) (n : ℕ) (edges rest : List (Symbol 
       → AreFilling number os n (λ t. edge_at rest (Token t)) whole
   token_passed os r u e h = rw e at h
 
-  -- and one on a token to no place of a rule
-  pub rule_passed :
-      (os : List (Option X)) (t u : ℕ) → edges ≡ (Token t, u) ∷ rest
-      → AreFilling number os n (λ r. edge_at edges (Rule r)) whole
-      → AreFilling number os n (λ r. edge_at rest (Rule r)) whole
-  rule_passed os t u e h = rw e at h
-
   -- the target of an edge on a token comes to the place of the token
   pub token_turn :
       (old new : List (Option X)) (k : ℕ) (x : X) → length old ≡ n → IsFilled old new k x → edges ≡ (Token k, number x) ∷ rest
@@ -36,13 +29,4 @@ module _ {X : Type 0} (number : X → ℕ) (n : ℕ) (edges rest : List (Symbol 
       → AreFilling number new n (λ t. edge_at rest (Token t)) whole
   token_turn old new k x many filled e =
       filled_turn number old new n k x (λ t. edge_at edges (Token t)) (λ t. edge_at rest (Token t)) whole many filled
-      (rw (e, eq-eqb k k refl) refl) (λ t d. rw (e, other t k d) refl)
-
-  -- and that of an edge on a rule to the place of the rule
-  pub rule_turn :
-      (old new : List (Option X)) (k : ℕ) (x : X) → length old ≡ n → IsFilled old new k x → edges ≡ (Rule k, number x) ∷ rest
-      → AreFilling number old n (λ r. edge_at edges (Rule r)) whole
-      → AreFilling number new n (λ r. edge_at rest (Rule r)) whole
-  rule_turn old new k x many filled e =
-      filled_turn number old new n k x (λ r. edge_at edges (Rule r)) (λ r. edge_at rest (Rule r)) whole many filled
       (rw (e, eq-eqb k k refl) refl) (λ t d. rw (e, other t k d) refl)

@@ -10,6 +10,7 @@ pub mod RowTurns
 pub mod LeastListed
 pub mod FilledPlaces
 pub mod EdgeTargets
+pub mod GotoEntries
 pub mod LookingTokens
 pub mod ContestSteps
 pub mod ContestsOfState
@@ -18,6 +19,7 @@ pub mod FirstLooking
 pub mod IndexedRows
 pub mod ReducedRows
 pub mod RowsByOne
+pub mod EntryActions
 pub mod NextRows
 pub mod NumbersInTurn
 pub mod StatesInTurn

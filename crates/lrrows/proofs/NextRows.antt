@@ -14,7 +14,8 @@ use Rattle.lrspec.specs.merging.Graph.{Graph, closed_of, edge}
 use Rattle.lrspec.specs.tables.Table.{Action, Reduce, Error, cell_of}
 use Rattle.lrspec.specs.tables.Rows.{AreAllWith}
 use Rattle.lrsparse.specs.declared.builder.MatrixBuilder.{MatrixBuilder}
-use Rattle.lrsparse.specs.Building.{so_far, IsBuilt}
+use Rattle.lrsparse.specs.Building.{so_far, empty_of, IsBuilt}
+use Rattle.lrsparse.specs.Entries.{row_with}
 use Rattle.lrrows.specs.declared.rows.Rows.{Rows}
 use Rattle.lrrows.specs.Contests.{reduce_reduce_by}
 use Rattle.lrrows.specs.ReducingRows.{ReducesByOne}
@@ -26,15 +27,25 @@ use Rattle.lrrows.proofs.KeptNumbers.{numbered_action}
 use Rattle.lrrows.proofs.LeastReductions.{least_is}
 use Rattle.lrrows.proofs.ContestsOfState.{reduce_reduce_is}
 
--- what is added to an empty buffer is all of it
-pub in_buffer : {X : Type 0} (xs ys old row : List X) → xs ≡ ys → ys ≡ old ++ row → old ≡ [] → xs ≡ row
-in_buffer xs ys old row slice added none = slice ∙ (added ∙ ap (λ zs. zs ++ row) none)
-
 -- a matrix has this row more
 pub record IsRowMore (old new : MatrixBuilder) (row : List ℕ) : Type 0 where
   pub built : IsBuilt new
   pub cols : (so_far new).cols ≡ (so_far old).cols
   pub cells : (so_far new).cells ≡ (so_far old).cells ++ row
+
+-- where 0 stands in most cells of the matrix, that row is the one with these entries
+pub row_more :
+    (old new : MatrixBuilder) (n : ℕ) (es fs : List (ℕ × ℕ)) (row : List ℕ) → IsBuilt new → (so_far new).cols ≡ (so_far old).cols
+    → (so_far new).cells ≡ (so_far old).cells ++ row_with (empty_of old) (so_far old).cols es
+    → es ≡ fs → empty_of old ≡ 0 → (so_far old).cols ≡ n → row_with 0 n fs ≡ row → IsRowMore old new row
+row_more old new n es fs row built cols added slice zero wide made = record {
+  built = built;
+  cols = cols;
+  cells = added
+      ∙ ap (λ xs. (so_far old).cells ++ xs)
+      (ap (row_with (empty_of old) (so_far old).cols) slice
+      ∙ (ap (λ z. row_with z (so_far old).cols fs) zero ∙ (ap (λ k. row_with 0 k fs) wide ∙ made)));
+}
 
 -- what one more number gives is added to what the numbers gave
 flat_more :
@@ -73,12 +84,6 @@ module _ (g : Grammar) (h : Graph) (s : ℕ) where
 
   cells_len : length cells ≡ token_count g
   cells_len = length-map-range_with_len (λ t. cell_of g h s t) 0 (token_count g)
-
-  pub row_len : length (action_row g h s) ≡ token_count g
-  row_len = length-map-range_with_len (λ t. action_number (cell_of g h s t)) 0 (token_count g)
-
-  pub goto_row_len : length (goto_row g h s) ≡ length g.rule_names
-  goto_row_len = length-map-range_with_len (λ r. goto_number (edge h s (Rule r))) 0 (length g.rule_names)
 
   has_cell : (a : Action) → Contains cells a ↔ HasCell g h s a
   has_cell a = (

@@ -20,18 +20,14 @@ use Rattle.lrspec.proofs.grammars.ListMembers.{Among, among_from_contains, conta
 abbrev pub AreFound : List ℕ → List Action → Type 0
 AreFound ps xs = (p : ℕ) → Among p ps ↔ Among (Reduce p) xs
 
--- none yet
-pub found_none : AreFound [] []
-found_none p = (λ h. h, λ h. h)
-
--- an action that reduces by another production, or does something else
-pub found_other : (ps : List ℕ) (xs : List Action) (x : Action) → ((p : ℕ) → x ≡ Reduce p → ⊥) → AreFound ps xs → AreFound ps (xs ++ x ∷ [])
-found_other ps xs x n f p =
+-- an action that reduces by none but them
+pub found_again : (ps : List ℕ) (xs : List Action) (x : Action) → ((p : ℕ) → x ≡ Reduce p → Among p ps) → AreFound ps xs → AreFound ps (xs ++ x ∷ [])
+found_again ps xs x again f p =
     (λ h. among_front (Reduce p) xs (x ∷ []) ((f p).0 h), λ h. go (among_append (Reduce p) xs (x ∷ []) h))
   where
     go : Among (Reduce p) xs ⊎ Among (Reduce p) (x ∷ []) → Among p ps
     go (inl i) = (f p).1 i
-    go (inr (inl e)) = absurd (n p (sym e))
+    go (inr (inl e)) = again p (sym e)
     go (inr (inr e)) = absurd e
 
 -- an action that reduces, whose production is put among those that are found
@@ -120,14 +116,3 @@ module _ {T : Type 0} (number : T → ℕ) where
   no_shift (code.Reduce x) n m = tt
   no_shift code.Accept n m = m refl
   no_shift code.Error n m = tt
-
-  -- and the other way round
-  pub shift_or_accept :
-      (a : stored.Action T) → ((x : StIdx T) × (a ≡ code.Shift x)) ⊎ (a ≡ code.Accept)
-      → NeitherShiftsNorAccepts (action_of number a) → ⊥
-  shift_or_accept (code.Shift s) e h = h
-  shift_or_accept (code.Reduce x) (inl (s, e)) h = cc
-  shift_or_accept (code.Reduce x) (inr e) h = cc
-  shift_or_accept code.Accept e h = h
-  shift_or_accept code.Error (inl (s, e)) h = cc
-  shift_or_accept code.Error (inr e) h = cc

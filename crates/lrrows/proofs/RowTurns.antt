@@ -1,40 +1,33 @@
--- rows of cells, which grow by a cell at a time
+-- what the tokens of a row bring, one after another
 use Rattle.std.proofs.Common.{◌≡◌, ℕ, ◌+◌, ◌<◌, ◌≤◌, Bool, List, [], ◌∷◌, ◌++◌, length, map, take, get_or, Option, None, Some, append_assoc, arith, refl, sym, ap, ◌∙◌}
-use Rattle.std.specs.Option.{MatchOption, IsSome}
+use Rattle.std.specs.Option.{MatchOption, IsSome, IfSome}
 use Rattle.std.specs.List.{flat_map, range_with_len}
 use Rattle.std.proofs.lemmas.List.{flat_map_more, map-append, take_more}
 use Rattle.std.proofs.lemmas.List.FromFn.{map-range_with_len_more}
 use Rattle.lrspec.specs.grammars.Grammar.{Grammar, Token}
 use Rattle.lrspec.specs.merging.Graph.{Graph, closed_of, edge}
-use Rattle.lrspec.specs.tables.Table.{Action, accepts_at, cell_by, cell_of, reductions}
+use Rattle.lrspec.specs.tables.Table.{accepts_at, cell_by, cell_of, reductions}
+use Rattle.lrrows.specs.StoredActions.{action_number}
 
--- one cell more
-pub row_turn :
-    (f : ℕ → ℕ) (old cells new : List ℕ) (i v : ℕ) → cells ≡ old ++ map f (range_with_len 0 i) → new ≡ cells ++ v ∷ [] → v ≡ f i
-    → new ≡ old ++ map f (range_with_len 0 (i + 1))
-row_turn f old cells new i v before pushed here =
-    rw (pushed, before, here, map-range_with_len_more f 0 i i (omega arith)) (append_assoc old (map f (range_with_len 0 i)) (f i ∷ []))
+-- the number of a token's cell, by what the cell is made of
+pub number_found :
+    (g : Grammar) (h : Graph) (s t n : ℕ) (o : Option ℕ) (accepts : Bool) → o ≡ edge h s (Token t) → accepts ≡ accepts_at g (closed_of h s) t
+    → n ≡ action_number (cell_by g t (reductions g (closed_of h s) t) o accepts) → n ≡ action_number (cell_of g h s t)
+number_found g h s t n o accepts leads accepted cell = cell ∙ rw (leads, accepted) refl
 
--- the cell of a token, by what it is made of
-pub cell_found :
-    (g : Grammar) (h : Graph) (s t u : ℕ) (o : Option ℕ) (accepts : Bool) (a : Action) → u ≡ t → o ≡ edge h s (Token t)
-    → accepts ≡ accepts_at g (closed_of h s) t → a ≡ cell_by g u (reductions g (closed_of h s) t) o accepts → a ≡ cell_of g h s t
-cell_found g h s t u o accepts a same leads accepted cell = cell ∙ rw (leads, accepted, same) refl
-
--- a row without cells adds nothing
+-- a list without more adds nothing
 pub row_begun : {X : Type 0} (xs : List X) → xs ≡ xs ++ []
 row_begun [] = refl
 row_begun (x ∷ xs) = ap (λ ys. x ∷ ys) (row_begun xs)
 
+-- bits that are as many as the turns have one for the turn
+pub bit_there : {X : Type 0} (len : X → ℕ) (o : Option X) (n t : ℕ) → IfSome o (λ x. len x ≡ n) → t < n → IfSome o (λ x. t < len x)
+bit_there len None n t e l = tt
+bit_there len (Some x) n t e l = omega arith
+
 -- after the last turn there were as many
 pub turns_all : (i end k n : ℕ) → i ≤ end → end ≤ i → end ≡ k → k ≡ n → i ≡ n
 turns_all i end k n most least e d = omega arith
-
--- once there is a cell for each number, of which there are as many as the turns
-pub row_done :
-    (f : ℕ → ℕ) (old cells : List ℕ) (i end k n : ℕ) → i ≤ end → end ≤ i → end ≡ k → k ≡ n → cells ≡ old ++ map f (range_with_len 0 i)
-    → cells ≡ old ++ map f (range_with_len 0 n)
-row_done f old cells i end k n most least e d before = before ∙ ap (λ m. old ++ map f (range_with_len 0 m)) (turns_all i end k n most least e d)
 
 -- the turn is one of as many
 pub turn_below : (x i end k n : ℕ) → x ≡ i → i < end → end ≡ k → k ≡ n → x < n

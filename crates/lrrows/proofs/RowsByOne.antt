@@ -7,11 +7,11 @@ use Rattle.std.proofs.lemmas.List.Elements.{Contains-get_or, All-contains, All-m
 use Rattle.lrspec.specs.tables.Table.{Action, Shift, Reduce, Accept, Error}
 use Rattle.lrspec.specs.tables.Rows.{AreAllWith}
 use Rattle.lrspec.proofs.grammars.ListMembers.{contains_one, only_one}
-use Rattle.lrrows.specs.StoredActions.{action_numbered, NeitherShiftsNorAccepts}
+use Rattle.lrrows.specs.StoredActions.{action_numbered, actions_in, NeitherShiftsNorAccepts}
 use Rattle.lrrows.specs.ReducingRows.{ReducesByOne}
 
 -- what holds of what each element gives
-All-unmap : {X Y : Type 0} (P : Y → Type 0) (f : X → Y) (xs : List X) → All P (map f xs) → All (λ x. P (f x)) xs
+pub All-unmap : {X Y : Type 0} (P : Y → Type 0) (f : X → Y) (xs : List X) → All P (map f xs) → All (λ x. P (f x)) xs
 All-unmap P f xs a k d l = let e = get_or-map f xs k d (f d) l in rw e at (a k (f d) (rw length-map l))
 
 either : (p : ℕ) (x : Action) → ((q : ℕ) → x ≡ Reduce q → q ≡ p) → NeitherShiftsNorAccepts x → (x ≡ Error) ⊎ (x ≡ Reduce p)
@@ -65,18 +65,17 @@ module _ (xs : List Action) where
   none_shifts : ReducesByOne xs → All NeitherShiftsNorAccepts xs
   none_shifts (p, c, a) = λ k d l. neither p (get_or xs k d) (a k d l)
 
-module _ (row ps : List ℕ) (reduced : AreAllWith (λ p. Contains (map action_numbered row) (Reduce p)) ps) where
-  abbrev ByOne : Type 0
-  ByOne = ReducesByOne (map action_numbered row)
-
+module _ (es : List (ℕ × ℕ)) (ps : List ℕ) (reduced : AreAllWith (λ p. Contains (actions_in es) (Reduce p)) ps) where
   -- with one production it is left that the row neither shifts nor accepts
-  pub row_by_one : (n : ℕ) (b : Bool) → length ps ≡ n → n ≡ 1 → IsTrue b ↔ All (λ c. NeitherShiftsNorAccepts (action_numbered c)) row → IsTrue b ↔ ByOne
+  pub row_by_one :
+      (n : ℕ) (b : Bool) → length ps ≡ n → n ≡ 1 → IsTrue b ↔ All (λ e. NeitherShiftsNorAccepts (action_numbered e.1)) es
+      → IsTrue b ↔ ReducesByOne (actions_in es)
   row_by_one n b l e alone = (
-    λ h. by_one (map action_numbered row) ps reduced (omega arith) (All-map NeitherShiftsNorAccepts action_numbered row (alone.0 h)),
-    λ r. alone.1 (All-unmap NeitherShiftsNorAccepts action_numbered row (none_shifts (map action_numbered row) r)),
+    λ h. by_one (actions_in es) ps reduced (omega arith) (All-map NeitherShiftsNorAccepts (λ e. action_numbered e.1) es (alone.0 h)),
+    λ r. alone.1 (All-unmap NeitherShiftsNorAccepts (λ e. action_numbered e.1) es (none_shifts (actions_in es) r)),
   )
 
   -- with another number of productions it does not reduce by one
-  pub row_by_others : (n : ℕ) → length ps ≡ n → n ≢ 1 → IsTrue (eqb n 1) ↔ ByOne
+  pub row_by_others : (n : ℕ) → length ps ≡ n → n ≢ 1 → IsTrue (eqb n 1) ↔ ReducesByOne (actions_in es)
   row_by_others n l e =
-      (λ h. absurd (e (eqb-true n 1 h)), λ r. let one = one_production (map action_numbered row) ps reduced r in absurd (omega arith))
+      (λ h. absurd (e (eqb-true n 1 h)), λ r. let one = one_production (actions_in es) ps reduced r in absurd (omega arith))

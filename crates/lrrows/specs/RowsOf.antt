@@ -8,7 +8,7 @@ use Rattle.lrspec.specs.grammars.Grammar.{Grammar, token_count}
 use Rattle.lrspec.specs.merging.Graph.{Graph}
 use Rattle.lrspec.specs.tables.Table.{Action, Reduce, Error, cell_of}
 use Rattle.lrspec.specs.tables.Rows.{AreAllWith}
-use Rattle.lrsparse.specs.Building.{so_far, IsBuilt}
+use Rattle.lrsparse.specs.Building.{so_far, empty_of, IsBuilt}
 use Rattle.lrrows.specs.StateRows.{action_row, goto_row, reduce_reduce_at, shift_reduce_at}
 use Rattle.lrrows.specs.StoredLists.{numbers_of, pairs_of, mixes_of}
 use Rattle.lrrows.specs.declared.rows.Rows.{Rows}
@@ -39,3 +39,8 @@ pub record AreRowsOf {T : Type 0} (number : T → ℕ) (g : Grammar) (h : Graph)
   pub only : (s : ℕ) (d : Bool) → s < n → IsTrue (slice_index_or r.reduce_only.items s d) ↔ ReduceByOne g h s
   pub reduce_reduce : pairs_of number r.reduce_reduce.items ≡ flat_map (reduce_reduce_at g h) (range_with_len 0 n)
   pub shift_reduce : mixes_of number r.shift_reduce.items ≡ flat_map (shift_reduce_at g h) (range_with_len 0 n)
+
+-- in most cells of the rows 0 stands
+pub record HaveZeros {T : Type 0} (r : Rows T) : Type 0 where
+  pub actions : empty_of r.actions ≡ 0
+  pub gotos : empty_of r.gotos ≡ 0

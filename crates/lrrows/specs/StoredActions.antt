@@ -1,5 +1,5 @@
 -- actions of the code as plain data, and the numbers by which cells keep actions and gotos
-use Rattle.std.specs.Prelude.{ℕ, ◌+◌, ◌*◌, ◌-◌, ◌/◌, ◌%◌, ◌≤◌, ◌==◌, if◌then◌else◌, Option, None, Some}
+use Rattle.std.specs.Prelude.{ℕ, ◌+◌, ◌*◌, ◌-◌, ◌/◌, ◌%◌, ◌≤◌, ◌==◌, if◌then◌else◌, List, map, Option, None, Some}
 use Rattle.lrspec.specs.tables.Table.{Action, Shift, Reduce, Accept, Error}
 use Rattle.lrrows.specs.declared.action.Action as stored
 use Rattle.lrrows.specs.declared.action.Action.TheVariants as code
@@ -26,6 +26,10 @@ action_numbered n =
     else if n == 1 then Accept
     else if n % 2 == 0 then Shift ((n - 2) / 2)
     else Reduce ((n - 2) / 2)
+
+-- the actions that the numbers of a row's entries keep
+abbrev pub actions_in : List (ℕ × ℕ) → List Action
+actions_in entries = map (λ e. action_numbered e.1) entries
 
 -- the state or production of the action is at most the greatest index
 abbrev pub IsIndexed : ℕ → Action → Type 0

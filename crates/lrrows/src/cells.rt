@@ -1,18 +1,19 @@
 //! The cells and gotos of one state of a graph.
 
-ghost use Rattle.std.specs.Prelude.{◌≡◌, ℕ, ◌<◌, ◌++◌, List, length, map, option_map, IfSome, OnOk};
+ghost use Rattle.std.specs.Prelude.{◌≡◌, ℕ, ◌<◌, ◌≤◌, List, length, option_map, IfSome, OnOk};
 ghost use Rattle.lrspec.specs.grammars.Grammar as math;
-ghost use Rattle.lrspec.specs.merging.Graph.{closed_of};
+ghost use Rattle.lrspec.specs.merging.Graph.{closed_of, IsGraphOf};
 ghost use Rattle.lrspec.specs.tables.Table.{accepts_at, bit_or_none, cell_by, decide};
+ghost use Rattle.lrsparse.specs.Entries.{row_with, AreEntries};
 ghost use Rattle.lrrows.specs.StateRows.{action_row, goto_row, first_of, least_reductions};
-ghost use Rattle.lrrows.specs.StoredActions.{action_of};
+ghost use Rattle.lrrows.specs.StoredActions.{action_of, action_number};
 ghost use Rattle.lrrows.specs.StoredLists.{least_of};
 
 use crate::action::Action;
 use crate::numbers::{number_of_action, number_of_goto};
-use crate::targets::{rule_targets, token_targets};
+use crate::targets::token_targets;
 use lrgrammar::grammar::{AssocKind, YaccGrammar};
-use lrgrammar::idx::{IndexStorage, PIdx, StIdx, TIdx};
+use lrgrammar::idx::{IndexStorage, PIdx, StIdx, Symbol, TIdx};
 use lrgraphs::stategraph::StateGraph;
 use lritems::itemset::Ctx;
 use std::alloc::AllocError;
@@ -70,9 +71,39 @@ fn cell<T: IndexStorage>(
     }
 }
 
-/// Adds the cells of the state, a token after the other.
-pub(crate) fn push_actions<T: IndexStorage>(
-    cells: &mut Vec<usize>,
+/// The number that keeps the cell of a token, by the same as the cell.
+fn cell_number<T: IndexStorage>(
+    grm: &YaccGrammar<T>,
+    token: usize,
+    least: Option<PIdx<T>>,
+    edge: Option<StIdx<T>>,
+    accepts: bool,
+) -> usize
+    requires token { token < math.token_count grm.now }
+    requires small { token ≤ T.MAX }
+    requires prod { IfSome least (λ p. T.number p.0 < length grm.now.productions) }
+    ensures { (ps : List ℕ) → first_of ps ≡ option_map (λ p. T.number p.0) least
+        → result
+        ≡ action_number (cell_by grm.now token ps (option_map (λ s. T.number s.0) edge) accepts) }
+{
+    if least.is_none() && edge.is_none() && !accepts {
+        return 0;
+    }
+    let tidx = TIdx(T::from_usize(token).unwrap());
+    number_of_action(cell(grm, tidx, least, edge, accepts))
+}
+
+/// Whether the lookaheads, if there are any, have the token.
+fn has_token(lookaheads: Option<&Ctx>, token: usize) -> bool
+    requires { IfSome lookaheads (λ ctx. token < length ctx.now) }
+    ensures { result ≡ bit_or_none (option_map (λ ctx. ctx.now) lookaheads.entry) token }
+{
+    lookaheads.is_some_and(|ctx| ctx.get(token))
+}
+
+/// Makes the entries those of the state's cells, by token: its errors have none.
+pub(crate) fn make_actions<T: IndexStorage>(
+    entries: &mut Vec<(usize, usize)>,
     grm: &YaccGrammar<T>,
     sg: &StateGraph<T>,
     stidx: StIdx<T>,
@@ -84,31 +115,44 @@ pub(crate) fn push_actions<T: IndexStorage>(
     requires accepts { (t : ℕ) → bit_or_none (option_map (λ ctx. ctx.now) accepted) t
         ≡ accepts_at grm.now (closed_of sg.now (T.number stidx.0)) t }
     requires bits { IfSome accepted (λ ctx. length ctx.now ≡ math.token_count grm.now) }
-    ensures row { OnOk result (cells.new.items
-        ≡ cells.old.items ++ action_row grm.now sg.now (T.number stidx.0)) }
+    ensures entries { OnOk result (AreEntries (math.token_count grm.now) entries.new.items) }
+    ensures row { OnOk result (row_with 0 (math.token_count grm.now) entries.new.items
+        ≡ action_row grm.now sg.now (T.number stidx.0)) }
 {
     let targets = token_targets(grm, sg, stidx)?;
+    entries.clear();
     for token in 0..usize::from(grm.tokens_len()) {
-        let tidx = TIdx(T::from_usize(token).unwrap());
-        let accepts = accepted.is_some_and(|ctx| ctx.get(token));
-        cells.push(number_of_action(cell(grm, tidx, least[token], targets[token], accepts)))?;
+        let accepts = has_token(accepted, token);
+        let number = cell_number(grm, token, least[token], targets[token], accepts);
+        if number != 0 {
+            entries.push((token, number))?;
+        }
     }
     Ok(())
 }
 
-/// Adds the gotos of the state, a rule after the other.
-pub(crate) fn push_gotos<T: IndexStorage>(
-    cells: &mut Vec<usize>,
+/// Makes the entries those of the state's gotos, by rule: a rule without goto has none.
+pub(crate) fn make_gotos<T: IndexStorage>(
+    entries: &mut Vec<(usize, usize)>,
     grm: &YaccGrammar<T>,
     sg: &StateGraph<T>,
     stidx: StIdx<T>,
 ) -> Result<(), AllocError>
-    ensures row { OnOk result (cells.new.items
-        ≡ cells.old.items ++ goto_row grm.now sg.now (T.number stidx.0)) }
+    requires graph { IsGraphOf grm.now sg.now }
+    requires below { T.number stidx.0 < length sg.now }
+    ensures entries { OnOk result (AreEntries (length grm.now.rule_names) entries.new.items) }
+    ensures row { OnOk result (row_with 0 (length grm.now.rule_names) entries.new.items
+        ≡ goto_row grm.now sg.now (T.number stidx.0)) }
 {
-    let targets = rule_targets(grm, sg, stidx)?;
-    for target in &targets {
-        cells.push(number_of_goto(*target))?;
+    // `rules_len` says of a grammar that its symbols are rules and tokens of its own, and `len` of a map that its keys come
+    // upwards
+    let edges = sg.edges(stidx);
+    let _ = (grm.rules_len(), edges.len());
+    entries.clear();
+    for (symbol, target) in edges {
+        if let Symbol::Rule(ridx) = symbol {
+            entries.push((usize::from(*ridx), number_of_goto(Some(*target))))?;
+        }
     }
     Ok(())
 }

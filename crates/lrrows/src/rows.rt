@@ -1,17 +1,17 @@
 //! The rows of a table, made state after state.
 
-ghost use Rattle.std.specs.Prelude.{◌≡◌, ℕ, ◌+◌, ◌<◌, ◌≤◌, IsTrue, ◌↔◌, List, Contains, length, map, OnOk, IfOk};
+ghost use Rattle.std.specs.Prelude.{◌≡◌, ℕ, ◌+◌, ◌<◌, ◌≤◌, IsTrue, ◌↔◌, List, Contains, length, OnOk, IfOk};
 ghost use Rattle.std.specs.List.{All};
 ghost use Rattle.lrspec.specs.merging.Graph.{Graph, IsGraphOf};
 ghost use Rattle.lrspec.specs.tables.Table as table;
 ghost use Rattle.lrspec.specs.tables.Rows.{AreAllWith};
 ghost use Rattle.lrrows.specs.ReducingRows.{ReducesByOne};
-ghost use Rattle.lrrows.specs.RowsOf.{AreRowsOf};
-ghost use Rattle.lrrows.specs.StoredActions.{action_numbered, IsIndexed, NeitherShiftsNorAccepts};
+ghost use Rattle.lrrows.specs.RowsOf.{AreRowsOf, HaveZeros};
+ghost use Rattle.lrrows.specs.StoredActions.{action_numbered, actions_in, IsIndexed, NeitherShiftsNorAccepts};
 ghost use Rattle.lrrows.specs.StoredLists.{numbers_of};
 
 use crate::action::Action;
-use crate::cells::{push_actions, push_gotos};
+use crate::cells::{make_actions, make_gotos};
 use crate::completes::{accepted, completes, least_by_token};
 use crate::contests::{push_reduce_reduce, push_shift_reduce};
 use crate::numbers::action_of_number;
@@ -36,7 +36,8 @@ pub struct Rows<T: IndexStorage> {
 impl<T: IndexStorage> Rows<T> {
     /// No states.
     fn new(alloc: Global, grm: &YaccGrammar<T>) -> Rows<T>
-        ensures { (h : Graph) → AreRowsOf T.number grm.now h 0 result }
+        ensures rows { (h : Graph) → AreRowsOf T.number grm.now h 0 result }
+        ensures zeros { HaveZeros result }
     {
         Rows {
             actions: MatrixBuilder::new(alloc, 0, usize::from(grm.tokens_len())),
@@ -48,10 +49,10 @@ impl<T: IndexStorage> Rows<T> {
         }
     }
 
-    /// Adds what the table has of the state; its rows come into the buffer first, one after the other.
+    /// Adds what the table has of the state; the entries of its rows come into the buffer first, one row after the other.
     fn push(
         &mut self,
-        buffer: &mut Vec<usize>,
+        buffer: &mut Vec<(usize, usize)>,
         grm: &YaccGrammar<T>,
         sg: &StateGraph<T>,
         stidx: StIdx<T>,
@@ -60,16 +61,17 @@ impl<T: IndexStorage> Rows<T> {
         requires below { T.number stidx.0 < length sg.now }
         requires states { length sg.now ≤ T.MAX }
         requires rows { AreRowsOf T.number grm.now sg.now (T.number stidx.0) self.old }
-        ensures { OnOk result
+        requires zeros { HaveZeros self.old }
+        ensures rows { OnOk result
             (AreRowsOf T.number grm.now sg.now (T.number stidx.0 + 1) self.new) }
+        ensures zeros { OnOk result (HaveZeros self.new) }
     {
-        // `tokens_len` says of the grammar how many productions and tokens it has at most
+        // `tokens_len` says of the grammar how many productions, tokens and rules it has at most
         let _ = grm.tokens_len();
         let closed = sg.closed_state(stidx);
         let complete = completes(grm, closed)?;
         let least = least_by_token(grm, complete.as_slice())?;
-        buffer.clear();
-        push_actions(
+        make_actions(
             buffer,
             grm,
             sg,
@@ -82,10 +84,9 @@ impl<T: IndexStorage> Rows<T> {
         self.reduce_only
             .push(reduces_by_one(reduces.as_slice(), row))?;
         self.core_reduces.push(reduces)?;
-        self.actions.push_row(row)?;
-        buffer.clear();
-        push_gotos(buffer, grm, sg, stidx)?;
-        self.gotos.push_row(buffer.as_slice())?;
+        self.actions.push_entries(row)?;
+        make_gotos(buffer, grm, sg, stidx)?;
+        self.gotos.push_entries(buffer.as_slice())?;
         push_reduce_reduce(
             &mut self.reduce_reduce,
             stidx,
@@ -96,26 +97,36 @@ impl<T: IndexStorage> Rows<T> {
     }
 }
 
-/// The productions by which the row reduces.
-fn reduced<T: IndexStorage>(alloc: Global, row: &[usize]) -> Result<BTreeSet<PIdx<T>>, AllocError>
-    requires { All (λ c. IsIndexed T.MAX (action_numbered c)) row.now }
+/// The productions by which a row of these entries reduces.
+fn reduced<T: IndexStorage>(
+    alloc: Global,
+    row: &[(usize, usize)],
+) -> Result<BTreeSet<PIdx<T>>, AllocError>
+    requires { All (λ e. IsIndexed T.MAX (action_numbered e.1)) row.now }
     ensures { IfOk result (λ found. (p : ℕ) → Contains (numbers_of T.number found.keys) p
-        ↔ Contains (map action_numbered row.now) (table.Action.Reduce p)) }
+        ↔ Contains (actions_in row.now) (table.Action.Reduce p)) }
 {
     let mut found = BTreeSet::new(alloc);
-    for number in row {
-        if let Action::Reduce(pidx) = action_of_number::<T>(*number) {
-            found.insert(pidx)?;
+    let mut last = 0;
+    for (_, number) in row {
+        if *number != last {
+            if let Action::Reduce(pidx) = action_of_number::<T>(*number) {
+                found.insert(pidx)?;
+                last = *number;
+            }
         }
     }
     Ok(found)
 }
 
-/// The productions upwards by which the row reduces.
-fn reduces_of<T: IndexStorage>(alloc: Global, row: &[usize]) -> Result<Vec<PIdx<T>>, AllocError>
-    requires { All (λ c. IsIndexed T.MAX (action_numbered c)) row.now }
+/// The productions upwards by which a row of these entries reduces.
+fn reduces_of<T: IndexStorage>(
+    alloc: Global,
+    row: &[(usize, usize)],
+) -> Result<Vec<PIdx<T>>, AllocError>
+    requires { All (λ e. IsIndexed T.MAX (action_numbered e.1)) row.now }
     ensures { IfOk result (λ v.
-        AreAllWith (λ p. Contains (map action_numbered row.now) (table.Action.Reduce p))
+        AreAllWith (λ p. Contains (actions_in row.now) (table.Action.Reduce p))
         (numbers_of T.number v.items)) }
 {
     let found = reduced::<T>(alloc, row)?;
@@ -126,23 +137,23 @@ fn reduces_of<T: IndexStorage>(alloc: Global, row: &[usize]) -> Result<Vec<PIdx<
     Ok(reduces)
 }
 
-/// Whether the row reduces by one production, and else errs; `reduces` are those by which it reduces.
-fn reduces_by_one<T: IndexStorage>(reduces: &[PIdx<T>], row: &[usize]) -> bool
-    requires indexed { All (λ c. IsIndexed T.MAX (action_numbered c)) row.now }
+/// Whether a row of these entries reduces by one production, and else errs; `reduces` are those by which it reduces.
+fn reduces_by_one<T: IndexStorage>(reduces: &[PIdx<T>], row: &[(usize, usize)]) -> bool
+    requires indexed { All (λ e. IsIndexed T.MAX (action_numbered e.1)) row.now }
     requires reduces { AreAllWith
-        (λ p. Contains (map action_numbered row.now) (table.Action.Reduce p))
+        (λ p. Contains (actions_in row.now) (table.Action.Reduce p))
         (numbers_of T.number reduces.now) }
-    ensures { IsTrue result ↔ ReducesByOne (map action_numbered row.now) }
+    ensures { IsTrue result ↔ ReducesByOne (actions_in row.now) }
 {
     reduces.len() == 1 && reduces_alone::<T>(row)
 }
 
-/// Whether the row neither shifts nor accepts.
-fn reduces_alone<T: IndexStorage>(row: &[usize]) -> bool
-    requires { All (λ c. IsIndexed T.MAX (action_numbered c)) row.now }
-    ensures { IsTrue result ↔ All (λ c. NeitherShiftsNorAccepts (action_numbered c)) row.now }
+/// Whether a row of these entries neither shifts nor accepts.
+fn reduces_alone<T: IndexStorage>(row: &[(usize, usize)]) -> bool
+    requires { All (λ e. IsIndexed T.MAX (action_numbered e.1)) row.now }
+    ensures { IsTrue result ↔ All (λ e. NeitherShiftsNorAccepts (action_numbered e.1)) row.now }
 {
-    for number in row {
+    for (_, number) in row {
         if matches!(
             action_of_number::<T>(*number),
             Action::Shift(_) | Action::Accept

@@ -1,6 +1,6 @@
 //! Where the edges of a state lead, by the places of their symbols.
 
-ghost use Rattle.std.specs.Prelude.{◌≡◌, length, map, IfOk};
+ghost use Rattle.std.specs.Prelude.{◌≡◌, map, IfOk};
 ghost use Rattle.std.specs.List.{range_with_len};
 ghost use Rattle.lrspec.specs.grammars.Grammar as math;
 ghost use Rattle.lrspec.specs.merging.Graph.{edge};
@@ -27,27 +27,6 @@ pub(crate) fn token_targets<T: IndexStorage>(
         for (symbol, target) in sg.edges(stidx) {
             if let Symbol::Token(tidx) = symbol {
                 fill(targets.as_mut_slice(), usize::from(*tidx), *target);
-            }
-        }
-    }
-    Ok(targets)
-}
-
-/// The states to which the edges of the state on rules lead, by rule; none where there is no such state.
-pub(crate) fn rule_targets<T: IndexStorage>(
-    grm: &YaccGrammar<T>,
-    sg: &StateGraph<T>,
-    stidx: StIdx<T>,
-) -> Result<Vec<Option<StIdx<T>>>, AllocError>
-    ensures { IfOk result (λ v. targets_of T.number v.items
-        ≡ map (λ r. edge sg.now (T.number stidx.0) (math.Rule r))
-        (range_with_len 0 (length grm.now.rule_names))) }
-{
-    let mut targets = vec![in grm.allocator(); None; usize::from(grm.rules_len())]?;
-    if usize::from(stidx) < usize::from(sg.all_states_len()) {
-        for (symbol, target) in sg.edges(stidx) {
-            if let Symbol::Rule(ridx) = symbol {
-                fill(targets.as_mut_slice(), usize::from(*ridx), *target);
             }
         }
     }

@@ -1,7 +1,8 @@
 -- The lemmas of this crate's proofs.
 pub mod OwnedBits
 pub mod MetColumns
-pub mod ColumnSteps
+pub mod EntriesOfRow
+pub mod RowSoFar
 pub mod ColumnsOfRow
 pub mod PlacedRow
 pub mod RowsInList

@@ -1,10 +1,10 @@
 -- which of the displacements behind one another some column meets an owned place at
-use Rattle.std.proofs.Common.{◌≡◌, ◌⊎◌, ◌↔◌, ℕ, ◌+◌, ◌*◌, ◌^◌, ◌-◌, ◌<◌, ◌≤◌, List, length, slice_index, Contains, bit_or, sym, ap, ◌∙◌, inl, inr, arith}
+use Rattle.std.proofs.Common.{◌≡◌, ◌⊎◌, ◌↔◌, ℕ, ◌+◌, ◌*◌, ◌/◌, ◌%◌, ◌^◌, ◌-◌, ◌<◌, ◌≤◌, List, length, slice_index, Contains, bit_or, sym, ap, ◌∙◌, inl, inr, arith}
 use Rattle.std.proofs.lemmas.Bool.{cases_lt, cases_eq}
-use Rattle.std.proofs.lemmas.List.{get_or_default}
+use Rattle.std.proofs.lemmas.List.{get_or_default, get_or_past}
 use Rattle.std.proofs.lemmas.Nat.Bits.{bit_at_or, bit_at-lt, bit_at_ones}
 use Rattle.std.specs.Int.{bit_at}
-use Rattle.lrsparse.specs.Owned.{IsOwned, MeetsNone}
+use Rattle.lrsparse.specs.Owned.{IsOwned, AreOwned, MeetsNone}
 use Rattle.lrsparse.proofs.OwnedBits.{none_owned_past}
 
 either_bit : (a b i : ℕ) → bit_at (bit_or a b) i ≡ 1 → (bit_at a i ≡ 1) ⊎ (bit_at b i ≡ 1)
@@ -89,3 +89,24 @@ module _
 -- every bit is set
 pub all_set : (met i : ℕ) → i < 64 → met ≡ 2 ^ 64 - 1 → bit_at met i ≡ 1
 all_set met i h e = ap (λ n. bit_at n i) e ∙ bit_at_ones 64 i h
+
+-- one word more is wholly owned
+pub full_more : (words : List ℕ) (full : ℕ) → AreOwned words (64 * full) → slice_index words full ≡ 2 ^ 64 - 1 → AreOwned words (64 * (full + 1))
+full_more words full owned whole p l = elim (cases_lt p (64 * full)) [
+  | inl k ↦ owned p k
+  | inr k ↦ let word : p / 64 ≡ full = omega arith in all_set (slice_index words (p / 64)) (p % 64) (omega arith) (ap (slice_index words) word ∙ whole)
+]
+
+-- a word that is wholly owned is one of the words
+pub word_within : (words : List ℕ) (full : ℕ) → slice_index words full ≡ 2 ^ 64 - 1 → full < length words
+word_within words full whole = elim (cases_lt full (length words)) [
+  | inl k ↦ k
+  | inr k ↦ absurd (omega (arith, get_or_past words full 0 k))
+]
+
+-- and so are all of them
+pub full_within : (words : List ℕ) (n : ℕ) → AreOwned words n → n ≤ 64 * length words
+full_within words n owned = elim (cases_lt (64 * length words) n) [
+  | inl k ↦ absurd (none_owned_past words (64 * length words) (omega arith) (owned (64 * length words) k))
+  | inr k ↦ k
+]

@@ -11,7 +11,7 @@ use Rattle.std.proofs.lemmas.Bool.{lt-ltb}
 use Rattle.lrsparse.specs.Matrix.{value_at, HasRows}
 use Rattle.lrsparse.specs.Places.{number_of, number_at, row_of, rows_from}
 
-same_map : {X : Type 0} (f h : ℕ → X) (xs : List ℕ) → ((x : ℕ) → f x ≡ h x) → map f xs ≡ map h xs
+pub same_map : {X : Type 0} (f h : ℕ → X) (xs : List ℕ) → ((x : ℕ) → f x ≡ h x) → map f xs ≡ map h xs
 same_map f h [] e = refl
 same_map f h (x ∷ xs) e = ap (λ y. y ∷ map f xs) (e x) ∙ ap (λ ys. h x ∷ ys) (same_map f h xs e)
 
@@ -97,14 +97,13 @@ module _ (list : List (Option Entry)) (empty cols : ℕ) where
 -- one row more stands in the list
 pub row_added :
     (old new : List (Option Entry)) (empty cols row d : ℕ) (ds numbers : List ℕ)
-    → length numbers ≡ cols → row ≡ length ds → row_of new empty (length numbers) row d ≡ numbers
+    → row ≡ length ds → row_of new empty cols row d ≡ numbers
     → ((q p : ℕ) → q ≢ row → number_at new empty q p ≡ number_at old empty q p)
     → rows_from new empty cols 0 (ds ++ d ∷ []) ≡ rows_from old empty cols 0 ds ++ numbers
-row_added old new empty cols row d ds numbers wide last there others =
-    let own : row_of new empty cols row d ≡ numbers = rw wide at there in
+row_added old new empty cols row d ds numbers last there others =
     rows_more new empty cols 0 d ds row (omega arith)
     ∙ (ap (λ xs. xs ++ row_of new empty cols row d) (rows_kept old new empty cols row others 0 ds (omega arith))
-    ∙ ap (λ xs. rows_from old empty cols 0 ds ++ xs) own)
+    ∙ ap (λ xs. rows_from old empty cols 0 ds ++ xs) there)
 
 -- the cells of one row fewer are left behind the rows so far
 pub next_row :

@@ -1,5 +1,6 @@
 -- where the search for a displacement begins, row after row
-use Rattle.std.proofs.Common.{◌≡◌, ℕ, ◌+◌, ◌<◌, Bool, true, false, cond, List, Option, None, Some, slice_index, refl, sym, ◌∙◌, arith}
+use Rattle.std.proofs.Common.{◌≡◌, ℕ, ◌+◌, ◌<◌, Bool, true, false, cond, max, List, Option, None, Some, slice_index, refl, sym, ◌∙◌, inl, inr, arith}
+use Rattle.std.proofs.lemmas.Bool.{cases_lt}
 use Rattle.std.specs.BTreeMap.{BTreeMap, get}
 use Rattle.std.specs.Cmp.{Equal-is}
 use Rattle.std.specs.Cmp.Lexicographic.{slice_cmp}
@@ -45,3 +46,13 @@ module _
         ((q : Vec ℕ Global) → get columns_cmp new q ≡ cond (is_eq (slice_cmp nat_cmp columns.items q.items)) (Some d) (get columns_cmp old q))
         → AreStarts new after
     starts_more put q e k found l = start_more q e k (is_eq (slice_cmp nat_cmp columns.items q.items)) refl (sym (put q) ∙ found) l
+
+-- where two searches may begin, one may begin at the greater
+pub none_below_either :
+    (words columns : List ℕ) (a b : ℕ)
+    → ((k : ℕ) → k < a → MeetsNone words columns k → ⊥) → ((k : ℕ) → k < b → MeetsNone words columns k → ⊥)
+    → (k : ℕ) → k < max a b → MeetsNone words columns k → ⊥
+none_below_either words columns a b first second k l = elim (cases_lt k a) [
+  | inl h ↦ first k h
+  | inr h ↦ second k (omega arith)
+]

@@ -1,5 +1,5 @@
 -- matrices that are made row after row
-use Rattle.std.specs.Prelude.{◌+◌, ◌<◌, ◌^◌, length}
+use Rattle.std.specs.Prelude.{ℕ, ◌+◌, ◌<◌, ◌^◌, length}
 use Rattle.std.specs.List.{All}
 use Rattle.lrsparse.specs.Matrix.{Matrix}
 use Rattle.lrsparse.specs.Places.{AreStarts, IsPlaced, rows_from}
@@ -11,6 +11,10 @@ so_far b = record {
   cols = b.cols;
   cells = rows_from b.places.list.items b.empty b.cols 0 b.displacements.items;
 }
+
+-- the number that stands in most cells
+abbrev pub empty_of : MatrixBuilder → ℕ
+empty_of b = b.empty
 
 -- the rows so far are placed, and each of their places has a number
 pub record IsBuilt (b : MatrixBuilder) : Type 0 where

@@ -1,5 +1,6 @@
 -- What the contracts of this crate cite.
 pub mod Matrix
+pub mod Entries
 pub mod Places
 pub mod Owned
 pub mod Building

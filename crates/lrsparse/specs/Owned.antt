@@ -6,6 +6,10 @@ use Rattle.std.specs.Int.{bit_at}
 abbrev pub IsOwned : List ℕ → ℕ → Type 0
 IsOwned words place = bit_at (slice_index words (place / 64)) (place % 64) ≡ 1
 
+-- all places below this one are owned
+abbrev pub AreOwned : List ℕ → ℕ → Type 0
+AreOwned words n = (place : ℕ) → place < n → IsOwned words place
+
 -- at the displacement none of these columns meets an owned place
 abbrev pub MeetsNone : List ℕ → List ℕ → ℕ → Type 0
 MeetsNone words columns displacement = (k : ℕ) → k < length columns → ¬ (IsOwned words (displacement + slice_index columns k))

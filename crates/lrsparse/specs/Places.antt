@@ -1,8 +1,7 @@
 -- the list in which the entries of a matrix stand, each from its row's displacement on
-use Rattle.std.specs.Prelude.{◌≡◌, ◌≢◌, ◌↔◌, ℕ, ◌+◌, ◌*◌, ◌<◌, ◌≤◌, ◌==◌, if◌then◌else◌, Option, None, Some, IsSome, IfSome}
-use Rattle.std.specs.Prelude.{List, [], ◌∷◌, ◌++◌, length, map, Contains, slice_index, slice_index_or}
-use Rattle.std.specs.List.{range_with_len}
-use Rattle.std.specs.List.Sorted.{IsStrictlyIncreasing}
+use Rattle.std.specs.Prelude.{◌≡◌, ◌↔◌, ℕ, ◌+◌, ◌*◌, ◌<◌, ◌≤◌, ◌==◌, if◌then◌else◌, Option, None, Some, IsSome, IfSome}
+use Rattle.std.specs.Prelude.{List, [], ◌∷◌, ◌++◌, length, map, slice_index_or}
+use Rattle.std.specs.List.{All, range_with_len}
 use Rattle.std.specs.BTreeMap.{BTreeMap, get}
 use Rattle.std.specs.Cmp.Lexicographic.{slice_cmp}
 use Rattle.std.specs.Ordering.{nat_cmp}
@@ -11,25 +10,15 @@ use Rattle.std.specs.declared.vec.Vec.{Vec}
 use Rattle.std.specs.declared.alloc.Global.{Global}
 use Rattle.lrsparse.specs.declared.sparsevec.places.Entry.{Entry}
 use Rattle.lrsparse.specs.declared.sparsevec.places.Places.{Places}
-use Rattle.lrsparse.specs.Owned.{IsOwned, MeetsNone}
+use Rattle.lrsparse.specs.Owned.{IsOwned, AreOwned, MeetsNone}
 
 -- no row owns the place
 abbrev pub IsFree : List (Option Entry) → ℕ → Type 0
 IsFree list place = slice_index_or list place None ≡ None
 
--- a row of these numbers has an entry in the column
-abbrev pub HasEntry : ℕ → List ℕ → ℕ → Type 0
-HasEntry empty numbers column = slice_index_or numbers column empty ≢ empty
-
--- these are the columns upwards in which a row of these numbers has entries
-pub record AreColumns (empty : ℕ) (numbers columns : List ℕ) : Type 0 where
-  pub entries : (k : ℕ) → k < length columns → HasEntry empty numbers (slice_index columns k)
-  pub all : (c : ℕ) → HasEntry empty numbers c → Contains columns c
-  pub upwards : IsStrictlyIncreasing columns
-
--- at the displacement none of the entries of a row of these numbers meets an owned place
-abbrev pub Fits : List (Option Entry) → ℕ → List ℕ → ℕ → Type 0
-Fits list empty numbers displacement = (c : ℕ) → HasEntry empty numbers c → IsFree list (displacement + c)
+-- at the displacement none of these entries of a row meets an owned place
+abbrev pub Fits : List (Option Entry) → List (ℕ × ℕ) → ℕ → Type 0
+Fits list entries displacement = All (λ e. IsFree list (displacement + e.0)) entries
 
 -- all places that are owned are owned by rows above this one
 abbrev pub AreOwnedBelow : ℕ → List (Option Entry) → Type 0
@@ -40,6 +29,7 @@ pub record IsPlaced (row : ℕ) (places : Places) : Type 0 where
   pub above : AreOwnedBelow row places.list.items
   pub owned : (place : ℕ) → IsOwned places.owned.items place ↔ IsSome (slice_index_or places.list.items place None)
   pub words : 64 * length places.owned.items ≤ length places.list.items + 64
+  pub full : AreOwned places.owned.items (64 * places.full)
 
 -- lists of columns by the order of maps
 abbrev pub columns_cmp : Vec ℕ Global → Vec ℕ Global → Ordering

@@ -1,7 +1,8 @@
 //! Matrices that are made row after row.
 
-ghost use Rattle.std.specs.Prelude.{◌≡◌, [], ◌++◌, length, OnOk};
-ghost use Rattle.lrsparse.specs.Building.{so_far, IsBuilt};
+ghost use Rattle.std.specs.Prelude.{◌≡◌, ◌<◌, ◌^◌, [], ◌++◌, length, OnOk, IfOk};
+ghost use Rattle.lrsparse.specs.Building.{so_far, empty_of, IsBuilt};
+ghost use Rattle.lrsparse.specs.Entries.{row_with, AreEntries};
 
 use crate::sparsevec::SparseVec;
 use crate::sparsevec::places::{Places, place_row};
@@ -22,6 +23,7 @@ impl MatrixBuilder {
     /// No rows, of `cols` cells each; `empty` is the number that stands in most cells.
     pub fn new(alloc: Global, empty: usize, cols: usize) -> MatrixBuilder
         ensures built { IsBuilt result }
+        ensures empty { empty_of result ≡ empty }
         ensures matrix { so_far result ≡ record { cols = cols; cells = [] } }
     {
         MatrixBuilder {
@@ -38,15 +40,33 @@ impl MatrixBuilder {
         requires built { IsBuilt self.old }
         requires len { length numbers.now ≡ (so_far self.old).cols }
         ensures built { OnOk result (IsBuilt self.new) }
+        ensures empty { OnOk result (empty_of self.new ≡ empty_of self.old) }
         ensures cols { OnOk result ((so_far self.new).cols ≡ (so_far self.old).cols) }
         ensures cells { OnOk result ((so_far self.new).cells ≡ (so_far self.old).cells ++ numbers.now) }
+    {
+        let entries = entries_of(*self.displacements.allocator(), numbers, self.empty)?;
+        self.push_entries(entries.as_slice())?;
+        Ok(())
+    }
+
+    /// Adds the row with these entries, each of which is a column and its number, upwards by column; in the other columns the
+    /// empty number stands. The error says that memory was refused.
+    pub fn push_entries(&mut self, entries: &[(usize, usize)]) -> Result<(), AllocError>
+        requires built { IsBuilt self.old }
+        requires cols { (so_far self.old).cols < 2 ^ 60 }
+        requires entries { AreEntries (so_far self.old).cols entries.now }
+        ensures built { OnOk result (IsBuilt self.new) }
+        ensures empty { OnOk result (empty_of self.new ≡ empty_of self.old) }
+        ensures cols { OnOk result ((so_far self.new).cols ≡ (so_far self.old).cols) }
+        ensures cells { OnOk result ((so_far self.new).cells
+            ≡ (so_far self.old).cells
+            ++ row_with (empty_of self.old) (so_far self.old).cols entries.now) }
     {
         let displacement = place_row(
             &mut self.places,
             &mut self.starts,
             self.displacements.len(),
-            numbers,
-            self.empty,
+            entries,
         )?;
         self.displacements.push(displacement)?;
         Ok(())
@@ -65,4 +85,22 @@ impl MatrixBuilder {
             cols: self.cols,
         }
     }
+}
+
+/// The entries of a row of these numbers, which are all but the empty one, upwards by column.
+fn entries_of(
+    alloc: Global,
+    numbers: &[usize],
+    empty: usize,
+) -> Result<Vec<(usize, usize)>, AllocError>
+    ensures entries { IfOk result (λ v. AreEntries (length numbers.now) v.items) }
+    ensures numbers { IfOk result (λ v. row_with empty (length numbers.now) v.items ≡ numbers.now) }
+{
+    let mut entries = Vec::new(alloc);
+    for (column, number) in numbers.iter().enumerate() {
+        if *number != empty {
+            entries.push((column, *number))?;
+        }
+    }
+    Ok(entries)
 }

@@ -8,4 +8,5 @@ pub mod NamedTokens
 pub mod SearchedPlaces
 pub mod PushedOutcomes
 pub mod PushedReductions
+pub mod MadeLabels
 pub mod ReducedProductions

@@ -5,7 +5,7 @@ mod lines;
 mod outcome;
 mod running;
 
-pub use crate::machine::answers::{line_tokens, production_label};
+pub use crate::machine::answers::{line_tokens, production_label, production_labels};
 pub use crate::machine::lines::run_lines;
 pub use crate::machine::outcome::{Run, Verdict};
 pub use crate::machine::running::run;

@@ -5,6 +5,7 @@ ghost use Rattle.lrspec.specs.texts.Devices.{ConsumesSome, AppendsBeginning, App
 ghost use Rattle.lrspec.specs.texts.Lines.{whole_lines, lines, answers_to, answer_text};
 ghost use Rattle.lrspec.specs.texts.TreeTexts.{parse_text, tree_answer, tree_text};
 ghost use Rattle.lrspec.specs.tables.Recognition.{AreNamed};
+ghost use Rattle.lrtable.specs.Labels.{AreLabels};
 ghost use Rattle.lrtable.specs.RunAnswers.{text_of};
 ghost use Rattle.lrtree.specs.TreesOf.{HasPrintableTreeOf, IsOfTree};
 ghost use Rattle.std.specs.Io.KnownBytes.{Appends, IsAtEnd};
@@ -16,23 +17,26 @@ use crate::walks::visits_of;
 use lrgrammar::grammar::YaccGrammar;
 use lrgrammar::idx::{IndexStorage, PIdx, TIdx};
 use lrlines::{LineAnswers, LineError, LineRead, LineWrite, answer_lines};
-use lrtable::machine::{Verdict, line_tokens, run};
+use lrtable::machine::{Verdict, line_tokens, production_labels, run};
 use lrtable::statetable::StateTable;
 use std::alloc::{AllocError, Global};
 
-/// The text of the tree of these productions in order, which is made without the tree.
+/// The text of the tree of these productions in order, which is made without the tree, by the labels of the grammar's
+/// productions.
 fn tree_text<T: IndexStorage>(
     grm: &YaccGrammar<T>,
+    labels: &[String],
     productions: Vec<PIdx<T>>,
 ) -> Result<String, AllocError>
-    requires { HasPrintableTreeOf T.number grm.now productions.items }
+    requires labels { AreLabels grm.now labels.now }
+    requires tree { HasPrintableTreeOf T.number grm.now productions.items }
     ensures { IfOk result (λ s. IsOfTree T.number grm.now productions.items (λ t.
         string_bytes s ≡ tree_text grm.now t)) }
 {
     let alloc = grm.allocator();
     let visits = visits_of(alloc, grm, productions)?;
     let mut text = String::new(alloc);
-    push_visits(grm, &visits, &mut text)?;
+    push_visits(grm, labels, &visits, &mut text)?;
     Ok(text)
 }
 
@@ -49,14 +53,22 @@ fn push_tree(text: &str, out: &mut Vec<u8>) -> Result<(), AllocError>
 struct TreeLines<'a, T: IndexStorage> {
     grm: &'a YaccGrammar<T>,
     table: &'a StateTable<T>,
+    /// The labels of the grammar's productions. Where memory was refused for them, no line is answered.
+    labels: Result<Vec<String>, AllocError>,
     /// How many steps a run makes at most.
     steps: usize,
 }
 
 impl<'a, T: IndexStorage> TreeLines<'a, T> {
-    /// Writes what the text came to behind `out`.
-    fn push_parsed(&self, text: &[TIdx<T>], out: &mut Vec<u8>) -> Result<(), AllocError>
+    /// Writes what the text came to behind `out`, by the labels of the grammar's productions.
+    fn push_parsed(
+        &self,
+        labels: &[String],
+        text: &[TIdx<T>],
+        out: &mut Vec<u8>,
+    ) -> Result<(), AllocError>
         requires table_for { IsTableFor self.now.grm.now self.now.table.now }
+        requires labels { AreLabels self.now.grm.now labels.now }
         requires named { AreNamed self.now.grm.now (text_of T.number text.now) }
         ensures { OnOk result (out.new.items ≡ out.old.items
             ++ parse_text self.now.grm.now self.now.table.now self.now.steps (text_of T.number text.now)) }
@@ -64,7 +76,7 @@ impl<'a, T: IndexStorage> TreeLines<'a, T> {
         let outcome = run(self.grm.allocator(), self.grm, self.table, text, self.steps)?;
         match outcome.verdict {
             Verdict::Accepted => {
-                let text = tree_text(self.grm, outcome.reductions)?;
+                let text = tree_text(self.grm, labels, outcome.reductions)?;
                 push_tree(text.as_str(), out)
             }
             Verdict::Rejected => out.extend_from_slice("reject".as_bytes()),
@@ -76,11 +88,15 @@ impl<'a, T: IndexStorage> TreeLines<'a, T> {
 impl<'a, T: IndexStorage> LineAnswers for TreeLines<'a, T> {
     ghost answer = { λ r. tree_answer r.grm.now r.table.now r.steps };
 
-    ghost can_answer = { λ r. IsTableFor r.grm.now r.table.now };
+    ghost can_answer = { λ r. IsTableFor r.grm.now r.table.now
+        × IfOk r.labels (λ labels. AreLabels r.grm.now labels.items) };
 
     fn answer(&self, line: &[u8], out: &mut Vec<u8>) -> Result<(), AllocError> {
+        let Ok(labels) = &self.labels else {
+            return Err(AllocError);
+        };
         match line_tokens(self.grm, line)? {
-            Ok(tokens) => self.push_parsed(&tokens, out),
+            Ok(tokens) => self.push_parsed(labels, &tokens, out),
             Err(word) => {
                 out.extend_from_slice("unknown ".as_bytes())?;
                 out.extend_from_slice(word)
@@ -125,5 +141,12 @@ pub fn tree_lines<T: IndexStorage, R: LineRead, W: LineWrite>(
     ensures reader_counts { result ≢ Err LineError.Read → R.failures reader.new ≡ R.failures reader.old }
     ensures writer_counts { result ≢ Err LineError.Write → W.failures writer.new ≡ W.failures writer.old }
 {
-    answer_lines(alloc, reader, writer, &TreeLines { grm, table, steps })
+    let labels = production_labels(grm);
+    let answers = TreeLines {
+        grm,
+        table,
+        labels,
+        steps,
+    };
+    answer_lines(alloc, reader, writer, &answers)
 }

@@ -1,9 +1,10 @@
 //! The texts of trees.
 
-ghost use Rattle.std.specs.Prelude.{◌≡◌, ◌<◌, ◌++◌, true, map, All, OnOk};
+ghost use Rattle.std.specs.Prelude.{◌≡◌, ◌<◌, ◌++◌, true, map, codes, All, OnOk};
 ghost use Rattle.std.specs.String.{string_bytes};
 ghost use Rattle.lrspec.specs.grammars.Grammar.{end_token};
 ghost use Rattle.lrspec.specs.texts.PrintedTexts.{token_text};
+ghost use Rattle.lrtable.specs.Labels.{AreLabels};
 ghost use Rattle.lrtree.specs.Visits.{IsVisitOf, gap_unless, visit_text, visits_text};
 ghost use Rattle.lrtree.specs.StoredVisits.{visit_of};
 
@@ -30,28 +31,48 @@ pub(crate) fn push_visit<T: IndexStorage>(
             push_token(grm, tidx, text)
         }
         Visit::Enter(pidx) => {
-            push_gap(is_first, text)?;
             let label = production_label(grm, pidx)?;
-            text.push_str(label.as_str())?;
-            text.push('(')
+            push_enter(label.as_str(), is_first, text)
         }
         Visit::Leave(_) => text.push(')'),
     }
 }
 
-/// Adds what visits one after another add to the text of a tree, which begins with them.
+/// Adds what a visit adds to the text of a tree, by the labels of the grammar's productions.
+fn push_labelled<T: IndexStorage>(
+    grm: &YaccGrammar<T>,
+    labels: &[String],
+    visit: Visit<T>,
+    is_first: bool,
+    text: &mut String,
+) -> Result<(), AllocError>
+    requires labels { AreLabels grm.now labels.now }
+    requires visit { IsVisitOf grm.now (visit_of T.number visit) }
+    ensures { OnOk result (string_bytes text.new
+        ≡ string_bytes text.old ++ visit_text grm.now is_first (visit_of T.number visit)) }
+{
+    match visit {
+        Visit::Enter(pidx) => push_enter(labels[pidx.0.to_usize()].as_str(), is_first, text),
+        _ => push_visit(grm, visit, is_first, text),
+    }
+}
+
+/// Adds what visits one after another add to the text of a tree, which begins with them, by the labels of the grammar's
+/// productions.
 pub(crate) fn push_visits<T: IndexStorage>(
     grm: &YaccGrammar<T>,
+    labels: &[String],
     visits: &[Visit<T>],
     text: &mut String,
 ) -> Result<(), AllocError>
-    requires { All (λ v. IsVisitOf grm.now (visit_of T.number v)) visits.now }
+    requires labels { AreLabels grm.now labels.now }
+    requires visits { All (λ v. IsVisitOf grm.now (visit_of T.number v)) visits.now }
     ensures { OnOk result (string_bytes text.new
         ≡ string_bytes text.old ++ visits_text grm.now true (map (visit_of T.number) visits.now)) }
 {
     let mut is_first = true;
     for visit in visits {
-        push_visit(grm, *visit, is_first, text)?;
+        push_labelled(grm, labels, *visit, is_first, text)?;
         is_first = visit.is_enter();
     }
     Ok(())
@@ -62,6 +83,16 @@ fn push_gap(is_first: bool, text: &mut String) -> Result<(), AllocError>
     ensures { OnOk result (string_bytes text.new ≡ string_bytes text.old ++ gap_unless is_first) }
 {
     if is_first { Ok(()) } else { text.push(' ') }
+}
+
+/// Adds the beginning of a node of this label.
+fn push_enter(label: &str, is_first: bool, text: &mut String) -> Result<(), AllocError>
+    ensures { OnOk result (string_bytes text.new
+        ≡ string_bytes text.old ++ (gap_unless is_first ++ label.now ++ codes "(")) }
+{
+    push_gap(is_first, text)?;
+    text.push_str(label)?;
+    text.push('(')
 }
 
 /// Adds a token's name between quotes.

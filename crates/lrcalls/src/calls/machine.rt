@@ -10,13 +10,13 @@ use crate::grammars::Sample;
 use crate::problems::Problem;
 use crate::texts::grammars::grammar_text;
 use crate::texts::tables::table_text;
-use crate::texts::trees::{parsed_text, run_text, tokens_text, words_text};
+use crate::texts::trees::{labels_text, parsed_text, run_text, tokens_text, words_text};
 use crate::windows::{
     answered, begin, both, conclude, end, is_out_of_memory, refused, told, try_call,
 };
 use lrgrammar::grammar::YaccGrammar;
 use lrgrammar::idx::{IndexStorage, PIdx, TIdx};
-use lrtable::machine::{line_tokens, production_label, run};
+use lrtable::machine::{line_tokens, production_label, production_labels, run};
 use lrtable::{StateGraph, StateTable};
 use lrtree::parse;
 
@@ -52,6 +52,20 @@ fn try_production_label<T: IndexStorage>(
         grammar_text(alloc, grm),
         production_label(grm, pidx),
         |text| Ok(text)
+    )
+}
+
+/// `production_labels`.
+fn try_production_labels<T: IndexStorage>(
+    rt: &HostRuntime,
+    grm: &YaccGrammar<T>,
+) -> Result<(), Problem> {
+    let alloc = rt.alloc();
+    try_call!(
+        rt,
+        grammar_text(alloc, grm),
+        production_labels(grm),
+        |labels| labels_text(alloc, labels.as_slice())
     )
 }
 
@@ -131,6 +145,9 @@ pub fn try_named<T: IndexStorage>(
 ) -> Result<(), Problem>
     requires { IsTableFor grm.now table.now }
 {
+    if call == "production_labels" {
+        return try_production_labels(rt, grm);
+    }
     if call == "production_label" {
         return try_label_at(rt, grm, place);
     }

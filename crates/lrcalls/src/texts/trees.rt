@@ -30,6 +30,16 @@ pub fn prods_text<T: IndexStorage>(alloc: Global, prods: &[PIdx<T>]) -> Result<S
     Ok(text)
 }
 
+/// The text of the labels of productions.
+pub fn labels_text(alloc: Global, labels: &[String]) -> Result<String, Problem> {
+    let mut text = String::new(alloc);
+    for label in labels {
+        text.push(' ')?;
+        text.push_str(label.as_str())?;
+    }
+    Ok(text)
+}
+
 /// The text of the run.
 pub fn run_text<T: IndexStorage>(alloc: Global, run: &Run<T>) -> Result<String, Problem> {
     let mut text = String::new(alloc);

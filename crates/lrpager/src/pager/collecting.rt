@@ -1,20 +1,30 @@
 //! The graph of the states that are reached.
 
-ghost use Rattle.std.specs.Prelude.{◌≡◌, ℕ, ◌<◌, ◌≤◌, Bool, List, Some, IsSome, length, count_by, sum_by, slice_get, slice_index, IfOk, IfErr, OnOk};
+ghost use Rattle.std.specs.Prelude.{◌≡◌, ℕ, ◌<◌, ◌≤◌, Bool, List, Some, length, count_by, sum_by, slice_get, slice_index, IfOk, IfErr, OnOk};
 ghost use Rattle.std.specs.BTreeMap.{btree_map_len};
 ghost use Rattle.std.specs.List.{All};
 ghost use Rattle.lrspec.specs.grammars.Grammar as math;
 ghost use Rattle.lrspec.specs.merging.Graph.{IsInOrder};
-ghost use Rattle.lrplacing.specs.Construction.{draft_edges, edge_from};
-ghost use Rattle.lrplacing.specs.Invariant.{AreClosed};
+ghost use Rattle.lrspec.specs.grammars.ItemSets.{Fits, IsClosure};
+ghost use Rattle.lrgrammar.specs.Firsts.{AreFirstsOf};
+ghost use Rattle.lrclosing.specs.Closer.{IsCloserOf};
+ghost use Rattle.lritems.specs.ItemsOf.{set_of};
+ghost use Rattle.lrplacing.specs.Construction.{core_at, draft_edges, edge_from, HasEdgesOnce};
 ghost use Rattle.lrgraphs.specs.GraphOf.{edges_of, state_of, graph_of};
 ghost use Rattle.lrplacing.specs.Refusals.{IsLargeOnly};
-ghost use Rattle.lrpager.specs.Collecting.{AreMarked, IsCollected, LeadToStates, IsMarked, HasTarget, MarksOnly, AreNewNumbers, HaveDistinctTargets, AreRenumbered, IsRenumbered};
+ghost use Rattle.lrpager.specs.Collecting.{AreMarked, IsCollected, LeadToStates, IsMarked, HasTarget, MarksOnly, AreNewNumbers, HaveDistinctTargets, AreRenumbered, IsRenumbered, OnlyStartsAtZero};
 
+use lrclosing::closer::Closer;
+use lrclosing::listing::closed_items;
+use lrgrammar::firsts::YaccFirsts;
+use lrgrammar::grammar::YaccGrammar;
 use lrgrammar::idx::{IndexStorage, StIdx, Symbol};
 use lrgrammar::vob::Vob;
 use lrgraphs::BuildError;
 use lrgraphs::stategraph::{State, StateGraph};
+use lritems::cores::Core;
+use lritems::gotos::to_itemset;
+use lritems::itemset::Itemset;
 use lrplacing::draft::Draft;
 use std::alloc::{AllocError, Global};
 use std::collections::BTreeMap;
@@ -36,13 +46,14 @@ fn mark(marks: &mut Vob, todo: &mut Vec<usize>, state: usize) -> Result<(), Allo
 fn mark_targets<T: IndexStorage>(
     marks: &mut Vob,
     todo: &mut Vec<usize>,
-    edges: &BTreeMap<Symbol<T>, usize>,
+    edges: &[(Symbol<T>, usize)],
 ) -> Result<(), AllocError>
-    requires { (u : ℕ) → HasTarget (edges_of T.number (λ u. u) edges.now.entries) u
+    requires once { HasEdgesOnce (edges_of T.number (λ u. u) edges.now) }
+    requires below { (u : ℕ) → HasTarget (edges_of T.number (λ u. u) edges.now) u
         → u < length marks.old }
     ensures marked { OnOk result ((u : ℕ)
-        → HasTarget (edges_of T.number (λ u. u) edges.now.entries) u → IsMarked marks.new u) }
-    ensures only { OnOk result (MarksOnly (HasTarget (edges_of T.number (λ u. u) edges.now.entries))
+        → HasTarget (edges_of T.number (λ u. u) edges.now) u → IsMarked marks.new u) }
+    ensures only { OnOk result (MarksOnly (HasTarget (edges_of T.number (λ u. u) edges.now))
         marks.old todo.old.items marks.new todo.new.items) }
 {
     for (_symbol, target) in edges {
@@ -52,12 +63,12 @@ fn mark_targets<T: IndexStorage>(
 }
 
 /// The edges of the state `k`.
-fn edges_at<T: IndexStorage>(drafts: &[Draft<T>], k: usize) -> &BTreeMap<Symbol<T>, usize>
+fn edges_at<T: IndexStorage>(drafts: &[Draft<T>], k: usize) -> &[(Symbol<T>, usize)]
     requires { k < length drafts.now }
-    ensures { edges_of T.number (λ u. u) result.now.entries ≡ draft_edges (slice_get drafts.now k) }
+    ensures edges { edges_of T.number (λ u. u) result.now ≡ draft_edges (slice_get drafts.now k) }
+    ensures once { HasEdgesOnce (edges_of T.number (λ u. u) result.now) }
 {
-    let draft = &drafts[k];
-    &draft.edges
+    drafts[k].edges()
 }
 
 /// Marks the states that are reached from the first one.
@@ -94,14 +105,15 @@ fn new_numbers(alloc: Global, marks: &Vob) -> Result<(Vec<usize>, usize), AllocE
 /// The edges, which lead to the new numbers of the states.
 fn renumber_edges<T: IndexStorage>(
     alloc: Global,
-    edges: &BTreeMap<Symbol<T>, usize>,
+    edges: &[(Symbol<T>, usize)],
     numbers: &[usize],
 ) -> Result<BTreeMap<Symbol<T>, StIdx<T>>, AllocError>
+    requires once { HasEdgesOnce (edges_of T.number (λ u. u) edges.now) }
     requires apart { HaveDistinctTargets (length numbers.now)
-        (edges_of T.number (λ u. u) edges.now.entries) }
+        (edges_of T.number (λ u. u) edges.now) }
     requires most { (k : ℕ) → k < length numbers.now → slice_index numbers.now k ≤ T.MAX }
     ensures edges { IfOk result (λ es. AreRenumbered (slice_index numbers.now)
-        (edges_of T.number (λ u. u) edges.now.entries)
+        (edges_of T.number (λ u. u) edges.now)
         (edges_of T.number (λ u. T.number u.0) es.entries)) }
     ensures len { IfOk result (λ es. btree_map_len es ≤ length numbers.now) }
 {
@@ -113,29 +125,53 @@ fn renumber_edges<T: IndexStorage>(
     Ok(renumbered)
 }
 
-/// The state, whose edges lead to the new numbers of the states.
+/// The closed state of a core. The error says that memory was refused.
+fn closed_state<T: IndexStorage>(
+    closer: &mut Closer,
+    core: &Core<T>,
+    grm: &YaccGrammar<T>,
+    firsts: &YaccFirsts<T>,
+) -> Result<Itemset<T>, AllocError>
+    requires fits { Fits grm.now core.now }
+    requires of { AreFirstsOf grm.now firsts.now }
+    requires closer { IsCloserOf grm.now closer.old }
+    requires starts { OnlyStartsAtZero grm.now core.now }
+    ensures closure { IfOk result (λ s. IsClosure grm.now core.now (set_of T.number s)) }
+    ensures fits { IfOk result (λ s. Fits grm.now (set_of T.number s)) }
+    ensures closer { IsCloserOf grm.now closer.new }
+{
+    let given = core.items();
+    closer.close(grm, firsts, given);
+    let closed = closed_items(given, grm, closer)?;
+    to_itemset(grm.allocator(), closed.as_slice())
+}
+
+/// The state, with its closed state, and with edges that lead to the new numbers of the states.
 fn renumber_state<T: IndexStorage>(
     alloc: Global,
     draft: Draft<T>,
+    closer: &mut Closer,
+    grm: &YaccGrammar<T>,
+    firsts: &YaccFirsts<T>,
     numbers: &[usize],
 ) -> Result<State<T>, AllocError>
-    requires closed { IsSome draft.closed }
+    requires fits { Fits grm.now draft.core }
+    requires starts { OnlyStartsAtZero grm.now draft.core }
+    requires of { AreFirstsOf grm.now firsts.now }
+    requires closer { IsCloserOf grm.now closer.old }
     requires apart { HaveDistinctTargets (length numbers.now) draft.edges }
     requires most { (k : ℕ) → k < length numbers.now → slice_index numbers.now k ≤ T.MAX }
     ensures renumbered { IfOk result (λ s.
-        IsRenumbered (slice_index numbers.now) draft (state_of T.number s)) }
+        IsRenumbered grm.now (slice_index numbers.now) draft (state_of T.number s)) }
     ensures order { IfOk result (λ s. IsInOrder (state_of T.number s)) }
     ensures len { IfOk result (λ s. btree_map_len s.edges ≤ length numbers.now) }
+    ensures closer { IsCloserOf grm.now closer.new }
 {
-    let Draft {
-        core,
-        closed,
-        edges,
-    } = draft;
-    let edges = renumber_edges(alloc, &edges, numbers)?;
+    let closed = closed_state(closer, draft.core(), grm, firsts)?;
+    let edges = renumber_edges(alloc, draft.edges(), numbers)?;
     let state = State {
-        core,
-        closed: closed.unwrap(),
+        core: draft.core.into_itemset(alloc)?,
+        closed,
         edges,
     };
     // for what the graph keeps of each state
@@ -147,17 +183,24 @@ fn renumber_state<T: IndexStorage>(
 fn marked_states<T: IndexStorage>(
     alloc: Global,
     drafts: Vec<Draft<T>>,
+    closer: &mut Closer,
+    grm: &YaccGrammar<T>,
+    firsts: &YaccFirsts<T>,
     marks: &Vob,
     numbers: &[usize],
 ) -> Result<(Vec<State<T>>, usize), AllocError>
     requires below { LeadToStates drafts.items }
     requires one_symbol { (k u : ℕ) (x y : math.Symbol) → edge_from drafts.items k x ≡ Some u
         → edge_from drafts.items k y ≡ Some u → x ≡ y }
-    requires closed { AreClosed drafts.items }
+    requires fits { (k : ℕ) → k < length drafts.items → Fits grm.now (core_at drafts.items k) }
+    requires starts { (k : ℕ) → k < length drafts.items
+        → OnlyStartsAtZero grm.now (core_at drafts.items k) }
+    requires of { AreFirstsOf grm.now firsts.now }
+    requires closer { IsCloserOf grm.now closer.old }
     requires most { length drafts.items ≤ T.MAX }
     requires marks { length marks.now ≡ length drafts.items }
     requires numbers { AreNewNumbers marks.now numbers.now }
-    ensures collected { IfOk result (λ r. IsCollected drafts.items marks.now
+    ensures collected { IfOk result (λ r. IsCollected grm.now drafts.items marks.now
         (graph_of T.number r.0.items)) }
     ensures len { IfOk result (λ r. length r.0.items ≡ count_by (λ b. b) marks.now) }
     ensures order { IfOk result (λ r. All IsInOrder (graph_of T.number r.0.items)) }
@@ -173,7 +216,7 @@ fn marked_states<T: IndexStorage>(
         if !is_marked {
             continue;
         }
-        let state = renumber_state(alloc, draft, numbers)?;
+        let state = renumber_state(alloc, draft, closer, grm, firsts, numbers)?;
         edges_len += state.edges.len();
         states.push(state)?;
     }
@@ -183,16 +226,23 @@ fn marked_states<T: IndexStorage>(
 /// The graph of the states that are reached, in their order and numbered anew.
 pub(crate) fn collect<T: IndexStorage>(
     drafts: Vec<Draft<T>>,
+    closer: &mut Closer,
+    grm: &YaccGrammar<T>,
+    firsts: &YaccFirsts<T>,
 ) -> Result<StateGraph<T>, BuildError<T>>
     requires some { 0 < length drafts.items }
     requires below { (k u : ℕ) (x : math.Symbol) → edge_from drafts.items k x ≡ Some u
         → u < length drafts.items }
     requires one_symbol { (k u : ℕ) (x y : math.Symbol) → edge_from drafts.items k x ≡ Some u
         → edge_from drafts.items k y ≡ Some u → x ≡ y }
-    requires closed { AreClosed drafts.items }
+    requires fits { (k : ℕ) → k < length drafts.items → Fits grm.now (core_at drafts.items k) }
+    requires starts { (k : ℕ) → k < length drafts.items
+        → OnlyStartsAtZero grm.now (core_at drafts.items k) }
+    requires of { AreFirstsOf grm.now firsts.now }
+    requires closer { IsCloserOf grm.now closer.old }
     requires most { length drafts.items ≤ T.MAX }
     ensures collected { IfOk result (λ h. (marks : List Bool)
-        × AreMarked drafts.items marks × IsCollected drafts.items marks h) }
+        × AreMarked drafts.items marks × IsCollected grm.now drafts.items marks h) }
     ensures states { IfOk result (λ h. length h < T.MAX) }
     ensures refused { IfErr result (IsLargeOnly (T.MAX ≤ length drafts.items)) }
     ensures large { IfErr result (IsLargeOnly ((marks : List Bool)
@@ -204,6 +254,14 @@ pub(crate) fn collect<T: IndexStorage>(
     if count >= T::MAX {
         return Err(BuildError::TooLarge);
     }
-    let (states, edges_len) = marked_states(alloc, drafts, &marks, numbers.as_slice())?;
+    let (states, edges_len) = marked_states(
+        alloc,
+        drafts,
+        closer,
+        grm,
+        firsts,
+        &marks,
+        numbers.as_slice(),
+    )?;
     Ok(StateGraph::new(states, edges_len))
 }

@@ -2,7 +2,7 @@
 
 ghost use Rattle.std.specs.Prelude.{◌≡◌, ◌≤◌, ◌<◌, ◌+◌, ◌-◌, ◌*◌, ◌^◌, ℕ, length, slice_index, Contains, ◌↔◌, ◌⊎◌};
 ghost use Rattle.std.specs.Int.{bit_at};
-ghost use Rattle.lrsparse.specs.Owned.{IsOwned, MeetsNone};
+ghost use Rattle.lrsparse.specs.Owned.{IsOwned, AreOwned, MeetsNone};
 
 /// How many places a word has.
 pub(crate) const WORD: usize = 64;
@@ -92,4 +92,16 @@ pub(crate) fn own_columns(words: &mut [u64], columns: &[usize], displacement: us
     for column in columns {
         own(words, displacement + *column);
     }
+}
+
+/// How many words at the beginning are wholly owned; the first `full` are.
+pub(crate) fn full_words(words: &[u64], full: usize) -> usize
+    requires { AreOwned words.now (64 * full) }
+    ensures { AreOwned words.now (64 * result) }
+{
+    let mut full = full;
+    while word_at(words, full) == u64::MAX {
+        full += 1;
+    }
+    full
 }

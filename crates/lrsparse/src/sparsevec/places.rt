@@ -1,10 +1,13 @@
 //! The list in which the entries of a matrix stand, and where its rows are placed.
 
-ghost use Rattle.std.specs.Prelude.{◌≡◌, ◌≢◌, ◌≤◌, ◌<◌, ◌+◌, ◌^◌, ℕ, length, max, slice_index_or, IfOk, OnOk};
-ghost use Rattle.lrsparse.specs.Owned.{IsOwned, MeetsNone};
-ghost use Rattle.lrsparse.specs.Places.{AreColumns, AreStarts, HasEntry, Fits, IsPlaced, number_at, row_of};
+ghost use Rattle.std.specs.Prelude.{◌≡◌, ◌≢◌, ◌≤◌, ◌<◌, ◌+◌, ◌*◌, ◌^◌, ℕ, length, max, slice_index_or, IfOk, OnOk};
+ghost use Rattle.std.specs.List.{All};
+ghost use Rattle.std.specs.List.Sorted.{IsStrictlyIncreasing};
+ghost use Rattle.lrsparse.specs.Owned.{IsOwned, AreOwned, MeetsNone};
+ghost use Rattle.lrsparse.specs.Entries.{columns_in, row_with, AreEntries};
+ghost use Rattle.lrsparse.specs.Places.{AreStarts, Fits, IsPlaced, number_at, row_of};
 
-use crate::sparsevec::owned::{WORD, least_displacement, own_columns};
+use crate::sparsevec::owned::{WORD, full_words, least_displacement, own_columns};
 use std::alloc::{AllocError, Global};
 use std::collections::BTreeMap;
 
@@ -22,17 +25,11 @@ pub(crate) fn entry_at(list: &[Option<Entry>], place: usize) -> Option<Entry>
     *list.get(place)?
 }
 
-/// The columns upwards in which the row has an entry, which is any number but the empty one.
-fn columns_of(alloc: Global, numbers: &[usize], empty: usize) -> Result<Vec<usize>, AllocError>
-    ensures { IfOk result (λ v. AreColumns empty numbers.now v.items) }
+/// The columns of the entries.
+fn columns_of(alloc: Global, entries: &[(usize, usize)]) -> Result<Vec<usize>, AllocError>
+    ensures { IfOk result (λ v. v.items ≡ columns_in entries.now) }
 {
-    let mut columns = Vec::new(alloc);
-    for (column, number) in numbers.iter().enumerate() {
-        if *number != empty {
-            columns.push(column)?;
-        }
-    }
-    Ok(columns)
+    entries.iter().map(|entry| entry.0).collect(alloc)
 }
 
 /// Puts the entries of the row into the list from the displacement on.
@@ -40,23 +37,20 @@ fn put_entries(
     list: &mut [Option<Entry>],
     row: usize,
     displacement: usize,
-    numbers: &[usize],
-    empty: usize,
+    entries: &[(usize, usize)],
 )
-    requires { (c : ℕ) → HasEntry empty numbers.now c → displacement + c < length list.old }
-    ensures put { (c : ℕ) → HasEntry empty numbers.now c
-        → slice_index_or list.new (displacement + c) None
-        ≡ Some (record { row = row; number = slice_index_or numbers.now c empty }) }
-    ensures kept { (p : ℕ) → ((c : ℕ) → HasEntry empty numbers.now c → p ≢ displacement + c)
+    requires upwards { IsStrictlyIncreasing (columns_in entries.now) }
+    requires within { All (λ e. displacement + e.0 < length list.old) entries.now }
+    ensures put { All (λ e. slice_index_or list.new (displacement + e.0) None
+        ≡ Some (record { row = row; number = e.1 })) entries.now }
+    ensures kept { (p : ℕ) → All (λ e. p ≢ displacement + e.0) entries.now
         → slice_index_or list.new p None ≡ slice_index_or list.old p None }
 {
-    for (column, number) in numbers.iter().enumerate() {
-        if *number != empty {
-            list[displacement + column] = Some(Entry {
-                row,
-                number: *number,
-            });
-        }
+    for (column, number) in entries {
+        list[displacement + *column] = Some(Entry {
+            row,
+            number: *number,
+        });
     }
 }
 
@@ -71,11 +65,13 @@ fn reach<T: Copy>(list: &mut Vec<T>, len: usize, value: T) -> Result<(), AllocEr
     Ok(())
 }
 
-/// The list in which rows are placed, and which of its places they own.
+/// The list in which rows are placed, which of its places they own, as the bits of words, and how many of these words at the
+/// beginning are wholly owned.
 #[derive(Drop)]
 pub(crate) struct Places {
     pub list: Vec<Option<Entry>>,
     pub owned: Vec<u64>,
+    pub full: usize,
 }
 
 impl Places {
@@ -87,27 +83,42 @@ impl Places {
         Places {
             list: Vec::new(alloc),
             owned: Vec::new(alloc),
+            full: 0,
         }
     }
 
-    /// Places the row, whose columns with an entry these are, at the least displacement at which none of its entries meets an
+    /// Where the search for a row of these columns may begin: at each displacement below, the first of them meets one of the
+    /// places at the beginning that are all owned.
+    fn behind_full(&self, columns: &[usize]) -> usize
+        requires full { AreOwned self.now.owned.items (64 * self.now.full) }
+        requires words { 64 * length self.now.owned.items ≤ length self.now.list.items + 64 }
+        ensures { (d : ℕ) → d < result → ¬ (MeetsNone self.now.owned.items columns.now d) }
+    {
+        match columns.first() {
+            Some(first) => (self.full * WORD).saturating_sub(*first),
+            None => 0,
+        }
+    }
+
+    /// Places the row of these entries, which stand in these columns, at the least displacement at which none of them meets an
     /// owned place, and answers that. At none below the start none does. The error says that memory was refused.
     fn place_from(
         &mut self,
         start: usize,
         row: usize,
-        numbers: &[usize],
-        empty: usize,
+        entries: &[(usize, usize)],
         columns: &[usize],
     ) -> Result<usize, AllocError>
         requires placed { IsPlaced row self.old }
-        requires columns { AreColumns empty numbers.now columns.now }
+        requires columns { columns.now ≡ columns_in entries.now }
+        requires upwards { IsStrictlyIncreasing columns.now }
+        requires narrow { All (λ c. c < 2 ^ 60) columns.now }
         requires start { (d : ℕ) → d < start → ¬ (MeetsNone self.old.owned.items columns.now d) }
-        ensures numbers { IfOk result (λ d.
-            row_of self.new.list.items empty (length numbers.now) row d ≡ numbers.now) }
-        ensures others { OnOk result ((q p : ℕ) → q ≢ row
+        ensures numbers { IfOk result (λ d. (empty cols : ℕ)
+            → row_of self.new.list.items empty cols row d ≡ row_with empty cols entries.now) }
+        ensures others { OnOk result ((empty q p : ℕ) → q ≢ row
             → number_at self.new.list.items empty q p ≡ number_at self.old.list.items empty q p) }
-        ensures fits { IfOk result (Fits self.old.list.items empty numbers.now) }
+        ensures fits { IfOk result (Fits self.old.list.items entries.now) }
         ensures least { IfOk result (λ d. (k : ℕ) → k < d
             → ¬ (MeetsNone self.old.owned.items columns.now k)) }
         ensures placed { OnOk result (IsPlaced (row + 1) self.new) }
@@ -121,38 +132,39 @@ impl Places {
         let end = displacement + last + 1;
         reach(&mut self.list, end, None)?;
         reach(&mut self.owned, end / WORD + 1, 0)?;
-        put_entries(self.list.as_mut_slice(), row, displacement, numbers, empty);
+        put_entries(self.list.as_mut_slice(), row, displacement, entries);
         own_columns(self.owned.as_mut_slice(), columns, displacement);
+        self.full = full_words(self.owned.as_slice(), self.full);
         Ok(displacement)
     }
 }
 
-/// Places the row, whose entries then stand in the list, at the least displacement at which none of them meets an owned place,
-/// and answers that. By their columns the starts say where the last row of these columns stands: none is below that. The
-/// error says that memory was refused.
+/// Places the row of these entries, which then stand in the list, at the least displacement at which none of them meets an
+/// owned place, and answers that. By their columns the starts say where the last row of these columns stands: none is below
+/// that. The error says that memory was refused.
 pub(crate) fn place_row(
     places: &mut Places,
     starts: &mut BTreeMap<Vec<usize>, usize>,
     row: usize,
-    numbers: &[usize],
-    empty: usize,
+    entries: &[(usize, usize)],
 ) -> Result<usize, AllocError>
     requires placed { IsPlaced row places.old }
     requires starts { AreStarts starts.old places.old.owned.items }
-    ensures numbers { IfOk result (λ d.
-        row_of places.new.list.items empty (length numbers.now) row d ≡ numbers.now) }
-    ensures others { OnOk result ((q p : ℕ) → q ≢ row
+    requires entries { AreEntries (2 ^ 60) entries.now }
+    ensures numbers { IfOk result (λ d. (empty cols : ℕ)
+        → row_of places.new.list.items empty cols row d ≡ row_with empty cols entries.now) }
+    ensures others { OnOk result ((empty q p : ℕ) → q ≢ row
         → number_at places.new.list.items empty q p ≡ number_at places.old.list.items empty q p) }
-    ensures fits { IfOk result (Fits places.old.list.items empty numbers.now) }
-    ensures least { IfOk result (λ d. (k : ℕ) → k < d → ¬ (Fits places.old.list.items empty numbers.now k)) }
+    ensures fits { IfOk result (Fits places.old.list.items entries.now) }
+    ensures least { IfOk result (λ d. (k : ℕ) → k < d → ¬ (Fits places.old.list.items entries.now k)) }
     ensures placed { OnOk result (IsPlaced (row + 1) places.new) }
-    ensures starts { OnOk result
-        (AreStarts starts.new places.new.owned.items) }
+    ensures starts { OnOk result (AreStarts starts.new places.new.owned.items) }
     ensures within { IfOk result (λ d. d ≤ length places.old.list.items) }
 {
-    let columns = columns_of(*places.list.allocator(), numbers, empty)?;
-    let start = starts.get(&columns).copied().unwrap_or(0);
-    let displacement = places.place_from(start, row, numbers, empty, columns.as_slice())?;
+    let columns = columns_of(*places.list.allocator(), entries)?;
+    let known = starts.get(&columns).copied().unwrap_or(0);
+    let start = known.max(places.behind_full(columns.as_slice()));
+    let displacement = places.place_from(start, row, entries, columns.as_slice())?;
     starts.insert(columns, displacement)?;
     Ok(displacement)
 }

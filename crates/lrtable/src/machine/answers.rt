@@ -3,9 +3,10 @@
 ghost use Rattle.std.specs.Prelude.{◌≡◌, ◌<◌, ◌++◌, length, map, option_map, IfOk, MatchResult, OnOk, All, codes};
 ghost use Rattle.std.specs.Str.{IsUtf8};
 ghost use Rattle.std.specs.String.{string_bytes};
-ghost use Rattle.lrspec.specs.texts.MachineLines.{token_of, tokens_of, first_unknown, place_in_rule, production_label, reductions_text, run_text};
+ghost use Rattle.lrspec.specs.texts.MachineLines.{token_of, tokens_of, first_unknown, place_in_rule, production_label, run_text};
 ghost use Rattle.lrspec.specs.tables.Recognition.{AreNamed};
 ghost use Rattle.lrspec.specs.texts.Lines.{words};
+ghost use Rattle.lrtable.specs.Labels.{AreLabels, labels_text};
 ghost use Rattle.lrtable.specs.RunAnswers.{text_of, answer_of};
 
 use crate::machine::outcome::{Run, Verdict};
@@ -70,44 +71,51 @@ pub fn production_label<T: IndexStorage>(
     format!(in grm.allocator(); "{rule}.{place}")
 }
 
-/// Writes a reduction behind `out`: a space and its label.
-fn push_reduction<T: IndexStorage>(
-    grm: &YaccGrammar<T>,
-    pidx: PIdx<T>,
-    out: &mut Vec<u8>,
-) -> Result<(), AllocError>
-    requires { T.number pidx.0 < length grm.now.productions }
-    ensures { OnOk result (out.new.items
-        ≡ out.old.items ++ (codes " " ++ production_label grm.now (T.number pidx.0))) }
+/// The labels of all productions in order. The error says that memory was refused.
+pub fn production_labels<T: IndexStorage>(grm: &YaccGrammar<T>) -> Result<Vec<String>, AllocError>
+    ensures { IfOk result (λ labels. AreLabels grm.now labels.items) }
 {
-    let label = production_label(grm, pidx)?;
+    let mut labels = Vec::new(grm.allocator());
+    for prod in 0..grm.prods_len().0.to_usize() {
+        labels.push(production_label(grm, PIdx(T::from_usize(prod).unwrap()))?)?;
+    }
+    Ok(labels)
+}
+
+/// Writes a reduction of this label behind `out`: a space and the label.
+fn push_reduction(label: &str, out: &mut Vec<u8>) -> Result<(), AllocError>
+    ensures { OnOk result (out.new.items ≡ out.old.items ++ (codes " " ++ label.now)) }
+{
     out.push(b' ')?;
     out.extend_from_slice(label.as_bytes())
 }
 
-/// Writes the reductions behind `out`.
+/// Writes the reductions behind `out`, each by its label.
 fn push_reductions<T: IndexStorage>(
-    grm: &YaccGrammar<T>,
+    labels: &[String],
     reductions: &[PIdx<T>],
     out: &mut Vec<u8>,
 ) -> Result<(), AllocError>
-    requires { All (λ p. T.number p.0 < length grm.now.productions) reductions.now }
+    requires { All (λ p. T.number p.0 < length labels.now) reductions.now }
     ensures { OnOk result (out.new.items
-        ≡ out.old.items ++ reductions_text grm.now (map (λ p. T.number p.0) reductions.now)) }
+        ≡ out.old.items ++ labels_text labels.now (map (λ p. T.number p.0) reductions.now)) }
 {
     for pidx in reductions {
-        push_reduction(grm, *pidx, out)?;
+        push_reduction(labels[pidx.0.to_usize()].as_str(), out)?;
     }
     Ok(())
 }
 
-/// Writes how a run came out behind `out`. The error says that memory was refused.
+/// Writes how a run came out behind `out`, by the labels of the grammar's productions. The error says that memory was refused.
 pub(crate) fn push_outcome<T: IndexStorage>(
     grm: &YaccGrammar<T>,
+    labels: &[String],
     run: &Run<T>,
     out: &mut Vec<u8>,
 ) -> Result<(), AllocError>
-    requires { All (λ p. T.number p.0 < length grm.now.productions) run.now.reductions.items }
+    requires labels { AreLabels grm.now labels.now }
+    requires productions { All (λ p. T.number p.0 < length grm.now.productions)
+        run.now.reductions.items }
     ensures { OnOk result (out.new.items
         ≡ out.old.items ++ run_text grm.now (answer_of T.number run.now)) }
 {
@@ -116,7 +124,7 @@ pub(crate) fn push_outcome<T: IndexStorage>(
     match run.verdict {
         Verdict::Accepted => {
             out.extend_from_slice(format!(in alloc; "accept {steps}:")?.as_bytes())?;
-            push_reductions(grm, &run.reductions, out)
+            push_reductions(labels, &run.reductions, out)
         }
         Verdict::Rejected => {
             out.extend_from_slice(format!(in alloc; "reject {steps}")?.as_bytes())

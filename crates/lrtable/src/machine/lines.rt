@@ -4,10 +4,11 @@ ghost use Rattle.lrspec.specs.tables.Table.{IsTableFor};
 ghost use Rattle.lrspec.specs.texts.Devices.{ConsumesSome, AppendsBeginning, AppendsFirstAnswers, HasFailed, GaveTooMuch};
 ghost use Rattle.lrspec.specs.texts.Lines.{whole_lines, lines, answers_to, answer_text};
 ghost use Rattle.lrspec.specs.texts.MachineLines.{line_answer};
+ghost use Rattle.lrtable.specs.Labels.{AreLabels};
 ghost use Rattle.std.specs.Io.KnownBytes.{Appends, IsAtEnd};
-ghost use Rattle.std.specs.Prelude.{◌≡◌, ◌≢◌, ◌⊎◌, OnOk};
+ghost use Rattle.std.specs.Prelude.{◌≡◌, ◌≢◌, ◌⊎◌, OnOk, IfOk};
 
-use crate::machine::answers::{line_tokens, push_outcome};
+use crate::machine::answers::{line_tokens, production_labels, push_outcome};
 use crate::machine::running::run;
 use crate::statetable::StateTable;
 use lrgrammar::grammar::YaccGrammar;
@@ -20,6 +21,8 @@ use std::alloc::{AllocError, Global};
 struct RunLines<'a, T: IndexStorage> {
     grm: &'a YaccGrammar<T>,
     table: &'a StateTable<T>,
+    /// The labels of the grammar's productions. Where memory was refused for them, no line is answered.
+    labels: Result<Vec<String>, AllocError>,
     /// How many steps a run makes at most.
     steps: usize,
 }
@@ -27,14 +30,18 @@ struct RunLines<'a, T: IndexStorage> {
 impl<'a, T: IndexStorage> LineAnswers for RunLines<'a, T> {
     ghost answer = { λ r. line_answer r.grm.now r.table.now r.steps };
 
-    ghost can_answer = { λ r. IsTableFor r.grm.now r.table.now };
+    ghost can_answer = { λ r. IsTableFor r.grm.now r.table.now
+        × IfOk r.labels (λ labels. AreLabels r.grm.now labels.items) };
 
     fn answer(&self, line: &[u8], out: &mut Vec<u8>) -> Result<(), AllocError> {
+        let Ok(labels) = &self.labels else {
+            return Err(AllocError);
+        };
         let alloc = self.grm.allocator();
         match line_tokens(self.grm, line)? {
             Ok(tokens) => {
                 let outcome = run(alloc, self.grm, self.table, &tokens, self.steps)?;
-                push_outcome(self.grm, &outcome, out)
+                push_outcome(self.grm, labels, &outcome, out)
             }
             Err(word) => {
                 out.extend_from_slice("unknown ".as_bytes())?;
@@ -80,5 +87,12 @@ pub fn run_lines<T: IndexStorage, R: LineRead, W: LineWrite>(
     ensures reader_counts { result ≢ Err LineError.Read → R.failures reader.new ≡ R.failures reader.old }
     ensures writer_counts { result ≢ Err LineError.Write → W.failures writer.new ≡ W.failures writer.old }
 {
-    answer_lines(alloc, reader, writer, &RunLines { grm, table, steps })
+    let labels = production_labels(grm);
+    let answers = RunLines {
+        grm,
+        table,
+        labels,
+        steps,
+    };
+    answer_lines(alloc, reader, writer, &answers)
 }

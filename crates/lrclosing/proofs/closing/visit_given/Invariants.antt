@@ -1,5 +1,5 @@
 use Rattle.lrclosing.specs.ItemsOf.{items_of}
-use Rattle.lrclosing.specs.Visits.{AreShaped, IsUnderway}
+use Rattle.lrclosing.specs.Visits.{AreShaped, IsToDo, IsUnderway}
 use Rattle.lrclosing.proofs.WalksOverItems.{FoundAll}
 use Rattle.lrclosing.proofs.closing.visit_given.Given as goal
 
@@ -9,5 +9,5 @@ invariant-loop-key g l =
     record {
       found : FoundAll number l.given.entries l.key-iterator;
       shaped : AreShaped l.grm l.closing.rows.items l.closing.todo;
-      underway : IsUnderway l.grm (items_of number l.given.entries) l.closing.rows.items l.closing.todo (items_of number l.key-iterator);
+      underway : IsUnderway l.grm (items_of number l.given.entries) l.closing.rows.items (IsToDo l.closing.todo) (items_of number l.key-iterator);
     }

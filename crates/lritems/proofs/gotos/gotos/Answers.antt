@@ -1,65 +1,85 @@
-use Rattle.std.proofs.Common.{refl}
-use Rattle.lritems.specs.ItemsOf.{items_of}
-use Rattle.lritems.proofs.ItemsUpwards.{upwards_from_sorted}
+use Rattle.std.proofs.Common.{◌+◌, [], drop, refl}
+use Rattle.lrspec.proofs.grammars.BodyFacts.{symbol_at_dot}
+use Rattle.lrgrammar.specs.Symbols.{symbol_of}
+use Rattle.lritems.specs.ItemsOf.{listed_of}
+use Rattle.lritems.specs.Gotos.{gotos_of, symbols_shown}
 use Rattle.lritems.proofs.GotosUpwards.{begin_growing, skip_growing, behind_there, put_growing}
 use Rattle.lritems.proofs.GotosUnderway.{begin_gotos, end_gotos, skip_gotos, put_gotos}
-use Rattle.lritems.proofs.GotoPlaces.{below_of_at, places_put}
-use Rattle.lritems.proofs.SymbolsShown.{shows_none, shows_one}
-use Rattle.lrclosing.proofs.WalksOverItems.{found_all, first_or_rest}
+use Rattle.lritems.proofs.GotoItems.{left_shown, none_left, found_shown}
+use Rattle.lritems.proofs.GotoPlaces.{below_of_at, has_place, places_put}
+use Rattle.lritems.proofs.SymbolsShown.{shows_passed, shows_put}
+use Rattle.lrclosing.proofs.WalksOverItems.{first_or_rest}
+use Rattle.lritems.proofs.gotos.gotos.Goals.{in-Some+in_ok-place+in_ok-put_at, in_default}
 use Rattle.lritems.proofs.gotos.gotos.Goals as goal
 
 pub loop-key-init : goal.loop-key-init
 loop-key-init g c =
-    let i = c.into_iter-key-iterator.ensures.into_iter_gives in
     record {
-      found = rw i.0 (found_all g.T.IndexStorage.number g.T.Ord.cmp g.met.T.IndexStorage.ordered c.args.closed.now.items.entries c.args.closed.now.items.entries i.6);
-      moving = begin_gotos c.args.grm.now _ _ _ (rw c.new-gotos.ensures.items refl) (rw i.0 refl);
-      growing = begin_growing (items_of g.T.IndexStorage.number c.args.closed.now.items.entries) _ _ (rw c.new-gotos.ensures.items refl) (rw i.0 refl)
-          (upwards_from_sorted g.T.IndexStorage.number g.T.Ord.cmp g.met.T.IndexStorage.ordered c.args.closed.now.items.entries i.5);
-      order = rw (c.new-gotos.ensures.items, i.0) refl;
-      places = rw (c.new-gotos.ensures.items, c.new-places.ensures.empty) (λ x h. h);
+      moving = begin_gotos c.args.grm.now _ _ _ (rw c.new-gotos.ensures.items refl) refl;
+      growing = begin_growing (listed_of g.T.IndexStorage.number c.args.closed.now) _ _ (rw c.new-gotos.ensures.items refl) refl c.requires.upwards;
+      order = rw c.new-gotos.ensures.items refl;
+      fit = c.requires.places;
+      places = rw c.new-gotos.ensures.items (λ x h. absurd h);
     }
 
 pub step_over-requires : goal.step_over-requires
 step_over-requires g c =
-    let found = rw c.in-Some.ensures.steps at c.loop-key.invariant.found in
-    (c.requires _ _ c.in-Some.ctx.now found.0).production
+    let found = found_shown g.T.IndexStorage.number (λ r. r.now) c.args.closed.now c.loop-key.key-index c.loop-key-item.result c.requires.upwards c.loop-key-test.true c.loop-key-item.is in
+    (c.requires.fits _ _ c.loop-key-item.result.1.now found).production
+
+pub place_of-requires-clause-noted : goal.place_of-requires-clause-noted
+place_of-requires-clause-noted g c =
+    let step = c.in-Some.ensures in
+    let symbol = symbol_of g.T.IndexStorage.number c.in-Some.symbol in
+    has_place c.args.grm.now c.loop-key.places symbol c.loop-key.invariant.fit (symbol_at_dot step.shape _ _ symbol step.found)
+
+pub returns-in_err-place-clause-places : goal.returns-in_err-place-clause-places
+returns-in_err-place-clause-places g c = c.in_err-place.ensures.fit c.loop-key.invariant.fit
 
 pub put_at-requires : goal.put_at-requires
 put_at-requires g c = below_of_at g.T.IndexStorage.number _ _ _ c.in_ok-place.ensures.at
 
+pub returns-in_err-put_at-clause-places : goal.returns-in_err-put_at-clause-places
+returns-in_err-put_at-clause-places g c = c.in_ok-place.ensures.fit c.loop-key.invariant.fit
+
 pub loop-key-preserved : goal.loop-key-preserved
 loop-key-preserved g c =
-    let found = rw c.in-Some.ensures.steps at c.loop-key.invariant.found in
-    let moving = rw c.in-Some.ensures.steps at c.loop-key.invariant.moving in
-    let growing = rw c.in-Some.ensures.steps at c.loop-key.invariant.growing in
-    let order = rw c.in-Some.ensures.steps at c.loop-key.invariant.order in
-    record {
-      found = found.1;
-      moving = skip_gotos c.args.grm.now _ _ _ _ _ (first_or_rest _ _ c.in-Some.ctx.now _) _ moving c.in_default.ensures.none;
-      growing = skip_growing _ _ _ growing;
-      order = rw (shows_none c.args.grm.now _ _ _ c.in_default.ensures.none) at order;
-      places = c.loop-key.invariant.places;
-    }
+    let number = g.T.IndexStorage.number in
+    let item = c.loop-key-item.result in
+    let ctx = item.1.now in
+    let all = listed_of number c.args.closed.now in
+    let rest = listed_of number (drop (c.loop-key.key-index + 1) c.args.closed.now) in
+    let made = gotos_of number c.loop-key.gotos.items in
+    let shown = symbols_shown c.args.grm.now [] all in
+    let found = found_shown number (λ r. r.now) c.args.closed.now c.loop-key.key-index item c.requires.upwards c.loop-key-test.true c.loop-key-item.is in
+    let left = left_shown number (λ r. r.now) c.args.closed.now c.loop-key.key-index item c.loop-key-test.true c.loop-key-item.is in
+    let moving = rw left at c.loop-key.invariant.moving in
+    let growing = rw left at c.loop-key.invariant.growing in
+    let order = rw left at c.loop-key.invariant.order in
+    elim c.match-step_over.branch [
+      | in-Some+in_ok-place+in_ok-put_at w ↦
+          let step = w.in-Some.ensures in
+          let place = w.in_ok-place.ensures in
+          let put = w.in_ok-put_at.ensures in
+          rw (w.gotos-is, w.places-is) record {
+            moving = put_gotos c.args.grm.now _ _ _ _ _ _ _ _ _ _ ctx _ (first_or_rest _ _ ctx _) c.requires.fits moving step.found found step.moved place.made place.at put
+                (behind_there _ _ _ _ _ _ _ _ ctx _ growing step.moved place.made put);
+            growing = put_growing _ _ _ _ _ _ _ _ ctx _ growing step.moved place.made put;
+            order = shows_put c.args.grm.now _ _ _ _ ctx _ made _ _ rest shown step.found place.made place.at put order;
+            fit = place.fit c.loop-key.invariant.fit;
+            places = places_put _ _ w.place_of.new.places _ _ _ ctx place.places put;
+          }
+      | in_default w ↦
+          rw (w.gotos-is, w.places-is) record {
+            moving = skip_gotos c.args.grm.now _ _ _ _ _ (first_or_rest _ _ ctx _) _ moving w.in_default.ensures.none;
+            growing = skip_growing _ _ _ growing;
+            order = shows_passed c.args.grm.now _ _ ctx made rest shown w.in_default.ensures.none order;
+            fit = c.loop-key.invariant.fit;
+            places = c.loop-key.invariant.places;
+          }
+    ]
 
-pub loop-key-preserved-in-Continue-branch-2 : goal.loop-key-preserved-in-Continue-branch-2
-loop-key-preserved-in-Continue-branch-2 g c =
-    let found = rw c.in-Some.ensures.steps at c.loop-key.invariant.found in
-    let moving = rw c.in-Some.ensures.steps at c.loop-key.invariant.moving in
-    let growing = rw c.in-Some.ensures.steps at c.loop-key.invariant.growing in
-    let order = rw c.in-Some.ensures.steps at c.loop-key.invariant.order in
-    record {
-      found = found.1;
-      moving = put_gotos c.args.grm.now _ _ _ _ _ _ _ _ _ _ c.in-Some.ctx.now _ (first_or_rest _ _ c.in-Some.ctx.now _) c.requires moving c.in-Some-step_over.ensures.found found.0
-          c.in-Some-step_over.ensures.moved c.in_ok-place.ensures.made c.in_ok-place.ensures.at c.in_ok-put_at.ensures
-          (behind_there _ _ _ _ _ _ _ _ c.in-Some.ctx.now _ growing c.in-Some-step_over.ensures.moved c.in_ok-place.ensures.made c.in_ok-put_at.ensures);
-      growing = put_growing _ _ _ _ _ _ _ _ c.in-Some.ctx.now _ growing c.in-Some-step_over.ensures.moved c.in_ok-place.ensures.made c.in_ok-put_at.ensures;
-      order = rw (shows_one c.args.grm.now _ _ _ _ c.in-Some.ctx.now _ _ _ _ c.in-Some-step_over.ensures.found c.in_ok-place.ensures.made c.in_ok-place.ensures.at c.in_ok-put_at.ensures) at order;
-      places = places_put _ _ _ _ _ _ _ c.in_ok-place.ensures.places c.in_ok-put_at.ensures;
-    }
-
-pub returns : goal.returns
-returns g c = end_gotos c.args.grm.now _ _ _ c.loop-key.invariant.moving c.loop-key.invariant.growing.upwards c.loop-key.invariant.order (rw c.in-None.ensures.steps.0 refl)
-
-pub place_of-requires : goal.place_of-requires
-place_of-requires g c = c.loop-key.invariant.places
+pub returns-clause-gotos : goal.returns-clause-gotos
+returns-clause-gotos g c =
+    end_gotos c.args.grm.now _ _ _ c.loop-key.invariant.moving c.loop-key.invariant.growing.upwards c.loop-key.invariant.order
+    (none_left g.T.IndexStorage.number (λ r. r.now) c.args.closed.now c.loop-key.key-index c.loop-key-test.false)

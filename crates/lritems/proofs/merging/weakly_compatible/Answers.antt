@@ -1,11 +1,11 @@
-use Rattle.std.proofs.Common.{◌≡◌, ◌∙◌, sym, false, inr, refl, ⊎_elim}
-use Rattle.lrspec.specs.grammars.ItemSets.{HasItem}
-use Rattle.lritems.specs.ItemsOf.{items_of}
+use Rattle.std.proofs.Common.{◌≡◌, ℕ, ◌<◌, ◌∙◌, sym, ap, refl, arith, length, below_more}
+use Rattle.std.specs.Prelude.{false}
+use Rattle.std.proofs.lemmas.List.{length-map}
+use Rattle.lrspec.proofs.merging.CrossFacts.{clash_refutes}
 use Rattle.lritems.specs.Gotos.{goto_of}
-use Rattle.lritems.specs.Merging.{PassesWithAll}
-use Rattle.lritems.proofs.GotoItems.{none_left}
-use Rattle.lritems.proofs.PassingPairs.{clash_refutes}
-use Rattle.lritems.proofs.WalksInStep.{begin_in_step, turn_in_step, no_early_end, checked_turn, both_end, same_from_keys, keys_from_same, no_from}
+use Rattle.lritems.specs.Merging.{PassesWithLater}
+use Rattle.lritems.proofs.PassingPairs.{compatible_from_later}
+use Rattle.lritems.proofs.SameKeys.{same_from_keys, keys_from_same, no_from}
 use Rattle.lritems.proofs.merging.weakly_compatible.Goals as goal
 
 pub returns-then-not-has_same_items-clause-compatible : goal.returns-then-not-has_same_items-clause-compatible
@@ -19,76 +19,22 @@ returns-then-not-has_same_items-clause-clash g c = λ _ s.
     let k : false ≡ _ = sym c.if-not-has_same_items.true ∙ c.has_same_items.ensures.same.1 keys in
     cc
 
-pub loop-b_i-init : goal.loop-b_i-init
-loop-b_i-init g c =
-    rw c.iter-entries.ensures.rest record {
-      in_step = begin_in_step _ _ c.has_same_items.ensures.upwards c.requires.upwards (c.has_same_items.ensures.same.0 c.if-not-has_same_items.false);
-      checked = λ p d h. inr h;
-    }
+pub returns-then-not-passes_with_later-clause-compatible : goal.returns-then-not-passes_with_later-clause-compatible
+returns-then-not-passes_with_later-clause-compatible g c = no_from _ (clash_refutes (c.passes_with_later.ensures.no c.if-not-passes_with_later.true))
 
-pub returns-in_default-clause-compatible : goal.returns-in_default-clause-compatible
-returns-in_default-clause-compatible g c =
-    let number = g.T.IndexStorage.number in
-    absurd (no_early_end number (λ r. r.now) _ _ _ _ _ _ _ c.deref-b_i-items.ensures.value c.loop-b_i-test.true c.loop-b_i-item.is c.in_default.ensures.steps.0 c.loop-b_i.invariant.in_step)
+pub returns-then-not-passes_with_later-clause-clash : goal.returns-then-not-passes_with_later-clause-clash
+returns-then-not-passes_with_later-clause-clash g c = λ _ _. c.passes_with_later.ensures.no c.if-not-passes_with_later.true
 
-pub returns-in_default-clause-clash : goal.returns-in_default-clause-clash
-returns-in_default-clause-clash g c = λ _ _.
-    let number = g.T.IndexStorage.number in
-    absurd (no_early_end number (λ r. r.now) _ _ _ _ _ _ _ c.deref-b_i-items.ensures.value c.loop-b_i-test.true c.loop-b_i-item.is c.in_default.ensures.steps.0 c.loop-b_i.invariant.in_step)
-
-pub passes_with_all-requires : goal.passes_with_all-requires
-passes_with_all-requires g c =
-    let number = g.T.IndexStorage.number in
-    let turn = turn_in_step number (λ r. r.now) _ _ _ _ _ _ _ c.deref-b_i-items.ensures.value c.loop-b_i-test.true c.loop-b_i-item.is _ _ c.in-Some.ensures.steps c.loop-b_i.invariant.in_step in
-    let bits = c.requires.bits in
-    let mine = bits.1 _ _ _ turn.0.here in
-    let other = bits.2 _ _ _ turn.0.there in
-    record {
-      items = c.has_same_items.ensures.same.0 c.if-not-has_same_items.false;
-      upwards = c.requires.upwards;
-      bits = λ p d v e. bits.1 p d v e ∙ sym mine;
-      other_bits = λ p d v e. bits.2 p d v e ∙ sym mine;
-      long = other ∙ sym mine;
-    }
-
-pub returns-then-not-passes_with_all-clause-compatible : goal.returns-then-not-passes_with_all-clause-compatible
-returns-then-not-passes_with_all-clause-compatible g c =
-    let number = g.T.IndexStorage.number in
-    let turn = turn_in_step number (λ r. r.now) _ _ _ _ _ _ _ c.deref-b_i-items.ensures.value c.loop-b_i-test.true c.loop-b_i-item.is _ _ c.in-Some.ensures.steps c.loop-b_i.invariant.in_step in
-    no_from _ (clash_refutes _ _ (c.passes_with_all.ensures.no c.if-not-passes_with_all.true _ _ turn.0.here turn.0.there))
-
-pub returns-then-not-passes_with_all-clause-clash : goal.returns-then-not-passes_with_all-clause-clash
-returns-then-not-passes_with_all-clause-clash g c = λ _ _.
-    let number = g.T.IndexStorage.number in
-    let turn = turn_in_step number (λ r. r.now) _ _ _ _ _ _ _ c.deref-b_i-items.ensures.value c.loop-b_i-test.true c.loop-b_i-item.is _ _ c.in-Some.ensures.steps c.loop-b_i.invariant.in_step in
-    c.passes_with_all.ensures.no c.if-not-passes_with_all.true _ _ turn.0.here turn.0.there
-
-pub loop-b_i-preserved : goal.loop-b_i-preserved
-loop-b_i-preserved g c =
-    let number = g.T.IndexStorage.number in
-    let a = items_of number c.args.a.now.items.entries in
-    let b = goto_of number c.args.b.now in
-    let turn = turn_in_step number (λ r. r.now) _ _ _ _ _ _ _ c.deref-b_i-items.ensures.value c.loop-b_i-test.true c.loop-b_i-item.is _ _ c.in-Some.ensures.steps c.loop-b_i.invariant.in_step in
-    record {
-      in_step = turn.1;
-      checked = checked_turn number (PassesWithAll a b) a _ _ _ c.in-Some.ensures.steps c.loop-b_i.invariant.checked (c.passes_with_all.ensures.yes c.if-not-passes_with_all.false _ _ turn.0.here turn.0.there);
-    }
+pub loop-i-preserved : goal.loop-i-preserved
+loop-i-preserved g c =
+    below_more (λ (k : ℕ). PassesWithLater c.args.a.now (goto_of g.T.IndexStorage.number c.args.b.now) k) c.loop-i.i c.loop-i.invariant
+    (c.passes_with_later.ensures.yes c.if-not-passes_with_later.false)
 
 pub returns-clause-compatible : goal.returns-clause-compatible
 returns-clause-compatible g c =
     let number = g.T.IndexStorage.number in
-    let a = items_of number c.args.a.now.items.entries in
+    let a = c.args.a.now in
     let b = goto_of number c.args.b.now in
-    let none = none_left number (λ r. r.now) c.args.b.now.items.items c.loop-b_i.b_i-index (rw c.deref-b_i-items.ensures.value at c.loop-b_i-test.false) in
-    let end = both_end _ _ _ _ c.loop-b_i.invariant.in_step none in
-    let same = same_from_keys a b (c.has_same_items.ensures.same.0 c.if-not-has_same_items.false) in (
-      λ _. record {
-        items = same;
-        pairs = λ p d q e _ h k.
-            ⊎_elim
-            (λ (x : PassesWithAll a b p d). x q e k ((same q e).0 k))
-            (λ (x : HasItem (items_of number c.loop-b_i.entries) p d). let n = rw end at x in cc)
-            (c.loop-b_i.invariant.checked p d h);
-      },
-      λ _. refl,
-    )
+    let same = same_from_keys a b (c.has_same_items.ensures.same.0 c.if-not-has_same_items.false) in
+    let long : length c.a.inside.items.items ≡ length a = sym (length-map c.a.inside.items.items _) ∙ ap length c.a.view_is in
+    (λ _. compatible_from_later a b same (λ k l. let below : k < c.loop-i.i = omega (arith, c.a.inside.items.ok.0) in c.loop-i.invariant k below), λ _. refl)

@@ -1,64 +1,75 @@
-use Rattle.lritems.specs.ItemsOf.{items_of}
+use Rattle.std.proofs.Common.{ℕ, Bool, List, ◌<◌, ◌≤◌, ◌∙◌, arith, length}
+use Rattle.lrspec.specs.grammars.ItemSets.{AreUpwards}
+use Rattle.lrbits.specs.Bits.{union}
 use Rattle.lritems.specs.Gotos.{goto_of}
 use Rattle.lritems.proofs.GotoItems.{left_shown, none_left}
-use Rattle.lritems.proofs.MergingUnderway.{begin_merging, end_merging, fits_of_merging, there_to_merge, turn_changed, turn_same}
-use Rattle.lritems.proofs.WalksInStep.{finds_upwards}
+use Rattle.lritems.proofs.ItemsByPlace.{equally_long, shown_at, item_at_place, set_keys}
+use Rattle.lritems.proofs.MergingUnderway.{begin_merging, end_merging, fits_of_merging, there_to_merge, turn_merged}
+use Rattle.lritems.proofs.SameKeys.{keys_from_same, upwards_from_keys}
 use Rattle.lritems.proofs.merging.weakly_merge.Goals as goal
-use Rattle.lritems.proofs.merging.weakly_merge.Goals.{then-merge_at, else-merge_at}
 
-pub loop-key-init : goal.loop-key-init
-loop-key-init g c =
-    let number = g.T.IndexStorage.number in
-    let a = items_of number c.args.set.now.items.entries in
-    let b = goto_of number c.args.other.now in
+pub loop-k-init : goal.loop-k-init
+loop-k-init g c =
+    let a = c.args.core.now in
+    let b = goto_of g.T.IndexStorage.number c.args.other.now in
+    let up : AreUpwards a = rw c.core.view_is at c.core.invariant in
     record {
-      finds = finds_upwards b c.requires.upwards;
-      items = c.requires.items;
+      keys = keys_from_same b a c.requires.upwards up (λ p d. ((c.requires.items p d).1, (c.requires.items p d).0));
       merging = (c.requires.bits.0, c.requires.bits.1, c.requires.bits.2, begin_merging c.requires.bits.0 a b c.requires.bits.1);
     }
 
-pub merge_at-requires : goal.merge_at-requires
-merge_at-requires g c =
+pub index-requires : goal.index-requires
+index-requires g c =
+    let long = equally_long g.T.IndexStorage.number (λ r. r.now) c.core.inside.items.items c.args.other.now.items.items _ c.core.view_is c.core.invariant c.requires.upwards c.requires.items in
+    omega (arith, long, c.core.inside.items.ok.0, c.args.other.now.items.ok.0)
+
+pub merge_at-changed-requires : goal.merge_at-changed-requires
+merge_at-changed-requires g c =
     let number = g.T.IndexStorage.number in
-    let i = c.loop-key.invariant in
-    let at = c.deref-key-items.ensures.value in
-    let left = left_shown number (λ r. r.now) c.args.other.now.items.items c.loop-key.key-index c.loop-key-item.result (rw at at c.loop-key-test.true) (rw at at c.loop-key-item.is) in
-    let found = rw left at i.finds in
-    let there = there_to_merge i.merging.0 _ _ _ _ _ _ _ _ i.items i.merging.2 i.merging.3 found.0 in
+    let i = c.loop-k.invariant in
+    let all = c.args.other.now.items.items in
+    let long = equally_long number (λ r. r.now) c.core.inside.items.items all _ c.core.view_is c.core.invariant c.requires.upwards c.requires.items in
+    let below : c.loop-k.k < length all = omega (arith, long, c.core.inside.items.ok.0) in
+    let stands = shown_at number (λ r. r.now) all c.loop-k.k c.index.result.now below c.index.ensures in
+    let there = there_to_merge i.merging.0 c.loop-k.k _ _ _ _ _ _ i.merging.2 i.merging.3 c.requires.upwards i.keys stands in
     rw there.1 there.2
 
-pub loop-key-preserved : goal.loop-key-preserved
-loop-key-preserved g c =
+pub loop-k-preserved : goal.loop-k-preserved
+loop-k-preserved g c =
     let number = g.T.IndexStorage.number in
-    let i = c.loop-key.invariant in
-    let at = c.deref-key-items.ensures.value in
-    let left = left_shown number (λ r. r.now) c.args.other.now.items.items c.loop-key.key-index c.loop-key-item.result (rw at at c.loop-key-test.true) (rw at at c.loop-key-item.is) in
-    let found = rw left at i.finds in
+    let i = c.loop-k.invariant in
+    let all = c.args.other.now.items.items in
+    let b = goto_of number c.args.other.now in
+    let long = equally_long number (λ r. r.now) c.core.inside.items.items all _ c.core.view_is c.core.invariant c.requires.upwards c.requires.items in
+    let below : c.loop-k.k < length all = omega (arith, long, c.core.inside.items.ok.0) in
+    let f : (ℕ × ℕ) × List Bool = ((number c.index.result.now.0.0.0, number c.index.result.now.0.1.0), c.index.result.now.1.now) in
+    let stands = shown_at number (λ r. r.now) all c.loop-k.k c.index.result.now below c.index.ensures in
+    let left = left_shown number (λ r. r.now) all c.loop-k.k c.index.result.now below c.index.ensures in
+    let there = there_to_merge i.merging.0 c.loop-k.k _ _ _ _ _ f i.merging.2 i.merging.3 c.requires.upwards i.keys stands in
+    let gives = item_at_place b c.loop-k.k f c.requires.upwards stands in
+    let here = c.merge_at-changed.ensures.here (f.0, there.0) there.1 in
     let m = rw left at i.merging.3 in
-    let there = there_to_merge i.merging.0 _ _ _ _ _ _ _ _ i.items i.merging.2 i.merging.3 found.0 in
     record {
-      finds = found.1;
-      items = i.items;
+      keys = rw here (i.keys ∙ set_keys c.loop-k.core c.loop-k.k (f.0, there.0) (union there.0 f.1) there.1);
       merging = (
         i.merging.0,
         i.merging.1,
         i.merging.2,
-        elim c.if-merge_at.branch [
-          | then-merge_at w ↦ rw w.changed-is
-              (turn_changed i.merging.0 _ _ _ _ _ _ _ _ there.0 c.loop-key-item.result.1.now m there.1 found.0 (i.merging.2 _ _ c.loop-key-item.result.1.now found.0) c.merge_at.ensures.here c.merge_at.ensures.others c.merge_at.result w.if-merge_at.true c.merge_at.ensures.changed)
-          | else-merge_at w ↦ rw w.changed-is
-              (turn_same i.merging.0 _ _ _ _ _ _ _ _ there.0 c.loop-key-item.result.1.now m there.1 found.0 (i.merging.2 _ _ c.loop-key-item.result.1.now found.0) c.merge_at.ensures.here c.merge_at.ensures.others c.merge_at.result w.if-merge_at.false c.merge_at.ensures.changed)
-        ],
+        turn_merged i.merging.0 c.loop-k.k _ _ _ _ _ _ _ _ there.0 f.1 m (upwards_from_keys b c.loop-k.core i.keys c.requires.upwards) there.1 gives
+            (i.merging.2 _ _ f.1 gives) here c.merge_at-changed.result (c.merge_at-changed.ensures.changed (f.0, there.0) there.1),
       );
     }
 
 pub returns-clause-union : goal.returns-clause-union
 returns-clause-union g c =
-    let m = c.loop-key.invariant.merging in
-    let none = none_left g.T.IndexStorage.number (λ r. r.now) c.args.other.now.items.items c.loop-key.key-index (rw c.deref-key-items.ensures.value at c.loop-key-test.false) in
-    end_merging m.0 _ _ _ _ _ m.3 none
+    let number = g.T.IndexStorage.number in
+    let m = c.loop-k.invariant.merging in
+    let all = c.args.other.now.items.items in
+    let long = equally_long number (λ r. r.now) c.core.inside.items.items all _ c.core.view_is c.core.invariant c.requires.upwards c.requires.items in
+    let end : length all ≤ c.loop-k.k = omega (arith, long, c.core.inside.items.ok.0) in
+    end_merging m.0 _ _ _ _ _ m.3 (none_left number (λ r. r.now) all c.loop-k.k end)
 
 pub returns-clause-fits : goal.returns-clause-fits
 returns-clause-fits g c = λ grm h.
-    let m = c.loop-key.invariant.merging in
+    let m = c.loop-k.invariant.merging in
     fits_of_merging m.0 _ _ _ _ _ m.1 m.3 grm h

@@ -4,6 +4,7 @@ use Rattle.lrpager.proofs.CollectedStates.{collected_shared, collected_crosses, 
 use Rattle.lrpager.proofs.CollectedGraph.{collected_graph, collected_invents_no_conflict}
 use Rattle.lrplacing.proofs.ChainGrowth.{chain_of_states}
 use Rattle.lrpager.proofs.SizeBounds.{closings_bound_fits}
+use Rattle.lrpager.proofs.StartsAtZero.{only_starts}
 use Rattle.lrpager.proofs.pager.build.Goals as goal
 
 pub construct-requires-clause-most : goal.construct-requires-clause-most
@@ -35,7 +36,7 @@ pub returns-clause-graph : goal.returns-clause-graph
 returns-clause-graph g c =
     let e = c.in_ok-closings.ensures in
     let (marks, marked, collected) = c.in_ok-graph.ensures.collected in
-    collected_graph c.in_ok-firsts.ensures.shape e.holds e.gotos marked collected
+    collected_graph c.in_ok-firsts.ensures.shape e.holds e.closed e.gotos marked collected
 
 pub returns-clause-shared : goal.returns-clause-shared
 returns-clause-shared g c =
@@ -45,7 +46,7 @@ pub returns-clause-conflicts : goal.returns-clause-conflicts
 returns-clause-conflicts g c =
     let e = c.in_ok-closings.ensures in
     let (marks, marked, collected) = c.in_ok-graph.ensures.collected in
-    collected_invents_no_conflict c.in_ok-firsts.ensures.shape e.holds e.gotos marked collected
+    collected_invents_no_conflict c.in_ok-firsts.ensures.shape e.holds e.closed e.gotos marked collected
 
 pub returns-clause-crossing : goal.returns-clause-crossing
 returns-clause-crossing g c =
@@ -75,8 +76,14 @@ construct-requires-clause-sizes g c = c.tokens_len-sizes.ensures.sizes
 pub construct-requires-clause-candidates : goal.construct-requires-clause-candidates
 construct-requires-clause-candidates g c = c.in_ok-drafts.ensures.candidates
 
-pub collect-requires-clause-closed : goal.collect-requires-clause-closed
-collect-requires-clause-closed g c = c.in_ok-closings.ensures.closed
+pub collect-requires-clause-fits : goal.collect-requires-clause-fits
+collect-requires-clause-fits g c = c.in_ok-closings.ensures.holds.fits
+
+pub collect-requires-clause-starts : goal.collect-requires-clause-starts
+collect-requires-clause-starts g c = λ k below. only_starts (c.in_ok-closings.ensures.holds.sharing k below)
+
+pub collect-requires-clause-of : goal.collect-requires-clause-of
+collect-requires-clause-of g c = c.in_ok-firsts.ensures
 
 pub collect-requires-clause-most : goal.collect-requires-clause-most
 collect-requires-clause-most g c = c.in_ok-closings.ensures.most

@@ -22,7 +22,7 @@ overflow_add-closings g c =
     let m = t.closes in
     let fits =
     closings_fit g.T.IndexStorage.MAX c.args.grm.now t.mid (c.loop-i.closings + 1) c.requires.sizes g.met.T.IndexStorage.most (omega (arith, m.closes.length_is, i.most))
-    (closes_counted c.args.grm.now c.loop-i.drafts.items t.mid c.in-Some.i m.closed m.closes c.loop-i.closings i.counted) in
+    (closes_counted c.args.grm.now c.loop-i.drafts.items t.mid c.in-Some.i m.closes c.loop-i.closings i.counted) in
     omega (arith, fits)
 
 pub loop-i-smaller : goal.loop-i-smaller
@@ -30,7 +30,7 @@ loop-i-smaller g c =
     let i = c.loop-i.invariant in
     let t = c.in_ok-close.ensures.turn in
     let m = t.closes in
-    let counted = closes_counted c.args.grm.now c.loop-i.drafts.items t.mid c.in-Some.i m.closed m.closes c.loop-i.closings i.counted in
+    let counted = closes_counted c.args.grm.now c.loop-i.drafts.items t.mid c.in-Some.i m.closes c.loop-i.closings i.counted in
     let within = weight_within c.args.grm.now t.mid g.T.IndexStorage.MAX (omega (arith, m.closes.length_is, i.most)) in
     omega (arith, counted, within)
 
@@ -45,6 +45,7 @@ loop-i-preserved g c =
       holds = turned_holds shape t.closes i.holds t.places;
       gotos = turned_gotos shape t.closes i.holds t.places i.gotos;
       candidates = e.candidates;
+      tools = e.tools;
       made = turned_made shape t.closes i.holds t.places c.loop-i.closings i.made;
       counted = turned_counted shape t.closes i.holds t.places c.loop-i.closings i.counted;
       order = λ us r. i.order us (choice.ClosesAll.more (rw c.as_slice.ensures.value at c.in-Some.ensures) t.closes t.places r);

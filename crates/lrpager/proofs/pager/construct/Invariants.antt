@@ -2,6 +2,7 @@ use Rattle.std.proofs.Common.{◌*◌, ◌+◌, ◌-◌, ◌≤◌, ℕ, List, l
 use Rattle.lrspec.specs.grammars.Grammar.{item_count, token_count}
 use Rattle.lrplacing.specs.Construction.{Draft}
 use Rattle.lrpager.specs.Choices.{ClosesAll}
+use Rattle.lrpager.specs.Closing.{AreToolsFor}
 use Rattle.lrplacing.specs.Counts.{unclosed, weight}
 use Rattle.lrplacing.specs.Invariant.{Holds, HasGotos}
 use Rattle.lrplacing.specs.CandidatesOf.{AreCandidates}
@@ -13,6 +14,7 @@ invariant-loop-i g l = record {
   holds : Holds l.grm l.drafts.items;
   gotos : (k : ℕ) → HasGotos l.grm l.drafts.items k;
   candidates : AreCandidates l.drafts.items l.candidates;
+  tools : AreToolsFor l.grm l.tools;
   made : length l.drafts.items ≤ l.closings + unclosed l.drafts.items;
   counted : l.closings + unclosed l.drafts.items ≤ weight l.grm l.drafts.items;
   order : (us : List Draft) → ClosesAll l.grm l.from l.drafts.items us → ClosesAll l.grm 0 l.initial.drafts.items us;

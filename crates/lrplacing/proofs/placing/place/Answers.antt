@@ -8,7 +8,7 @@ use Rattle.lrplacing.specs.Construction.{TellsGrowth}
 use Rattle.lrplacing.proofs.CoreGrowth.{of_equal, not_grown}
 use Rattle.lrplacing.proofs.CandidateLists.{all_below, all_clash, candidates_kept, candidates_made, same_cores, merged_items, others_core, some_first, first_found, at_each_first}
 use Rattle.lrplacing.proofs.FirstOfList.{first_among}
-use Rattle.lrplacing.proofs.PlacingFacts.{put_places, put_equal, put_merged, put_made}
+use Rattle.lrplacing.proofs.PlacingFacts.{edges_from, put_places, put_equal, put_merged, put_made}
 use Rattle.lrplacing.proofs.placing.place.Goals as goal
 
 pub find_equal-requires-clause-below : goal.find_equal-requires-clause-below
@@ -132,8 +132,15 @@ merge_at-grew-requires-clause-items g c =
     let found = rw c.as_slice-2.ensures.value at c.in-Some-find_compatible.ensures.compatible in
     found.1.items
 
-pub link-requires-2 : goal.link-requires-2
-link-requires-2 g c = omega (arith, c.in_ok-k.ensures.len, c.requires.from)
+pub link-requires-2-clause-from : goal.link-requires-2-clause-from
+link-requires-2-clause-from g c = omega (arith, c.in_ok-k.ensures.len, c.requires.from)
+
+pub link-requires-2-clause-free : goal.link-requires-2-clause-free
+link-requires-2-clause-free g c =
+    let old = c.args.drafts.now.items in
+    let m = c.in_ok-k.ensures in
+    edges_from old c.make.new.drafts.items c.args.from (m.others c.args.from (λ e. omega (arith, e, c.requires.from))) (symbol_of g.T.IndexStorage.number c.args.symbol)
+    ∙ c.requires.free
 
 pub returns-in-Some-clause-grew : goal.returns-in-Some-clause-grew
 returns-in-Some-clause-grew g c = λ _. not_grown _ _ (c.in_ok-link.ensures.stays c.in-Some.k).core

@@ -1,12 +1,11 @@
-use Rattle.std.proofs.Common.{◌≡◌, ℕ, ◌<◌, List, [], ◌∷◌, refl, length, arith, ap}
+use Rattle.std.proofs.Common.{◌≡◌, ℕ, ◌<◌, List, [], ◌∷◌, refl, length, arith, ap, inl, inr}
 use Rattle.lrspec.proofs.texts.ResultsPassedOn.{error_passed}
-use Rattle.lritems.specs.ItemsOf.{set_of}
 use Rattle.lrplacing.specs.Chains.{HasChainOf}
 use Rattle.lrplacing.specs.Refusals.{IsLargeOnly}
 use Rattle.lrplacing.specs.Construction as plain
 use Rattle.lrplacing.proofs.ClosedLater.{length_unless, core_unless, still_unclosed, placed_turn}
 use Rattle.lrplacing.proofs.PlacedCores.{length_grown}
-use Rattle.lrplacing.proofs.PlacingTurns.{item_of_goto, bits_of_goto, held_on, still_may_be_placed, chain_of_most, large_by}
+use Rattle.lrplacing.proofs.PlacingTurns.{item_of_goto, bits_of_goto, held_on, still_may_be_placed, still_free, chain_of_most, large_by}
 use Rattle.lrplacing.proofs.placing.place_all.Goals as goal
 
 pub place-requires-clause-some : goal.place-requires-clause-some
@@ -15,18 +14,16 @@ place-requires-clause-some g c = let e = c.in-Some.ensures.steps.0 in item_of_go
 pub place-requires-clause-bits : goal.place-requires-clause-bits
 place-requires-clause-bits g c k b =
     let e = c.in-Some.ensures.steps.0 in
-    let closed = set_of g.T.IndexStorage.number c.args._closed.now in
     let drafts = c.loop-symbol.drafts.items in
     let grew = c.loop-symbol.grew in
-    rw (← core_unless grew drafts c.args.from closed k)
-    (bits_of_goto c.loop-symbol.invariant.holds (rw e at c.loop-symbol.invariant.gotos).0 k (rw (length_unless grew drafts c.args.from closed) b))
+    rw (← core_unless grew drafts c.args.from k)
+    (bits_of_goto c.loop-symbol.invariant.holds (rw e at c.loop-symbol.invariant.gotos).0 k (rw (length_unless grew drafts c.args.from) b))
 
 pub returns-in_err-placed-clause-refused : goal.returns-in_err-placed-clause-refused
 returns-in_err-placed-clause-refused g c =
     let most = g.T.IndexStorage.MAX in
-    let closed = set_of g.T.IndexStorage.number c.args._closed.now in
     let i = c.loop-symbol.invariant in
-    let same = length_unless c.loop-symbol.grew c.loop-symbol.drafts.items c.args.from closed in
+    let same = length_unless c.loop-symbol.grew c.loop-symbol.drafts.items c.args.from in
     error_passed (IsLargeOnly (HasChainOf c.args._grm.now most)) _ c.in_err-placed.field-0.0 c.from_residual.ensures.1
     (large_by (λ l. chain_of_most _ most i.holds (rw same l)) c.in_err-placed.field-0.0 c.in_err-placed.ensures.refused)
 
@@ -34,27 +31,32 @@ pub loop-symbol-preserved : goal.loop-symbol-preserved
 loop-symbol-preserved g c =
     let e = c.in-Some.ensures.steps.0 in
     let i = c.loop-symbol.invariant in
-    let closed = set_of g.T.IndexStorage.number c.args._closed.now in
-    let from : c.args.from < length (plain.closed_unless c.loop-symbol.grew c.loop-symbol.drafts.items c.args.from closed) =
-    rw (length_unless c.loop-symbol.grew c.loop-symbol.drafts.items c.args.from closed) i.from in
+    let from : c.args.from < length (plain.closed_unless c.loop-symbol.grew c.loop-symbol.drafts.items c.args.from) =
+    rw (length_unless c.loop-symbol.grew c.loop-symbol.drafts.items c.args.from) i.from in
     let may = rw e at i.gotos in
     let up = rw e at i.upwards in
+    let distinct = rw e at i.distinct in
     let m = c.in_ok-placed.ensures in
-    let p = placed_turn closed m.placed i.from i.unclosed m.grew c.loop-symbol.grew c.has_grown-grew.result c.has_grown-grew.ensures in
+    let p = placed_turn m.placed i.from i.unclosed m.grew c.loop-symbol.grew c.has_grown-grew.result c.has_grown-grew.ensures in
     record {
       count = omega (arith, c.in-Some.ensures.steps.1, i.count, ap length e);
       from = omega (arith, i.from, length_grown m.placed);
       most = m.most;
-      unclosed = still_unclosed closed m.placed i.from i.unclosed;
+      unclosed = still_unclosed m.placed i.from i.unclosed;
       holds = held_on p i.holds from may.0;
       gotos = still_may_be_placed c.args._grm.now p from _ may.1;
       upwards = up.1;
+      distinct = distinct.1;
+      free = still_free m.placed _ distinct.0 (λ y h. i.free y (rw e (inr h)));
       candidates = m.candidates;
       placed = λ us r. i.placed us (rw e (plain.PlacesAll.more c.in_ok-placed.placed.state p r));
     }
 
 pub place-requires-clause-upwards : goal.place-requires-clause-upwards
 place-requires-clause-upwards g c = let e = c.in-Some.ensures.steps.0 in (rw e at c.loop-symbol.invariant.upwards).0
+
+pub place-requires-clause-free : goal.place-requires-clause-free
+place-requires-clause-free g c = let e = c.in-Some.ensures.steps.0 in c.loop-symbol.invariant.free _ (rw e (inl refl))
 
 empty : {X : Type 0} (xs : List X) (n : ℕ) → n ≡ length xs → n ≡ 0 → xs ≡ []
 empty [] n e f = refl

@@ -7,11 +7,11 @@ use Rattle.lrrows.proofs.rows.reduces_alone.Goals as goal
 use Rattle.lrrows.proofs.rows.reduces_alone.Goals.{in-Shift, in_default}
 
 pub loop-number-init : goal.loop-number-init
-loop-number-init g c = All-nil (λ n. NeitherShiftsNorAccepts (action_numbered n))
+loop-number-init g c = All-nil (λ e. NeitherShiftsNorAccepts (action_numbered e.1))
 
 pub loop-number-preserved : goal.loop-number-preserved
 loop-number-preserved g c =
-    All-more (λ n. NeitherShiftsNorAccepts (action_numbered n)) c.args.row.now c.loop-number.number-index 0 c.loop-number-test.true c.loop-number.invariant
+    All-more (λ e. NeitherShiftsNorAccepts (action_numbered e.1)) c.args.row.now c.loop-number.number-index (0, 0) c.loop-number-test.true c.loop-number.invariant
     (elim c.match-matches.branch [
       | in-Shift w ↦ cc
       | in_default w ↦ rw (← c.action_of_number.ensures) (no_shift g.T.IndexStorage.number c.action_of_number.result w.in_default.not-Shift w.in_default.not-Accept)

@@ -7,13 +7,13 @@ use Rattle.lrtree.proofs.VisitsBack.{all_unmapped}
 use Rattle.lrtree.proofs.lines.tree_text.Goals as goal
 
 pub visits_of-requires : goal.visits_of-requires
-visits_of-requires g c = let (t, k, _) = c.requires in (t, k)
+visits_of-requires g c = let (t, k, _) = c.requires.tree in (t, k)
 
-pub push_visits-requires : goal.push_visits-requires
-push_visits-requires g c =
+pub push_visits-requires-clause-visits : goal.push_visits-requires-clause-visits
+push_visits-requires-clause-visits g c =
     let f = visit_of g.T.IndexStorage.number in
     let m = c.args.grm.now in
-    let (t, k, printable) = c.requires in
+    let (t, k, printable) = c.requires.tree in
     let all = subst (All (IsVisitOf m)) (sym (ap (map f) c.deref.ensures.value ∙ c.in_ok-visits.ensures t k)) (printable_visits m t printable) in
     all_unmapped f (IsVisitOf m) c.deref.result.now all
 

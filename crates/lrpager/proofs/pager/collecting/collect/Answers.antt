@@ -27,8 +27,14 @@ marked_states-requires-clause-below g c = c.requires.below
 pub marked_states-requires-clause-one_symbol : goal.marked_states-requires-clause-one_symbol
 marked_states-requires-clause-one_symbol g c = c.requires.one_symbol
 
-pub marked_states-requires-clause-closed : goal.marked_states-requires-clause-closed
-marked_states-requires-clause-closed g c = c.requires.closed
+pub marked_states-requires-clause-fits : goal.marked_states-requires-clause-fits
+marked_states-requires-clause-fits g c = c.requires.fits
+
+pub marked_states-requires-clause-starts : goal.marked_states-requires-clause-starts
+marked_states-requires-clause-starts g c = c.requires.starts
+
+pub marked_states-requires-clause-of : goal.marked_states-requires-clause-of
+marked_states-requires-clause-of g c = c.requires.of
 
 pub marked_states-requires-clause-most : goal.marked_states-requires-clause-most
 marked_states-requires-clause-most g c = c.requires.most

@@ -13,7 +13,7 @@ edges_at-requires g c = next_below c.args.drafts.now _ c.in-Some.k _ _ c.loop-k.
 pub loop-k-preserved : goal.loop-k-preserved
 loop-k-preserved g c =
     let one = c.in_ok-mark_targets.ensures in
-    marking_turn c.args.drafts.now _ _ c.in-Some.k _ _ _ _ c.loop-k.invariant c.in-Some.ensures.items c.edges_at.ensures one.only one.marked
+    marking_turn c.args.drafts.now _ _ c.in-Some.k _ _ _ _ c.loop-k.invariant c.in-Some.ensures.items c.edges_at.ensures.edges one.only one.marked
 
 pub returns : goal.returns
 returns g c =

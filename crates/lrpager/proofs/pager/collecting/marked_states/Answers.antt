@@ -2,9 +2,11 @@ use Rattle.std.proofs.Common.{◌≡◌, sym, ◌∙◌, ap, length, slice_index
 use Rattle.std.proofs.lemmas.List.{length-map, length-drop, map_push}
 use Rattle.std.proofs.lemmas.Option.{slice_get_within}
 use Rattle.std.proofs.lemmas.List.Elements.{All-push}
+use Rattle.lrspec.specs.grammars.ItemSets.{Fits}
 use Rattle.lrspec.specs.merging.Graph.{IsInOrder}
 use Rattle.lrgraphs.specs.GraphOf.{state_of, graph_of}
-use Rattle.lrpager.proofs.CollectedBelow.{first_left, collecting_not, collecting_more, collected_all, apart_at, closed_here, number_most}
+use Rattle.lrpager.specs.Collecting.{OnlyStartsAtZero}
+use Rattle.lrpager.proofs.CollectedBelow.{first_left, collecting_not, collecting_more, collected_all, apart_at, of_each_core, number_most}
 use Rattle.lrpager.proofs.pager.collecting.marked_states.Goals as goal
 
 pub loop-draft-preserved-then-not-is_marked : goal.loop-draft-preserved-then-not-is_marked
@@ -17,16 +19,25 @@ loop-draft-preserved-then-not-is_marked g c =
       len = omega (arith, steps.1, ap length steps.0, i.len);
       rest = first.1;
       within = omega (arith, below);
+      closer = i.closer;
       collecting =
-          collecting_not (slice_index c.args.numbers.now) c.args.drafts.items c.args.marks.now c.loop-draft.k _ c.loop-draft.edges_len (omega (arith, below, c.requires.marks))
+          collecting_not c.args.grm.now (slice_index c.args.numbers.now) c.args.drafts.items c.args.marks.now c.loop-draft.k _ c.loop-draft.edges_len (omega (arith, below, c.requires.marks))
           (sym c.get-is_marked.ensures.value ∙ c.if-not-is_marked.true) i.collecting;
       order = i.order;
     }
 
-pub renumber_state-requires-clause-closed : goal.renumber_state-requires-clause-closed
-renumber_state-requires-clause-closed g c =
+pub renumber_state-requires-clause-fits : goal.renumber_state-requires-clause-fits
+renumber_state-requires-clause-fits g c =
     let first = first_left c.args.drafts.items c.loop-draft.k c.in-Some.draft _ (sym c.loop-draft.invariant.rest ∙ c.in-Some.ensures.steps.0) in
-    closed_here c.args.drafts.items c.loop-draft.k c.in-Some.draft first.0 c.requires.closed
+    of_each_core (Fits c.args.grm.now) c.args.drafts.items c.loop-draft.k c.in-Some.draft first.0 c.requires.fits
+
+pub renumber_state-requires-clause-starts : goal.renumber_state-requires-clause-starts
+renumber_state-requires-clause-starts g c =
+    let first = first_left c.args.drafts.items c.loop-draft.k c.in-Some.draft _ (sym c.loop-draft.invariant.rest ∙ c.in-Some.ensures.steps.0) in
+    of_each_core (OnlyStartsAtZero c.args.grm.now) c.args.drafts.items c.loop-draft.k c.in-Some.draft first.0 c.requires.starts
+
+pub renumber_state-requires-clause-of : goal.renumber_state-requires-clause-of
+renumber_state-requires-clause-of g c = c.requires.of
 
 pub renumber_state-requires-clause-apart : goal.renumber_state-requires-clause-apart
 renumber_state-requires-clause-apart g c =
@@ -52,8 +63,9 @@ loop-draft-preserved g c =
       len = omega (arith, steps.1, ap length steps.0, i.len);
       rest = first.1;
       within = omega (arith, below);
+      closer = one.closer;
       collecting =
-          collecting_more (slice_index c.args.numbers.now) c.args.drafts.items c.args.marks.now c.loop-draft.k _ _ c.loop-draft.edges_len c.len-edges_len.result c.in-Some.draft (state_of number state)
+          collecting_more c.args.grm.now (slice_index c.args.numbers.now) c.args.drafts.items c.args.marks.now c.loop-draft.k _ _ c.loop-draft.edges_len c.len-edges_len.result c.in-Some.draft (state_of number state)
           (sym c.get-is_marked.ensures.value ∙ c.if-not-is_marked.false) first.0 one.renumbered (rw length-map more) (omega (arith, more, one.len, c.requires.numbers.length_is, c.requires.marks))
           (rw c.in_ok-push.ensures.items (map_push (state_of number) c.loop-draft.states.items state)) i.collecting;
       order =
@@ -66,5 +78,5 @@ returns-clause-collected g c =
     let i = c.loop-draft.invariant in
     let left = ap length i.rest ∙ length-drop c.loop-draft.k c.args.drafts.items in
     let all : c.loop-draft.k ≡ length c.args.drafts.items = omega (arith, left, i.len, i.within, c.in-None.ensures.steps.0) in
-    collected_all (slice_index c.args.numbers.now) c.args.drafts.items c.args.marks.now c.loop-draft.k _ i.collecting.collected all c.requires.marks c.requires.below
+    collected_all c.args.grm.now (slice_index c.args.numbers.now) c.args.drafts.items c.args.marks.now c.loop-draft.k _ i.collecting.collected all c.requires.marks c.requires.below
     (λ u l. c.requires.numbers.at u (omega (arith, l, c.requires.marks)))

@@ -47,7 +47,7 @@ returns-else-grew-clause-closed g c =
     let old = ap (λ (s : Draft). s.core) c.self.view_is in
     inl (
       λ p d t l. subst (λ a. LooksIn a p d t) old (looks_of_agree _ _ (c.weakly_merge-grew.ensures.same c.if-grew.false) p d t l),
-      ap (λ (s : Draft). s.closed) c.self.view_is,
+      ap (λ (s : Draft). s.is_closed) c.self.view_is,
     )
 
 pub returns-else-grew-clause-grew : goal.returns-else-grew-clause-grew

@@ -5,8 +5,8 @@ use Rattle.lrtable.specs.RunAnswers.{text_of, verdict_of}
 use Rattle.lrtree.proofs.ParsedLines.{sentence_printable, parse_printed}
 use Rattle.lrtree.proofs.lines.TreeLines.push_parsed.Goals as goal
 
-pub tree_text-requires : goal.tree_text-requires
-tree_text-requires g c =
+pub tree_text-requires-clause-tree : goal.tree_text-requires-clause-tree
+tree_text-requires-clause-tree g c =
     let (s, same) = c.in_ok-outcome.ensures.sound (ap verdict_of c.in-Accepted.is) in
     (s.tree, record { rule = s.rule; start = s.start; is_tree = s.is_tree; productions = same }, sentence_printable s s.tree refl c.requires.named)
 

@@ -1,19 +1,20 @@
 use Rattle.std.proofs.Common.{◌≡◌, ◌≢◌, ◌↔◌, ◌⊎◌, ◌≤◌, ◌/◌, ◌-◌, ◌<◌, ◌+◌, ◌^◌, ◌∙◌, ℕ, ◌++◌, None, Some, length, take, drop, slice_index, slice_index_or, refl, sym, ap, inl, arith}
-use Rattle.std.specs.List.{slice_get}
+use Rattle.std.specs.List.{All, slice_get}
 use Rattle.std.proofs.Math.Seq.{take-append_seam}
 use Rattle.lrsparse.specs.Owned.{IsOwned, MeetsNone}
-use Rattle.lrsparse.specs.Places.{HasEntry, Fits, row_of}
-use Rattle.lrsparse.proofs.ColumnsOfRow.{fits_row, least_within, last_within, column_to_last, entry_to_last, no_entries}
+use Rattle.lrsparse.specs.Places.{Fits}
+use Rattle.lrsparse.proofs.ColumnsOfRow.{fits_row, least_within, last_there, column_to_last, none_there}
+use Rattle.lrsparse.proofs.EntriesOfRow.{column_at, columns_len}
 use Rattle.lrsparse.proofs.PlacedRow.{row_placed, others_kept, above_placed, owned_placed}
 use Rattle.lrsparse.proofs.sparsevec.places.Places.place_from.Goals as goal
 
 pub returns-in_default-clause-numbers : goal.returns-in_default-clause-numbers
 returns-in_default-clause-numbers c =
     let list = c.args.self.now.list.items in
-    let found = c.requires.columns in
-    let was = sym (c.in_default.ensures ∙ c.last.ensures.value) in
-    let none = no_entries list c.args.self.now.owned.items c.args.columns.now c.args.empty c.args.numbers.now c.requires.placed.owned found.entries found.all was in
-    row_placed list list c.args.empty c.args.row 0 c.args.numbers.now (λ k h. absurd (none k h)) (λ p h. refl) c.requires.placed.above
+    let es = c.args.entries.now in
+    let was = none_there c.args.columns.now (sym (c.in_default.ensures ∙ c.last.ensures.value)) in
+    let none : length es ≡ 0 = omega (arith, columns_len es, ap length c.requires.columns) in
+    row_placed list list c.args.row 0 es (λ k x l. absurd (omega arith)) (λ p h. refl) c.requires.placed.above (rw c.requires.columns at c.requires.upwards)
 
 -- what is known where the displacement is found
 module _ (c : goal.After-least_displacement-displacement) where
@@ -23,23 +24,17 @@ module _ (c : goal.After-least_displacement-displacement) where
   least : (d : ℕ) → d < c.least_displacement-displacement.result → MeetsNone c.args.self.now.owned.items c.args.columns.now d → ⊥
   least = rw c.as_slice.ensures.value at c.least_displacement-displacement.ensures.least
 
-  fits : MeetsNone c.args.self.now.owned.items c.args.columns.now c.least_displacement-displacement.result
-  fits = rw c.as_slice.ensures.value at c.least_displacement-displacement.ensures.fits
-
   within : c.least_displacement-displacement.result ≤ length c.args.self.now.list.items
-  within = least_within c.args.self.now.list.items c.args.self.now.owned.items c.args.columns.now c.args.empty c.args.numbers.now
-      c.requires.placed.owned c.requires.columns.entries c.requires.columns.all c.least_displacement-displacement.result least
+  within = least_within c.args.self.now.list.items c.args.self.now.owned.items c.requires.placed.owned c.args.columns.now c.least_displacement-displacement.result least
 
-  narrow : c.in-Some.last < length c.args.numbers.now
-  narrow = last_within c.args.self.now.list.items c.args.self.now.owned.items c.args.columns.now c.args.empty c.args.numbers.now
-      c.requires.placed.owned c.requires.columns.entries c.requires.columns.all c.requires.columns.upwards c.in-Some.last was
+  narrow : c.in-Some.last < 2 ^ 60
+  narrow =
+      let there = last_there c.args.columns.now c.in-Some.last was in
+      rw there.1 at (c.requires.narrow (length c.args.columns.now - 1) 0 there.0)
 
-  -- a list and a slice of numbers are so short
-  room : length c.args.self.now.list.items + length c.args.numbers.now < 2 ^ 63 + 2 ^ 60
-  room =
-      let list = c.args.self.now.list in
-      let row : length c.args.numbers.now < 2 ^ 60 = omega (arith, c.well_formed) in
-      omega (arith, list.ok.0, list.ok.1, list.small, row)
+  -- a list is so short
+  room : length c.args.self.now.list.items < 2 ^ 63
+  room = let list = c.args.self.now.list in omega (arith, list.ok.0, list.ok.1, list.small)
 
 pub overflow_add-end : goal.overflow_add-end
 overflow_add-end c = omega (arith, within c, narrow c, room c)
@@ -47,13 +42,19 @@ overflow_add-end c = omega (arith, within c, narrow c, room c)
 pub overflow_add-end-2 : goal.overflow_add-end-2
 overflow_add-end-2 c = omega (arith, within c, narrow c, room c)
 
-pub put_entries-requires : goal.put_entries-requires
-put_entries-requires c = λ k h.
+pub put_entries-requires-clause-upwards : goal.put_entries-requires-clause-upwards
+put_entries-requires-clause-upwards c = rw c.requires.columns at c.requires.upwards
+
+pub put_entries-requires-clause-within : goal.put_entries-requires-clause-within
+put_entries-requires-clause-within c = λ k x l.
+    let es = c.args.entries.now in
     let before = sym (c.in-Some.ensures ∙ c.last.ensures.value) in
+    let same = ap (λ xs. slice_index xs k) c.requires.columns ∙ column_at es k x l in
+    let many : k < length c.args.columns.now = omega (arith, columns_len es, ap length c.requires.columns) in
     omega (
       arith,
-      entry_to_last c.args.self.now.list.items c.args.self.now.owned.items c.args.columns.now c.args.empty c.args.numbers.now
-          c.requires.placed.owned c.requires.columns.entries c.requires.columns.all c.requires.columns.upwards c.in-Some.last before k h,
+      column_to_last c.args.columns.now c.requires.upwards c.in-Some.last before k many,
+      same,
       ap length c.as_mut_slice.ensures.value,
       c.in_ok-reach.ensures.len,
     )
@@ -63,22 +64,24 @@ own_columns-requires-clause-within c = λ k l.
     let before = sym (c.in-Some.ensures ∙ c.last.ensures.value) in
     omega (
       arith,
-      (column_to_last c.args.self.now.list.items c.args.self.now.owned.items c.args.columns.now c.args.empty c.args.numbers.now
-          c.requires.placed.owned c.requires.columns.entries c.requires.columns.all c.requires.columns.upwards c.in-Some.last before) k l,
+      column_to_last c.args.columns.now c.requires.upwards c.in-Some.last before k l,
       ap length c.as_mut_slice-2.ensures.value,
       c.in_ok-reach-2.ensures.len,
     )
 
--- what is known where the entries are put into the list
-module _ (c : goal.After-self-2-1) where
-  put :
-      (k : ℕ) → HasEntry c.args.empty c.args.numbers.now k
-      → slice_index_or c.put_entries.new.list (c.least_displacement-displacement.result + k) None
-      ≡ Some (record { row = c.args.row; number = slice_index_or c.args.numbers.now k c.args.empty })
-  put = c.put_entries.ensures.put
+pub full_words-self-requires : goal.full_words-self-requires
+full_words-self-requires c = λ p l.
+    let long : length c.own_columns.new.words ≡ c.reach-2.new.list.len = c.own_columns.auto.words ∙ c.as_mut_slice-2.ensures.len in
+    let whole : take c.reach-2.new.list.len (c.own_columns.new.words ++ drop (length c.own_columns.new.words) c.reach-2.new.list.items) ≡ c.own_columns.new.words =
+    rw (← long) (take-append_seam c.own_columns.new.words (drop (length c.own_columns.new.words) c.reach-2.new.list.items)) in
+    let same : slice_index c.as_mut_slice-2.result.now (p / 64) ≡ slice_index c.args.self.now.owned.items (p / 64) =
+    ap (λ ws. slice_index ws (p / 64)) c.as_mut_slice-2.ensures.value ∙ c.in_ok-reach-2.ensures.values (p / 64) in
+    rw (c.as_slice-2.ensures.value, whole) ((c.own_columns.ensures p).1 (inl (rw same (c.requires.placed.full p l))))
 
+-- what is known where the entries are put into the list
+module _ (c : goal.After-self-3-1) where
   kept :
-      (p : ℕ) → ((k : ℕ) → HasEntry c.args.empty c.args.numbers.now k → p ≢ c.least_displacement-displacement.result + k)
+      (p : ℕ) → All (λ e. p ≢ c.least_displacement-displacement.result + e.0) c.args.entries.now
       → slice_index_or c.put_entries.new.list p None ≡ slice_index_or c.args.self.now.list.items p None
   kept p h = c.put_entries.ensures.kept p h ∙ (ap (λ xs. slice_index_or xs p None) c.as_mut_slice.ensures.value ∙ c.in_ok-reach.ensures.values p)
 
@@ -87,9 +90,6 @@ module _ (c : goal.After-self-2-1) where
 
   whole : take c.reach.new.list.len (c.put_entries.new.list ++ drop (length c.put_entries.new.list) c.reach.new.list.items) ≡ c.put_entries.new.list
   whole = rw (← long) (take-append_seam c.put_entries.new.list (drop (length c.put_entries.new.list) c.reach.new.list.items))
-
-  row_there : row_of c.put_entries.new.list c.args.empty (length c.args.numbers.now) c.args.row c.least_displacement-displacement.result ≡ c.args.numbers.now
-  row_there = row_placed c.args.self.now.list.items c.put_entries.new.list c.args.empty c.args.row c.least_displacement-displacement.result c.args.numbers.now put kept c.requires.placed.above
 
   words_long : length c.own_columns.new.words ≡ c.reach-2.new.list.len
   words_long = c.own_columns.auto.words ∙ c.as_mut_slice-2.ensures.len
@@ -107,35 +107,25 @@ module _ (c : goal.After-self-2-1) where
       ap (λ ws. slice_index ws (q / 64)) c.as_mut_slice-2.ensures.value ∙ c.in_ok-reach-2.ensures.values (q / 64) in
       rw same at (c.own_columns.ensures q)
 
-  was_last : slice_get c.args.columns.now (length c.args.columns.now - 1) ≡ Some c.in-Some.last
-  was_last = sym (c.in-Some.ensures ∙ c.last.ensures.value)
-
   least_of : (d : ℕ) → d < c.least_displacement-displacement.result → MeetsNone c.args.self.now.owned.items c.args.columns.now d → ⊥
   least_of = rw c.as_slice.ensures.value at c.least_displacement-displacement.ensures.least
 
-  row_fits_there : Fits c.args.self.now.list.items c.args.empty c.args.numbers.now c.least_displacement-displacement.result
-  row_fits_there = fits_row c.args.self.now.list.items c.args.self.now.owned.items c.args.columns.now c.args.empty c.args.numbers.now
-      c.requires.placed.owned c.requires.columns.entries c.requires.columns.all c.least_displacement-displacement.result
-      (rw c.as_slice.ensures.value at c.least_displacement-displacement.ensures.fits)
-
-  within_list : c.least_displacement-displacement.result ≤ length c.args.self.now.list.items
-  within_list = least_within c.args.self.now.list.items c.args.self.now.owned.items c.args.columns.now c.args.empty c.args.numbers.now
-      c.requires.placed.owned c.requires.columns.entries c.requires.columns.all c.least_displacement-displacement.result least_of
-
-  last_narrow : c.in-Some.last < length c.args.numbers.now
-  last_narrow = last_within c.args.self.now.list.items c.args.self.now.owned.items c.args.columns.now c.args.empty c.args.numbers.now
-      c.requires.placed.owned c.requires.columns.entries c.requires.columns.all c.requires.columns.upwards c.in-Some.last was_last
+  fits_there : Fits c.args.self.now.list.items c.args.entries.now c.least_displacement-displacement.result
+  fits_there = fits_row c.args.self.now.list.items c.args.self.now.owned.items c.requires.placed.owned c.args.entries.now c.least_displacement-displacement.result
+      (rw (c.as_slice.ensures.value, c.requires.columns) at c.least_displacement-displacement.ensures.fits)
 
 pub returns-clause-numbers : goal.returns-clause-numbers
-returns-clause-numbers c = rw (whole c) (row_there c)
+returns-clause-numbers c =
+    rw (whole c) (row_placed c.args.self.now.list.items c.put_entries.new.list c.args.row c.least_displacement-displacement.result c.args.entries.now
+    c.put_entries.ensures.put (kept c) c.requires.placed.above (rw c.requires.columns at c.requires.upwards))
 
 pub returns-clause-others : goal.returns-clause-others
 returns-clause-others c =
-    rw (whole c) (others_kept c.args.self.now.list.items c.put_entries.new.list c.args.empty c.args.row c.least_displacement-displacement.result c.args.numbers.now
-    (put c) (kept c) c.requires.placed.above (row_fits_there c))
+    rw (whole c) (others_kept c.args.self.now.list.items c.put_entries.new.list c.args.row c.least_displacement-displacement.result c.args.entries.now
+    c.put_entries.ensures.put (kept c) c.requires.placed.above (fits_there c))
 
 pub returns-clause-fits : goal.returns-clause-fits
-returns-clause-fits c = row_fits_there c
+returns-clause-fits c = fits_there c
 
 pub returns-clause-least : goal.returns-clause-least
 returns-clause-least c = least_of c
@@ -144,15 +134,16 @@ pub returns-clause-owned : goal.returns-clause-owned
 returns-clause-owned c = rw (whole_words c) (λ p o. (more c p).1 (inl o))
 
 pub returns-clause-within : goal.returns-clause-within
-returns-clause-within c = within_list c
+returns-clause-within c =
+    least_within c.args.self.now.list.items c.args.self.now.owned.items c.requires.placed.owned c.args.columns.now c.least_displacement-displacement.result (least_of c)
 
 pub returns-clause-placed : goal.returns-clause-placed
 returns-clause-placed c = record {
-  above = rw (whole c) (above_placed c.args.self.now.list.items c.put_entries.new.list c.args.empty c.args.row c.least_displacement-displacement.result c.args.numbers.now
-      (put c) (kept c) c.requires.placed.above);
-  owned = rw (whole c, whole_words c) (owned_placed c.args.self.now.list.items c.put_entries.new.list c.args.empty c.args.row c.least_displacement-displacement.result c.args.numbers.now
-      (put c) (kept c) c.requires.placed.above c.args.self.now.owned.items c.own_columns.new.words c.args.columns.now
-      c.requires.placed.owned c.requires.columns.entries c.requires.columns.all (more c));
+  above = rw (whole c) (above_placed c.args.self.now.list.items c.put_entries.new.list c.args.row c.least_displacement-displacement.result c.args.entries.now
+      c.put_entries.ensures.put (kept c) c.requires.placed.above);
+  owned = rw (whole c, whole_words c) (owned_placed c.args.self.now.list.items c.put_entries.new.list c.args.row c.least_displacement-displacement.result c.args.entries.now
+      c.put_entries.ensures.put (kept c) c.requires.placed.above c.args.self.now.owned.items c.own_columns.new.words
+      c.requires.placed.owned (rw c.requires.columns at (more c)));
   words = rw (whole c, whole_words c) (omega (
     arith,
     c.requires.placed.words,
@@ -163,4 +154,5 @@ returns-clause-placed c = record {
     ap length c.as_mut_slice-2.ensures.value,
     c.in_ok-reach-2.ensures.len,
   ));
+  full = λ p l. rw c.as_slice-2.ensures.value at (c.full_words-self.ensures p l);
 }

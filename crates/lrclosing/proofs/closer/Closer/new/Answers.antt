@@ -1,0 +1,22 @@
+use Rattle.std.proofs.Common.{◌≡◌, ◌∙◌, length, replicate, false, sym, ap}
+use Rattle.std.proofs.lemmas.List.{length-replicate}
+use Rattle.lrclosing.proofs.RowsReached.{reached_clear}
+use Rattle.lrclosing.proofs.VisitedItems.{clear_bits}
+use Rattle.lrclosing.proofs.closer.Closer.new.Goals as goal
+
+pub returns : goal.returns
+returns g c =
+    let n = c.to_usize-rules.result in
+    let rs = c.in_ok-rows.rows.items in
+    let rules : n ≡ length c.args.grm.now.rule_names = c.to_usize-rules.ensures.number ∙ c.rules_len.ensures.value in
+    record {
+      is = record {
+        leads_len = c.in_ok-leads.ensures.len;
+        leads = c.in_ok-leads.ensures.leads;
+        rows = c.in_ok-rows.ensures.are;
+        reached = c.in_ok-reached.ensures.bits ∙ ap (λ k. replicate k false) (rules ∙ sym c.in_ok-rows.ensures.are.len)
+            ∙ sym (reached_clear rs c.in_ok-rows.ensures.clear);
+        todo_len = ap length c.in_ok-todo.ensures.bits ∙ length-replicate n false ∙ rules;
+      };
+      done = λ i h. clear_bits n i (rw c.in_ok-todo.ensures.bits at h);
+    }

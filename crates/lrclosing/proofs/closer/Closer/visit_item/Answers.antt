@@ -1,0 +1,63 @@
+use Rattle.std.proofs.Common.{◌≡◌, ◌+◌, ◌<◌, ◌∙◌, true, length, set, length-set, ap, sym, refl, arith}
+use Rattle.lrspec.proofs.grammars.BodyFacts.{symbol_at_dot}
+use Rattle.lrclosing.proofs.RowsReached.{length_reached, reached_set}
+use Rattle.lrclosing.proofs.RowsWritten.{read_at, kept_written, row_is_reached}
+use Rattle.lrclosing.proofs.VisitedItems.{visited_nothing}
+use Rattle.lrclosing.proofs.VisitedLeads.{visited_given}
+use Rattle.lrclosing.proofs.closer.Closer.visit_item.Goals as goal
+
+pub index_mut-requires : goal.index_mut-requires
+index_mut-requires g c =
+    let number = g.T.IndexStorage.number in
+    let below = (symbol_at_dot c.in-Some.ensures.shape (number c.args.pidx.0) (number c.args.dot.0) _ c.in-Some.ensures.found).1 in
+    omega (arith, below, c.to_usize-place.ensures.number, c.requires.is.rows.len, c.args.self.now.rows.ok)
+
+pub put_ahead-requires-clause-row : goal.put_ahead-requires-clause-row
+put_ahead-requires-clause-row g c =
+    let number = g.T.IndexStorage.number in
+    let below = (symbol_at_dot c.in-Some.ensures.shape (number c.args.pidx.0) (number c.args.dot.0) _ c.in-Some.ensures.found).1 in
+    let within : c.to_usize-place.result < length c.args.self.now.rows.items = omega (arith, below, c.to_usize-place.ensures.number, c.requires.is.rows.len) in
+    c.requires.is.rows.each c.to_usize-place.result c.index_mut.result.now
+    (read_at c.args.self.now.rows.items c.to_usize-place.result _ c.index_mut.result.now c.index_mut.ensures.value within)
+
+pub set-requires : goal.set-requires
+set-requires g c =
+    let number = g.T.IndexStorage.number in
+    let below = (symbol_at_dot c.in-Some.ensures.shape (number c.args.pidx.0) (number c.args.dot.0) _ c.in-Some.ensures.found).1 in
+    let bits : length c.args.self.now.reached ≡ length c.args.self.now.rows.items = ap length c.requires.is.reached ∙ length_reached c.args.self.now.rows.items in
+    omega (arith, below, c.to_usize-place.ensures.number, c.requires.is.rows.len, bits)
+
+pub set-requires-in-Some : goal.set-requires-in-Some
+set-requires-in-Some g c =
+    let number = g.T.IndexStorage.number in
+    let below = (symbol_at_dot c.in-Some.ensures.shape (number c.args.pidx.0) (number c.args.dot.0) _ c.in-Some.ensures.found).1 in
+    omega (arith, below, c.to_usize-place.ensures.number, c.requires.is.todo_len)
+
+pub returns-in-Some-clause-is : goal.returns-in-Some-clause-is
+returns-in-Some-clause-is g c = record {
+  leads_len = c.requires.is.leads_len;
+  leads = c.requires.is.leads;
+  rows = kept_written c.args.grm.now c.args.self.now.rows.items _ c.to_usize-place.result c.put_ahead.new.row c.requires.is.rows
+      (row_is_reached c.args.grm.now c.put_ahead.new.row c.put_ahead.ensures.passed.len c.put_ahead.ensures.reached) refl;
+  reached = c.set.ensures.after ∙ ap (λ v. set v c.to_usize-place.result true) c.requires.is.reached
+      ∙ sym (reached_set c.args.self.now.rows.items c.to_usize-place.result c.put_ahead.new.row c.put_ahead.ensures.reached);
+  todo_len = ap length c.set-in-Some.ensures.after ∙ length-set c.args.self.now.todo c.to_usize-place.result _ ∙ c.requires.is.todo_len;
+}
+
+pub returns-in-Some-clause-visited : goal.returns-in-Some-clause-visited
+returns-in-Some-clause-visited g c =
+    let number = g.T.IndexStorage.number in
+    let p = number c.args.pidx.0 in
+    let d = number c.args.dot.0 in
+    let i = c.to_usize-place.result in
+    let below = (symbol_at_dot c.in-Some.ensures.shape p d _ c.in-Some.ensures.found).1 in
+    let within : i < length c.args.self.now.rows.items = omega (arith, below, c.to_usize-place.ensures.number, c.requires.is.rows.len) in
+    let bits : i < length c.args.self.now.todo = omega (arith, below, c.to_usize-place.ensures.number, c.requires.is.todo_len) in
+    let e : c.to_usize.result + 1 ≡ d + 1 = omega (arith, c.to_usize.ensures.number) in
+    visited_given c.args.grm.now p d (number c.in-Some.rule.0) (c.to_usize.result + 1) i c.args.ctx.now c.args.self.now.rows.items c.index_mut.result.now c.put_ahead.new.row
+    c.args.self.now.todo c.set-in-Some.new.self c.in-Some.ensures.found e c.to_usize-place.ensures.number
+    (read_at c.args.self.now.rows.items i _ c.index_mut.result.now c.index_mut.ensures.value within) c.put_ahead.ensures.passed c.put_ahead.ensures.reached bits
+    c.set-in-Some.ensures.after
+
+pub returns-in_default-clause-visited : goal.returns-in_default-clause-visited
+returns-in_default-clause-visited g c = visited_nothing _ _ _ _ _ _ c.in_default.ensures.none

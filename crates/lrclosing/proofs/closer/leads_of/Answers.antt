@@ -1,0 +1,52 @@
+use Rattle.std.proofs.Common.{◌≡◌, ◌<◌, length, map, get_or, refl}
+use Rattle.lrspec.specs.grammars.Grammar.{IsProductionOf}
+use Rattle.lrclosing.proofs.ProductionsOfRule.{production_below, production_among, among_here, number_at, below_mapped, end_mapped}
+use Rattle.lrclosing.proofs.LeadsOfRule.{leads_skip, leads_next, leads_every}
+use Rattle.lrclosing.proofs.closer.leads_of.Goals as goal
+use Rattle.lrclosing.proofs.closer.leads_of.Goals.{in-Some+in_ok-lead_of+in_ok-push, in_default}
+
+pub rule_behind-requires : goal.rule_behind-requires
+rule_behind-requires g c =
+    let number = g.T.IndexStorage.number in
+    let xs = c.rule_to_prods-pidx-items.result.now in
+    let i = c.loop-pidx.pidx-index in
+    let ps = map (λ p. number p.0) xs in
+    let lt : i < length ps = below_mapped (λ p. number p.0) xs i c.loop-pidx-test.true in
+    let at : get_or ps i 0 ≡ number c.pidx-item.result.0 = number_at (λ p. number p.0) xs i c.pidx-item.result c.loop-pidx-test.true c.pidx-item.is in
+    production_below c.args.grm.now ps (number c.args.rule.0) i (number c.pidx-item.result.0) c.rule_to_prods-pidx-items.ensures.prods lt at
+
+pub lead_of-requires-clause-production : goal.lead_of-requires-clause-production
+lead_of-requires-clause-production g c =
+    let number = g.T.IndexStorage.number in
+    let xs = c.rule_to_prods-pidx-items.result.now in
+    let i = c.loop-pidx.pidx-index in
+    let ps = map (λ p. number p.0) xs in
+    let lt : i < length ps = below_mapped (λ p. number p.0) xs i c.loop-pidx-test.true in
+    let at : get_or ps i 0 ≡ number c.pidx-item.result.0 = number_at (λ p. number p.0) xs i c.pidx-item.result c.loop-pidx-test.true c.pidx-item.is in
+    production_below c.args.grm.now ps (number c.args.rule.0) i (number c.pidx-item.result.0) c.rule_to_prods-pidx-items.ensures.prods lt at
+
+pub loop-pidx-preserved : goal.loop-pidx-preserved
+loop-pidx-preserved g c =
+    let number = g.T.IndexStorage.number in
+    let xs = c.rule_to_prods-pidx-items.result.now in
+    let i = c.loop-pidx.pidx-index in
+    let ps = map (λ p. number p.0) xs in
+    let p = number c.pidx-item.result.0 in
+    let a = number c.args.rule.0 in
+    let lt : i < length ps = below_mapped (λ p. number p.0) xs i c.loop-pidx-test.true in
+    let at : get_or ps i 0 ≡ p = number_at (λ p. number p.0) xs i c.pidx-item.result c.loop-pidx-test.true c.pidx-item.is in
+    let is : IsProductionOf c.args.grm.now p a =
+    production_among c.args.grm.now ps a _ p c.rule_to_prods-pidx-items.ensures.prods (among_here i ps p p lt at refl) in
+    let zero : number c.unwrap.result ≡ 0 = (rw c.unwrap.ensures at c.from_usize.ensures).1 in
+    elim c.match-rule_behind.branch [
+      | in-Some+in_ok-lead_of+in_ok-push w ↦
+          rw w.leads-is (leads_next c.args.grm.now a i p ps _ _ _ c.loop-pidx.invariant at w.in_ok-push.ensures.items (w.in_ok-lead_of.ensures a is))
+      | in_default w ↦ rw w.leads-is (leads_skip c.args.grm.now a i p ps _ c.loop-pidx.invariant at (rw zero at w.in_default.ensures.none))
+    ]
+
+pub returns : goal.returns
+returns g c =
+    let number = g.T.IndexStorage.number in
+    let xs = c.rule_to_prods-pidx-items.result.now in
+    leads_every c.args.grm.now (number c.args.rule.0) c.loop-pidx.pidx-index (map (λ p. number p.0) xs) _ c.rule_to_prods-pidx-items.ensures.prods
+    (end_mapped (λ p. number p.0) xs c.loop-pidx.pidx-index c.loop-pidx-test.false) c.loop-pidx.invariant

@@ -1,0 +1,17 @@
+use Rattle.lrclosing.proofs.PutLeads.{put_alone, put_joined}
+use Rattle.lrclosing.proofs.closer.put_lead.Goals as goal
+use Rattle.lrclosing.proofs.closer.put_lead.Goals.{else-lead-via-then-lead+else-lead-from, else-lead-via-else-lead}
+
+pub returns-then-lead-from : goal.returns-then-lead-from
+returns-then-lead-from c = λ g q h k.
+    put_joined g c.args.from q c.args.lead.now c.args.rows.now c.join_row.new.rows c.index-rows-lead.result c.or.new.self c.or.result c.join_row.result h k
+    c.requires.from c.if-lead-from.true c.if-lead.true c.or.ensures.after c.or.ensures.changed c.join_row.ensures.joined c.join_row.ensures.changed
+
+pub returns-else-lead : goal.returns-else-lead
+returns-else-lead c = λ g q h k.
+    put_alone g c.args.from q c.args.lead.now c.args.rows.now c.index-rows-lead.result c.or.new.self c.or.result h k c.requires.from
+    (elim c.else-lead.branch [
+      | else-lead-via-then-lead+else-lead-from w ↦ λ i. w.if-lead-from.false
+      | else-lead-via-else-lead w ↦ λ i. cc
+    ])
+    c.or.ensures.after c.or.ensures.changed

@@ -1,0 +1,65 @@
+use Rattle.std.proofs.Common.{◌≡◌, ◌<◌, ◌++◌, Some, length, refl, ap, ◌∙◌, arith}
+use Rattle.std.specs.Prelude.{IsTrue, slice_get}
+use Rattle.std.specs.List.{flat_map}
+use Rattle.lrspec.proofs.grammars.ListMembers.{contains_from_among}
+use Rattle.lrbits.specs.Bits.{bit, set_places}
+use Rattle.lrclosing.specs.ItemsOf.{listed_of}
+use Rattle.lrclosing.specs.Leads.{rows_of}
+use Rattle.lrclosing.proofs.ListedItems.{row_of_production}
+use Rattle.lrclosing.proofs.ListedTurns.{over_set_places, number_kept, row_item_is, marked_row, row_pushed}
+use Rattle.lrclosing.proofs.MarkedProductions.{below_of_bit}
+use Rattle.lrclosing.proofs.RowsWritten.{read_at}
+use Rattle.lrclosing.proofs.SetPlaces.{first_among, rest_among}
+use Rattle.lrclosing.proofs.listing.push_from.Goals as goal
+
+pub loop-place-init : goal.loop-place-init
+loop-place-init g c =
+    let number = g.T.IndexStorage.number in
+    let v = c.args.productions.now in
+    let rows = rows_of c.args.rows.now in
+    let are : c.into_iter-place-iterator.result ≡ set_places v c.args.from c.args.end =
+    rw (c.into_iter-place-iterator.ensures.into_iter_gives, c.iter_set_bits-place-items.ensures.places) (refl {a = set_places v c.args.from c.args.end}) in
+    record {
+      set = λ q i.
+          let k = (c.iter_set_bits-place-items.ensures.members q).0 (contains_from_among q _ (rw c.into_iter-place-iterator.ensures.into_iter_gives at i)) in
+          k.2;
+      added =
+          ap (λ qs. listed_of number c.args.items.now.items ++ flat_map (row_of_production c.args.grm.now rows) qs) are
+          ∙ ap (λ a. listed_of number c.args.items.now.items ++ a)
+          (over_set_places c.args.grm.now rows v c.args.from c.args.end c.requires.productions c.requires.order c.requires.end);
+    }
+
+pub unwrap-requires-in-loop-place : goal.unwrap-requires-in-loop-place
+unwrap-requires-in-loop-place g c =
+    let set = first_among (λ q. IsTrue (bit c.args.productions.now q)) _ _ _ c.in-Some.ensures.steps c.loop-place.invariant.set in
+    let below : c.in-Some.place < length c.args.grm.now.productions = omega (arith, below_of_bit c.args.productions.now c.in-Some.place set, c.requires.productions.len) in
+    number_kept _ _ g.T.IndexStorage.MAX c.in-Some.place (length c.args.grm.now.productions) c.from_usize-in-loop-place.ensures below c.requires.sizes.productions
+
+pub prod_to_rule-requires : goal.prod_to_rule-requires
+prod_to_rule-requires g c =
+    let set = first_among (λ q. IsTrue (bit c.args.productions.now q)) _ _ _ c.in-Some.ensures.steps c.loop-place.invariant.set in
+    let place : g.T.IndexStorage.number c.unwrap-in-loop-place.result ≡ c.in-Some.place = (rw c.unwrap-in-loop-place.ensures at c.from_usize-in-loop-place.ensures).1 in
+    omega (arith, below_of_bit c.args.productions.now c.in-Some.place set, c.requires.productions.len, place)
+
+pub loop-place-preserved : goal.loop-place-preserved
+loop-place-preserved g c =
+    let number = g.T.IndexStorage.number in
+    let grm = c.args.grm.now in
+    let rs = c.args.rows.now in
+    let row = c.index-rows-to_usize.result in
+    let p = number c.unwrap-in-loop-place.result in
+    let r = number c.prod_to_rule.result.0 in
+    let place : p ≡ c.in-Some.place = (rw c.unwrap-in-loop-place.ensures at c.from_usize-in-loop-place.ensures).1 in
+    let dot : number c.unwrap.result ≡ 0 = (rw c.unwrap.ensures at c.from_usize.ensures).1 in
+    let rule : c.to_usize.result < length rs = let l = c.prod_to_rule.ensures.shape.rules p r c.prod_to_rule.ensures.rule in omega (arith, l, c.requires.rows.len, c.to_usize.ensures.number) in
+    let at : slice_get rs r ≡ Some row = rw c.to_usize.ensures.number at (read_at rs c.to_usize.result _ row c.index-rows-to_usize.is rule) in
+    let marked : IsTrue (bit c.args.productions.now p) = rw place (first_among (λ q. IsTrue (bit c.args.productions.now q)) _ _ _ c.in-Some.ensures.steps c.loop-place.invariant.set) in
+    record {
+      set = rest_among (λ q. IsTrue (bit c.args.productions.now q)) _ _ _ c.in-Some.ensures.steps c.loop-place.invariant.set;
+      added =
+          row_pushed (λ e. ((number e.0.0.0, number e.0.1.0), e.1.now)) (row_of_production grm (rows_of rs)) _ _ _ c.in-Some.place _ _ _ c.in-Some.ensures.steps
+          c.in_ok-push.ensures.items
+          (row_item_is grm (rows_of rs) c.in-Some.place p r (number c.unwrap.result) row.tokens place c.prod_to_rule.ensures.rule
+          (marked_row grm rs c.args.productions.now p r row c.requires.productions marked c.prod_to_rule.ensures.rule at) dot)
+          c.loop-place.invariant.added;
+    }

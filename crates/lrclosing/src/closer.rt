@@ -1,0 +1,395 @@
+//! Closings by rows that stay from one closing to the next: for each rule the lookaheads of its productions.
+
+ghost use Rattle.std.specs.Prelude.{◌≡◌, ◌≢◌, ℕ, ◌<◌, ◌≤◌, ◌↔◌, IsTrue, false, true, length, IfOk, slice_get, slice_set, replicate, None, Some, []};
+ghost use Rattle.lrspec.specs.grammars.Grammar as math;
+ghost use Rattle.lrspec.specs.grammars.First.{AllNullable};
+ghost use Rattle.lrspec.specs.grammars.ItemSets.{Items as MathItems, IsBefore, Fits, FitsAt, AreUpwards};
+ghost use Rattle.lrbits.specs.Bits.{bit, union};
+ghost use Rattle.lrgrammar.specs.Firsts.{AreFirstsOf};
+ghost use Rattle.lrclosing.specs.ItemsOf.{items_of};
+ghost use Rattle.lrclosing.specs.Rows.{ArePassedOn, AreClosingRows};
+ghost use Rattle.lrclosing.specs.Visits.{IsRuleToDo, IsVisited, IsUnderway, visits_left};
+ghost use Rattle.lrclosing.specs.Leads.{AreLeadsOf, IsLeadOf, AreLeadsByRule, row_of, rows_of, reached_of, joined_row, IsRow, AreKeptRows, AreClearRows, IsPut};
+ghost use Rattle.lrclosing.specs.declared.closer.Row.{Row};
+ghost use Rattle.lrclosing.specs.Closer.{IsClosing, IsCloserOf, AreVisited};
+
+use crate::closing::next_set;
+use crate::items::{Ctx, rule_behind};
+use lrgrammar::firsts::YaccFirsts;
+use lrgrammar::grammar::YaccGrammar;
+use lrgrammar::idx::{IndexStorage, PIdx, RIdx, SIdx, Symbol};
+use lrgrammar::vob::Vob;
+use std::alloc::AllocError;
+
+/// What a production passes on to those of the rule that comes first in its body.
+#[derive(Drop)]
+struct Lead {
+    /// That rule.
+    rule: usize,
+    /// The tokens that begin the rest of the body.
+    begins: Vob,
+    /// Whether the rest of the body is nullable: then the production's own lookaheads are passed on too.
+    inherits: bool,
+}
+
+/// The lookaheads that a closure gives to the productions of a rule at dot 0.
+#[derive(Drop)]
+pub struct Row {
+    /// One bit a token; none is set where the rule isn't reached.
+    pub(crate) tokens: Ctx,
+    /// Whether the closure has the rule's productions at dot 0.
+    pub(crate) is_reached: bool,
+}
+
+/// Closes sets of items of one grammar, one after another, and keeps the rows of the last closing.
+#[derive(Drop)]
+pub struct Closer {
+    /// By rule, what its productions pass on.
+    leads: Vec<Vec<Lead>>,
+    /// By rule.
+    pub(crate) rows: Vec<Row>,
+    /// One bit a rule, set where its row is reached.
+    pub(crate) reached: Vob,
+    /// One bit a rule, set where its row has changed since it was last passed on.
+    todo: Vob,
+}
+
+/// No tokens, one bit each. The error says that memory was refused.
+fn no_tokens<T: IndexStorage>(grm: &YaccGrammar<T>) -> Result<Ctx, AllocError>
+    ensures { IfOk result (λ v. v ≡ replicate (math.token_count grm.now) false) }
+{
+    Vob::from_elem(grm.allocator(), false, grm.tokens_len().0.to_usize())
+}
+
+/// Sets the tokens that begin the body of the production from a place on, and says whether all of it from there on is
+/// nullable.
+fn put_firsts<T: IndexStorage>(
+    row: &mut Ctx,
+    grm: &YaccGrammar<T>,
+    firsts: &YaccFirsts<T>,
+    pidx: PIdx<T>,
+    from: usize,
+) -> bool
+    requires of { AreFirstsOf grm.now firsts.now }
+    requires production { T.number pidx.0 < length grm.now.productions }
+    requires place { from ≤ length (math.body_of grm.now (T.number pidx.0)) }
+    requires len { length row.old ≡ math.token_count grm.now }
+    ensures put { ArePassedOn grm.now (math.rest grm.now (T.number pidx.0) from) None
+        (Some row.old) row.new }
+    ensures nullable { IsTrue result ↔ AllNullable grm.now (math.rest grm.now (T.number pidx.0) from) }
+{
+    for symbol in &grm.prod(pidx)[from..] {
+        match symbol {
+            Symbol::Token(token) => {
+                row.set(token.0.to_usize(), true);
+                return false;
+            }
+            Symbol::Rule(rule) => {
+                row.or(firsts.firsts(*rule));
+                if !firsts.is_epsilon_set(*rule) {
+                    return false;
+                }
+            }
+        }
+    }
+    true
+}
+
+/// What the production passes on, which begins with the rule. The error says that memory was refused.
+fn lead_of<T: IndexStorage>(
+    grm: &YaccGrammar<T>,
+    firsts: &YaccFirsts<T>,
+    pidx: PIdx<T>,
+    rule: RIdx<T>,
+) -> Result<Lead, AllocError>
+    requires of { AreFirstsOf grm.now firsts.now }
+    requires first { IsBefore grm.now (T.number pidx.0) 0 (math.Rule (T.number rule.0)) }
+    requires production { T.number pidx.0 < length grm.now.productions }
+    ensures { IfOk result (λ l. (a : ℕ) → math.IsProductionOf grm.now (T.number pidx.0) a
+        → IsLeadOf grm.now a (T.number pidx.0) l) }
+{
+    let mut begins = no_tokens(grm)?;
+    let inherits = put_firsts(&mut begins, grm, firsts, pidx, 1);
+    Ok(Lead {
+        rule: rule.0.to_usize(),
+        begins,
+        inherits,
+    })
+}
+
+/// What the productions of the rule pass on. The error says that memory was refused.
+fn leads_of<T: IndexStorage>(
+    grm: &YaccGrammar<T>,
+    firsts: &YaccFirsts<T>,
+    rule: RIdx<T>,
+) -> Result<Vec<Lead>, AllocError>
+    requires of { AreFirstsOf grm.now firsts.now }
+    requires rule { T.number rule.0 < length grm.now.rule_names }
+    ensures { IfOk result (λ v. AreLeadsOf grm.now (T.number rule.0) v.items) }
+{
+    let mut leads = Vec::new(grm.allocator());
+    let zero = SIdx(T::from_usize(0).unwrap());
+    for pidx in grm.rule_to_prods(rule) {
+        if let Some(first) = rule_behind(grm, *pidx, zero) {
+            leads.push(lead_of(grm, firsts, *pidx, first)?)?;
+        }
+    }
+    Ok(leads)
+}
+
+/// Sets in the row of one rule what is set in that of another, and says whether that changed it.
+fn join_row(rows: &mut [Row], to: usize, from: usize) -> bool
+    requires apart { to ≢ from }
+    requires to { to < length rows.old }
+    requires from { from < length rows.old }
+    requires bits { (v w : Row) → slice_get rows.old to ≡ Some v → slice_get rows.old from ≡ Some w
+        → length w.tokens ≡ length v.tokens }
+    ensures joined { (v w : Row) → slice_get rows.old to ≡ Some v → slice_get rows.old from ≡ Some w
+        → rows.new ≡ slice_set rows.old to (joined_row v w) }
+    ensures changed { (v w : Row) → slice_get rows.old to ≡ Some v → slice_get rows.old from ≡ Some w
+        → (IsTrue result ↔ (union v.tokens w.tokens ≢ v.tokens)) }
+{
+    if to < from {
+        let (below, above) = rows.split_at_mut(from);
+        below[to].tokens.or(&above[0].tokens)
+    } else {
+        let (below, above) = rows.split_at_mut(to);
+        above[0].tokens.or(&below[from].tokens)
+    }
+}
+
+/// By rule, what its productions pass on. The error says that memory was refused.
+fn leads_by_rule<T: IndexStorage>(
+    grm: &YaccGrammar<T>,
+    firsts: &YaccFirsts<T>,
+) -> Result<Vec<Vec<Lead>>, AllocError>
+    requires of { AreFirstsOf grm.now firsts.now }
+    ensures len { IfOk result (λ v. length v.items ≡ length grm.now.rule_names) }
+    ensures leads { IfOk result (λ v. AreLeadsByRule grm.now v.items) }
+{
+    let rules = grm.rules_len().0.to_usize();
+    let mut leads = Vec::with_capacity(grm.allocator(), rules)?;
+    for place in 0..rules {
+        leads.push(leads_of(grm, firsts, RIdx(T::from_usize(place).unwrap()))?)?;
+    }
+    Ok(leads)
+}
+
+/// A row for each rule, none of which is reached. The error says that memory was refused.
+fn empty_rows<T: IndexStorage>(grm: &YaccGrammar<T>) -> Result<Vec<Row>, AllocError>
+    ensures { IfOk result (λ v. AreClearRows grm.now v.items) }
+{
+    let rules = grm.rules_len().0.to_usize();
+    let mut rows = Vec::with_capacity(grm.allocator(), rules)?;
+    for _ in 0..rules {
+        rows.push(Row {
+            tokens: no_tokens(grm)?,
+            is_reached: false,
+        })?;
+    }
+    Ok(rows)
+}
+
+/// Takes from a row what an earlier closing gave it.
+fn clear_row(row: &mut Row)
+    ensures row { (g : math.Grammar) → IsRow g row.old → IsRow g row.new }
+    ensures clear { row.new.is_reached ≡ false }
+{
+    row.tokens.set_all(false);
+    row.is_reached = false;
+}
+
+/// Takes from the rows that are reached what an earlier closing gave them, so that none is.
+fn clear_rows(rows: &mut [Row], reached: &mut Vob)
+    requires { reached.old ≡ reached_of rows.old }
+    ensures clear { (g : math.Grammar) → AreKeptRows g rows.old → AreClearRows g rows.new }
+    ensures reached { reached.new ≡ reached_of rows.new }
+{
+    for place in reached.iter_set_bits(0..reached.len()) {
+        clear_row(&mut rows[place]);
+    }
+    reached.set_all(false);
+}
+
+/// Sets in the row of the rule before place `from` what an item passes on to it.
+fn put_ahead<T: IndexStorage>(
+    row: &mut Row,
+    grm: &YaccGrammar<T>,
+    firsts: &YaccFirsts<T>,
+    pidx: PIdx<T>,
+    from: usize,
+    ctx: &Ctx,
+)
+    requires of { AreFirstsOf grm.now firsts.now }
+    requires production { T.number pidx.0 < length grm.now.productions }
+    requires place { from ≤ length (math.body_of grm.now (T.number pidx.0)) }
+    requires row { IsRow grm.now row.old }
+    requires bits { length ctx.now ≡ math.token_count grm.now }
+    ensures passed { ArePassedOn grm.now (math.rest grm.now (T.number pidx.0) from) (Some ctx.now)
+        (row_of row.old) row.new.tokens }
+    ensures reached { row.new.is_reached ≡ true }
+{
+    row.is_reached = true;
+    if put_firsts(&mut row.tokens, grm, firsts, pidx, from) {
+        row.tokens.or(ctx);
+    }
+}
+
+/// Sets in the row of the rule of a lead what the lead passes on to it from that of another rule, and says whether that
+/// changed it.
+fn put_lead(rows: &mut [Row], lead: &Lead, from: usize) -> bool
+    requires shape { (g : math.Grammar) × (q : ℕ) × IsLeadOf g from q lead.now × AreKeptRows g rows.old }
+    requires from { from < length rows.old }
+    ensures { (g : math.Grammar) (q : ℕ) → IsLeadOf g from q lead.now → AreKeptRows g rows.old
+        → IsPut g q from lead.now.rule result rows.old rows.new }
+{
+    let row = &mut rows[lead.rule];
+    let was = row.is_reached;
+    row.is_reached = true;
+    let changed = row.tokens.or(&lead.begins) | !was;
+    if lead.inherits && lead.rule != from {
+        join_row(rows, lead.rule, from) | changed
+    } else {
+        changed
+    }
+}
+
+/// Passes on what all productions of a rule look at, by their leads.
+fn visit_leads(rows: &mut [Row], reached: &mut Vob, todo: &mut Vob, leads: &[Lead], from: usize)
+    requires shape { (g : math.Grammar) × AreLeadsOf g from leads.now × AreKeptRows g rows.old }
+    requires from { from < length rows.old }
+    requires todo { length todo.old ≡ length rows.old }
+    requires reached { reached.old ≡ reached_of rows.old }
+    ensures visited { (g : math.Grammar) → AreLeadsOf g from leads.now → AreKeptRows g rows.old
+        → AreVisited g from (IsRuleToDo g todo.new) rows.old rows.new todo.old todo.new }
+    ensures reached { reached.new ≡ reached_of rows.new }
+{
+    for lead in leads {
+        if put_lead(rows, lead, from) {
+            reached.set(lead.rule, true);
+            todo.set(lead.rule, true);
+        }
+    }
+}
+
+impl Closer {
+    /// A closer for the grammar. The error says that memory was refused.
+    pub fn new<T: IndexStorage>(
+        grm: &YaccGrammar<T>,
+        firsts: &YaccFirsts<T>,
+    ) -> Result<Closer, AllocError>
+        requires of { AreFirstsOf grm.now firsts.now }
+        ensures { IfOk result (IsCloserOf grm.now) }
+    {
+        let leads = leads_by_rule(grm, firsts)?;
+        let rows = empty_rows(grm)?;
+        let rules = grm.rules_len().0.to_usize();
+        let reached = Vob::from_elem(grm.allocator(), false, rules)?;
+        let todo = Vob::from_elem(grm.allocator(), false, rules)?;
+        Ok(Closer {
+            leads,
+            rows,
+            reached,
+            todo,
+        })
+    }
+
+    /// Passes on what an item looks at to the productions of the rule behind its dot.
+    fn visit_item<T: IndexStorage>(
+        &mut self,
+        grm: &YaccGrammar<T>,
+        firsts: &YaccFirsts<T>,
+        pidx: PIdx<T>,
+        dot: SIdx<T>,
+        ctx: &Ctx,
+    )
+        requires of { AreFirstsOf grm.now firsts.now }
+        requires fits { FitsAt grm.now (T.number pidx.0) (T.number dot.0) ctx.now }
+        requires is { IsClosing grm.now self.old }
+        ensures is { IsClosing grm.now self.new }
+        ensures visited { IsVisited grm.now (T.number pidx.0) (T.number dot.0) (Some ctx.now)
+            (rows_of self.old.rows.items) (rows_of self.new.rows.items)
+            (IsRuleToDo grm.now self.old.todo) (IsRuleToDo grm.now self.new.todo) }
+    {
+        if let Some(rule) = rule_behind(grm, pidx, dot) {
+            let place = rule.0.to_usize();
+            put_ahead(
+                &mut self.rows[place],
+                grm,
+                firsts,
+                pidx,
+                dot.0.to_usize() + 1,
+                ctx,
+            );
+            self.reached.set(place, true);
+            self.todo.set(place, true);
+        }
+    }
+
+    /// Passes on what the given items look at.
+    fn visit_given<T: IndexStorage>(
+        &mut self,
+        grm: &YaccGrammar<T>,
+        firsts: &YaccFirsts<T>,
+        given: &[((PIdx<T>, SIdx<T>), Ctx)],
+    )
+        requires of { AreFirstsOf grm.now firsts.now }
+        requires fits { Fits grm.now (items_of T.number given.now) }
+        requires upwards { AreUpwards (items_of T.number given.now) }
+        requires is { IsCloserOf grm.now self.old }
+        requires clear { AreClearRows grm.now self.old.rows.items }
+        ensures is { IsClosing grm.now self.new }
+        ensures underway { IsUnderway grm.now (items_of T.number given.now)
+            (rows_of self.new.rows.items) (IsRuleToDo grm.now self.new.todo) [] }
+    {
+        for (key, ctx) in given {
+            self.visit_item(grm, firsts, key.0, key.1, ctx);
+        }
+    }
+
+    /// Passes on what all productions of a rule look at, which were to be done and are so no more.
+    fn visit_rule(&mut self, place: usize)
+        requires shape { (g : math.Grammar) × IsClosing g self.old }
+        requires todo { IsTrue (bit self.old.todo place) }
+        ensures is { (g : math.Grammar) → IsClosing g self.old → IsClosing g self.new }
+        ensures underway { (g : math.Grammar) (a : MathItems) → IsClosing g self.old
+            → IsUnderway g a (rows_of self.old.rows.items) (IsRuleToDo g self.old.todo) []
+            → IsUnderway g a (rows_of self.new.rows.items) (IsRuleToDo g self.new.todo) [] }
+        ensures left { (g : math.Grammar) → IsClosing g self.old
+            → visits_left (math.token_count g) (rows_of self.new.rows.items) self.new.todo
+            < visits_left (math.token_count g) (rows_of self.old.rows.items) self.old.todo }
+    {
+        self.todo.set(place, false);
+        visit_leads(
+            self.rows.as_mut_slice(),
+            &mut self.reached,
+            &mut self.todo,
+            self.leads[place].as_slice(),
+            place,
+        );
+    }
+
+    /// Closes the given items: the rows are then those of their closure.
+    pub fn close<T: IndexStorage>(
+        &mut self,
+        grm: &YaccGrammar<T>,
+        firsts: &YaccFirsts<T>,
+        given: &[((PIdx<T>, SIdx<T>), Ctx)],
+    )
+        requires of { AreFirstsOf grm.now firsts.now }
+        requires fits { Fits grm.now (items_of T.number given.now) }
+        requires upwards { AreUpwards (items_of T.number given.now) }
+        requires is { IsCloserOf grm.now self.old }
+        ensures is { IsCloserOf grm.now self.new }
+        ensures closes { AreClosingRows grm.now (items_of T.number given.now)
+            (rows_of self.new.rows.items) }
+    {
+        clear_rows(self.rows.as_mut_slice(), &mut self.reached);
+        self.visit_given(grm, firsts, given);
+        let mut from = 0;
+        while let Some(place) = next_set(&self.todo, from, self.todo.len()) {
+            self.visit_rule(place);
+            from = place + 1;
+        }
+    }
+}

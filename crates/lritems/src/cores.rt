@@ -1,0 +1,86 @@
+//! Cores of states under construction: items in one list.
+
+ghost use Rattle.std.specs.Prelude.{◌≡◌, IfOk};
+ghost use Rattle.lrspec.specs.grammars.ItemSets.{AreUpwards};
+ghost use Rattle.lritems.specs.ItemsOf.{items_of, set_of};
+ghost use Rattle.lritems.specs.Gotos.{goto_of};
+
+use crate::gotos::Goto;
+use crate::itemset::{Ctx, Itemset};
+use lrgrammar::idx::{IndexStorage, PIdx, SIdx};
+use std::alloc::{AllocError, Global};
+use std::collections::BTreeMap;
+use std::marker::Model;
+
+/// Items upwards by production and then dot, each with its lookaheads.
+#[derive(Drop)]
+pub struct Core<T: IndexStorage> {
+    pub(crate) items: Vec<((PIdx<T>, SIdx<T>), Ctx)>,
+}
+
+impl<T: IndexStorage> Model for Core<T> {
+    ghost use Rattle.lrspec.specs.grammars.ItemSets.{Items, AreUpwards};
+
+    ghost Value = { Items };
+
+    ghost use Rattle.lritems.specs.ItemsOf.{items_of};
+
+    ghost view = { λ c. items_of T.number c.items.items };
+
+    ghost invariant = { λ c. AreUpwards (items_of T.number c.items.items) };
+}
+
+impl<T: IndexStorage> Core<T> {
+    /// The items of an item set. The error says that memory was refused.
+    pub fn from_itemset(alloc: Global, set: &Itemset<T>) -> Result<Core<T>, AllocError>
+        ensures { IfOk result (λ c. c ≡ set_of T.number set.now) }
+    {
+        let mut items = Vec::with_capacity(alloc, set.items.len())?;
+        for (key, ctx) in &set.items {
+            items.push((*key, ctx.clone()?))?;
+        }
+        Ok(Core { items })
+    }
+
+    /// The items of a goto. The error says that memory was refused.
+    pub fn from_goto(alloc: Global, goto: &Goto<T>) -> Result<Core<T>, AllocError>
+        requires { AreUpwards (goto_of T.number goto.now) }
+        ensures { IfOk result (λ c. c ≡ goto_of T.number goto.now) }
+    {
+        let mut items = Vec::with_capacity(alloc, goto.items.len())?;
+        for (key, looks) in &goto.items {
+            items.push((*key, Ctx::clone(looks)?))?;
+        }
+        Ok(Core { items })
+    }
+
+    /// A copy. The error says that memory was refused.
+    pub fn copied(&self, alloc: Global) -> Result<Core<T>, AllocError>
+        ensures { IfOk result (λ c. c ≡ self.now) }
+    {
+        let mut items = Vec::with_capacity(alloc, self.items.len())?;
+        for (key, ctx) in &self.items {
+            items.push((*key, ctx.clone()?))?;
+        }
+        Ok(Core { items })
+    }
+
+    /// The items as an item set. The error says that memory was refused.
+    pub fn into_itemset(self, alloc: Global) -> Result<Itemset<T>, AllocError>
+        ensures { IfOk result (λ s. set_of T.number s ≡ self) }
+    {
+        let mut items = BTreeMap::new(alloc);
+        for (key, ctx) in self.items {
+            items.insert(key, ctx)?;
+        }
+        Ok(Itemset { items })
+    }
+
+    /// The items.
+    pub fn items(&self) -> &[((PIdx<T>, SIdx<T>), Ctx)]
+        ensures items { items_of T.number result.now ≡ self.now }
+        ensures upwards { AreUpwards self.now }
+    {
+        self.items.as_slice()
+    }
+}
