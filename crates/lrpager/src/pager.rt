@@ -192,7 +192,8 @@ fn begin<T: IndexStorage>(
 pub struct BuildCounts {
     /// How many states were made, those among them that no state leads to in the end.
     pub made: usize,
-    /// How often a state was closed.
+    /// How often a state was closed and its gotos placed. That each state that is left is closed once more in the end, for the
+    /// graph's closed item sets, is not counted.
     pub closings: u128,
 }
 
