@@ -10,11 +10,19 @@ use std::test::Fail;
 struct Echo;
 
 impl LineAnswers for Echo {
+    type Prepared = ();
+
     ghost answer = { λ _ line. line };
 
     ghost can_answer = { λ _. ⊤ };
 
-    fn answer(&self, line: &[u8], out: &mut Vec<u8>) -> Result<(), AllocError> {
+    ghost is_prepared = { λ _ _. ⊤ };
+
+    fn prepare(&self) -> Result<(), AllocError> {
+        Ok(())
+    }
+
+    fn answer(&self, _: &(), line: &[u8], out: &mut Vec<u8>) -> Result<(), AllocError> {
         out.extend_from_slice(line)
     }
 }

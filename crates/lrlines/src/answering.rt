@@ -4,7 +4,7 @@ ghost use Rattle.lrspec.specs.texts.Devices.{ConsumesSome, AppendsBeginning, App
 ghost use Rattle.lrspec.specs.texts.Lines.{whole_lines, rest_of, lines, HasNoLineFeed, nonempty, answers_to, answer_text};
 ghost use Rattle.std.specs.Io.KnownBytes.{Appends, Keeps, IsAtEnd};
 ghost use Rattle.std.specs.Str.Lines.{strip_carriage_return};
-ghost use Rattle.std.specs.Prelude.{◌≡◌, ◌≢◌, ℕ, ◌<◌, ◌≤◌, ◌⊎◌, List, [], ◌∷◌, ◌++◌, length, take, OnOk, IfOk, OnErr, MatchOption, MatchResult};
+ghost use Rattle.std.specs.Prelude.{◌≡◌, ◌≢◌, ℕ, ◌<◌, ◌≤◌, ◌⊎◌, List, [], ◌∷◌, ◌++◌, length, take, OnOk, IfOk, IfSome, OnErr, MatchOption, MatchResult};
 
 use crate::devices::{DeviceFault, LineRead, LineWrite};
 use crate::errors::LineError;
@@ -12,15 +12,32 @@ use std::alloc::{AllocError, Global};
 
 /// What answers lines.
 pub trait LineAnswers {
+    /// What is made once for all lines.
+    type Prepared: Drop;
+
     // The answer to a line.
     ghost answer: { Self → List ℕ → List ℕ };
 
     // What is asked of a value that is to answer.
     ghost can_answer: { Self → Type 0 };
 
+    // Whether the value answers by what was made.
+    ghost is_prepared: { Self → Self.Prepared → Type 0 };
+
+    /// Makes what the answers need. `answer_lines` calls this at the first line, and so asks for no memory where there is
+    /// none. The error says that memory was refused.
+    fn prepare(&self) -> Result<Self::Prepared, AllocError>
+        ensures { IfOk result (λ prepared. is_prepared self.now prepared) };
+
     /// Writes the answer to a line behind `out`. The error says that memory was refused.
-    fn answer(&self, line: &[u8], out: &mut Vec<u8>) -> Result<(), AllocError>
-        requires { can_answer self.now }
+    fn answer(
+        &self,
+        prepared: &Self::Prepared,
+        line: &[u8],
+        out: &mut Vec<u8>,
+    ) -> Result<(), AllocError>
+        requires can { can_answer self.now }
+        requires prepared { is_prepared self.now prepared.now }
         ensures { OnOk result (out.new.items ≡ out.old.items ++ answer self.now line.now) };
 }
 
@@ -59,15 +76,23 @@ pub fn answer_lines<R: LineRead, W: LineWrite, A: LineAnswers>(
     let mut buf = [0u8; 4096];
     let mut line = Vec::new(alloc);
     let mut out = Vec::new(alloc);
+    let mut prepared = None;
     for _ in 0..u64::MAX {
         let n = match reader.read(&mut buf) {
             Ok(n) => n,
             Err(_) => return Err(LineError::Read),
         };
         if n == 0 {
-            return answer_rest(line.as_slice(), &mut out, writer, answers);
+            return answer_rest(line.as_slice(), &mut out, writer, answers, &mut prepared);
         }
-        answer_bytes(&buf[..n], &mut line, &mut out, writer, answers)?;
+        answer_bytes(
+            &buf[..n],
+            &mut line,
+            &mut out,
+            writer,
+            answers,
+            &mut prepared,
+        )?;
     }
     Err(LineError::Read)
 }
@@ -79,11 +104,14 @@ fn answer_bytes<W: LineWrite, A: LineAnswers>(
     out: &mut Vec<u8>,
     writer: &mut W,
     answers: &A,
+    prepared: &mut Option<A::Prepared>,
 ) -> Result<(), LineError>
     requires can { A.can_answer answers.now }
+    requires prepared { IfSome prepared.old (A.is_prepared answers.now) }
     requires no_feed { HasNoLineFeed line.old.items }
     ensures rest { OnOk result (line.new.items ≡ rest_of (line.old.items ++ bytes.now)) }
     ensures no_feed { OnOk result (HasNoLineFeed line.new.items) }
+    ensures prepared { IfSome prepared.new (A.is_prepared answers.now) }
     ensures ok { OnOk result (Appends (W.written writer.old) (W.written writer.new)
         (answers_to (A.answer answers.now) (whole_lines (line.old.items ++ bytes.now)))) }
     ensures write { result ≡ Err LineError.Write → AppendsBeginning (W.written writer.old) (W.written writer.new)
@@ -97,7 +125,13 @@ fn answer_bytes<W: LineWrite, A: LineAnswers>(
     let mut behind = bytes;
     while let Some((piece, more)) = cut(behind) {
         line.extend_from_slice(piece)?;
-        answer_line(without_return(line.as_slice()), out, writer, answers)?;
+        answer_line(
+            without_return(line.as_slice()),
+            out,
+            writer,
+            answers,
+            prepared,
+        )?;
         line.clear();
         behind = more;
     }
@@ -131,8 +165,10 @@ fn answer_rest<W: LineWrite, A: LineAnswers>(
     out: &mut Vec<u8>,
     writer: &mut W,
     answers: &A,
+    prepared: &mut Option<A::Prepared>,
 ) -> Result<(), LineError>
-    requires { A.can_answer answers.now }
+    requires can { A.can_answer answers.now }
+    requires prepared { IfSome prepared.old (A.is_prepared answers.now) }
     ensures ok { OnOk result (Appends (W.written writer.old) (W.written writer.new)
         (answers_to (A.answer answers.now) (nonempty (line.now ∷ [])))) }
     ensures write { result ≡ Err LineError.Write → AppendsBeginning (W.written writer.old) (W.written writer.new)
@@ -146,7 +182,7 @@ fn answer_rest<W: LineWrite, A: LineAnswers>(
     if line.is_empty() {
         return Ok(());
     }
-    answer_line(line, out, writer, answers)
+    answer_line(line, out, writer, answers, prepared)
 }
 
 /// Writes the answer to a line, and a line feed.
@@ -155,8 +191,11 @@ fn answer_line<W: LineWrite, A: LineAnswers>(
     out: &mut Vec<u8>,
     writer: &mut W,
     answers: &A,
+    prepared: &mut Option<A::Prepared>,
 ) -> Result<(), LineError>
-    requires { A.can_answer answers.now }
+    requires can { A.can_answer answers.now }
+    requires prepared { IfSome prepared.old (A.is_prepared answers.now) }
+    ensures prepared { IfSome prepared.new (A.is_prepared answers.now) }
     ensures ok { OnOk result (Appends (W.written writer.old) (W.written writer.new)
         (A.answer answers.now line.now ++ 10 ∷ [])) }
     ensures write { result ≡ Err LineError.Write → AppendsBeginning (W.written writer.old) (W.written writer.new)
@@ -167,7 +206,10 @@ fn answer_line<W: LineWrite, A: LineAnswers>(
     ensures writer_counts { result ≢ Err LineError.Write → W.failures writer.new ≡ W.failures writer.old }
 {
     out.clear();
-    answers.answer(line, out)?;
+    if prepared.is_none() {
+        *prepared = Some(answers.prepare()?);
+    }
+    answers.answer(prepared.as_ref().unwrap(), line, out)?;
     out.push(b'\n')?;
     write_all(writer, out.as_slice()).map_err(|_| LineError::Write)
 }

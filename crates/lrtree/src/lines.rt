@@ -53,8 +53,6 @@ fn push_tree(text: &str, out: &mut Vec<u8>) -> Result<(), AllocError>
 struct TreeLines<'a, T: IndexStorage> {
     grm: &'a YaccGrammar<T>,
     table: &'a StateTable<T>,
-    /// The labels of the grammar's productions. Where memory was refused for them, no line is answered.
-    labels: Result<Vec<String>, AllocError>,
     /// How many steps a run makes at most.
     steps: usize,
 }
@@ -86,15 +84,25 @@ impl<'a, T: IndexStorage> TreeLines<'a, T> {
 }
 
 impl<'a, T: IndexStorage> LineAnswers for TreeLines<'a, T> {
+    /// The labels of the grammar's productions.
+    type Prepared = Vec<String>;
+
     ghost answer = { λ r. tree_answer r.grm.now r.table.now r.steps };
 
-    ghost can_answer = { λ r. IsTableFor r.grm.now r.table.now
-        × IfOk r.labels (λ labels. AreLabels r.grm.now labels.items) };
+    ghost can_answer = { λ r. IsTableFor r.grm.now r.table.now };
 
-    fn answer(&self, line: &[u8], out: &mut Vec<u8>) -> Result<(), AllocError> {
-        let Ok(labels) = &self.labels else {
-            return Err(AllocError);
-        };
+    ghost is_prepared = { λ r labels. AreLabels r.grm.now labels.items };
+
+    fn prepare(&self) -> Result<Vec<String>, AllocError> {
+        production_labels(self.grm)
+    }
+
+    fn answer(
+        &self,
+        labels: &Vec<String>,
+        line: &[u8],
+        out: &mut Vec<u8>,
+    ) -> Result<(), AllocError> {
         match line_tokens(self.grm, line)? {
             Ok(tokens) => self.push_parsed(labels, &tokens, out),
             Err(word) => {
@@ -141,12 +149,6 @@ pub fn tree_lines<T: IndexStorage, R: LineRead, W: LineWrite>(
     ensures reader_counts { result ≢ Err LineError.Read → R.failures reader.new ≡ R.failures reader.old }
     ensures writer_counts { result ≢ Err LineError.Write → W.failures writer.new ≡ W.failures writer.old }
 {
-    let labels = production_labels(grm);
-    let answers = TreeLines {
-        grm,
-        table,
-        labels,
-        steps,
-    };
+    let answers = TreeLines { grm, table, steps };
     answer_lines(alloc, reader, writer, &answers)
 }

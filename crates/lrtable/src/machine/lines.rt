@@ -6,7 +6,7 @@ ghost use Rattle.lrspec.specs.texts.Lines.{whole_lines, lines, answers_to, answe
 ghost use Rattle.lrspec.specs.texts.MachineLines.{line_answer};
 ghost use Rattle.lrtable.specs.Labels.{AreLabels};
 ghost use Rattle.std.specs.Io.KnownBytes.{Appends, IsAtEnd};
-ghost use Rattle.std.specs.Prelude.{◌≡◌, ◌≢◌, ◌⊎◌, OnOk, IfOk};
+ghost use Rattle.std.specs.Prelude.{◌≡◌, ◌≢◌, ◌⊎◌, OnOk};
 
 use crate::machine::answers::{line_tokens, production_labels, push_outcome};
 use crate::machine::running::run;
@@ -21,22 +21,30 @@ use std::alloc::{AllocError, Global};
 struct RunLines<'a, T: IndexStorage> {
     grm: &'a YaccGrammar<T>,
     table: &'a StateTable<T>,
-    /// The labels of the grammar's productions. Where memory was refused for them, no line is answered.
-    labels: Result<Vec<String>, AllocError>,
     /// How many steps a run makes at most.
     steps: usize,
 }
 
 impl<'a, T: IndexStorage> LineAnswers for RunLines<'a, T> {
+    /// The labels of the grammar's productions.
+    type Prepared = Vec<String>;
+
     ghost answer = { λ r. line_answer r.grm.now r.table.now r.steps };
 
-    ghost can_answer = { λ r. IsTableFor r.grm.now r.table.now
-        × IfOk r.labels (λ labels. AreLabels r.grm.now labels.items) };
+    ghost can_answer = { λ r. IsTableFor r.grm.now r.table.now };
 
-    fn answer(&self, line: &[u8], out: &mut Vec<u8>) -> Result<(), AllocError> {
-        let Ok(labels) = &self.labels else {
-            return Err(AllocError);
-        };
+    ghost is_prepared = { λ r labels. AreLabels r.grm.now labels.items };
+
+    fn prepare(&self) -> Result<Vec<String>, AllocError> {
+        production_labels(self.grm)
+    }
+
+    fn answer(
+        &self,
+        labels: &Vec<String>,
+        line: &[u8],
+        out: &mut Vec<u8>,
+    ) -> Result<(), AllocError> {
         let alloc = self.grm.allocator();
         match line_tokens(self.grm, line)? {
             Ok(tokens) => {
@@ -87,12 +95,6 @@ pub fn run_lines<T: IndexStorage, R: LineRead, W: LineWrite>(
     ensures reader_counts { result ≢ Err LineError.Read → R.failures reader.new ≡ R.failures reader.old }
     ensures writer_counts { result ≢ Err LineError.Write → W.failures writer.new ≡ W.failures writer.old }
 {
-    let labels = production_labels(grm);
-    let answers = RunLines {
-        grm,
-        table,
-        labels,
-        steps,
-    };
+    let answers = RunLines { grm, table, steps };
     answer_lines(alloc, reader, writer, &answers)
 }

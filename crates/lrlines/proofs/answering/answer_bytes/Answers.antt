@@ -9,6 +9,7 @@ use Rattle.lrlines.proofs.answering.answer_bytes.Goals as goal
 pub loop-piece-init : goal.loop-piece-init
 loop-piece-init g c = record {
   answering = IsAnswering-start _ _ _ _ c.requires.no_feed;
+  prepared = c.requires.prepared;
   count = refl;
 }
 
@@ -41,6 +42,7 @@ loop-piece-preserved g c = record {
       (c.without_return.ensures
       ∙ ap strip_carriage_return (c.as_slice.ensures.value ∙ c.in_ok-extend_from_slice.ensures.items))
       c.in_ok-answer_line.ensures.ok);
+  prepared = c.in_ok-answer_line.ensures.prepared;
   count = c.in_ok-answer_line.ensures.writer_counts (not_an_error _ _) ∙ c.loop-piece.invariant.count;
 }
 
@@ -138,8 +140,11 @@ returns-in_err-extend_from_slice-2-clause-writer_counts g c n = c.loop-piece.inv
 
 -- ---- a line could not be answered
 
-pub answer_line-requires : goal.answer_line-requires
-answer_line-requires g c = c.requires.can
+pub answer_line-requires-clause-can : goal.answer_line-requires-clause-can
+answer_line-requires-clause-can g c = c.requires.can
+
+pub answer_line-requires-clause-prepared : goal.answer_line-requires-clause-prepared
+answer_line-requires-clause-prepared g c = c.loop-piece.invariant.prepared
 
 pub returns-in_err-answer_line-clause-rest : goal.returns-in_err-answer_line-clause-rest
 returns-in_err-answer_line-clause-rest g c =

@@ -44,6 +44,7 @@ loop-preserved g c = record {
         no_feed = c.in_ok-answer_bytes.ensures.no_feed;
         written = c.in_ok-answer_bytes.ensures.ok;
       };
+  prepared = c.in_ok-answer_bytes.ensures.prepared;
   reader_count = c.in-Ok.ensures.count ∙ c.loop.invariant.reader_count;
   writer_count = c.in_ok-answer_bytes.ensures.writer_counts (not_an_error _ _) ∙ c.loop.invariant.writer_count;
   room = c.read.auto.buf ∙ c.loop.invariant.room;
@@ -53,6 +54,7 @@ pub loop-init : goal.loop-init
 loop-init g c =
     record {
       reading = IsReading-start _ _ _ _ c.new-line.ensures.items;
+      prepared = tt;
       reader_count = refl;
       writer_count = refl;
       room = refl;
@@ -91,8 +93,11 @@ returns-in-Err-clause-writer_counts g c n = c.loop.invariant.writer_count
 
 -- ---- no more bytes come
 
-pub answer_rest-requires : goal.answer_rest-requires
-answer_rest-requires g c = c.requires
+pub answer_rest-requires-clause-can : goal.answer_rest-requires-clause-can
+answer_rest-requires-clause-can g c = c.requires
+
+pub answer_rest-requires-clause-prepared : goal.answer_rest-requires-clause-prepared
+answer_rest-requires-clause-prepared g c = c.loop.invariant.prepared
 
 pub returns-then-n-eq0-clause-end : goal.returns-then-n-eq0-clause-end
 returns-then-n-eq0-clause-end g c =
@@ -125,6 +130,9 @@ slice_bounds-answer_bytes-end g c = sym (length-take-le c.in-Ok.n _ c.in-Ok.ensu
 
 pub answer_bytes-requires-clause-can : goal.answer_bytes-requires-clause-can
 answer_bytes-requires-clause-can g c = c.requires
+
+pub answer_bytes-requires-clause-prepared : goal.answer_bytes-requires-clause-prepared
+answer_bytes-requires-clause-prepared g c = c.loop.invariant.prepared
 
 pub answer_bytes-requires-clause-no_feed : goal.answer_bytes-requires-clause-no_feed
 answer_bytes-requires-clause-no_feed g c = c.loop.invariant.reading.so_far.no_feed

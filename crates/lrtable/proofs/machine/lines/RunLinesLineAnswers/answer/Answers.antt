@@ -14,7 +14,7 @@ run-requires-clause-named g c =
     let number = g.T.IndexStorage.number in
     let m = c.args.self.now.grm.now in
     let ws = words c.args.line.now in
-    let facts = rw c.in-Ok-2.is at c.in_ok-tokens.ensures.tokens in
+    let facts = rw c.in-Ok.is at c.in_ok-tokens.ensures.tokens in
     let same : text_of number c.deref.result.now ≡ tokens_of m ws = ap (text_of number) c.deref.ensures.value ∙ facts.1 in
     subst (AreNamed m) (sym same) (tokens_named m ws)
 
@@ -25,14 +25,13 @@ push_outcome-requires g c =
     let b = c.args.self.now.table.now in
     let n = c.args.self.now.steps in
     let ws = words c.args.line.now in
-    let facts = rw c.in-Ok-2.is at c.in_ok-tokens.ensures.tokens in
+    let facts = rw c.in-Ok.is at c.in_ok-tokens.ensures.tokens in
     let text = text_of number c.deref.result.now in
     let same : text ≡ tokens_of m ws = ap (text_of number) c.deref.ensures.value ∙ facts.1 in
     let named : AreNamed m text = subst (AreNamed m) (sym same) (tokens_named m ws) in
-    let made = rw c.in-Ok.is at c.requires.1 in
     record {
-      labels = subst (AreLabels m) (sym c.deref-in-Ok-2.ensures.value) made;
-      productions = of_images (λ p. p < length m.productions) (λ p. number p.0) c.in_ok-outcome-in-Ok-2.outcome.reductions.items (run m b n text).reductions
-          (ap (λ (a : Answer). a.reductions) c.in_ok-outcome-in-Ok-2.ensures.answer)
-          (reduces_by_productions m b n text c.allocator-alloc.ensures.shape c.requires.0 named);
+      labels = subst (AreLabels m) (sym c.deref-in-Ok.ensures.value) c.requires.prepared;
+      productions = of_images (λ p. p < length m.productions) (λ p. number p.0) c.in_ok-outcome-in-Ok.outcome.reductions.items (run m b n text).reductions
+          (ap (λ (a : Answer). a.reductions) c.in_ok-outcome-in-Ok.ensures.answer)
+          (reduces_by_productions m b n text c.allocator-alloc.ensures.shape c.requires.can named);
     }
