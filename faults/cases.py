@@ -85,6 +85,9 @@ LINES = {
 # A token with a name that is longer than a read, and so a tree with a longer text.
 LONG_NAME = b"a" * 4200
 
+# A grammar whose only sentence is the empty one.
+EMPTY_BODY = b"%% S: ;"
+
 # Rules with empty bodies, and one that begins with itself behind such a body.
 HIDDEN_LEFT_RECURSION = b"%% S: A S 'x' | B 'y'; A: ; B: ;"
 
@@ -110,6 +113,7 @@ def of_lines():
             yield Case(f"{command}-{name}", words_of(command), ONE_OR_MORE, lines)
         yield Case(f"{command}-long-name", words_of(command), b"%% S: '" + LONG_NAME + b"';", LONG_NAME + b"\n\n")
         yield Case(f"{command}-no-steps", [command, FILE, "0"], ONE_OR_MORE, b"a\n\n")
+        yield Case(f"{command}-empty-body-no-lines", words_of(command), EMPTY_BODY, b"")
         yield Case(f"{command}-empty-bodies", words_of(command), HIDDEN_LEFT_RECURSION, b"y\ny x\n")
 
 

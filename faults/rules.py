@@ -60,13 +60,15 @@ def first_lines(text, count):
     return b"".join(line + b"\n" for line in text.split(b"\n")[:count])
 
 
-def memory(case, whole, found):
-    """Memory is enough after all, or the fault is told: before a line is answered as far as lines are answered, and else
-    before anything is."""
-    if is_same(case, whole, found):
-        return True
+def memory_used_up(case, whole, found):
+    """The fault is told: before a line is answered as far as lines are answered, and else before anything is."""
     lines = found.out.count(b"\n") if answers_lines(case) else 0
     return tells(found, OUT_OF_MEMORY) and found.out == first_lines(whole.out, lines)
+
+
+def memory(case, whole, found):
+    """Memory is enough after all, or the fault is told."""
+    return is_same(case, whole, found) or memory_used_up(case, whole, found)
 
 
 def opening(case, whole, found):
@@ -124,7 +126,7 @@ Fault = namedtuple("Fault", "call kind goes_on rule then_output", defaults=(Fals
 
 FAULTS = {
     "memory-refused": Fault("memory", "refused", False, memory),
-    "memory-refused-from-there-on": Fault("memory", "refused", True, memory),
+    "memory-refused-from-there-on": Fault("memory", "refused", True, memory_used_up),
     "open-fails": Fault("open", "EIO", False, opening),
     "open-interrupted": Fault("open", "EINTR", False, is_same),
     "read-fails": Fault("read", "EIO", False, reading),
