@@ -9,4 +9,6 @@ pub use crate::machine::answers::{line_tokens, production_label, production_labe
 pub use crate::machine::lines::run_lines;
 pub use crate::machine::outcome::{Run, Verdict};
 pub use crate::machine::running::run;
-pub use lrlines::{Counted, DeviceFault, LineError, LineRead, LineWrite};
+pub use lrlines::{
+    Counted, DeviceFault, LineAnswers, LineError, LineRead, LineWrite, answer_lines,
+};

@@ -16,8 +16,10 @@ use crate::texts::push_visits;
 use crate::walks::visits_of;
 use lrgrammar::grammar::YaccGrammar;
 use lrgrammar::idx::{IndexStorage, PIdx, TIdx};
-use lrlines::{LineAnswers, LineError, LineRead, LineWrite, answer_lines};
-use lrtable::machine::{Verdict, line_tokens, production_labels, run};
+use lrtable::machine::{
+    LineAnswers, LineError, LineRead, LineWrite, Verdict, answer_lines, line_tokens,
+    production_labels, run,
+};
 use lrtable::statetable::StateTable;
 use std::alloc::{AllocError, Global};
 
