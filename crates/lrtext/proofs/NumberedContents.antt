@@ -13,12 +13,12 @@ use Rattle.lrtext.specs.declared.meaning.precedences.Leveled.{Leveled}
 use Rattle.lrtext.specs.NumberedNames.{names_of, with_name, with_names}
 use Rattle.lrtext.specs.StoredContents.{plain_contents, alternative_of, rule_name_of, kind_line_of, line_names_of, body_of, starts_of}
 use Rattle.lrtext.specs.StoredLevels.{leveled_of, leveled_names, IsRepeat}
-use Rattle.lrtext.specs.MeantParts.{AreMeant, IsCauseIn}
+use Rattle.lrtext.specs.MeantParts.{numbered_parts, AreMeant, IsCauseIn}
 use Rattle.lrspec.specs.grammars.Grammar.{Kind, Precedence}
 use Rattle.lrspec.specs.texts.Documents.{BodyText}
 use Rattle.lrspec.specs.texts.Parts.{Parts}
 use Rattle.lrspec.specs.texts.Names.{has_name, has_no_repeats, first_appearances}
-use Rattle.lrspec.specs.texts.Meaning.{Contents, rule_names, token_names, precedence_names, declared_names, body_names, named_precedence, named_precedences, token_in_body, precedences, token_in, production_in, start_in, unknown_in_body, unknown_names}
+use Rattle.lrspec.specs.texts.Meaning.{Contents, rule_names, token_names, precedence_names, declared_names, body_names, named_precedence, named_precedences, token_in_body, precedences, unknown_in_body, unknown_names}
 use Rattle.lrspec.proofs.texts.ResultsPassedOn.{error_passed}
 use Rattle.lrtext.proofs.NumberedNames.{first_appearances_added}
 use Rattle.lrtext.proofs.MeaningFacts.{precedences_named, unknown_by_numbers}
@@ -79,18 +79,15 @@ pub no_start : (rules : List (List ℕ)) (o : Option (Bor (List ℕ))) → o ≡
 no_start rules o e = rw e refl
 
 -- the parts that are meant
-pub meant : (s : Contents) (rules tokens : List (List ℕ)) (ps : List (List ℕ × Precedence)) (p : Parts) → rules ≡ rule_names s → tokens ≡ token_names s → ps ≡ precedences s → unknown_names s ≡ [] → IsTrue (has_no_repeats (precedence_names s)) → p.rules ≡ rules → p.tokens ≡ map (token_in ps) tokens → p.prods ≡ map (production_in rules tokens) s.alternatives → p.start ≡ start_in rules s.starts → AreMeant s p
-meant s rules tokens ps p r t l known once rs ts qs st =
-    let e = ap (λ x. map (token_in x) tokens) l ∙ ap (map (token_in (precedences s))) t in
-    let f = ap (λ x. map (production_in x tokens) s.alternatives) r ∙ ap (λ x. map (production_in (rule_names s) x) s.alternatives) t in
-    let g = ap (λ x. start_in x s.starts) r in
+pub meant : (s : Contents) (rules tokens : List (List ℕ)) (ps : List (List ℕ × Precedence)) (p : Parts) → rules ≡ rule_names s → tokens ≡ token_names s → ps ≡ precedences s → unknown_names s ≡ [] → IsTrue (has_no_repeats (precedence_names s)) → p ≡ numbered_parts s rules tokens ps → AreMeant s p
+meant s rules tokens ps p r t l known once same =
     record {
       known = known;
       once = once;
-      parts = sym (ap (λ x. record { rules = x; tokens = p.tokens; prods = p.prods; start = p.start }) (rs ∙ r)
-          ∙ ap (λ x. record { rules = rule_names s; tokens = x; prods = p.prods; start = p.start }) (ts ∙ e)
-          ∙ ap (λ x. record { rules = rule_names s; tokens = map (token_in (precedences s)) (token_names s); prods = x; start = p.start }) (qs ∙ f)
-          ∙ ap (λ x. record { rules = rule_names s; tokens = map (token_in (precedences s)) (token_names s); prods = map (production_in (rule_names s) (token_names s)) s.alternatives; start = x }) (st ∙ g));
+      parts = sym (same
+          ∙ ap (λ x. numbered_parts s x tokens ps) r
+          ∙ ap (λ x. numbered_parts s (rule_names s) x ps) t
+          ∙ ap (λ x. numbered_parts s (rule_names s) (token_names s) x) l);
     }
 
 -- a name that comes again is the cause where no name is unknown

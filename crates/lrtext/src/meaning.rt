@@ -1,13 +1,14 @@
 //! From what a document says to the parts of its grammar.
 
-ghost use Rattle.std.specs.Prelude.{◌≡◌, map, option_map, string_bytes, IfOk, IfErr};
-ghost use Rattle.lrspec.specs.texts.Meaning.{token_in, symbol_in, production_in, start_in, named_precedence};
+ghost use Rattle.std.specs.Prelude.{◌≡◌, [], map, option_map, string_bytes, IfOk, OnOk, IfErr};
+ghost use Rattle.lrspec.specs.texts.Meaning.{token_in, symbol_in, production_in, start_in, named_precedence, rule_names, unknown_names};
 ghost use Rattle.lrspec.specs.texts.Names.{place_of};
 ghost use Rattle.lrtext.specs.NumberedNames.{names_of};
 ghost use Rattle.lrtext.specs.StoredParts.{token_of, part_symbol_of, part_production_of, parts_of};
 ghost use Rattle.lrtext.specs.StoredContents.{name_text_of, alternative_of, starts_of, plain_contents};
 ghost use Rattle.lrtext.specs.StoredLevels.{leveled_of, leveled_names};
-ghost use Rattle.lrtext.specs.MeantParts.{AreMeant, IsCauseIn};
+ghost use Rattle.lrtext.specs.MeantParts.{numbered_parts, AreMeant, IsCauseIn};
+ghost use Rattle.lrtext.specs.declared.reader.ReadError.TheVariants.{Memory};
 
 mod numbering;
 mod numbers;
@@ -130,6 +131,47 @@ fn start<'a>(rules: &Numbers<'a>, name: Option<&'a str>) -> usize
     }
 }
 
+/// Refuses a document with a name that nothing defines: `UnknownSymbol` of the first; or `Memory`
+/// where memory was refused.
+fn refuse_unknown<'a>(
+    alloc: Global,
+    contents: &Contents<'a>,
+    rules: &Numbers<'a>,
+) -> Result<(), ReadError>
+    requires { rules.now ≡ rule_names (plain_contents contents.now) }
+    ensures ok { OnOk result (unknown_names (plain_contents contents.now) ≡ []) }
+    ensures err { IfErr result (IsCauseIn (plain_contents contents.now)) }
+{
+    let declared = declared(alloc, contents)?;
+    match first_unknown(rules, &declared, contents) {
+        Some(name) => Err(ReadError::UnknownSymbol(String::from_str(alloc, name)?)),
+        None => Ok(()),
+    }
+}
+
+/// The parts, by the rules and tokens, and by the names that have a level, with their numbers.
+fn numbered_parts<'a>(
+    alloc: Global,
+    contents: &Contents<'a>,
+    rules: &Numbers<'a>,
+    tokens: &Numbers<'a>,
+    numbers: &Numbers<'a>,
+    leveled: &[Leveled<'a>],
+) -> Result<GrammarParts, ReadError>
+    requires { numbers.now ≡ leveled_names leveled.now }
+    ensures ok { let levels = map leveled_of leveled.now in
+        let meant = numbered_parts (plain_contents contents.now) rules.now tokens.now levels in
+        IfOk result (λ p. parts_of p ≡ meant) }
+    ensures err { IfErr result (λ e. e ≡ Memory) }
+{
+    Ok(GrammarParts {
+        rules: own_names(alloc, rules.names())?,
+        tokens: part_tokens(alloc, tokens.names(), numbers, leveled)?,
+        prods: prods(alloc, rules, tokens, contents.alternatives.as_slice())?,
+        start: start(rules, contents.start),
+    })
+}
+
 /// The parts of the grammar that a document means. The error is `UnknownSymbol` of the first name
 /// that nothing defines; or else `DuplicatePrecedence` of the first name that comes again in
 /// precedence lines; or `Memory` where memory was refused.
@@ -141,17 +183,16 @@ pub(crate) fn grammar_parts(
     ensures err { IfErr result (IsCauseIn (plain_contents contents.now)) }
 {
     let rules = rules(alloc, contents)?;
-    let declared = declared(alloc, contents)?;
-    if let Some(name) = first_unknown(&rules, &declared, contents) {
-        return Err(ReadError::UnknownSymbol(String::from_str(alloc, name)?));
-    }
+    refuse_unknown(alloc, contents, &rules)?;
     let leveled = levels(alloc, contents)?;
     let numbers = distinct(alloc, leveled.as_slice())?;
     let tokens = tokens(alloc, contents, &rules)?;
-    Ok(GrammarParts {
-        rules: own_names(alloc, rules.names())?,
-        tokens: part_tokens(alloc, tokens.names(), &numbers, leveled.as_slice())?,
-        prods: prods(alloc, &rules, &tokens, contents.alternatives.as_slice())?,
-        start: start(&rules, contents.start),
-    })
+    numbered_parts(
+        alloc,
+        contents,
+        &rules,
+        &tokens,
+        &numbers,
+        leveled.as_slice(),
+    )
 }
