@@ -1,5 +1,5 @@
 -- The productions of each rule in lists, one production more at a time.
-use Rattle.std.proofs.Common.{◌≡◌, ◌≢◌, ◌==◌, ℕ, suc, ◌+◌, ◌<◌, cond, List, [], ◌∷◌, ◌++◌, filter, length, map, get_or, Some, refl, ap, sym, ◌∙◌, subst, ⊎_elim, arith}
+use Rattle.std.proofs.Common.{◌≡◌, ◌≢◌, ◌==◌, ℕ, suc, ◌+◌, ◌<◌, cond, List, [], ◌∷◌, ◌++◌, filter, length, map, get_or, set, Some, refl, ap, sym, ◌∙◌, subst, ⊎_elim, arith}
 use Rattle.std.specs.Prelude.{slice_get, All}
 use Rattle.std.specs.Option.{option_map}
 use Rattle.std.proofs.lemmas.Option.{slice_get-map, slice_get-get_or}
@@ -8,12 +8,17 @@ use Rattle.std.specs.declared.vec.Vec.{Vec}
 use Rattle.std.specs.declared.alloc.Global.{Global}
 use Rattle.std.proofs.lemmas.Bool.{cases_eq, false_from_ne_true}
 use Rattle.std.proofs.lemmas.Bool.Decides.{Decides-eqb}
-use Rattle.std.proofs.lemmas.List.{map_push, append-nil}
+use Rattle.std.proofs.lemmas.List.{map_push, append-nil, get_or-set_same, get_or_default}
 use Rattle.std.proofs.lemmas.List.Elements.{filter-append}
 use Rattle.lrspec.specs.grammars.Grammar.{Grammar, Symbol, Production, is_of_rule, body_of, body_or_none, IsOfRule, IsProductionOf}
 use Rattle.lrgrammar.specs.declared.idx.PIdx.{PIdx}
 use Rattle.lrgrammar.specs.StoredGrammar.{numbers_of, AreListsOf}
 use Rattle.lrgrammar.proofs.Ranges.{range_more}
+
+-- a list that is written with one element more
+pub one_more : {X : Type 0} (lists : List (Vec X Global)) (i : ℕ) (was new d : Vec X Global) (x : X) → i < length lists → was ≡ get_or lists i was → new.items ≡ was.items ++ x ∷ [] → (get_or (set lists i new) i d).items ≡ (get_or lists i d).items ++ x ∷ []
+one_more {X} lists i was new d x within is more =
+    ap (λ (v : Vec X Global). v.items) (get_or-set_same lists i new d within) ∙ more ∙ ap (λ (v : Vec X Global). v.items ++ x ∷ []) (is ∙ get_or_default lists i was d within)
 
 -- the places below `n` of the productions of the rule `r`
 abbrev pub places_below : List Production → ℕ → ℕ → List ℕ
