@@ -1,6 +1,6 @@
 -- A row joined with another, where a slice of rows is split between the two.
-use Rattle.std.proofs.Common.{◌≡◌, ◌≢◌, ◌↔◌, IsTrue, ℕ, ◌-◌, ◌<◌, Bool, List, [], ◌++◌, length, add-zero, get_or, set, ap, sym, ◌∙◌, arith}
-use Rattle.std.proofs.lemmas.List.{length-append, get_or_append_left, get_or-append-add, get_or_default, set-append_left, set-append_right, set-get_or, get_or-set_same}
+use Rattle.std.proofs.Common.{◌≡◌, ℕ, ◌-◌, ◌<◌, Bool, List, [], ◌++◌, length, add-zero, get_or, set, ap, sym, ◌∙◌, arith}
+use Rattle.std.proofs.lemmas.List.{length-append, get_or_append_left, get_or-append-add, get_or_default, set-append_left, set-append_right, set-get_or}
 use Rattle.lrbits.specs.Bits.{union}
 use Rattle.lrgrammar.specs.FirstRows.{row}
 use Rattle.lrbits.proofs.Unions.{union_same}
@@ -12,12 +12,6 @@ row_low x low high i d e h = get_or_default low i d [] h ∙ rw e (sym (get_or_a
 -- the first row of the second part
 pub row_high : (x low high : List (List Bool)) (n : ℕ) (d : List Bool) → x ≡ low ++ high → length low ≡ n → 0 < length high → get_or high 0 d ≡ row x n
 row_high x low high n d e l h = get_or_default high 0 d [] h ∙ rw (e, ← l) (sym (rw add-zero at (get_or-append-add low high 0 [])))
-
--- the first row of the second part written
-pub set_high : (x low high : List (List Bool)) (n : ℕ) (v : List Bool) → x ≡ low ++ high → length low ≡ n → 0 < length high → low ++ set high 0 v ≡ set x n v
-set_high x low high n v e l h =
-    let z : n - n ≡ 0 = omega arith in
-    rw e (sym (set-append_right low high n n v l (omega arith) ∙ ap (λ k. low ++ set high k v) z))
 
 -- a row of the first part joined with the first row of the second
 pub join_low :
@@ -37,15 +31,9 @@ join_high x low high to from n d e p l h k u =
     let a : get_or low from e ≡ row x from = row_low x low high from e p (omega arith) in
     let b : get_or high 0 d ≡ row x to = row_high x low high to d p l (omega (arith, ap length p, length-append low high)) in
     let m : n ≡ union (row x to) (row x from) = rw (← a, ← b) u in
-    rw (← m) (set_high x low high to n p l (omega (arith, ap length p, length-append low high)))
+    let z : to - to ≡ 0 = omega arith in
+    rw (← m, p) (sym (set-append_right low high to to n l (omega arith) ∙ ap (λ k. low ++ set high k n) z))
 
 -- a row joined with itself
 pub join_self : (x : List (List Bool)) (to from : ℕ) → to ≡ from → x ≡ set x to (union (row x to) (row x from))
 join_self x to from e = rw (← e, union_same (row x to)) (sym (set-get_or x to []))
-
--- a row that is written changes the rows where it is another than before
-pub changed_by_row : (x y : List (List Bool)) (to : ℕ) (n o : List Bool) (r : Bool) → to < length x → o ≡ row x to → y ≡ set x to n → IsTrue r ↔ (n ≢ o) → IsTrue r ↔ (y ≢ x)
-changed_by_row x y to n o r h e w changed = (
-  λ t same. changed.0 t (sym (get_or-set_same x to n [] h) ∙ ap (λ z. row z to) (sym w ∙ same) ∙ sym e),
-  λ other. changed.1 (λ same. other (w ∙ ap (set x to) (same ∙ e) ∙ set-get_or x to [])),
-)

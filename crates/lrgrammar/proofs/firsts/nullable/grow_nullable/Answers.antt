@@ -1,5 +1,5 @@
-use Rattle.std.proofs.Common.{◌≡◌, ◌<◌, true, false, length, set, refl, arith, ◌∙◌, sym, ap, IsTrue, length-set}
-use Rattle.std.proofs.lemmas.Bool.{both_ways, false≢true}
+use Rattle.std.proofs.Common.{◌≡◌, ◌<◌, true, false, length, set, arith, ◌∙◌, sym, ap, IsTrue, length-set}
+use Rattle.std.proofs.lemmas.Bool.{both_ways}
 use Rattle.lrspec.specs.grammars.Grammar as math
 use Rattle.lrbits.specs.Bits.{bit}
 use Rattle.lrgrammar.specs.NullableBits.{all_set}
@@ -51,36 +51,3 @@ loop-i-preserved g c =
 pub returns-clause-done : goal.returns-clause-done
 returns-clause-done g c n =
     closed_from_below c.args.grm.now c.loop-i.known c.loop-i.i (omega (arith, c.prods_len.ensures.value, c.to_usize-i-end.ensures.number)) (c.loop-i.invariant.done n)
-
--- at first nothing was changed
-pub loop-i-init : goal.loop-i-init
-loop-i-init g c = record {
-  rules = refl;
-  sound = λ s. s;
-  fewer = omega arith;
-  falls = λ t. absurd (false≢true t);
-  done = λ _ p r below. absurd (omega arith);
-}
-
-pub prod_to_rule-requires : goal.prod_to_rule-requires
-prod_to_rule-requires g c =
-    let e = (rw c.unwrap.ensures at c.from_usize.ensures).1 in
-    omega (arith, e, c.prods_len.ensures.value, c.to_usize-i-end.ensures.number)
-
-pub get-requires : goal.get-requires
-get-requires g c =
-    let below = c.prod_to_rule.ensures.shape.rules _ _ c.prod_to_rule.ensures.rule in
-    omega (arith, below, c.to_usize-rule.ensures.number, c.loop-i.invariant.rules)
-
-pub all_nullable-requires : goal.all_nullable-requires
-all_nullable-requires g c =
-    let e = (rw c.unwrap.ensures at c.from_usize.ensures).1 in
-    record {
-      rules = c.loop-i.invariant.rules ∙ c.requires;
-      exists = omega (arith, e, c.prods_len.ensures.value, c.to_usize-i-end.ensures.number);
-    }
-
-pub set-requires : goal.set-requires
-set-requires g c =
-    let below = c.prod_to_rule.ensures.shape.rules _ _ c.prod_to_rule.ensures.rule in
-    omega (arith, below, c.to_usize-rule.ensures.number, c.loop-i.invariant.rules)
