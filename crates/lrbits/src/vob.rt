@@ -13,9 +13,6 @@ use std::alloc::{AllocError, Global};
 use std::marker::Model;
 use std::ops::Range;
 
-#[cfg(test)]
-mod tests;
-
 /// A vector of bits, whose length stays.
 #[derive(Debug, Drop)]
 pub struct Vob {

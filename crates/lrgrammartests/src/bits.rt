@@ -1,115 +1,182 @@
 //! Bit vectors.
 
-ghost use Rattle.std.specs.Prelude.{◌≡◌, ◌<◌, ◌≤◌, length, IfOk};
-
 use lrgrammar::vob::Vob;
 use std::alloc::{AllocError, Global};
 use std::process::Abort;
+use std::test::Fail;
 
-#[test]
-fn meeting_bits(rt: HostRuntime) -> Result<(), AllocError> {
-    let mut one = Vob::from_elem(rt.alloc(), false, 128)?;
-    let mut other = one.clone()?;
-    assert!(rt; one == other);
-    assert!(rt; !one.intersects(&other));
-    assert!(rt; one.set(64, true));
-    assert!(rt; !one.set(64, true));
-    assert!(rt; one != other);
-    assert!(rt; !one.intersects(&other));
-    assert!(rt; other.set(64, true));
-    assert!(rt; one.intersects(&other));
-    Ok(())
+/// Two vectors of one length, and what is found of them.
+struct Pair<'a> {
+    len: usize,
+    /// The places that are set in one of them, and a place that is not.
+    one: &'a [usize],
+    unset: usize,
+    /// The places that are set in the other one.
+    other: &'a [usize],
+    /// Whether they are equal, and whether they meet; whether `one` is changed when `other` is joined to it, and when that
+    /// is done again; and then whether they are equal, and whether they meet.
+    relations: [bool; 6],
+    /// The bounds of a range, and the places in it that are set in `one` in the end.
+    range: (usize, usize),
+    places: &'a [usize],
 }
 
-/// 128 bits, of which those at these places are set.
-fn bits_at(rt: &impl Abort, alloc: Global, places: &[usize]) -> Result<Vob, AllocError> {
-    let mut bits = Vob::from_elem(alloc, false, 128)?;
+/// Sets these places, which are not set yet.
+fn set_places(rt: &impl Abort, bits: &mut Vob, places: &[usize]) {
     for place in places {
-        assert!(rt; *place < bits.len());
-        bits.set(*place, true);
+        assert!(rt; *place < bits.len(), "{place}");
+        assert!(rt;
+            bits.set(*place, true) && !bits.set(*place, true) && bits.get(*place),
+            "{place}"
+        );
     }
-    Ok(bits)
 }
 
-#[test]
-fn bits_in_a_range(rt: HostRuntime) -> Result<(), AllocError> {
-    let bits = bits_at(&rt, rt.alloc(), &[59, 60, 63, 64, 69, 70])?;
-    assert_eq!(rt; bits.len(), 128);
-    let found: Vec<usize> = bits.iter_set_bits(60..70).collect(rt.alloc())?;
-    assert_eq!(rt; found.as_slice(), [60, 63, 64, 69].as_slice());
-    assert!(rt; bits.get(70));
-    assert!(rt; !bits.get(71));
-    Ok(())
+/// Joins the other to the one, and the relations of the two are these.
+fn relate(rt: &impl Abort, one: &mut Vob, other: &Vob, wanted: [bool; 6]) {
+    assert!(rt; one.len() == other.len());
+    let found = [
+        *one == *other,
+        one.intersects(other),
+        one.or(other),
+        one.or(other),
+        *one == *other,
+        one.intersects(other),
+    ];
+    assert_eq!(rt; found, wanted, "{} bits", other.len());
 }
 
-#[test]
-fn unions_with_all_bits(rt: HostRuntime) -> Result<(), AllocError> {
-    for len in [0, 1, 63, 64, 65, 128, 65536, 65537, 70000] {
-        let mut bits = Vob::from_elem(rt.alloc(), false, len)?;
-        let all = Vob::from_elem(rt.alloc(), true, len)?;
-        assert_eq!(rt; bits.or(&all), len > 0, "{len}");
-        assert!(rt; bits == all, "{len}");
-    }
-    Ok(())
-}
-
-#[test]
-fn setting_all_bits(rt: HostRuntime) -> Result<(), AllocError> {
-    for len in [0, 1, 63, 64, 65, 128, 65536, 65537, 70000] {
-        let mut bits = Vob::from_elem(rt.alloc(), false, len)?;
-        bits.set_all(true);
-        let places: Vec<usize> = bits.iter_set_bits(0..len).collect(rt.alloc())?;
-        assert_eq!(rt; places.len(), len);
-        assert_eq!(rt; places.last().copied(), len.checked_sub(1));
-    }
-    Ok(())
-}
-
-/// So many bits, of which those at the two places are set.
-fn two_bits(alloc: Global, len: usize, one: usize, other: usize) -> Result<Vob, AllocError>
-    requires one { one < len }
-    requires other { other < len }
-    ensures { IfOk result (λ bits. length bits ≡ len) }
-{
-    let mut bits = Vob::from_elem(alloc, false, len)?;
-    bits.set(one, true);
-    bits.set(other, true);
-    Ok(bits)
-}
-
-/// The bits that are set from that place on are at these places.
+/// The places that are set in the range are these.
 fn are_set(
     rt: &impl Abort,
     alloc: Global,
     bits: &Vob,
-    from: usize,
-    wanted: &[usize],
-) -> Result<(), AllocError>
-    requires { from ≤ length bits.now }
-{
-    let places: Vec<usize> = bits.iter_set_bits(from..bits.len()).collect(alloc)?;
-    assert_eq!(rt; places.as_slice(), wanted, "{from}");
+    range: (usize, usize),
+    places: &[usize],
+) -> Result<(), AllocError> {
+    assert!(rt; range.0 <= range.1 && range.1 <= bits.len());
+    let found: Vec<usize> = bits.iter_set_bits(range.0..range.1).collect(alloc)?;
+    assert!(rt; found.as_slice() == places, "{range:?}");
     Ok(())
 }
 
-/// Of so many bits the first one and the last one are set, and joined with two others.
-fn join_two_and_two(rt: &impl Abort, alloc: Global, len: usize) -> Result<(), AllocError>
-    requires { 65536 < len }
-{
-    let last = len - 1;
-    let mut bits = two_bits(alloc, len, 0, last)?;
-    assert_eq!(rt; bits.len(), len);
-    assert!(rt; bits.get(last) && !bits.get(last - 1), "{len}");
-    let more = two_bits(alloc, len, 64, last - 1)?;
-    assert!(rt; bits != more && !bits.intersects(&more), "{len}");
-    assert!(rt; bits.or(&more) && !bits.or(&more), "{len}");
-    assert!(rt; bits != more && bits.intersects(&more), "{len}");
-    are_set(rt, alloc, &bits, 0, &[0, 64, last - 1, last])?;
-    are_set(rt, alloc, &bits, 65535, &[last - 1, last])
+/// The pair is as its row says.
+fn is_found(rt: &impl Abort, alloc: Global, pair: &Pair<'_>) -> Result<(), AllocError> {
+    let mut one = Vob::from_elem(alloc, false, pair.len)?;
+    let mut other = one.clone()?;
+    set_places(rt, &mut one, pair.one);
+    set_places(rt, &mut other, pair.other);
+    assert!(rt; one.len() == pair.len && pair.unset < one.len() && !one.get(pair.unset));
+    relate(rt, &mut one, &other, pair.relations);
+    are_set(rt, alloc, &one, pair.range, pair.places)
+}
+
+/// The last four are of more bits than 16 bits count.
+const PAIRS: [Pair<'static>; 8] = [
+    Pair {
+        len: 128,
+        one: &[],
+        unset: 64,
+        other: &[],
+        relations: [true, false, false, false, true, false],
+        range: (0, 128),
+        places: &[],
+    },
+    Pair {
+        len: 128,
+        one: &[64],
+        unset: 63,
+        other: &[],
+        relations: [false, false, false, false, false, false],
+        range: (0, 128),
+        places: &[64],
+    },
+    Pair {
+        len: 128,
+        one: &[64],
+        unset: 63,
+        other: &[64],
+        relations: [true, true, false, false, true, true],
+        range: (0, 128),
+        places: &[64],
+    },
+    Pair {
+        len: 128,
+        one: &[59, 60, 63, 64, 69, 70],
+        unset: 71,
+        other: &[],
+        relations: [false, false, false, false, false, false],
+        range: (60, 70),
+        places: &[60, 63, 64, 69],
+    },
+    Pair {
+        len: 65537,
+        one: &[0, 65536],
+        unset: 65535,
+        other: &[64, 65535],
+        relations: [false, false, true, false, false, true],
+        range: (0, 65537),
+        places: &[0, 64, 65535, 65536],
+    },
+    Pair {
+        len: 65537,
+        one: &[0, 65536],
+        unset: 65535,
+        other: &[64, 65535],
+        relations: [false, false, true, false, false, true],
+        range: (65535, 65537),
+        places: &[65535, 65536],
+    },
+    Pair {
+        len: 70000,
+        one: &[0, 69999],
+        unset: 69998,
+        other: &[64, 69998],
+        relations: [false, false, true, false, false, true],
+        range: (0, 70000),
+        places: &[0, 64, 69998, 69999],
+    },
+    Pair {
+        len: 70000,
+        one: &[0, 69999],
+        unset: 69998,
+        other: &[64, 69998],
+        relations: [false, false, true, false, false, true],
+        range: (65535, 70000),
+        places: &[69998, 69999],
+    },
+];
+
+#[test]
+fn pairs_of_vectors(rt: HostRuntime) -> Result<(), Fail> {
+    for pair in &PAIRS {
+        is_found(&rt, rt.alloc(), pair)?;
+    }
+    Ok(())
+}
+
+/// Both ways to set all bits: at once, and by joining such as are all set, of which there are some or none.
+fn set_all(rt: &impl Abort, bits: &mut Vob, ones: &Vob) {
+    let some = ones.len() > 0;
+    bits.set_all(true);
+    relate(rt, bits, ones, [true, some, false, false, true, some]);
+    bits.set_all(false);
+    relate(rt, bits, ones, [!some, false, some, false, true, some]);
+}
+
+/// So many bits are set in both ways.
+fn fill(rt: &impl Abort, alloc: Global, len: usize) -> Result<(), AllocError> {
+    let ones = Vob::from_elem(alloc, true, len)?;
+    let mut filled = Vob::from_elem(alloc, false, len)?;
+    set_all(rt, &mut filled, &ones);
+    let places: Vec<usize> = (0..len).collect(alloc)?;
+    are_set(rt, alloc, &filled, (0, len), places.as_slice())
 }
 
 #[test]
-fn bits_past_65535(rt: HostRuntime) -> Result<(), AllocError> {
-    join_two_and_two(&rt, rt.alloc(), 65537)?;
-    join_two_and_two(&rt, rt.alloc(), 70000)
+fn vectors_of_each_length(rt: HostRuntime) -> Result<(), Fail> {
+    for len in [0, 1, 63, 64, 65, 127, 128, 129, 65536, 65537, 70000] {
+        fill(&rt, rt.alloc(), len)?;
+    }
+    Ok(())
 }

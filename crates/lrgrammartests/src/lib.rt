@@ -1,4 +1,4 @@
-//! Tests of grammars: the worked grammars, what is refused, and each public call with ample memory.
+//! Tests of grammars: what the worked grammars say, which parts are refused, index types and bit vectors.
 #![tactic(auto)]
 
 #[cfg(test)]
@@ -6,16 +6,10 @@ mod bits;
 #[cfg(test)]
 mod error_texts;
 #[cfg(test)]
-mod firsts;
-#[cfg(test)]
-mod fixtures;
-#[cfg(test)]
-mod getters;
+mod grammars;
 #[cfg(test)]
 mod indices;
 #[cfg(test)]
-mod meanings;
-#[cfg(test)]
 mod refused_parts;
 #[cfg(test)]
-mod refused_texts;
+mod told;

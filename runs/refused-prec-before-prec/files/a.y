@@ -1,0 +1,1 @@
+%% S: %prec %prec 'b';

@@ -1,0 +1,1 @@
+%% S: 'a' %prec 'b'; %prec 'b'
