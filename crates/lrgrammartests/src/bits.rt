@@ -72,7 +72,7 @@ fn is_found(rt: &impl Abort, alloc: Global, pair: &Pair<'_>) -> Result<(), Alloc
 }
 
 /// The last four are of more bits than 16 bits count.
-const PAIRS: [Pair<'static>; 8] = [
+static PAIRS: [Pair<'static>; 8] = [
     Pair {
         len: 128,
         one: &[],

@@ -20,7 +20,7 @@ const IN_TWO_PLACES: &str =
     "%left c %% S: A 'c' 'd' | B 'c' 'e'; A: 'a'; B: 'a' | 'b'; A: 'b' 'A';";
 
 /// Texts, each with a line that is told of it and of its grammar.
-const TEXTS: [(&str, &str); 29] = [
+static TEXTS: [(&str, &str); 29] = [
     // Tokens in their order, productions and precedences.
     (
         "%token a %% S: a \"b\" | 'a'; %% '",

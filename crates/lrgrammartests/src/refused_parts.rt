@@ -118,7 +118,7 @@ const LEFT_AND_RIGHT: [Precedence; 2] = [
 ];
 
 /// Parts, and why they are refused, or None where they make a grammar.
-const PARTS: [(Sketch<'static>, Option<GrammarError>); 16] = [
+static PARTS: [(Sketch<'static>, Option<GrammarError>); 16] = [
     (
         Sketch {
             prods: 1,
@@ -284,6 +284,7 @@ fn numbered_names(alloc: Global, count: usize) -> Result<String, AllocError> {
     Ok(names)
 }
 
+/// The greatest numbers of rules, tokens and productions make a grammar, and one more is refused.
 #[test]
 fn too_many_parts(rt: HostRuntime) -> Result<(), Fail> {
     let most = numbered_names(rt.alloc(), 254)?;
