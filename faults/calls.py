@@ -27,7 +27,7 @@ from run import PROGRAM, Room, Unfit, built_library, main, shown, tell_wrong
 # One request is refused, or in the cases of calls that take no memory each one.
 ONE = Fault("memory", "refused", False, None)
 EACH = Fault("memory", "refused", True, None)
-PLAIN = "free "
+PLAIN = "free-"
 
 LINES = "begin\nend\n{}, arguments as they were, same answer\n"
 ANSWERED, REFUSED = (LINES.format(call).encode() for call in ("answered", "out of memory"))

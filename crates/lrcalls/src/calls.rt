@@ -1,78 +1,262 @@
-//! Each call that takes memory by itself, and the calls that take none.
+//! The calls, each with a text of what it answers.
 
-pub mod bits;
-pub mod building;
-pub mod grammars;
-pub mod graphs;
-pub mod items;
-pub mod lines;
-pub mod machine;
-pub mod plain;
-pub mod tables;
-pub mod trees;
+ghost use Rattle.std.specs.Prelude.{◌≡◌, [], ◌∷◌, IfOk, MatchOption};
+ghost use Rattle.lrtree.specs.StoredVisits.{visit_of};
+ghost use Rattle.lrcalls.specs.Subjects.{IsMade};
 
-use crate::calls::building::{built, grammar};
-use crate::grammars::{Sample, sample_named, text_named};
+use crate::cases::{Call, OfLines, OfStates, OfTexts, Printing};
+use crate::plain::push_plain;
 use crate::problems::Problem;
-use lrgrammar::idx::IndexStorage;
+use crate::subjects::{LENGTHS, STEPS, State, Subject, line};
+use crate::texts::{push_firsts, push_grammar, push_table};
+use lrgrammar::grammar::{GrammarError, TextError, YaccGrammar};
+use lrgrammar::idx::{IndexStorage, PIdx, SIdx};
+use lrgrammar::vob::Vob;
+use lrtable::itemset::Itemset;
+use lrtable::machine::{line_tokens, production_label, production_labels, run};
+use lrtable::{BuildError, Minimiser, StateTable, from_yacc_counted};
+use lrtext::reader::read_parts;
+use lrtree::{Tree, Visit, Visits, parse};
+use std::alloc::{AllocError, Global};
+use std::fmt;
 
-/// What is tried: a call of a subject.
-#[derive(Clone, Copy)]
-pub struct Tried<'a> {
-    pub subject: &'a str,
-    pub call: &'a str,
+/// How many bytes there is room for in a text.
+const ROOM: usize = 1 << 17;
+
+/// Where a call answers: a text with room, and what some calls change.
+#[derive(Drop)]
+pub struct Room {
+    pub text: String,
+    /// Bits, and as many that are set.
+    pub bits: Vob,
+    pub ones: Vob,
+    /// A copy of the closed state, or an empty item set.
+    pub set: Itemset<u32>,
+    /// A bit for each token, all set.
+    pub looks: Vob,
 }
 
-/// Tries a call that no grammar comes into.
-pub fn try_without_grammar(
-    rt: &HostRuntime,
-    tried: Tried<'_>,
-    place: usize,
-) -> Result<(), Problem> {
-    match tried.subject {
-        "vob" | "sparsevec" => bits::try_named(rt, tried.call, place),
-        "free" => plain::try_without_grammar(rt, tried.call, place),
-        _ => Err(Problem::NoCase),
+impl Room {
+    /// Room for what calls on the subject answer.
+    pub fn new(alloc: Global, subject: &Subject<'_>) -> Result<Room, AllocError> {
+        let set = match subject.state() {
+            Ok(state) => state.closed.clone()?,
+            Err(_) => Itemset::new(alloc, subject.grm),
+        };
+        let len = match LENGTHS.as_slice().get(subject.place) {
+            Some(len) => *len,
+            None => 0,
+        };
+        Ok(Room {
+            text: String::with_capacity(alloc, ROOM)?,
+            bits: Vob::from_elem(alloc, true, len)?,
+            ones: Vob::from_elem(alloc, true, len)?,
+            set,
+            looks: Vob::from_elem(alloc, true, usize::from(subject.grm.tokens_len()))?,
+        })
     }
 }
 
-/// Tries a call on the sample.
-fn try_on_sample<T: IndexStorage>(
-    rt: &HostRuntime,
-    tried: Tried<'_>,
-    sample: Sample,
-    place: usize,
+/// Adds a text of what is answered.
+fn push<A: fmt::Debug + Drop>(
+    text: &mut String,
+    made: Result<A, AllocError>,
 ) -> Result<(), Problem> {
-    let alloc = rt.alloc();
-    let grm = grammar::<T>(alloc, sample.text)?;
-    if tried.subject == "grammar" {
-        return grammars::try_named(rt, tried.call, &grm, place);
-    }
-    let built = built(alloc, &grm)?;
-    match tried.subject {
-        "itemset" => items::try_named(rt, tried.call, &grm, &built.0, place),
-        "graph" => graphs::try_named(rt, tried.call, &grm, &built.0),
-        "table" => tables::try_named(rt, tried.call, &grm, &built.0),
-        "conflicts" => tables::try_conflicts(rt, tried.call, &grm, &built.1),
-        "machine" => machine::try_named(rt, tried.call, &grm, &built.0, &built.1, sample, place),
-        "lines" => lines::try_named(rt, tried.call, &grm, &built.0, &built.1, sample),
-        "tree" => trees::try_named(rt, tried.call, &grm, &built.1, sample),
-        "free" => plain::try_named(rt, tried.call, &grm, &built.0, &built.1, sample, place),
-        _ => Err(Problem::NoCase),
+    let answer = made?;
+    write!(text, "{answer:?}")?;
+    Ok(())
+}
+
+/// Makes the call, and adds a text of what it answers. That takes no memory where the call takes none.
+pub fn answer(call: &Call, subject: &Subject<'_>, room: &mut Room) -> Result<(), Problem>
+    requires { IsMade subject.now }
+{
+    match call {
+        Call::BitsFromElem => push(
+            &mut room.text,
+            Vob::from_elem(subject.grm.allocator(), true, room.bits.len()),
+        ),
+        Call::BitsClone => push(&mut room.text, room.bits.clone()),
+        Call::Text(call) => answer_by_text(call, subject, &mut room.text),
+        Call::State(call) => answer_by_state(call, subject, room),
+        Call::Line(call) => answer_by_line(call, subject, &mut room.text),
+        Call::Print(call) => print(call, subject, &mut room.text),
+        Call::Plain(call) => push_plain(call, subject, room),
     }
 }
 
-/// Tries a call on the grammar, or the text that gives none, of that name, by this index type.
-pub fn try_on<T: IndexStorage>(
-    rt: &HostRuntime,
-    tried: Tried<'_>,
-    name: &str,
-    place: usize,
-) -> Result<(), Problem> {
-    if tried.subject == "text" {
-        let text = text_named(name).ok_or(Problem::NoCase)?;
-        return grammars::try_text::<T>(rt, tried.call, text);
+/// What calls answer that lead from a text to its table.
+fn answer_by_text(call: &OfTexts, subject: &Subject<'_>, text: &mut String) -> Result<(), Problem>
+    requires { IsMade subject.now }
+{
+    let alloc = subject.grm.allocator();
+    match call {
+        OfTexts::FromParts => push_from_parts(alloc, subject.sample.text, false, text),
+        OfTexts::FromPartsWithoutStart => push_from_parts(alloc, subject.sample.text, true, text),
+        OfTexts::ByU8 => push_built::<u8>(alloc, subject.sample.text, text),
+        OfTexts::ByU16 => push_built::<u16>(alloc, subject.sample.text, text),
+        OfTexts::ByU32 => push_built::<u32>(alloc, subject.sample.text, text),
+        OfTexts::Firsts => push_firsts_of(subject, text),
+        OfTexts::Table => push_table_of(subject, text),
     }
-    let sample = sample_named(name).ok_or(Problem::NoCase)?;
-    try_on_sample::<T>(rt, tried, sample, place)
+}
+
+/// `firsts`.
+fn push_firsts_of(subject: &Subject<'_>, text: &mut String) -> Result<(), Problem> {
+    let firsts = subject.grm.firsts()?;
+    Ok(push_firsts(text, subject.grm, &firsts)?)
+}
+
+/// `StateTable::new`.
+fn push_table_of(subject: &Subject<'_>, text: &mut String) -> Result<(), Problem>
+    requires { IsMade subject.now }
+{
+    match StateTable::new(subject.grm.allocator(), subject.grm, subject.graph) {
+        Ok(table) => Ok(push_table(text, subject.grm, subject.graph, &table)?),
+        Err(BuildError::Memory) => Err(Problem::Memory),
+        Err(_) => Err(Problem::Unfit),
+    }
+}
+
+/// `read_parts` and `from_parts`, for the parts as they are or with a start rule that is none.
+fn push_from_parts(
+    alloc: Global,
+    source: &str,
+    lacks_start: bool,
+    text: &mut String,
+) -> Result<(), Problem> {
+    let Ok(mut parts) = read_parts(alloc, source) else {
+        return Err(Problem::Memory);
+    };
+    if lacks_start {
+        parts.start = parts.rules.len();
+    }
+    match YaccGrammar::<u32>::from_parts(alloc, &parts) {
+        Ok(grm) => Ok(push_grammar(text, &grm)?),
+        Err(GrammarError::Memory) => Err(Problem::Memory),
+        Err(refusal) => Ok(write!(text, "{refusal:?}")?),
+    }
+}
+
+/// `from_text`, by any index type, and then `from_yacc_counted`.
+fn push_built<T: IndexStorage>(
+    alloc: Global,
+    source: &str,
+    text: &mut String,
+) -> Result<(), Problem> {
+    match YaccGrammar::<T>::from_text(alloc, source) {
+        Ok(grm) => push_graph_of(&grm, text),
+        Err(TextError::Memory) => Err(Problem::Memory),
+        Err(_) => Err(Problem::Unfit),
+    }
+}
+
+/// `from_yacc_counted` and `pp_closed_states`.
+fn push_graph_of<T: IndexStorage>(grm: &YaccGrammar<T>, text: &mut String) -> Result<(), Problem> {
+    match from_yacc_counted(grm.allocator(), grm, Minimiser::Pager) {
+        Ok((graph, _table, counts)) => {
+            let told = push(text, Ok(counts));
+            told.and(push(text, graph.pp_closed_states(grm)))
+        }
+        Err(BuildError::Memory) => Err(Problem::Memory),
+        Err(_) => Err(Problem::Unfit),
+    }
+}
+
+/// What calls on the item sets of a state answer.
+fn answer_by_state(call: &OfStates, subject: &Subject<'_>, room: &mut Room) -> Result<(), Problem>
+    requires { IsMade subject.now }
+{
+    let grm = subject.grm;
+    let State {
+        core,
+        closed,
+        symbol,
+    } = subject.state()?;
+    match call {
+        OfStates::Close => push(&mut room.text, core.close(grm, subject.firsts)),
+        OfStates::Goto => push(&mut room.text, closed.goto(grm, &symbol)),
+        OfStates::Pp => push(&mut room.text, closed.pp(grm)),
+        OfStates::Clone => push(&mut room.text, closed.clone()),
+        OfStates::Add => push_added(room, subject, (grm.start_prod(), SIdx(0))),
+    }
+}
+
+/// `Itemset::add` to the copy of the closed state. Where memory is refused, that is to be as it was.
+pub fn push_added(
+    room: &mut Room,
+    subject: &Subject<'_>,
+    item: (PIdx<u32>, SIdx<u32>),
+) -> Result<(), Problem> {
+    let closed = subject.state()?.closed;
+    if !room.set.fits(subject.grm) || room.looks.len() != usize::from(subject.grm.tokens_len()) {
+        return Err(Problem::Unfit);
+    }
+    match room.set.add(item.0, item.1, &room.looks) {
+        Ok(changed) => Ok(write!(&mut room.text, "{changed} {:?}", room.set)?),
+        Err(_) if room.set == *closed => Err(Problem::Memory),
+        Err(_) => Ok(room.text.push_str("changed though memory was refused")?),
+    }
+}
+
+/// What calls on a line and on the tree of the first one answer.
+fn answer_by_line(call: &OfLines, subject: &Subject<'_>, text: &mut String) -> Result<(), Problem>
+    requires { IsMade subject.now }
+{
+    let (grm, table, tree) = (subject.grm, subject.table, subject.tree);
+    let (alloc, tokens) = (grm.allocator(), subject.tokens);
+    match call {
+        OfLines::Tokens => {
+            let line = line(subject.sample.lines, subject.place);
+            push(text, line_tokens(grm, line.as_bytes()))
+        }
+        OfLines::Run => push(text, run(alloc, grm, table, tokens, STEPS)),
+        OfLines::Parse => push(text, parse(alloc, grm, table, tokens, STEPS)),
+        OfLines::Leaves => push(text, tree.leaves(alloc)),
+        OfLines::Productions => push(text, tree.productions(alloc)),
+        OfLines::Pp => push(text, tree.pp(grm)),
+        OfLines::Visits => push_visits(text, tree, alloc),
+    }
+}
+
+/// The next visit, for which the call is made once more where memory was refused to it; and whether that was so.
+fn next_visit(visits: &mut Visits<'_, u32>) -> Result<(Option<Visit<u32>>, bool), AllocError>
+    ensures { IfOk result (λ r. MatchOption r.0 (visits.new ≡ [])
+        (λ visit. visits.old ≡ visit_of (λ n. n) visit ∷ visits.new)) }
+{
+    match visits.next() {
+        Ok(visit) => Ok((visit, false)),
+        Err(_) => Ok((visits.next()?, true)),
+    }
+}
+
+/// All visits of the tree.
+fn push_visits(text: &mut String, tree: &Tree<u32>, alloc: Global) -> Result<(), Problem> {
+    let mut visits = tree.visits(alloc);
+    loop {
+        match next_visit(&mut visits)?.0 {
+            Some(visit) => write!(text, "{visit:?}")?,
+            None => return Ok(()),
+        }
+    }
+}
+
+/// What calls answer that print something of the grammar, its graph and its table.
+fn print(call: &Printing, subject: &Subject<'_>, text: &mut String) -> Result<(), Problem>
+    requires { IsMade subject.now }
+{
+    let (grm, graph) = (subject.grm, subject.graph);
+    match (call, subject.table.conflicts()) {
+        (Printing::Production, _) => push(text, grm.pp_prod(subject.production()?)),
+        (Printing::Label, _) => push(text, production_label(grm, subject.production()?)),
+        (Printing::Labels, _) => push(text, production_labels(grm)),
+        (Printing::Cores, _) => push(text, graph.pp_core_states(grm)),
+        (Printing::ClosedStates, _) => push(text, graph.pp_closed_states(grm)),
+        (Printing::GraphOfCores, _) => push(text, graph.pp(grm, true)),
+        (Printing::GraphOfClosedStates, _) => push(text, graph.pp(grm, false)),
+        (Printing::Conflicts, Some(conflicts)) => push(text, conflicts.pp(grm)),
+        (Printing::ShiftReduce, Some(conflicts)) => push(text, conflicts.pp_sr(grm)),
+        (Printing::ReduceReduce, Some(conflicts)) => push(text, conflicts.pp_rr(grm)),
+        (Printing::Conflicts | Printing::ShiftReduce | Printing::ReduceReduce, None) => Ok(()),
+    }
 }

@@ -1,172 +1,223 @@
-//! The cases, a line each: the arguments with which the program tries one.
+//! The cases, a line each: the call, the grammar, and the number of a state, a production, a line or a length.
 
-use crate::calls::building::{built, grammar};
-use crate::grammars::{ACCEPT_REDUCE, REFUSED, SAMPLES, SHIFT_AND_REDUCTIONS, Sample};
+use crate::grammars::{SAMPLES, sample_named};
 use crate::problems::Problem;
-use lrgrammar::grammar::YaccGrammar;
-use lrtable::{StateGraph, StateTable};
+use crate::subjects::{LENGTHS, Subject, Task, act_on};
 
-/// Lengths of bit vectors.
-const LENGTHS: [usize; 5] = [0, 1, 64, 65, 200];
+/// A call, or several that take no memory.
+pub enum Call {
+    BitsFromElem,
+    BitsClone,
+    Text(OfTexts),
+    State(OfStates),
+    Line(OfLines),
+    Print(Printing),
+    Plain(Plain),
+}
 
-/// Calls on a text.
-const OF_TEXTS: [&str; 5] = [
-    "text from_text",
-    "text from_parts",
-    "text from_parts_without_start",
-    "text from_yacc",
-    "text from_yacc_counted",
+/// Calls that lead from a text to its table.
+pub enum OfTexts {
+    FromParts,
+    FromPartsWithoutStart,
+    ByU8,
+    ByU16,
+    ByU32,
+    Firsts,
+    Table,
+}
+
+/// Calls on the item sets of a state.
+pub enum OfStates {
+    Close,
+    Goto,
+    Pp,
+    Clone,
+    Add,
+}
+
+/// Calls on a line, and on the tree of the first one.
+pub enum OfLines {
+    Tokens,
+    Run,
+    Parse,
+    Leaves,
+    Productions,
+    Pp,
+    Visits,
+}
+
+/// Calls that answer texts of a grammar, its graph and its table.
+pub enum Printing {
+    Production,
+    Label,
+    Labels,
+    Cores,
+    ClosedStates,
+    GraphOfCores,
+    GraphOfClosedStates,
+    Conflicts,
+    ShiftReduce,
+    ReduceReduce,
+}
+
+/// Calls that take no memory, by what they are made on.
+pub enum Plain {
+    Bits,
+    Grammar,
+    Firsts,
+    Graph,
+    Table,
+    Compared,
+    Items,
+    Add,
+}
+
+/// What the number in a case is that of.
+pub enum Place {
+    None,
+    Length,
+    State,
+    Production,
+    Line,
+    /// A line whose words all name tokens.
+    KnownLine,
+}
+
+/// All that is tried, each with its name and with what the number is that of.
+pub const ALL: [(&str, Call, Place); 39] = [
+    ("vob-from_elem", Call::BitsFromElem, Place::Length),
+    ("vob-clone", Call::BitsClone, Place::Length),
+    ("from_parts", Call::Text(OfTexts::FromParts), Place::None),
+    (
+        "from_parts-without-start",
+        Call::Text(OfTexts::FromPartsWithoutStart),
+        Place::None,
+    ),
+    ("from_yacc-by-u8", Call::Text(OfTexts::ByU8), Place::None),
+    ("from_yacc-by-u16", Call::Text(OfTexts::ByU16), Place::None),
+    ("from_yacc-by-u32", Call::Text(OfTexts::ByU32), Place::None),
+    ("firsts", Call::Text(OfTexts::Firsts), Place::None),
+    ("statetable-new", Call::Text(OfTexts::Table), Place::None),
+    ("itemset-close", Call::State(OfStates::Close), Place::State),
+    ("itemset-goto", Call::State(OfStates::Goto), Place::State),
+    ("itemset-pp", Call::State(OfStates::Pp), Place::State),
+    ("itemset-clone", Call::State(OfStates::Clone), Place::State),
+    ("itemset-add", Call::State(OfStates::Add), Place::State),
+    ("line_tokens", Call::Line(OfLines::Tokens), Place::Line),
+    ("run", Call::Line(OfLines::Run), Place::KnownLine),
+    ("parse", Call::Line(OfLines::Parse), Place::KnownLine),
+    ("tree-leaves", Call::Line(OfLines::Leaves), Place::None),
+    (
+        "tree-productions",
+        Call::Line(OfLines::Productions),
+        Place::None,
+    ),
+    ("tree-pp", Call::Line(OfLines::Pp), Place::None),
+    ("tree-visits", Call::Line(OfLines::Visits), Place::None),
+    (
+        "pp_prod",
+        Call::Print(Printing::Production),
+        Place::Production,
+    ),
+    (
+        "production_label",
+        Call::Print(Printing::Label),
+        Place::Production,
+    ),
+    (
+        "production_labels",
+        Call::Print(Printing::Labels),
+        Place::None,
+    ),
+    (
+        "graph-pp_core_states",
+        Call::Print(Printing::Cores),
+        Place::None,
+    ),
+    (
+        "graph-pp_closed_states",
+        Call::Print(Printing::ClosedStates),
+        Place::None,
+    ),
+    (
+        "graph-pp-of-cores",
+        Call::Print(Printing::GraphOfCores),
+        Place::None,
+    ),
+    (
+        "graph-pp-of-closed-states",
+        Call::Print(Printing::GraphOfClosedStates),
+        Place::None,
+    ),
+    (
+        "conflicts-pp",
+        Call::Print(Printing::Conflicts),
+        Place::None,
+    ),
+    (
+        "conflicts-pp_sr",
+        Call::Print(Printing::ShiftReduce),
+        Place::None,
+    ),
+    (
+        "conflicts-pp_rr",
+        Call::Print(Printing::ReduceReduce),
+        Place::None,
+    ),
+    ("free-vob", Call::Plain(Plain::Bits), Place::Length),
+    ("free-grammar", Call::Plain(Plain::Grammar), Place::None),
+    ("free-firsts", Call::Plain(Plain::Firsts), Place::None),
+    ("free-graph", Call::Plain(Plain::Graph), Place::None),
+    ("free-table", Call::Plain(Plain::Table), Place::None),
+    ("free-compared", Call::Plain(Plain::Compared), Place::None),
+    ("free-itemset", Call::Plain(Plain::Items), Place::State),
+    ("free-add", Call::Plain(Plain::Add), Place::State),
 ];
 
-/// Calls on a grammar, its graph, its table or its lines.
-const OF_GRAMMARS: [&str; 20] = [
-    "grammar firsts",
-    "graph pp_of_cores",
-    "graph pp_of_closed",
-    "graph pp_core_states",
-    "graph pp_closed_states",
-    "table new",
-    "machine production_labels",
-    "lines run_lines",
-    "lines tree_lines",
-    "tree leaves",
-    "tree productions",
-    "tree pp",
-    "tree visits",
-    "free grammar",
-    "free indices",
-    "free firsts",
-    "free graph",
-    "free table",
-    "free trees",
-    "free runs",
-];
-
-/// Calls on a state.
-const OF_STATES: [&str; 8] = [
-    "itemset close",
-    "itemset goto",
-    "itemset pp",
-    "itemset clone",
-    "itemset add",
-    "free itemset",
-    "free add_known",
-    "free add_more",
-];
-
-/// Calls on a production.
-const OF_PRODUCTIONS: [&str; 2] = ["grammar pp_prod", "machine production_label"];
-
-/// Calls on a line.
-const OF_LINES: [&str; 1] = ["machine line_tokens"];
-
-/// Calls on a line whose words all name tokens.
-const OF_KNOWN_LINES: [&str; 2] = ["machine run", "machine parse"];
-
-/// Calls on the conflicts of a table.
-const OF_CONFLICTS: [&str; 3] = ["conflicts pp", "conflicts pp_sr", "conflicts pp_rr"];
-
-/// Prints the cases of bit vectors of that length.
-fn list_length(rt: &HostRuntime, len: usize) -> Result<(), Problem> {
-    for call in ["vob from_elem", "vob clone", "free vob"] {
-        println!(rt; "{call} {len}")?;
+/// How many numbers there are of that.
+fn places(subject: &Subject<'_>, place: &Place) -> usize {
+    let lines = subject.sample.lines.split('\n').count();
+    match place {
+        Place::None => 1,
+        Place::Length => LENGTHS.len(),
+        Place::State => usize::from(subject.graph.all_states_len()),
+        Place::Production => usize::from(subject.grm.prods_len()),
+        Place::Line => lines,
+        Place::KnownLine => lines.saturating_sub(1),
     }
-    Ok(())
 }
 
-/// Prints the cases into which no grammar comes.
-fn list_without_grammar(rt: &HostRuntime) -> Result<(), Problem> {
-    for len in LENGTHS {
-        list_length(rt, len)?;
-    }
-    println!(rt; "sparsevec from 0")?;
-    println!(rt; "free sparsevec 0")?;
-    Ok(())
-}
-
-/// Prints these calls on the grammar of that name by that index type.
-fn list_calls(rt: &HostRuntime, calls: &[&str], name: &str, index: &str) -> Result<(), Problem> {
-    for call in calls {
-        println!(rt; "{call} {name} {index}")?;
-    }
-    Ok(())
-}
-
-/// Prints these calls on the place of that number.
-fn list_at(
-    rt: &HostRuntime,
-    calls: &[&str],
-    name: &str,
-    index: &str,
-    place: usize,
-) -> Result<(), Problem> {
-    for call in calls {
-        println!(rt; "{call} {name} {index} {place}")?;
-    }
-    Ok(())
-}
-
-/// Prints these calls on so many places.
-fn list_places(
-    rt: &HostRuntime,
-    calls: &[&str],
-    name: &str,
-    index: &str,
-    places: usize,
-) -> Result<(), Problem> {
+/// Prints so many cases of the call on the grammar.
+fn list_places(rt: &HostRuntime, name: &str, grammar: &str, places: usize) -> Result<(), Problem> {
     for place in 0..places {
-        list_at(rt, calls, name, index, place)?;
+        println!(rt; "{name} {grammar} {place}")?;
     }
     Ok(())
 }
 
-/// Prints the cases of the sample, which gives this grammar, its graph and its table, by that index type.
-fn list_built(
-    rt: &HostRuntime,
-    sample: Sample,
-    index: &str,
-    grm: &YaccGrammar<u32>,
-    graph: &StateGraph<u32>,
-    table: &StateTable<u32>,
-) -> Result<(), Problem> {
-    let name = sample.name;
-    let lines = sample.lines.split('\n').count();
-    list_calls(rt, OF_TEXTS.as_slice(), name, index)?;
-    list_calls(rt, OF_GRAMMARS.as_slice(), name, index)?;
-    if table.conflicts().is_some() {
-        list_calls(rt, OF_CONFLICTS.as_slice(), name, index)?;
+/// Prints the cases of the subject's grammar.
+pub fn list_cases(rt: &HostRuntime, subject: &Subject<'_>) -> Result<(), Problem> {
+    for (name, _, place) in ALL.as_slice() {
+        list_places(rt, name, subject.sample.name, places(subject, place))?;
     }
-    let states = usize::from(graph.all_states_len());
-    list_places(rt, OF_STATES.as_slice(), name, index, states)?;
-    let prods = usize::from(grm.prods_len());
-    list_places(rt, OF_PRODUCTIONS.as_slice(), name, index, prods)?;
-    list_places(rt, OF_LINES.as_slice(), name, index, lines)?;
-    let known = lines.saturating_sub(1);
-    list_places(rt, OF_KNOWN_LINES.as_slice(), name, index, known)
+    Ok(())
 }
 
-/// Prints the cases of the sample by that index type.
-fn list_sample(rt: &HostRuntime, sample: Sample, index: &str) -> Result<(), Problem> {
-    let grm = grammar::<u32>(rt.alloc(), sample.text)?;
-    let (graph, table) = built(rt.alloc(), &grm)?;
-    list_built(rt, sample, index, &grm, &graph, &table)
-}
-
-/// Prints the cases of texts that give no grammar or no table.
-fn list_refused(rt: &HostRuntime) -> Result<(), Problem> {
-    for (name, _) in REFUSED {
-        list_calls(rt, &["text from_text"], name, "u32")?;
-    }
-    list_calls(rt, &["text from_yacc"], ACCEPT_REDUCE.0, "u32")
-}
-
-/// Prints all cases: those of each sample by the greatest index type, and those of one sample by the others too.
+/// Prints all cases.
 pub fn list(rt: &HostRuntime) -> Result<(), Problem> {
-    list_without_grammar(rt)?;
-    list_refused(rt)?;
-    for sample in SAMPLES {
-        list_sample(rt, sample, "u32")?;
+    for sample in SAMPLES.as_slice() {
+        act_on(rt, &Task::List, sample, 0)?;
     }
-    list_sample(rt, SHIFT_AND_REDUCTIONS, "u8")?;
-    list_sample(rt, SHIFT_AND_REDUCTIONS, "u16")
+    Ok(())
+}
+
+/// Tries the call of that name on the grammar of that name, and on what has that number.
+pub fn try_case(rt: &HostRuntime, name: &str, grammar: &str, place: usize) -> Result<(), Problem> {
+    let sample = sample_named(grammar).ok_or(Problem::NoCase)?;
+    for (known, call, _) in ALL.as_slice() {
+        if *known == name {
+            return act_on(rt, &Task::Try(call), &sample, place);
+        }
+    }
+    Err(Problem::NoCase)
 }

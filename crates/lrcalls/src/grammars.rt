@@ -1,7 +1,7 @@
 //! The grammars that calls are tried on.
 
 /// A grammar, and lines of its tokens.
-#[derive(Clone, Copy)]
+#[derive(Drop)]
 pub struct Sample {
     /// What the arguments call it.
     pub name: &'static str,
@@ -10,14 +10,7 @@ pub struct Sample {
     pub lines: &'static str,
 }
 
-/// A small grammar with conflicts of both kinds.
-pub const SHIFT_AND_REDUCTIONS: Sample = Sample {
-    name: "shift-against-two-reductions",
-    text: "%% A: 'a' 'b' | B 'b'; B: 'a' | C; C: 'a';",
-    lines: "a b\na\n\nb c",
-};
-
-/// The grammars with which every call is tried.
+/// The grammars on which every call is tried.
 pub const SAMPLES: [Sample; 6] = [
     Sample {
         name: "lr1-and-not-lalr1",
@@ -30,7 +23,11 @@ pub const SAMPLES: [Sample; 6] = [
             A: 'c' 'u'; B: 'c' 'v';",
         lines: "f g k c v d d\na c u d\na c v d\n\nk w",
     },
-    SHIFT_AND_REDUCTIONS,
+    Sample {
+        name: "shift-against-two-reductions",
+        text: "%% A: 'a' 'b' | B 'b'; B: 'a' | C; C: 'a';",
+        lines: "a b\na\n\nb c",
+    },
     Sample {
         name: "four-precedences",
         text: "%right '=' %left '+' %left '*' %nonassoc '~' %% Expr : Expr '+' Expr \
@@ -51,19 +48,6 @@ pub const SAMPLES: [Sample; 6] = [
     },
 ];
 
-/// Names and texts of what gives no grammar.
-pub const REFUSED: [(&str, &str); 6] = [
-    ("one-lexeme-too-many", "%% S 'a';"),
-    ("ends-too-early", "%% S: 'a' // on\n"),
-    ("unknown-symbol", "%token y %% S: y x;"),
-    ("two-precedences", "%left a b %left b a %% S: ;"),
-    ("no-rule", "%token a %%"),
-    ("not-a-rule-name", "%% S: 'a' %prec;"),
-];
-
-/// The name and the text of a grammar that has no table.
-pub const ACCEPT_REDUCE: (&str, &str) = ("accept-reduce", "%% S: S | 'a';");
-
 /// The grammar of that name.
 pub fn sample_named(name: &str) -> Option<Sample> {
     for sample in SAMPLES {
@@ -72,20 +56,4 @@ pub fn sample_named(name: &str) -> Option<Sample> {
         }
     }
     None
-}
-
-/// The text of that name, which gives a grammar or not.
-pub fn text_named(name: &str) -> Option<&'static str> {
-    if name == ACCEPT_REDUCE.0 {
-        return Some(ACCEPT_REDUCE.1);
-    }
-    for (refused, text) in REFUSED {
-        if refused == name {
-            return Some(text);
-        }
-    }
-    match sample_named(name) {
-        Some(sample) => Some(sample.text),
-        None => None,
-    }
 }

@@ -1,13 +1,10 @@
-//! Why a case could not be tried, and why calls answer no value.
+//! Why a case could not be tried.
 
-use lrgrammar::grammar::{GrammarError, TextError};
-use lrgrammar::idx::IndexStorage;
-use lrtable::{BuildError, StateTableErrorKind};
-use std::alloc::{AllocError, AllocFailed, Global};
+use std::alloc::{AllocError, AllocFailed};
 use std::{fmt, io};
 
 /// Why a case could not be tried.
-#[derive(Clone, Copy, Debug, PartialEq, Eq)]
+#[derive(Drop)]
 pub enum Problem {
     /// The arguments name no case.
     NoCase,
@@ -46,74 +43,4 @@ impl From<io::Error> for Problem {
     fn from(_e: io::Error) -> Problem {
         Problem::Output
     }
-}
-
-/// What a call answers in the place of a value.
-pub trait Refusal {
-    /// Whether memory was refused.
-    fn is_memory(&self) -> bool;
-
-    /// Adds what it tells.
-    fn push(&self, text: &mut String) -> Result<(), AllocError>;
-}
-
-impl Refusal for AllocError {
-    fn is_memory(&self) -> bool {
-        true
-    }
-
-    fn push(&self, text: &mut String) -> Result<(), AllocError> {
-        text.push_str("out of memory")
-    }
-}
-
-impl Refusal for GrammarError {
-    fn is_memory(&self) -> bool {
-        *self == GrammarError::Memory
-    }
-
-    fn push(&self, text: &mut String) -> Result<(), AllocError> {
-        write!(text, "{self}")
-    }
-}
-
-impl Refusal for TextError {
-    fn is_memory(&self) -> bool {
-        matches!(self, TextError::Memory)
-    }
-
-    fn push(&self, text: &mut String) -> Result<(), AllocError> {
-        write!(text, "{self}")
-    }
-}
-
-impl<T: IndexStorage> Refusal for BuildError<T> {
-    fn is_memory(&self) -> bool {
-        matches!(self, BuildError::Memory)
-    }
-
-    fn push(&self, text: &mut String) -> Result<(), AllocError> {
-        match self {
-            BuildError::Table(error) => {
-                let pidx = usize::from(error.pidx);
-                let StateTableErrorKind::AcceptReduceConflict(least) = error.kind;
-                match least {
-                    Some(least) => {
-                        let least = usize::from(least);
-                        write!(text, "accepts {pidx} and reduces {least}")
-                    }
-                    None => write!(text, "accepts {pidx} and reduces"),
-                }
-            }
-            BuildError::TooLarge => text.push_str("too large"),
-            BuildError::Memory => text.push_str("out of memory"),
-        }
-    }
-}
-
-/// What the refusal tells.
-pub fn refusal_text<E: Refusal>(alloc: Global, refusal: &E) -> Result<String, Problem> {
-    let mut text = String::new(alloc);
-    refusal.push(&mut text)?;
-    Ok(text)
 }

@@ -1,0 +1,2 @@
+-- what subjects are
+pub mod Subjects
