@@ -25,7 +25,7 @@ module _
     pub items_long : length es ≡ length a
     items_long = sym (length-map es _) ∙ ap length both.is
 
-    others_long : length all ≡ length a
+    pub others_long : length all ≡ length a
     others_long = sym (same_length a (items_shown number shows all) both.keys ∙ length-map all _)
 
     -- the item of the one

@@ -1,9 +1,9 @@
 -- the items of a goto that isn't made
-use Rattle.std.proofs.Common.{Ordering, ◌≡◌, ℕ, zero, suc, ◌+◌, ◌<◌, ◌≤◌, Bool, true, false, ◌&&◌, List, [], ◌∷◌, ◌++◌, None, Some, map, drop, length, get_or, refl, sym, ap, ◌∙◌, append_assoc, append-nil, add-one, drop-cons, arith, inl, inr}
+use Rattle.std.proofs.Common.{Ordering, ◌≡◌, ℕ, zero, suc, ◌+◌, ◌<◌, ◌≤◌, Bool, true, false, not, ◌&&◌, List, [], ◌∷◌, ◌++◌, None, Some, map, drop, length, get_or, refl, sym, ap, ◌∙◌, append_assoc, append-nil, add-one, drop-cons, arith, inl, inr}
 use Rattle.std.specs.Prelude.{slice_get, IsTrue, ◌↔◌}
 use Rattle.std.specs.BTreeMap.{insert_entry}
 use Rattle.std.specs.Ordering.{nat_cmp}
-use Rattle.std.proofs.lemmas.Bool.{and_parts}
+use Rattle.std.proofs.lemmas.Bool.{and_from, and_parts}
 use Rattle.std.proofs.lemmas.List.{length-map, map-append, drop_all}
 use Rattle.lrspec.specs.grammars.ItemSets.{Items, item_at, HasItem, AreUpwards}
 use Rattle.lrspec.proofs.grammars.ListMembers.{Among}
@@ -17,6 +17,11 @@ use Rattle.lrclosing.proofs.ItemKeys.{Key, key_cmp}
 abbrev pub items_shown : {T R : Type 0} → (T → ℕ) → (R → List Bool) → List (Key T × R) → Items
 items_shown number shows es = map (λ e. ((number e.0.0.0, number e.0.1.0), shows e.1)) es
 
+-- a test by what its denial says
+denied : (a b : Bool) → a ≡ not b → not a ≡ b
+denied a true h = rw h refl
+denied a false h = rw h refl
+
 -- keys that are equal have the same numbers
 pub same_numbers :
     {T : Type 0} (number : T → ℕ) (eq : T → T → Bool) → ((x y : T) → IsTrue (eq x y) ↔ (number x ≡ number y)) → (j k : Key T)
@@ -25,10 +30,34 @@ same_numbers number eq same j k h =
     let b = and_parts (eq j.0.0 k.0.0) (eq j.1.0 k.1.0) (sym h) in
     ((same j.0.0 k.0.0).0 b.0, (same j.1.0 k.1.0).0 b.1)
 
+abbrev numbers_of : {T : Type 0} → (T → ℕ) → Key T → ℕ × ℕ
+numbers_of number k = (number k.0.0, number k.1.0)
+
+-- so have those that a test for another one denies, and keys that it finds to be others have other numbers
+pub numbers_from_denied :
+    {T : Type 0} (number : T → ℕ) (eq : T → T → Bool) → ((x y : T) → IsTrue (eq x y) ↔ (number x ≡ number y)) → (j k : Key T)
+    → false ≡ not (eq j.0.0 k.0.0 && eq j.1.0 k.1.0) → numbers_of number j ≡ numbers_of number k
+numbers_from_denied number eq same j k h =
+    let s = same_numbers number eq same j k (denied false (eq j.0.0 k.0.0 && eq j.1.0 k.1.0) h) in
+    rw (s.0, s.1) refl
+
+pub numbers_apart :
+    {T : Type 0} (number : T → ℕ) (eq : T → T → Bool) → ((x y : T) → IsTrue (eq x y) ↔ (number x ≡ number y)) → (j k : Key T)
+    → true ≡ not (eq j.0.0 k.0.0 && eq j.1.0 k.1.0) → numbers_of number j ≡ numbers_of number k → ⊥
+numbers_apart number eq same j k h e =
+    let n : false ≡ (eq j.0.0 k.0.0 && eq j.1.0 k.1.0) = denied true (eq j.0.0 k.0.0 && eq j.1.0 k.1.0) h in
+    let both = and_from (eq j.0.0 k.0.0) (eq j.1.0 k.1.0) ((same j.0.0 k.0.0).1 (ap (λ p. p.0) e)) ((same j.1.0 k.1.0).1 (ap (λ p. p.1) e)) in
+    let t : false ≡ true = n ∙ both in
+    cc
+
 -- item sets that agree are the same where they come upwards
 pub apart_from_other : (a b : Items) → AreUpwards a → AreUpwards b → (a ≡ b → ⊥) → IsTrue false ↔ Agree a b
 apart_from_other a b u w n =
     (λ h. cc, λ h. absurd (n (same_from_agree a b (ascending_from_upwards a u) (ascending_from_upwards b w) h)))
+
+-- a walk in step goes on with the same one
+pub same_turn : {X : Type 0} (P : Type 0) (c d : List X) (e f : X) → e ≡ f → (P ↔ (f ∷ c ≡ e ∷ d)) → P ↔ (c ≡ d)
+same_turn P c d e f s h = (λ p. let j : f ∷ c ≡ e ∷ d = h.0 p in cc, λ t. h.1 (rw (s, t) refl))
 
 -- a walk in step is at others
 pub other_turn : {X : Type 0} (a b c d : List X) (e f : X) → (e ≡ f → ⊥) → ((a ≡ b) ↔ (f ∷ c ≡ e ∷ d)) → a ≡ b → ⊥
@@ -43,6 +72,14 @@ put_next number cmp ordered es k v left all u h =
     let item : (ℕ × ℕ) × List Bool = ((number k.0.0, number k.1.0), v) in
     let before = before_middle (items_of number es) left item (rw h (ascending_from_upwards all u)) in
     rw (inserted_last number cmp ordered es k v before, append_assoc) h
+
+-- the next item, pushed behind those before it
+pub push_next :
+    {T : Type 0} (number : T → ℕ) (es fs : List (Key T × List Bool)) (k : Key T) (v : List Bool) (left whole : Items) → fs ≡ es ++ (k, v) ∷ []
+    → items_of number es ++ ((number k.0.0, number k.1.0), v) ∷ left ≡ whole → items_of number fs ++ left ≡ whole
+push_next number es fs k v left whole p h =
+    let pushed : items_of number fs ≡ items_of number es ++ ((number k.0.0, number k.1.0), v) ∷ [] = rw p (map-append _ es ((k, v) ∷ [])) in
+    rw (pushed, append_assoc) h
 
 -- nothing more is to come
 pub none_more : (a left whole : Items) → left ≡ [] → a ++ left ≡ whole → a ≡ whole
@@ -116,10 +153,7 @@ module _ {T R : Type 0} (number : T → ℕ) (shows : R → List Bool) where
       → v ≡ shows e.1 → fs ≡ es ++ (e.0, v) ∷ [] → items_of number es ++ items_shown number shows (drop i all) ≡ whole
       → items_of number fs ++ items_shown number shows (drop (i + 1) all) ≡ whole
   push_turn es fs all i e v whole l s b p h =
-      let item : (ℕ × ℕ) × List Bool = ((number e.0.0.0, number e.0.1.0), v) in
-      let pushed : items_of number fs ≡ items_of number es ++ item ∷ [] = rw p (map-append _ es ((e.0, v) ∷ [])) in
-      let next : items_of number es ++ item ∷ items_shown number shows (drop (i + 1) all) ≡ whole = rw b (rw (left_shown all i e l s) at h) in
-      rw (pushed, append_assoc) next
+      push_next number es fs e.0 v (items_shown number shows (drop (i + 1) all)) whole p (rw b (rw (left_shown all i e l s) at h))
 
   -- the item at hand, put into a map of those before it
   module _ (cmp : T → T → Ordering) (ordered : (x y : T) → cmp x y ≡ nat_cmp (number x) (number y)) where

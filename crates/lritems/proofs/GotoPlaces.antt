@@ -20,6 +20,42 @@ is_there [] k h = absurd (omega arith)
 is_there (x ∷ xs) zero h = refl
 is_there (x ∷ xs) (suc k) h = is_there xs k (omega arith)
 
+-- and where there is an element the place is below the length
+pub below_of_there : {X : Type 0} (xs : List X) (k : ℕ) → IsSome (slice_get xs k) → k < length xs
+below_of_there [] k h = cc
+below_of_there (x ∷ xs) zero h = omega arith
+below_of_there (x ∷ xs) (suc k) h = let l = below_of_there xs k h in omega (arith, l)
+
+-- what is written at a place stands there
+pub written_here : {X : Type 0} (xs : List X) (k : ℕ) (x : X) → IsSome (slice_get xs k) → slice_get (slice_set xs k x) k ≡ Some x
+written_here [] k x h = cc
+written_here (y ∷ xs) zero x h = refl
+written_here (y ∷ xs) (suc k) x h = written_here xs k x h
+
+-- and elsewhere what stood there
+written_apart : {X : Type 0} (xs : List X) (k j : ℕ) (x : X) → (j ≡ k → ⊥) → slice_get (slice_set xs k x) j ≡ slice_get xs j
+written_apart [] k j x n = refl
+written_apart (y ∷ xs) zero zero x n = absurd (n refl)
+written_apart (y ∷ xs) zero (suc j) x n = refl
+written_apart (y ∷ xs) (suc k) zero x n = refl
+written_apart (y ∷ xs) (suc k) (suc j) x n = written_apart xs k j x (λ e. n (ap suc e))
+
+-- what is noted for a symbol, by the lists of places
+abbrev noted_in : List ℕ → List ℕ → Symbol → Option ℕ
+noted_in rules tokens (Rule r) = slice_get rules r
+noted_in rules tokens (Token t) = slice_get tokens t
+
+-- a place noted for a rule, or for a token, leaves those of the other symbols
+pub rule_apart :
+    (rules tokens : List ℕ) (k r place : ℕ) → k ≡ r → (x : Symbol) → (x ≡ Rule r → ⊥) → noted_in (slice_set rules k place) tokens x ≡ noted_in rules tokens x
+rule_apart rules tokens k r place i (Rule s) n = written_apart rules k s place (λ j. n (ap Rule (j ∙ i)))
+rule_apart rules tokens k r place i (Token t) n = refl
+
+pub token_apart :
+    (rules tokens : List ℕ) (k t place : ℕ) → k ≡ t → (x : Symbol) → (x ≡ Token t → ⊥) → noted_in rules (slice_set tokens k place) x ≡ noted_in rules tokens x
+token_apart rules tokens k t place i (Token s) n = written_apart tokens k s place (λ j. n (ap Token (j ∙ i)))
+token_apart rules tokens k t place i (Rule r) n = refl
+
 -- a goto that stands somewhere is in the list
 pub on_from_at : (gs : List (Symbol × Items)) (k : ℕ) (x : Symbol) → HasGotoAt gs k x → HasGotoOn gs x
 on_from_at [] k x h = cc

@@ -14,15 +14,21 @@ some_there : {X : Type 0} (o : Option X) (P : X → Type 0) → IsSomeAnd o P �
 some_there None P h = absurd h
 some_there (Some x) P h = (x, refl)
 
+-- the place is one of the code's list
+pub place_below :
+    {T : Type 0} (number : T → ℕ) (es : List (Key T × List Bool)) (a : Items) (k : ℕ) (ctx : List Bool) → items_of number es ≡ a
+    → IsSomeAnd (slice_get a k) (λ f. length ctx ≡ length f.1) → k < length es
+place_below number es a k ctx is there =
+    let x = some_there (slice_get a k) (λ f. length ctx ≡ length f.1) there in
+    let l : k < length a = slice_get_within a k x.0 x.1 in
+    rw (← is, length-map) at l
+
 module _
     {T : Type 0} (number : T → ℕ) (es : List (Key T × List Bool)) (a : Items) (k : ℕ) (ctx new : List Bool) (e : Key T × List Bool) (is : items_of number es ≡ a)
     (there : IsSomeAnd (slice_get a k) (λ f. length ctx ≡ length f.1)) (at : e ≡ get_or es k e)
   where
     below : k < length es
-    below =
-        let x = some_there (slice_get a k) (λ f. length ctx ≡ length f.1) there in
-        let l : k < length a = slice_get_within a k x.0 x.1 in
-        rw (← is, length-map) at l
+    below = place_below number es a k ctx is there
 
     abbrev item : (ℕ × ℕ) × List Bool
     item = ((number e.0.0.0, number e.0.1.0), e.1)

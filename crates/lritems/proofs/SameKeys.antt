@@ -104,6 +104,15 @@ same_place (f ∷ fs) (g ∷ gs) (suc k) e s h =
 pub same_length : (a b : Items) → HaveSameKeys a b → length a ≡ length b
 same_length a b s = sym (length-map a _) ∙ ap length s ∙ length-map b _
 
+-- a walk in step goes on with the same key, and ends at another one
+pub keys_turn : (P : Type 0) (e f : (ℕ × ℕ) × List Bool) (es fs : Items) → e.0 ≡ f.0 → (P ↔ HaveSameKeys (e ∷ es) (f ∷ fs)) → P ↔ HaveSameKeys es fs
+keys_turn P e f es fs s h =
+    (λ p. let both : e.0 ∷ map (λ x. x.0) es ≡ f.0 ∷ map (λ x. x.0) fs = h.0 p in cc, λ k. let rest : map (λ x. x.0) es ≡ map (λ x. x.0) fs = k in h.1 (rw (s, rest) refl))
+
+pub keys_apart : (P : Type 0) (e f : (ℕ × ℕ) × List Bool) (es fs : Items) → (e.0 ≡ f.0 → ⊥) → (P ↔ HaveSameKeys (e ∷ es) (f ∷ fs)) → IsTrue false ↔ P
+keys_apart P e f es fs n h =
+    (λ t. cc, λ p. let both : e.0 ∷ map (λ x. x.0) es ≡ f.0 ∷ map (λ x. x.0) fs = h.0 p in let key : e.0 ≡ f.0 = cc in absurd (n key))
+
 -- a test that says no
 pub no_from : (P : Type 0) → (P → ⊥) → IsTrue false ↔ P
 no_from P n = (λ h. cc, λ h. absurd (n h))

@@ -58,10 +58,7 @@ impl<T: IndexStorage> Core<T> {
     pub fn copied(&self, alloc: Global) -> Result<Core<T>, AllocError>
         ensures { IfOk result (λ c. c ≡ self.now) }
     {
-        let mut items = Vec::with_capacity(alloc, self.items.len())?;
-        for (key, ctx) in &self.items {
-            items.push((*key, ctx.clone()?))?;
-        }
+        let items = Vec::from_clones(alloc, self.items.as_slice())?;
         Ok(Core { items })
     }
 

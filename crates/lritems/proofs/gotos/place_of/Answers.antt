@@ -5,6 +5,9 @@ use Rattle.lritems.specs.Gotos.{gotos_of}
 use Rattle.lritems.proofs.GotoPlaces.{places_longer, at_end, pushed_gotos}
 use Rattle.lritems.proofs.gotos.place_of.Goals as goal
 
+pub known_place-requires-clause-places : goal.known_place-requires-clause-places
+known_place-requires-clause-places g c = rw c.as_slice.ensures.value c.requires.places
+
 pub returns-clause-places : goal.returns-clause-places
 returns-clause-places g c =
     let number = g.T.IndexStorage.number in

@@ -1,5 +1,11 @@
-use Rattle.lritems.proofs.MergedPlace.{merged_long, merged_upwards, merged_here, merged_changed}
+use Rattle.std.proofs.Common.{arith}
+use Rattle.lritems.proofs.MergedPlace.{place_below, merged_long, merged_upwards, merged_here, merged_changed}
 use Rattle.lritems.proofs.merging.merge_at.Goals as goal
+
+pub index_mut-requires : goal.index_mut-requires
+index_mut-requires g c =
+    let below = place_below g.T.IndexStorage.number c.core.inside.items.items c.args.core.now c.args.place c.args.ctx.now c.core.view_is c.requires in
+    omega (arith, below, c.core.inside.items.ok.0)
 
 pub or-requires : goal.or-requires
 or-requires g c =

@@ -25,6 +25,11 @@ returns-then-not-passes_with_later-clause-compatible g c = no_from _ (clash_refu
 pub returns-then-not-passes_with_later-clause-clash : goal.returns-then-not-passes_with_later-clause-clash
 returns-then-not-passes_with_later-clause-clash g c = λ _ _. c.passes_with_later.ensures.no c.if-not-passes_with_later.true
 
+pub passes_with_later-requires-clause-place : goal.passes_with_later-requires-clause-place
+passes_with_later-requires-clause-place g c =
+    let long : length c.a.inside.items.items ≡ length c.args.a.now = sym (length-map c.a.inside.items.items _) ∙ ap length c.a.view_is in
+    omega (arith, long, c.a.inside.items.ok.0)
+
 pub loop-i-preserved : goal.loop-i-preserved
 loop-i-preserved g c =
     below_more (λ (k : ℕ). PassesWithLater c.args.a.now (goto_of g.T.IndexStorage.number c.args.b.now) k) c.loop-i.i c.loop-i.invariant

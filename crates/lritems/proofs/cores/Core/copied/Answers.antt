@@ -1,13 +1,16 @@
-use Rattle.std.proofs.Common.{◌≡◌}
-use Rattle.lrspec.specs.grammars.ItemSets.{AreUpwards}
-use Rattle.lritems.specs.ItemsOf.{items_of}
-use Rattle.lritems.proofs.GotoItems.{none_left, none_more}
+use Rattle.std.proofs.Common.{◌≡◌, sym, ◌∙◌}
+use Rattle.std.proofs.lemmas.Map.Entries.{entries_from_clone}
+use Rattle.lrclosing.proofs.ItemKeys.{same_key}
 use Rattle.lritems.proofs.cores.Core.copied.Goals as goal
 
 pub invariant_of-result : goal.invariant_of-result
 invariant_of-result g c =
-    let number = g.T.IndexStorage.number in
-    let none = none_left number (λ v. v) c.deref-key-items.result.now c.loop-key.key-index c.loop-key-test.false in
-    let whole : items_of number c.loop-key.items.items ≡ c.args.self.now = none_more _ _ _ none c.loop-key.invariant in
-    let up : AreUpwards c.args.self.now = rw c.self.view_is at c.self.invariant in
-    rw whole up
+    let same : c.in_ok-items.items.items ≡ c.as_slice.result.now =
+    entries_from_clone _ _ (λ x y k. same_key g.T.Clone.is_clone g.met.T.IndexStorage.copied x y k.0 k.1) (λ v w e. sym e) _ _ c.in_ok-items.ensures.items in
+    rw (same, c.as_slice.ensures.value) c.self.invariant
+
+pub returns : goal.returns
+returns g c =
+    let same : c.in_ok-items.items.items ≡ c.as_slice.result.now =
+    entries_from_clone _ _ (λ x y k. same_key g.T.Clone.is_clone g.met.T.IndexStorage.copied x y k.0 k.1) (λ v w e. sym e) _ _ c.in_ok-items.ensures.items in
+    rw (same, c.as_slice.ensures.value) c.self.view_is

@@ -1,8 +1,11 @@
-use Rattle.std.proofs.Common.{◌≡◌, sym}
+use Rattle.std.proofs.Common.{◌≡◌, refl, sym}
 use Rattle.lritems.specs.ItemsOf.{items_of}
 use Rattle.lritems.specs.Gotos.{goto_of}
 use Rattle.lritems.proofs.GotoItems.{none_left, none_more, push_turn}
 use Rattle.lritems.proofs.cores.Core.from_goto.Goals as goal
+
+pub loop-key-init : goal.loop-key-init
+loop-key-init g c = rw (c.in_ok-items.ensures.items, c.deref-key-items.ensures.value) refl
 
 pub loop-key-preserved : goal.loop-key-preserved
 loop-key-preserved g c =
