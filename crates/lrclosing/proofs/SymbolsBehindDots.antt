@@ -1,5 +1,6 @@
 -- the symbols behind the dot of an item
-use Rattle.std.proofs.Common.{◌≡◌, ℕ, zero, suc, ◌+◌, ◌-◌, ◌<◌, ◌≤◌, List, [], ◌∷◌, length, map, take, drop, get_or, add-one, length-drop, drop-cons, refl, sym, ◌∙◌, arith}
+use Rattle.std.proofs.Common.{◌≡◌, ℕ, zero, suc, ◌+◌, ◌-◌, ◌<◌, ◌≤◌, List, [], ◌∷◌, length, map, take, drop, Option, None, Some, get_or, add-one, length-drop, drop-cons, refl, sym, ◌∙◌, arith}
+use Rattle.std.specs.Option.{IsSome, MatchOption}
 use Rattle.std.proofs.lemmas.List.{take_all, drop_all, drop-map, length-map}
 use Rattle.lrspec.specs.grammars.Grammar.{Symbol, Grammar, AreBodySymbols}
 
@@ -39,6 +40,11 @@ left_none f xs i h = rw (drop_all i xs h) refl
 -- a place within a body is one within the list that holds it
 pub within_body : {X Y : Type 0} (f : X → Y) (xs : List X) (ys : List Y) (n : ℕ) → map f xs ≡ ys → n ≤ length ys → n ≤ length xs
 within_body f xs ys n e h = let k : n ≤ length (map f xs) = rw e h in rw length-map at k
+
+-- a number up to one that is kept is kept
+pub number_fits : {X : Type 0} (P : X → Type 0) (o : Option X) (most q : ℕ) → MatchOption o (most < q) P → q ≤ most → IsSome o
+number_fits P None most q m l = absurd (omega arith)
+number_fits P (Some x) most q m l = refl
 
 -- nothing stands in a body at its end
 pub past_body :

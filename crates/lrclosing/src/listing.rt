@@ -7,7 +7,7 @@ ghost use Rattle.lrclosing.specs.ItemsOf.{items_of, listed_of};
 ghost use Rattle.lrclosing.specs.Rows.{IsPutIn, AreWithRows};
 ghost use Rattle.lrclosing.specs.Leads.{rows_of, AreKeptRows};
 ghost use Rattle.lrclosing.specs.Closer.{IsCloserOf};
-ghost use Rattle.lrclosing.specs.Listing.{ArePutIn, row_items};
+ghost use Rattle.lrclosing.specs.Listing.{ArePutIn, row_items, listed_items};
 
 use crate::closer::{Closer, Row};
 use crate::closing::mark;
@@ -59,6 +59,34 @@ fn push_from<'a, T: IndexStorage>(
     Ok(())
 }
 
+/// Adds the items of a closure, upwards: the given ones, and what the rows give.
+fn push_closed<'a, T: IndexStorage>(
+    items: &mut Vec<((PIdx<T>, SIdx<T>), &'a Ctx)>,
+    given: &'a [((PIdx<T>, SIdx<T>), Ctx)],
+    grm: &YaccGrammar<T>,
+    rows: &'a [Row],
+    productions: &Vob,
+) -> Result<(), AllocError>
+    requires fits { Fits grm.now (items_of T.number given.now) }
+    requires upwards { AreUpwards (items_of T.number given.now) }
+    requires rows { AreKeptRows grm.now rows.now }
+    requires productions { ArePutIn grm.now (rows_of rows.now) productions.now }
+    ensures { OnOk result (listed_of T.number items.new.items
+        ≡ listed_of T.number items.old.items
+        ++ listed_items grm.now (rows_of rows.now) 0 (items_of T.number given.now)) }
+{
+    let end = grm.prods_len().0.to_usize();
+    let mut from = 0;
+    for (key, ctx) in given {
+        let next = key.0.0.to_usize() + 1;
+        push_from(items, grm, rows, productions, from, next)?;
+        items.push((*key, ctx))?;
+        from = next;
+    }
+    push_from(items, grm, rows, productions, from, end)?;
+    Ok(())
+}
+
 /// The items of a closure, upwards: the given ones, and what the rows of the last closing give, where that gives none of
 /// the given ones.
 pub fn closed_items<'a, T: IndexStorage>(
@@ -78,15 +106,7 @@ pub fn closed_items<'a, T: IndexStorage>(
 {
     let rows = closer.rows.as_slice();
     let productions = productions_with_rows(grm, closer)?;
-    let end = grm.prods_len().0.to_usize();
     let mut items = Vec::new(grm.allocator());
-    let mut from = 0;
-    for (key, ctx) in given {
-        let next = key.0.0.to_usize() + 1;
-        push_from(&mut items, grm, rows, &productions, from, next)?;
-        items.push((*key, ctx))?;
-        from = next;
-    }
-    push_from(&mut items, grm, rows, &productions, from, end)?;
+    push_closed(&mut items, given, grm, rows, &productions)?;
     Ok(items)
 }

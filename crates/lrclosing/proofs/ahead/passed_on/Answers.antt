@@ -1,3 +1,5 @@
+use Rattle.std.proofs.Common.{◌∙◌, ap, length}
+use Rattle.std.proofs.lemmas.List.{length-replicate}
 use Rattle.lrspec.specs.grammars.Grammar.{token_count, rest}
 use Rattle.lrclosing.proofs.PassedOn.{made_grown}
 use Rattle.std.specs.Option.{option_copied}
@@ -44,3 +46,7 @@ pub returns-in_ok-made-in-None-clause-passed : goal.returns-in_ok-made-in-None-c
 returns-in_ok-made-in-None-clause-passed g c =
     rw c.in-None.is (passed_to_none c.args.grm.now (rest c.args.grm.now (g.T.IndexStorage.number c.args.pidx.0) c.args.from) (option_copied c.args.ctx) _ c.in_ok-made-in-None.made c.pass_on.new.row
     c.in_ok-made-in-None.ensures.bits c.pass_on.ensures.passed)
+
+pub pass_on-requires-clause-len : goal.pass_on-requires-clause-len
+pass_on-requires-clause-len g c =
+    ap length c.in_ok-made-in-None.ensures.bits ∙ length-replicate c.to_usize.result _ ∙ c.to_usize.ensures.number ∙ c.tokens_len.ensures.value

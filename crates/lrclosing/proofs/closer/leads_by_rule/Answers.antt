@@ -1,7 +1,10 @@
-use Rattle.std.proofs.Common.{◌≡◌}
+use Rattle.std.proofs.Common.{◌≡◌, refl}
 use Rattle.lrclosing.proofs.RowsWritten.{pushed_len}
 use Rattle.lrclosing.proofs.LeadsOfRule.{by_rule_next}
 use Rattle.lrclosing.proofs.closer.leads_by_rule.Goals as goal
+
+pub loop-place-init : goal.loop-place-init
+loop-place-init g c = record { len = rw c.in_ok-leads.ensures.items refl; leads = rw c.in_ok-leads.ensures.items (λ a v h. cc) }
 
 pub loop-place-preserved : goal.loop-place-preserved
 loop-place-preserved g c =

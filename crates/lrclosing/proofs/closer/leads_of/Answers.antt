@@ -25,6 +25,11 @@ lead_of-requires-clause-production g c =
     let at : get_or ps i 0 ≡ number c.pidx-item.result.0 = number_at (λ p. number p.0) xs i c.pidx-item.result c.loop-pidx-test.true c.pidx-item.is in
     production_below c.args.grm.now ps (number c.args.rule.0) i (number c.pidx-item.result.0) c.rule_to_prods-pidx-items.ensures.prods lt at
 
+pub lead_of-requires-clause-first : goal.lead_of-requires-clause-first
+lead_of-requires-clause-first g c =
+    let zero : g.T.IndexStorage.number c.unwrap.result ≡ 0 = (rw c.unwrap.ensures at c.from_usize.ensures).1 in
+    rw zero at c.in-Some.ensures.found
+
 pub loop-pidx-preserved : goal.loop-pidx-preserved
 loop-pidx-preserved g c =
     let number = g.T.IndexStorage.number in

@@ -127,3 +127,6 @@ is_epsilon_set-requires g c =
 
 pub loop-symbol-smaller : goal.loop-symbol-smaller
 loop-symbol-smaller g c = falls _ _ c.loop-symbol-test.true
+
+pub slice_bounds-symbol-items-start : goal.slice_bounds-symbol-items-start
+slice_bounds-symbol-items-start g c = within_body (symbol_of g.T.IndexStorage.number) c.prod.result.now _ c.args.from c.prod.ensures.body c.requires.place

@@ -1,3 +1,6 @@
+use Rattle.std.proofs.Common.{◌<◌, ◌∙◌, true, get_or, length, sym, refl, arith}
+use Rattle.lrclosing.specs.declared.closer.Row.{Row}
+use Rattle.lrclosing.proofs.RowsWritten.{kept_written, read_at, row_is_reached}
 use Rattle.lrclosing.proofs.PutLeads.{put_alone, put_joined}
 use Rattle.lrclosing.proofs.closer.put_lead.Goals as goal
 use Rattle.lrclosing.proofs.closer.put_lead.Goals.{else-lead-via-then-lead+else-lead-from, else-lead-via-else-lead}
@@ -15,3 +18,17 @@ returns-else-lead c = λ g q h k.
       | else-lead-via-else-lead w ↦ λ i. cc
     ])
     c.or.ensures.after c.or.ensures.changed
+
+pub join_row-requires-clause-bits : goal.join_row-requires-clause-bits
+join_row-requires-clause-bits c = λ v w h k.
+    let g = c.requires.shape.0 in
+    let is = c.requires.shape.2 in
+    let kept = c.requires.shape.3 in
+    let to = c.args.lead.now.rule in
+    let rows = c.args.rows.now in
+    let within : to < length rows = omega (arith, is.rule, kept.len) in
+    let row = get_or rows to c.index-rows-lead.result in
+    let old = kept.each to row (read_at rows to c.index-rows-lead.result row refl within) in
+    let new : Row = record { tokens = c.or.new.self; is_reached = true } in
+    let written = kept_written g rows _ to new kept (row_is_reached g new (c.or.ensures.len ∙ old.bits) refl) refl in
+    (written.each c.args.from w k).bits ∙ sym (written.each to v h).bits

@@ -1,58 +1,17 @@
-use Rattle.std.proofs.Common.{◌≡◌, ℕ, ◌∙◌, ◌+◌, Bool, List, drop, refl, arith, inl}
-use Rattle.lrclosing.specs.ItemsOf.{items_of}
+use Rattle.std.proofs.Common.{◌≡◌}
+use Rattle.lrclosing.specs.ItemsOf.{items_of, listed_of}
 use Rattle.lrclosing.specs.Leads.{rows_of}
 use Rattle.lrclosing.specs.Listing.{listed_items}
 use Rattle.lrclosing.proofs.AscendingItems.{ascending_from_upwards}
-use Rattle.lrclosing.proofs.ItemsInTurn.{left_here, none_left, item_in_turn, behind_in_turn}
 use Rattle.lrclosing.proofs.ListedItems.{closed_with_rows, closed_fits, closed_upwards}
-use Rattle.lrclosing.proofs.ListedTurns.{from_next, item_listed, all_listed}
 use Rattle.lrclosing.proofs.RowsWritten.{are_rows}
 use Rattle.lrclosing.proofs.listing.closed_items.Goals as goal
 
-pub loop-key-init : goal.loop-key-init
-loop-key-init g c =
-    let number = g.T.IndexStorage.number in
-    record {
-      place = omega arith;
-      order = λ x j. omega arith;
-      listed = rw c.new-items.ensures.items (refl {a = listed_items c.args.grm.now (rows_of c.args.closer.now.rows.items) 0 (items_of number c.args.given.now)});
-    }
+pub push_closed-requires-clause-rows : goal.push_closed-requires-clause-rows
+push_closed-requires-clause-rows g c = rw c.as_slice-rows.ensures.value c.requires.is.is.rows
 
-pub push_from-requires-clause-order : goal.push_from-requires-clause-order
-push_from-requires-clause-order g c =
-    let number = g.T.IndexStorage.number in
-    let e = c.loop-key-item.result in
-    let order = rw (left_here number c.args.given.now c.loop-key.key-index e _ c.loop-key-test.true c.loop-key-item.is) at c.loop-key.invariant.order in
-    let least = order ((number e.0.0.0, number e.0.1.0), e.1) (inl refl) in
-    omega (arith, least, c.to_usize-next.ensures.number)
-
-pub push_from-requires-clause-end : goal.push_from-requires-clause-end
-push_from-requires-clause-end g c =
-    let number = g.T.IndexStorage.number in
-    let e = c.loop-key-item.result in
-    let here = item_in_turn number c.args.given.now c.loop-key.key-index e _ c.requires.upwards c.loop-key-test.true c.loop-key-item.is in
-    let fits = c.requires.fits _ _ e.1 here in
-    omega (arith, fits.production, c.to_usize-next.ensures.number)
-
-pub loop-key-preserved : goal.loop-key-preserved
-loop-key-preserved g c =
-    let number = g.T.IndexStorage.number in
-    let rows = rows_of c.args.closer.now.rows.items in
-    let es = c.args.given.now in
-    let i = c.loop-key.key-index in
-    let e = c.loop-key-item.result in
-    let x : (ℕ × ℕ) × List Bool = ((number e.0.0.0, number e.0.1.0), e.1) in
-    let left = left_here number es i e _ c.loop-key-test.true c.loop-key-item.is in
-    let fits = c.requires.fits _ _ e.1 (item_in_turn number es i e _ c.requires.upwards c.loop-key-test.true c.loop-key-item.is) in
-    let behind = behind_in_turn number es i e _ c.requires.upwards c.loop-key-test.true c.loop-key-item.is in
-    let next : c.to_usize-next.result + 1 ≡ number e.0.0.0 + 1 = omega (arith, c.to_usize-next.ensures.number) in
-    record {
-      place = omega (arith, next, fits.production);
-      order = λ y j. let l = from_next x (items_of number (drop (i + 1) es)) behind y j in omega (arith, l, next);
-      listed =
-          item_listed (λ y. ((number y.0.0.0, number y.0.1.0), y.1.now)) c.args.grm.now rows _ _ _ _ _ _ x _ _ _ left next
-          (rw c.as_slice-rows.ensures.value at c.in_ok-push_from.ensures) c.in_ok-push.ensures.items refl c.loop-key.invariant.listed;
-    }
+pub push_closed-requires-clause-productions : goal.push_closed-requires-clause-productions
+push_closed-requires-clause-productions g c = rw c.as_slice-rows.ensures.value c.in_ok-productions.ensures
 
 pub returns-clause-rows : goal.returns-clause-rows
 returns-clause-rows g c =
@@ -60,10 +19,10 @@ returns-clause-rows g c =
     let grm = c.args.grm.now in
     let rs = c.args.closer.now.rows.items in
     let es = c.args.given.now in
+    let listed : listed_of number c.push_closed.new.items.items ≡ listed_items grm (rows_of rs) 0 (items_of number es) =
+    rw (c.new-items.ensures.items, c.as_slice-rows.ensures.value) at c.in_ok-push_closed.ensures in
     closed_with_rows grm (rows_of rs) (items_of number es) c.requires.fits (are_rows grm rs c.requires.is.is.rows) (ascending_from_upwards (items_of number es) c.requires.upwards)
-    c.requires.apart _
-    (all_listed (λ y. ((number y.0.0.0, number y.0.1.0), y.1.now)) grm (rows_of rs) _ _ _ _ _ _ (none_left number es c.loop-key.key-index c.loop-key-test.false)
-    (c.to_usize-end.ensures.number ∙ c.prods_len.ensures.value) (rw c.as_slice-rows.ensures.value at c.in_ok-push_from-2.ensures) c.loop-key.invariant.listed)
+    c.requires.apart _ listed
 
 pub returns-clause-fits : goal.returns-clause-fits
 returns-clause-fits g c =
@@ -71,10 +30,10 @@ returns-clause-fits g c =
     let grm = c.args.grm.now in
     let rs = c.args.closer.now.rows.items in
     let es = c.args.given.now in
+    let listed : listed_of number c.push_closed.new.items.items ≡ listed_items grm (rows_of rs) 0 (items_of number es) =
+    rw (c.new-items.ensures.items, c.as_slice-rows.ensures.value) at c.in_ok-push_closed.ensures in
     closed_fits grm (rows_of rs) (items_of number es) c.requires.fits (are_rows grm rs c.requires.is.is.rows) (ascending_from_upwards (items_of number es) c.requires.upwards)
-    c.requires.apart _
-    (all_listed (λ y. ((number y.0.0.0, number y.0.1.0), y.1.now)) grm (rows_of rs) _ _ _ _ _ _ (none_left number es c.loop-key.key-index c.loop-key-test.false)
-    (c.to_usize-end.ensures.number ∙ c.prods_len.ensures.value) (rw c.as_slice-rows.ensures.value at c.in_ok-push_from-2.ensures) c.loop-key.invariant.listed)
+    c.requires.apart _ listed
 
 pub returns-clause-upwards : goal.returns-clause-upwards
 returns-clause-upwards g c =
@@ -82,7 +41,7 @@ returns-clause-upwards g c =
     let grm = c.args.grm.now in
     let rs = c.args.closer.now.rows.items in
     let es = c.args.given.now in
+    let listed : listed_of number c.push_closed.new.items.items ≡ listed_items grm (rows_of rs) 0 (items_of number es) =
+    rw (c.new-items.ensures.items, c.as_slice-rows.ensures.value) at c.in_ok-push_closed.ensures in
     closed_upwards grm (rows_of rs) (items_of number es) c.requires.fits (are_rows grm rs c.requires.is.is.rows) (ascending_from_upwards (items_of number es) c.requires.upwards)
-    c.requires.apart _
-    (all_listed (λ y. ((number y.0.0.0, number y.0.1.0), y.1.now)) grm (rows_of rs) _ _ _ _ _ _ (none_left number es c.loop-key.key-index c.loop-key-test.false)
-    (c.to_usize-end.ensures.number ∙ c.prods_len.ensures.value) (rw c.as_slice-rows.ensures.value at c.in_ok-push_from-2.ensures) c.loop-key.invariant.listed)
+    c.requires.apart _ listed

@@ -47,3 +47,6 @@ loop-place-preserved g c =
 
 pub returns : goal.returns
 returns g c = marked_every c.args.grm.now (rows_of c.args.closer.now.rows.items) _ _ c.in-None.ensures.steps.0 c.loop-place.invariant
+
+pub mark-requires-clause-productions : goal.mark-requires-clause-productions
+mark-requires-clause-productions g c = c.loop-place.invariant.len

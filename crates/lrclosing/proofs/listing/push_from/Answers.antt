@@ -63,3 +63,9 @@ loop-place-preserved g c =
           (marked_row grm rs c.args.productions.now p r row c.requires.productions marked c.prod_to_rule.ensures.rule at) dot)
           c.loop-place.invariant.added;
     }
+
+pub bounds-rows-to_usize : goal.bounds-rows-to_usize
+bounds-rows-to_usize g c =
+    let number = g.T.IndexStorage.number in
+    let l = c.prod_to_rule.ensures.shape.rules (number c.unwrap-in-loop-place.result) (number c.prod_to_rule.result.0) c.prod_to_rule.ensures.rule in
+    omega (arith, l, c.requires.rows.len, c.to_usize.ensures.number)

@@ -17,6 +17,9 @@ returns-clause-closes g c =
       behind = c.loop-place.invariant.underway.behind;
     }
 
+pub visit_given-requires-clause-fits : goal.visit_given-requires-clause-fits
+visit_given-requires-clause-fits g c = c.requires.fits
+
 pub visit_given-requires-clause-clear : goal.visit_given-requires-clause-clear
 visit_given-requires-clause-clear g c =
     let rs = c.args.self.now.rows in
@@ -46,6 +49,14 @@ visit_given-requires-clause-is g c =
 
 pub loop-place-init : goal.loop-place-init
 loop-place-init g c = record { is = c.visit_given.ensures.is; underway = c.visit_given.ensures.underway; place = omega arith }
+
+pub overflow_add-from : goal.overflow_add-from
+overflow_add-from g c =
+    let within = below_of_bit c.loop-place.self.todo c.in-Some.place c.in-Some.ensures.is_set in
+    omega (arith, within, c.len.ensures.number)
+
+pub loop-place-smaller : goal.loop-place-smaller
+loop-place-smaller g c = c.visit_rule.ensures.left c.args.grm.now c.loop-place.invariant.is
 
 pub loop-place-preserved : goal.loop-place-preserved
 loop-place-preserved g c =

@@ -1,5 +1,6 @@
 use Rattle.std.proofs.Common.{◌≡◌, ◌+◌, ◌<◌, ◌∙◌, true, length, set, length-set, ap, sym, refl, arith}
-use Rattle.lrspec.proofs.grammars.BodyFacts.{symbol_at_dot}
+use Rattle.lrspec.specs.grammars.Grammar.{body_of}
+use Rattle.lrspec.proofs.grammars.BodyFacts.{below_of_drop, symbol_at_dot}
 use Rattle.lrclosing.proofs.RowsReached.{length_reached, reached_set}
 use Rattle.lrclosing.proofs.RowsWritten.{read_at, kept_written, row_is_reached}
 use Rattle.lrclosing.proofs.VisitedItems.{visited_nothing}
@@ -11,6 +12,12 @@ index_mut-requires g c =
     let number = g.T.IndexStorage.number in
     let below = (symbol_at_dot c.in-Some.ensures.shape (number c.args.pidx.0) (number c.args.dot.0) _ c.in-Some.ensures.found).1 in
     omega (arith, below, c.to_usize-place.ensures.number, c.requires.is.rows.len, c.args.self.now.rows.ok)
+
+pub put_ahead-requires-clause-place : goal.put_ahead-requires-clause-place
+put_ahead-requires-clause-place g c =
+    let before = c.in-Some.ensures.found in
+    let below = below_of_drop (body_of c.args.grm.now (g.T.IndexStorage.number c.args.pidx.0)) (g.T.IndexStorage.number c.args.dot.0) _ before.0 before.1 in
+    omega (arith, below, c.to_usize.ensures.number)
 
 pub put_ahead-requires-clause-row : goal.put_ahead-requires-clause-row
 put_ahead-requires-clause-row g c =

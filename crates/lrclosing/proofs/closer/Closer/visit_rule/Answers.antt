@@ -18,6 +18,13 @@ visit_leads-requires-clause-shape c =
     let k : AreKeptRows g c.as_mut_slice.result.now = rw c.as_mut_slice.ensures.value s.rows in
     (g, m, k)
 
+pub visit_leads-requires-clause-from : goal.visit_leads-requires-clause-from
+visit_leads-requires-clause-from c =
+    let s = c.requires.shape.1 in
+    let bit = below_of_bit c.args.self.now.todo c.args.place c.requires.todo in
+    let within : c.args.place < length c.args.self.now.rows.items = omega (arith, bit, s.todo_len, s.rows.len) in
+    rw c.as_mut_slice.ensures.value within
+
 pub returns-clause-is : goal.returns-clause-is
 returns-clause-is c = λ g s.
     let bit = below_of_bit c.args.self.now.todo c.args.place c.requires.todo in
