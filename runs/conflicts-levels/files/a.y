@@ -1,0 +1,1 @@
+%left '+' %left '*' %% Expr : Expr '+' Expr | Expr '*' Expr | 'id' ;

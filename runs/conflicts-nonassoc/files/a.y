@@ -1,0 +1,1 @@
+%nonassoc '~' %% E: E '~' E | 'id';

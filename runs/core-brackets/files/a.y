@@ -1,0 +1,1 @@
+%start A %% A: 'OPEN_BRACKET' A 'CLOSE_BRACKET' | 'a' | 'b';

@@ -1,0 +1,1 @@
+%% Expr: Term '-' Expr | Term; Term: Factor '*' Term | Factor; Factor: 'id';
