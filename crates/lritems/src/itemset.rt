@@ -21,7 +21,6 @@ use lrgrammar::grammar::YaccGrammar;
 use lrgrammar::idx::{IndexStorage, PIdx, SIdx, Symbol};
 use std::alloc::{AllocError, Global};
 use std::collections::BTreeMap;
-use std::default::Emptied;
 
 /// Items by production and dot, each with its lookaheads.
 #[derive(Debug, Drop)]
@@ -94,9 +93,7 @@ impl<T: IndexStorage> Itemset<T> {
             (symbol_of T.number sym.now) (set_of T.number s)) }
         ensures fits { IfOk result (λ s. Fits grm.now (set_of T.number s)) }
     {
-        let mut moved = Itemset {
-            items: Emptied::emptied(&self.items)?,
-        };
+        let mut moved = Itemset::new(grm.allocator(), grm);
         for (key, ctx) in &self.items {
             if let Some(dot) = dot_behind(grm, key.0, key.1, sym) {
                 moved.add(key.0, dot, ctx)?;

@@ -1,4 +1,4 @@
-use Rattle.std.proofs.Common.{◌≡◌, sym, ◌∙◌}
+use Rattle.std.proofs.Common.{◌≡◌, sym}
 use Rattle.std.proofs.lemmas.Map.Entries.{entries_from_clone}
 use Rattle.lrclosing.proofs.ItemKeys.{same_key}
 use Rattle.lritems.proofs.cores.Core.copied.Goals as goal

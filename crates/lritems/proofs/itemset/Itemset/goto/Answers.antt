@@ -10,7 +10,7 @@ loop-key-init g c =
     let i = c.into_iter-key-iterator.ensures.into_iter_gives in
     record {
       found = rw i.0 (found_all number g.T.Ord.cmp g.met.T.IndexStorage.ordered c.args.self.now.items.entries c.args.self.now.items.entries i.6);
-      moving = begin_moving c.args.grm.now _ _ _ (symbol_of number c.args.sym.now) (rw c.in_ok-emptied.ensures.0 refl) (rw i.0 refl);
+      moving = begin_moving c.args.grm.now _ _ _ (symbol_of number c.args.sym.now) c.new-moved.ensures (rw i.0 refl);
     }
 
 pub dot_behind-requires : goal.dot_behind-requires
@@ -50,3 +50,6 @@ pub returns-clause-moved : goal.returns-clause-moved
 returns-clause-moved g c =
     let number = g.T.IndexStorage.number in
     end_moving c.args.grm.now _ _ _ (symbol_of number c.args.sym.now) c.loop-key.invariant.moving (rw c.in-None.ensures.steps.0 refl)
+
+pub returns-clause-fits : goal.returns-clause-fits
+returns-clause-fits g c = c.loop-key.invariant.moving.fits
