@@ -42,25 +42,6 @@ joined_above rows xs ys to from v w a b t e l h i j u =
     let sets : set (xs ++ ys) to (joined_row v w) ≡ xs ++ set ys (to - to) (joined_row v w) = set-append_right xs ys to to (joined_row v w) l low in
     rw (e, sets, zero, u, one, two) refl
 
--- both have as many tokens
-pub bits_below :
-    (rows xs ys : List Row) (to from : ℕ) (v w a b : Row) → rows ≡ xs ++ ys → length xs ≡ from → to < from → slice_get rows to ≡ Some v → slice_get rows from ≡ Some w
-    → length w.tokens ≡ length v.tokens → length (get_or ys 0 b).tokens ≡ length (get_or xs to a).tokens
-bits_below rows xs ys to from v w a b e l h i j bits =
-    let within : to < length xs = omega arith in
-    let one : get_or xs to a ≡ v = read_below xs ys to a v within (rw e at i) in
-    let two : get_or ys 0 b ≡ w = read_above xs ys b w (rw (e, ← l) at j) in
-    rw (one, two) bits
-
-pub bits_above :
-    (rows xs ys : List Row) (to from : ℕ) (v w a b : Row) → rows ≡ xs ++ ys → length xs ≡ to → from < to → slice_get rows to ≡ Some v → slice_get rows from ≡ Some w
-    → length w.tokens ≡ length v.tokens → length (get_or xs from b).tokens ≡ length (get_or ys 0 a).tokens
-bits_above rows xs ys to from v w a b e l h i j bits =
-    let within : from < length xs = omega arith in
-    let one : get_or ys 0 a ≡ v = read_above xs ys a v (rw (e, ← l) at i) in
-    let two : get_or xs from b ≡ w = read_below xs ys from b w within (rw e at j) in
-    rw (one, two) bits
-
 -- whether that changed it
 pub joined_changed :
     (c : Bool) (x y v w : Row) (t : List Bool) → x ≡ v → y ≡ w → t ≡ union x.tokens y.tokens → (IsTrue c ↔ (t ≢ x.tokens)) → (IsTrue c ↔ (union v.tokens w.tokens ≢ v.tokens))

@@ -129,6 +129,28 @@ impl Closing {
         Ok(())
     }
 
+    /// Passes on what the given items look at, where nothing is put in yet.
+    fn visit_given<T: IndexStorage>(
+        &mut self,
+        given: &Items<T>,
+        grm: &YaccGrammar<T>,
+        firsts: &YaccFirsts<T>,
+    ) -> Result<(), AllocError>
+        requires fits { Fits grm.now (items_of T.number given.now.entries) }
+        requires of { AreFirstsOf grm.now firsts.now }
+        requires shaped { AreShaped grm.now self.old.rows.items self.old.todo }
+        requires rows { (r : ℕ) → row_at self.old.rows.items r ≡ None }
+        requires todo { HasNone self.old.todo }
+        ensures shaped { OnOk result (AreShaped grm.now self.new.rows.items self.new.todo) }
+        ensures underway { OnOk result (IsUnderway grm.now (items_of T.number given.now.entries)
+            self.new.rows.items (IsToDo self.new.todo) []) }
+    {
+        for (key, ctx) in given {
+            self.visit_item(grm, firsts, key.0, key.1, ctx)?;
+        }
+        Ok(())
+    }
+
     /// Passes on what a production is given to the productions of the rule that comes first in its body.
     fn visit_production<T: IndexStorage>(
         &mut self,
@@ -160,25 +182,15 @@ impl Closing {
     }
 }
 
-/// What the given items alone put in.
-fn visit_given<T: IndexStorage>(
-    given: &Items<T>,
-    grm: &YaccGrammar<T>,
-    firsts: &YaccFirsts<T>,
-) -> Result<Closing, AllocError>
-    requires fits { Fits grm.now (items_of T.number given.now.entries) }
-    requires of { AreFirstsOf grm.now firsts.now }
+/// A closing that has put nothing in.
+fn no_closing<T: IndexStorage>(grm: &YaccGrammar<T>) -> Result<Closing, AllocError>
     ensures shaped { IfOk result (λ c. AreShaped grm.now c.rows.items c.todo) }
-    ensures underway { IfOk result (λ c.
-        IsUnderway grm.now (items_of T.number given.now.entries) c.rows.items (IsToDo c.todo) []) }
+    ensures rows { IfOk result (λ c. (r : ℕ) → row_at c.rows.items r ≡ None) }
+    ensures todo { IfOk result (λ c. HasNone c.todo) }
 {
     let rows = no_rows(grm)?;
     let todo = Vob::from_elem(grm.allocator(), false, grm.prods_len().0.to_usize())?;
-    let mut closing = Closing { rows, todo };
-    for (key, ctx) in given {
-        closing.visit_item(grm, firsts, key.0, key.1, ctx)?;
-    }
-    Ok(closing)
+    Ok(Closing { rows, todo })
 }
 
 /// What the closure of the given items gives to the productions of each rule, and how many items were visited for it.
@@ -192,7 +204,8 @@ pub fn closing_rows<T: IndexStorage>(
     ensures rows { IfOk result (λ x.
         AreClosingRows grm.now (items_of T.number given.now.entries) x.0.items) }
 {
-    let mut closing = visit_given(given, grm, firsts)?;
+    let mut closing = no_closing(grm)?;
+    closing.visit_given(given, grm, firsts)?;
     let mut visits = given.len();
     let mut from = 0;
     while let Some(pidx) = take_next(&mut closing.todo, grm, from) {

@@ -1,22 +1,6 @@
 use Rattle.std.proofs.Common.{◌<◌, arith}
-use Rattle.lrclosing.proofs.KeptRows.{bits_below, bits_above, joined_below, joined_above, changed_below, changed_above}
-use Rattle.lrclosing.proofs.RowsWritten.{some_at}
+use Rattle.lrclosing.proofs.KeptRows.{joined_below, joined_above, changed_below, changed_above}
 use Rattle.lrclosing.proofs.closer.join_row.Goals as goal
-
-pub or-requires : goal.or-requires
-or-requires c =
-    let v = some_at c.args.rows.now c.args.to c.requires.to in
-    let w = some_at c.args.rows.now c.args.from c.requires.from in
-    bits_below c.args.rows.now _ _ c.args.to c.args.from v.0 w.0 c.index-below-to.result c.index-above-0.result c.split_at_mut-below.ensures.value
-    c.split_at_mut-below.ensures.front_len c.if-to-from.true v.1 w.1 (c.requires.bits v.0 w.0 v.1 w.1)
-
-pub or-requires-else-to-from : goal.or-requires-else-to-from
-or-requires-else-to-from c =
-    let below : c.args.from < c.args.to = omega (arith, c.if-to-from.false, c.requires.apart) in
-    let v = some_at c.args.rows.now c.args.to c.requires.to in
-    let w = some_at c.args.rows.now c.args.from c.requires.from in
-    bits_above c.args.rows.now _ _ c.args.to c.args.from v.0 w.0 c.index-above-0-else-to-from.result c.index-below-from.result
-    c.split_at_mut-below-else-to-from.ensures.value c.split_at_mut-below-else-to-from.ensures.front_len below v.1 w.1 (c.requires.bits v.0 w.0 v.1 w.1)
 
 pub returns-then-to-from-clause-joined : goal.returns-then-to-from-clause-joined
 returns-then-to-from-clause-joined c = λ v w h k.

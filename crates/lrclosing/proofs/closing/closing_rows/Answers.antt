@@ -6,6 +6,9 @@ use Rattle.lrclosing.proofs.VisitedItems.{shaped_taken}
 use Rattle.lrclosing.proofs.VisitsLeft.{left_by_taking}
 use Rattle.lrclosing.proofs.closing.closing_rows.Goals as goal
 
+pub loop-pidx-init : goal.loop-pidx-init
+loop-pidx-init g c = record { shaped = c.in_ok-visit_given.ensures.shaped; underway = c.in_ok-visit_given.ensures.underway; place = omega arith }
+
 pub visit_production-requires-clause-production : goal.visit_production-requires-clause-production
 visit_production-requires-clause-production g c =
     let number = g.T.IndexStorage.number in

@@ -7,9 +7,6 @@ use Rattle.lrclosing.proofs.ListedItems.{closed_with_rows, closed_fits, closed_u
 use Rattle.lrclosing.proofs.RowsWritten.{are_rows}
 use Rattle.lrclosing.proofs.listing.closed_items.Goals as goal
 
-pub push_closed-requires-clause-fits : goal.push_closed-requires-clause-fits
-push_closed-requires-clause-fits g c = c.requires.fits
-
 pub push_closed-requires-clause-rows : goal.push_closed-requires-clause-rows
 push_closed-requires-clause-rows g c = rw c.as_slice-rows.ensures.value c.requires.is.is.rows
 
