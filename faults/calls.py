@@ -29,6 +29,9 @@ ONE = Fault("memory", "refused", False, None)
 EACH = Fault("memory", "refused", True, None)
 PLAIN = "free-"
 
+# A call with some hundred thousand requests. Those behind its greatest tree are the last ones, which alone are refused.
+DEEP, LAST = "parse-deep", 20
+
 LINES = "begin\nend\n{}, arguments as they were, same answer\n"
 ANSWERED, REFUSED = (LINES.format(call).encode() for call in ("answered", "out of memory"))
 
@@ -60,10 +63,12 @@ def try_plain(window, name):
 
 
 def try_requests(window, name):
-    """Has each request refused in turn, until none is met. Answers how many were refused, and what was wrong."""
+    """Has each request refused in turn, or the last ones, until none is met. Answers how many were refused, and what was
+    wrong."""
     whole, calls = window.call()
+    first = max(1, calls["memory"] + 1 - LAST) if name == DEEP else 1
     wrong = [] if is_right(whole, [ANSWERED]) else [wrong_at(name, 0, whole)]
-    for number in itertools.count(1):
+    for number in itertools.count(first):
         found, _ = window.call(ONE, number)
         is_met = any(found.faults)
         if not is_right(found, [ANSWERED, REFUSED] if is_met else [ANSWERED]):
@@ -71,8 +76,8 @@ def try_requests(window, name):
         if found.status is None or not is_met:
             break
     if not wrong and number - 1 != calls["memory"]:
-        wrong.append(f"{number - 1} requests were refused, though there are {calls['memory']}")
-    return number - 1, wrong
+        wrong.append(f"requests were refused until {number - 1}, though there are {calls['memory']}")
+    return number - first, wrong
 
 
 def outcome(library, name):

@@ -174,6 +174,9 @@ pub const ALL: [(&str, Call, Place); 39] = [
     ("free-add", Call::Plain(Plain::Add), Place::State),
 ];
 
+/// The case that is tried on a grammar and a line of its own.
+pub const DEEP: &str = "parse-deep";
+
 /// How many numbers there are of that.
 fn places(subject: &Subject<'_>, place: &Place) -> usize {
     let lines = subject.sample.lines.split('\n').count();
@@ -208,6 +211,7 @@ pub fn list(rt: &HostRuntime) -> Result<(), Problem> {
     for sample in SAMPLES.as_slice() {
         act_on(rt, &Task::List, sample, 0)?;
     }
+    println!(rt; "{DEEP}")?;
     Ok(())
 }
 

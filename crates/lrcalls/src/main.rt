@@ -7,6 +7,7 @@
 
 mod calls;
 mod cases;
+mod deep;
 mod grammars;
 mod plain;
 mod problems;
@@ -31,6 +32,7 @@ fn arguments(rt: &HostRuntime) -> Result<Vec<String>, Problem> {
 fn act(rt: &HostRuntime, args: &[String]) -> Result<(), Problem> {
     match args {
         [] => cases::list(rt),
+        [name] if name.as_str() == cases::DEEP => deep::try_deep(rt),
         [name, grammar, place] => match place.parse::<usize>() {
             Ok(place) => cases::try_case(rt, name.as_str(), grammar.as_str(), place),
             Err(_) => Err(Problem::NoCase),
