@@ -12,8 +12,6 @@ ghost use Rattle.lrcells.specs.Refusals.{IsTableRefusal};
 
 mod conflicts;
 mod iterators;
-#[cfg(test)]
-mod tests;
 
 pub use crate::statetable::conflicts::Conflicts;
 pub use crate::statetable::iterators::{CoreReducesIterator, StateActionsIterator};

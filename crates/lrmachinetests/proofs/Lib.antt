@@ -1,2 +1,0 @@
--- texts that grow keep to named tokens
-mod NamedTokens

@@ -1,0 +1,73 @@
+//! What the callers of `lrexamples` answer.
+
+use crate::fixtures::{
+    ASSIGNMENTS, CONTESTED_ON_X_ALONE, NONASSOC, SUMS_AND_PRODUCTS_WITH_LEVELS, TERMS_AND_FACTORS,
+    grammar_and_table, tokens,
+};
+use lrexamples::depths::text_depth;
+use lrexamples::sentences::is_sentence;
+use lrexamples::start_states::start_state;
+use lrgrammar::grammar::YaccGrammar;
+use std::alloc::Global;
+use std::test::Fail;
+
+/// How deep the words nest by the table of the grammar.
+fn words_depth(alloc: Global, grammar: &str, words: &str) -> Result<Option<usize>, Fail> {
+    let (grm, table) = grammar_and_table::<u32>(alloc, grammar)?;
+    let text = tokens(&grm, words)?;
+    Ok(text_depth(alloc, &grm, &table, &text, 100)?)
+}
+
+#[test]
+fn depths(rt: HostRuntime) -> Result<(), Fail> {
+    for (grammar, words, depth) in [
+        (TERMS_AND_FACTORS, "id", Some(3)),
+        (TERMS_AND_FACTORS, "- id", None),
+        (SUMS_AND_PRODUCTS_WITH_LEVELS, "id", Some(1)),
+        (SUMS_AND_PRODUCTS_WITH_LEVELS, "id + id * id", Some(3)),
+        (SUMS_AND_PRODUCTS_WITH_LEVELS, "id * id + id * id", Some(3)),
+        (SUMS_AND_PRODUCTS_WITH_LEVELS, "id + id + id + id", Some(4)),
+    ] {
+        let found = words_depth(rt.alloc(), grammar, words)?;
+        assert_eq!(rt; found, depth, "{words}");
+    }
+    Ok(())
+}
+
+/// Whether the text is seen to be a sentence.
+fn is_seen(alloc: Global, grammar: &str, text: &str, steps: usize) -> Result<bool, Fail> {
+    let grm = YaccGrammar::<u32>::from_text(alloc, grammar)?;
+    let text = tokens(&grm, text)?;
+    match is_sentence(alloc, &grm, &text, steps) {
+        Ok(seen) => Ok(seen),
+        Err(_) => Err(Fail::from("a table")),
+    }
+}
+
+#[test]
+fn sentences_are_seen(rt: HostRuntime) -> Result<(), Fail> {
+    for (grammar, text, steps, seen) in [
+        (TERMS_AND_FACTORS, "id - id", 10, true),
+        (TERMS_AND_FACTORS, "id - id", 9, false),
+        (TERMS_AND_FACTORS, "id -", 100, false),
+        (NONASSOC, "id", 100, false),
+        (CONTESTED_ON_X_ALONE, "a c d", 100, false),
+    ] {
+        let found = is_seen(rt.alloc(), grammar, text, steps)?;
+        assert_eq!(rt; found, seen, "{text} {steps}");
+    }
+    Ok(())
+}
+
+/// How many items the closed start state of the grammar of the text has.
+fn items_of_start(alloc: Global, text: &str) -> Result<usize, Fail> {
+    let grm = YaccGrammar::<u32>::from_text(alloc, text)?;
+    let start = start_state(alloc, &grm)?;
+    Ok(start.items.len())
+}
+
+#[test]
+fn start_state_of_assignments(rt: HostRuntime) -> Result<(), Fail> {
+    assert!(rt; items_of_start(rt.alloc(), ASSIGNMENTS)? == 6);
+    Ok(())
+}

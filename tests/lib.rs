@@ -1,0 +1,10 @@
+//! Tests of what is public, and of the parts of graphs below it. They are compiled without a proof (docs/CHECKING.md).
+
+mod commands;
+mod examples;
+mod fixtures;
+mod grammars;
+mod graphs;
+mod machines;
+mod tables;
+mod trees;

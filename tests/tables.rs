@@ -1,0 +1,11 @@
+//! Item sets and tables: cells, gotos, conflicts, limits.
+
+mod cells;
+mod conflicts;
+mod item_sets;
+mod limits;
+mod matrices;
+mod refused_tables;
+mod sizes;
+mod states;
+mod told;
