@@ -4,6 +4,7 @@
 
 . "$TOP/runs/building.sh"
 cp "$TOP/look" top/look
+cp "$TOP/crates/lrt/kit.sh" top/crates/lrt/
 mkdir -p c toolchain/bin top/out tmp
 export TMPDIR="$PWD/tmp"
 touch bin/rtlib.py

@@ -1,12 +1,16 @@
-# Builds the program for the scripts at the top, which set `top` to their folder and read this file. The program is kept in
-# out/ at the top, beside the sum of the sources that it was built from, the times that crates took, and the last log of rt.
-# `look` keeps another one, and sets the names below `kept` anew.
+# Builds programs for the scripts at the top, which set `top` to their folder and read this file. A program is kept in out/ at
+# the top, beside the sum of the sources that it was built from, the times that crates took, and the last log of rt. `look`
+# keeps another one, and sets the names of the program anew.
 
 kept=$top/out
-program=$kept/lrt
-made=$top/crates/lrt/out/lrt
 log=$kept/build.log
-speaker=lrt
+
+# Names the program that is built: that of a crate.
+name_program() {
+    program=$kept/$1 made=$top/crates/$1/out/$1 speaker=$1
+}
+
+name_program lrt
 
 say() {
     echo "$speaker: $*" >&2
@@ -44,7 +48,7 @@ needed_crates() {
             for (k = 1; k <= count; k++) visit(below[k])
             print crate
         }
-        END { visit("lrt") }' "$top/crates.txt"
+        END { visit(program) }' program="$speaker" "$top/crates.txt"
 }
 
 duration() {
@@ -65,12 +69,12 @@ tell_failure() {
     return 1
 }
 
-# Proves a crate, and builds lrt. Of a program rt tells by a stamp that it is built: the status is that of the program, which
-# rt runs once.
+# Proves a crate, and builds the program. Of a program rt tells by a stamp that it is built: the status is that of the program,
+# which rt runs once.
 prove() {
-    [ "$1" = lrt ] || { run_in "$1" rt lib; return; }
+    [ "$1" = "$speaker" ] || { run_in "$1" rt lib; return; }
     rm -f "$made.stamp"
-    run_in lrt rt run
+    run_in "$1" rt run
     [ -e "$made.stamp" ]
 }
 

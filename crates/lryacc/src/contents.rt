@@ -1,0 +1,75 @@
+//! What a grammar file says, before its names have their meaning.
+
+use crate::lexemes::Lexeme;
+use crate::places::Span;
+
+/// How the tokens of a precedence line group.
+#[derive(Clone, Copy, Debug, PartialEq, Eq)]
+pub(crate) enum LevelKind {
+    /// `%left`.
+    Left,
+    /// `%right`.
+    Right,
+    /// `%nonassoc`.
+    Nonassoc,
+    /// `%precedence`.
+    Precedence,
+}
+
+/// What a declaration says of one symbol or of the whole file.
+#[derive(Clone, Copy, Debug, PartialEq, Eq)]
+pub(crate) enum Statement {
+    /// The symbol is a token.
+    Token(Lexeme),
+    /// The symbol is a rule.
+    Rule(Lexeme),
+    /// The symbol has this number for its code.
+    Code(Lexeme, Lexeme),
+    /// The token has this text for another name.
+    Alias(Lexeme, Lexeme),
+    /// A precedence line begins.
+    Level(LevelKind),
+    /// The symbol is one of the precedence line in hand.
+    InLevel(Lexeme),
+    /// The symbol is named.
+    Mention(Lexeme),
+    /// The symbol is the start rule.
+    Start(Lexeme),
+    /// So many shift/reduce conflicts are expected.
+    ExpectShiftReduce(Lexeme),
+    /// So many reduce/reduce conflicts are expected.
+    ExpectReduceReduce(Lexeme),
+    /// Whether productions without `%prec` have a precedence.
+    DefaultPrecedence(bool),
+}
+
+/// A part of a body.
+#[derive(Clone, Copy, Debug, PartialEq, Eq)]
+pub(crate) enum BodyPart {
+    /// A symbol.
+    Symbol(Lexeme),
+    /// An action or a predicate.
+    Action(Lexeme),
+}
+
+/// One body of a rule.
+#[derive(Debug, Drop)]
+pub(crate) struct Alternative {
+    /// The name of its rule.
+    pub(crate) rule: Lexeme,
+    /// Its parts.
+    pub(crate) parts: Vec<BodyPart>,
+    /// The token behind its `%prec`.
+    pub(crate) precedence: Option<Lexeme>,
+    /// From its first part to its last, or the place behind the mark before it.
+    pub(crate) span: Span,
+}
+
+/// What a grammar file says.
+#[derive(Debug, Drop)]
+pub(crate) struct Contents {
+    /// In the order of the file.
+    pub(crate) statements: Vec<Statement>,
+    /// In the order of the file.
+    pub(crate) alternatives: Vec<Alternative>,
+}

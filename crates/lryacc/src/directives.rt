@@ -1,0 +1,129 @@
+//! The directives, and what stands behind each.
+
+use crate::contents::LevelKind;
+
+/// What stands behind a directive.
+#[derive(Clone, Copy, PartialEq, Eq)]
+pub(crate) enum Form {
+    /// Tokens, each perhaps with a number and a text.
+    Tokens,
+    /// Rules.
+    Rules,
+    /// The tokens of a precedence line.
+    Level(LevelKind),
+    /// Symbols whose values have a type.
+    Types,
+    /// Start rules.
+    Starts,
+    /// Nothing; says whether productions have a precedence without `%prec`.
+    DefaultPrecedence(bool),
+    /// How many shift/reduce conflicts are expected.
+    ShiftReduce,
+    /// How many reduce/reduce conflicts are expected.
+    ReduceReduce,
+    /// Code, and the symbols that it is for.
+    CodeForSymbols,
+    /// Perhaps a name, and code.
+    NamedCode,
+    /// Code.
+    Code,
+    /// Code, once or more.
+    Codes,
+    /// A name, and perhaps a value.
+    Definition,
+    /// Perhaps a text.
+    OptionalText,
+    /// A text, perhaps behind `=`.
+    Text,
+    /// Nothing.
+    Nothing,
+    /// In a body: nothing, since it is empty.
+    Empty,
+    /// In a body: the token whose precedence it has.
+    Precedence,
+    /// In a body: a number.
+    BodyNumber,
+    /// In a body: a tag.
+    BodyTag,
+}
+
+/// The names of the directives, without `%`.
+static NAMES: [(&str, Form); 46] = [
+    ("token", Form::Tokens),
+    ("term", Form::Tokens),
+    ("nterm", Form::Rules),
+    ("left", Form::Level(LevelKind::Left)),
+    ("right", Form::Level(LevelKind::Right)),
+    ("nonassoc", Form::Level(LevelKind::Nonassoc)),
+    ("binary", Form::Level(LevelKind::Nonassoc)),
+    ("precedence", Form::Level(LevelKind::Precedence)),
+    ("type", Form::Types),
+    ("start", Form::Starts),
+    ("prec", Form::Precedence),
+    ("empty", Form::Empty),
+    ("expect", Form::ShiftReduce),
+    ("expect-rr", Form::ReduceReduce),
+    ("dprec", Form::BodyNumber),
+    ("merge", Form::BodyTag),
+    ("default-prec", Form::DefaultPrecedence(true)),
+    ("no-default-prec", Form::DefaultPrecedence(false)),
+    ("union", Form::NamedCode),
+    ("code", Form::NamedCode),
+    ("destructor", Form::CodeForSymbols),
+    ("printer", Form::CodeForSymbols),
+    ("initial-action", Form::Code),
+    ("param", Form::Codes),
+    ("parse-param", Form::Codes),
+    ("lex-param", Form::Codes),
+    ("define", Form::Definition),
+    ("header", Form::OptionalText),
+    ("defines", Form::OptionalText),
+    ("file-prefix", Form::Text),
+    ("name-prefix", Form::Text),
+    ("output", Form::Text),
+    ("language", Form::Text),
+    ("require", Form::Text),
+    ("skeleton", Form::Text),
+    ("debug", Form::Nothing),
+    ("locations", Form::Nothing),
+    ("error-verbose", Form::Nothing),
+    ("glr-parser", Form::Nothing),
+    ("no-lines", Form::Nothing),
+    ("nondeterministic-parser", Form::Nothing),
+    ("pure-parser", Form::Nothing),
+    ("token-table", Form::Nothing),
+    ("verbose", Form::Nothing),
+    ("yacc", Form::Nothing),
+    ("fixed-output-files", Form::Nothing),
+];
+
+/// The names that may be written with `_` for `-`.
+static UNDERSCORED: [(&str, Form); 9] = [
+    ("pure_parser", Form::Nothing),
+    ("name_prefix", Form::Text),
+    ("default_prec", Form::DefaultPrecedence(true)),
+    ("no_default_prec", Form::DefaultPrecedence(false)),
+    ("error_verbose", Form::Nothing),
+    ("expect_rr", Form::ReduceReduce),
+    ("no_lines", Form::Nothing),
+    ("token_table", Form::Nothing),
+    ("fixed_output_files", Form::Nothing),
+];
+
+/// What stands behind the directive of that name in a list.
+fn form_in(names: &[(&str, Form)], name: &[u8]) -> Option<Form> {
+    for (listed, form) in names {
+        if listed.as_bytes() == name {
+            return Some(*form);
+        }
+    }
+    None
+}
+
+/// What stands behind the directive of that name, which is written without its `%`; None where there is no such one.
+pub(crate) fn form_of(name: &[u8]) -> Option<Form> {
+    match form_in(&NAMES, name) {
+        Some(form) => Some(form),
+        None => form_in(&UNDERSCORED, name),
+    }
+}

@@ -1,0 +1,177 @@
+//! Why a file is no grammar.
+
+use crate::places::Span;
+use std::alloc::AllocError;
+use std::fmt;
+
+/// Why a file is no grammar, and where in it.
+#[derive(Clone, Copy, Debug, PartialEq, Eq)]
+pub struct Fault {
+    /// What is wrong.
+    pub kind: FaultKind,
+    /// The place of what is named.
+    pub span: Span,
+}
+
+/// What is wrong; each displays as the words that tell of it.
+#[derive(Clone, Copy, Debug, PartialEq, Eq)]
+pub enum FaultKind {
+    /// No lexeme begins with this byte.
+    InvalidCharacter,
+    /// A brace that isn't closed before the file ends.
+    OpenBrace,
+    /// A prologue that isn't closed before the file ends.
+    OpenPrologue,
+    /// A comment that isn't closed before the file ends.
+    OpenComment,
+    /// A tag that isn't closed before the file ends.
+    OpenTag,
+    /// A quote of a character that isn't closed before the line ends.
+    OpenCharacter,
+    /// A quote of a text that isn't closed before the line ends.
+    OpenText,
+    /// A character in quotes, of no byte.
+    EmptyCharacter,
+    /// A character in quotes, of several bytes.
+    LongCharacter,
+    /// No escape begins so.
+    UnknownEscape,
+    /// The number of an escape is 0, or past 255.
+    EscapeOutOfRange,
+    /// A name that begins with a digit.
+    InvalidName,
+    /// A bracket that holds something else than one name, or isn't closed.
+    InvalidBracket,
+    /// Something else should stand here, or before the file ends.
+    Wanted(Wanted),
+    /// No directive has this name.
+    UnknownDirective,
+    /// `%prec` or `%empty` stands twice in one body.
+    Twice,
+    /// `%empty` stands in a body that has parts.
+    NotEmpty,
+    /// The file has no rule.
+    NoRules,
+    /// The symbol is no token, and has no rule.
+    Undefined,
+    /// The symbol is a token, and has a rule.
+    RuleOfToken,
+    /// The symbol is declared both a token and a rule.
+    BothKinds,
+    /// A rule stands behind `%prec`.
+    PrecedenceOfRule,
+    /// A character is declared a rule.
+    CharacterAsRule,
+    /// A rule is given a number.
+    CodeOfRule,
+    /// The token has another number already.
+    CodeTwice,
+    /// Another token has that number.
+    CodeOfOther,
+    /// The token is named in a precedence line already.
+    LevelTwice,
+    /// The start symbol is a token.
+    StartIsToken,
+    /// The start rule derives no text.
+    StartIsUnproductive,
+    /// The number is too large.
+    LargeNumber,
+    /// The file is too large for what reads it.
+    TooLarge,
+}
+
+/// What should stand at a place.
+#[derive(Clone, Copy, Debug, PartialEq, Eq)]
+pub enum Wanted {
+    /// A declaration, or `%%`.
+    Declaration,
+    /// A rule.
+    Rule,
+    /// The name of a symbol.
+    Symbol,
+    /// The name of a symbol, or a character.
+    Declared,
+    /// Another name.
+    Name,
+    /// A number.
+    Number,
+    /// A text in quotes.
+    Text,
+    /// A tag.
+    Tag,
+    /// Code in braces.
+    Code,
+    /// `;`.
+    Semicolon,
+}
+
+/// Why reading stops.
+#[derive(Clone, Copy)]
+pub(crate) enum Halt {
+    /// The file has a fault here.
+    Fault(Fault),
+    /// Memory was refused.
+    Memory,
+}
+
+impl From<AllocError> for Halt {
+    fn from(_refused: AllocError) -> Halt {
+        Halt::Memory
+    }
+}
+
+impl fmt::Display for Wanted {
+    fn fmt<W: fmt::Write>(&self, f: &mut fmt::Formatter<W>) -> fmt::Result {
+        f.write_str(match self {
+            Wanted::Declaration => "a declaration or `%%`",
+            Wanted::Rule => "a rule",
+            Wanted::Symbol => "a symbol",
+            Wanted::Declared => "a name or a character",
+            Wanted::Name => "a name",
+            Wanted::Number => "a number",
+            Wanted::Text => "a text in double quotes",
+            Wanted::Tag => "a tag in `<` and `>`",
+            Wanted::Code => "code in braces",
+            Wanted::Semicolon => "`;`",
+        })
+    }
+}
+
+impl fmt::Display for FaultKind {
+    fn fmt<W: fmt::Write>(&self, f: &mut fmt::Formatter<W>) -> fmt::Result {
+        let words = match self {
+            FaultKind::InvalidCharacter => "invalid character",
+            FaultKind::OpenBrace => "this brace is never closed",
+            FaultKind::OpenPrologue => "this prologue is never closed by %}",
+            FaultKind::OpenComment => "this comment is never closed",
+            FaultKind::OpenTag => "this tag is never closed",
+            FaultKind::OpenCharacter => "this quote is not closed on its line",
+            FaultKind::OpenText => "this quote is not closed on its line",
+            FaultKind::EmptyCharacter => "no character between the quotes",
+            FaultKind::LongCharacter => "more than one character between the quotes",
+            FaultKind::UnknownEscape => "unknown escape",
+            FaultKind::EscapeOutOfRange => "the number of an escape is from 1 to 255",
+            FaultKind::InvalidName => "a name begins with a letter, `_` or `.`",
+            FaultKind::InvalidBracket => "a bracket holds one name",
+            FaultKind::Wanted(wanted) => return write!(f, "{wanted} should stand here"),
+            FaultKind::UnknownDirective => "unknown directive",
+            FaultKind::Twice => "this stands in the body already",
+            FaultKind::NotEmpty => "`%empty` in a body that is not empty",
+            FaultKind::NoRules => "the file has no rule",
+            FaultKind::Undefined => "this is no token, and has no rule",
+            FaultKind::RuleOfToken => "this is a token, and has a rule",
+            FaultKind::BothKinds => "this is declared both a token and a rule",
+            FaultKind::PrecedenceOfRule => "`%prec` names a token, and this is a rule",
+            FaultKind::CharacterAsRule => "a character is always a token",
+            FaultKind::CodeOfRule => "a rule has no number",
+            FaultKind::CodeTwice => "the token has another number already",
+            FaultKind::CodeOfOther => "another token has this number",
+            FaultKind::LevelTwice => "this has a precedence already",
+            FaultKind::StartIsToken => "the start symbol is a token",
+            FaultKind::StartIsUnproductive => "the start rule derives no text",
+            FaultKind::LargeNumber => "the number is too large",
+            FaultKind::TooLarge => "the file is too large",
+        };
+        f.write_str(words)
+    }
+}

@@ -1,0 +1,90 @@
+//! Reads a grammar file.
+
+use crate::contents::Contents;
+use crate::faults::{Fault, FaultKind};
+use crate::meaning::Meaning;
+use crate::numbering::{FileGrammar, file_grammar};
+use crate::places::Span;
+use crate::reader::Reader;
+use crate::scanner::lexemes;
+use crate::useful::{Useless, without_useless};
+use std::alloc::{AllocError, Global};
+use std::collections::BTreeMap;
+
+/// What a file comes to.
+#[derive(Debug, Drop)]
+pub enum FileRead {
+    /// Its grammar, and what of the file is not in it, since it is not reached or derives no text.
+    Grammar(FileGrammar, Useless),
+    /// What is wrong with it: at least one fault.
+    Faults(Vec<Fault>),
+}
+
+/// What the file says, and its faults.
+fn contents(alloc: Global, text: &[u8]) -> Result<(Contents, Vec<Fault>), AllocError> {
+    let (lexemes, faults) = lexemes(alloc, text)?;
+    let mut reader = Reader::new(alloc, text, lexemes.as_slice(), faults);
+    reader.declarations()?;
+    reader.rules()?;
+    let Reader {
+        contents,
+        mut faults,
+        ..
+    } = reader;
+    if contents.alternatives.is_empty() && faults.is_empty() {
+        let end = text.len();
+        faults.push(Fault {
+            kind: FaultKind::NoRules,
+            span: Span::new(end, end),
+        })?;
+    }
+    Ok((contents, faults))
+}
+
+/// The faults in the order of their places, one at each.
+fn in_order(alloc: Global, faults: &[Fault]) -> Result<Vec<Fault>, AllocError> {
+    let mut by_place = BTreeMap::new(alloc);
+    for fault in faults.iter().rev() {
+        by_place.insert(fault.span.start, *fault)?;
+    }
+    let mut ordered = Vec::new(alloc);
+    for fault in by_place.values() {
+        ordered.push(*fault)?;
+    }
+    Ok(ordered)
+}
+
+/// Reads a grammar file of Yacc or Bison: its grammar, or all faults that were come by. The error says that memory was
+/// refused.
+pub fn read_file(alloc: Global, text: &[u8]) -> Result<FileRead, AllocError> {
+    let (contents, faults) = contents(alloc, text)?;
+    if !faults.is_empty() {
+        return Ok(FileRead::Faults(in_order(alloc, faults.as_slice())?));
+    }
+    let mut meaning = Meaning::new(alloc, text, faults);
+    meaning.take(&contents)?;
+    if !meaning.faults.is_empty() {
+        return Ok(FileRead::Faults(in_order(alloc, meaning.faults.as_slice())?));
+    }
+    let whole = file_grammar(alloc, &meaning, &contents)?;
+    let (grammar, useless) = without_useless(alloc, whole)?;
+    if grammar.parts.prods.is_empty() {
+        return Ok(FileRead::Faults(unproductive_start(alloc, &meaning, &contents)?));
+    }
+    Ok(FileRead::Grammar(grammar, useless))
+}
+
+/// The fault that the start rule derives no text.
+fn unproductive_start(
+    alloc: Global,
+    meaning: &Meaning<'_>,
+    contents: &Contents,
+) -> Result<Vec<Fault>, AllocError> {
+    let start = match meaning.starts.first() {
+        Some(start) => Some(*start),
+        None => contents.alternatives.first().map(|first| first.rule),
+    };
+    let kind = FaultKind::StartIsUnproductive;
+    let span = start.map_or(Span::new(0, 0), |start| start.span);
+    Ok(vec![in alloc; Fault { kind, span }]?)
+}

@@ -1,0 +1,81 @@
+//! Blanks, comments and `#line` between lexemes.
+
+ghost use Rattle.std.specs.Prelude.{◌≤◌, length, IfOk};
+
+use crate::faults::{Fault, FaultKind};
+use crate::places::Span;
+
+/// What the next byte stands in.
+#[derive(Clone, Copy)]
+enum Within {
+    /// Nothing: a lexeme may begin.
+    Gap,
+    /// What begins with the `/` at this place.
+    Slash(usize),
+    /// A comment up to the end of its line, or a line that begins with `#line`.
+    Line,
+    /// The comment up to `*/` that begins at this place; whether the byte before is `*`.
+    Block(usize, bool),
+}
+
+/// Whether the byte is a blank. A comma counts as one.
+fn is_blank(byte: u8) -> bool {
+    matches!(byte, b' ' | b'\t' | b'\n' | 0x0b | 0x0c | b'\r' | b',')
+}
+
+/// Whether a line that begins with `#line` begins at the place.
+fn is_line_mark(text: &[u8], at: usize) -> bool
+    requires { at ≤ length text.now }
+{
+    let begins = at == 0 || text[at - 1] == b'\n';
+    begins && text[at..].starts_with(b"#line ")
+}
+
+/// What the byte at a place behind a gap brings; None where a lexeme begins with it.
+fn begun(text: &[u8], at: usize, byte: u8) -> Option<Within>
+    requires { at ≤ length text.now }
+{
+    match byte {
+        b'/' => Some(Within::Slash(at)),
+        b'#' if is_line_mark(text, at) => Some(Within::Line),
+        _ if is_blank(byte) => Some(Within::Gap),
+        _ => None,
+    }
+}
+
+/// A fault of the mark of so many bytes at a place.
+fn fault_at(kind: FaultKind, start: usize, end: usize) -> Fault {
+    let span = Span::new(start, end);
+    Fault { kind, span }
+}
+
+/// The place from `from` on at which a lexeme begins, or the text's length if none does.
+pub(crate) fn gap_end(text: &[u8], from: usize) -> Result<usize, Fault>
+    requires { from ≤ length text.now }
+    ensures from { IfOk result (λ end. from ≤ end) }
+    ensures inside { IfOk result (λ end. end ≤ length text.now) }
+{
+    let mut within = Within::Gap;
+    for at in from..text.len() {
+        let byte = text[at];
+        within = match within {
+            Within::Gap => match begun(text, at, byte) {
+                Some(within) => within,
+                None => return Ok(at),
+            },
+            Within::Slash(_) if byte == b'/' => Within::Line,
+            Within::Slash(opened) if byte == b'*' => Within::Block(opened, false),
+            Within::Slash(opened) => return Err(fault_at(FaultKind::InvalidCharacter, opened, at)),
+            Within::Line if byte == b'\n' => Within::Gap,
+            Within::Line => Within::Line,
+            Within::Block(_, true) if byte == b'/' => Within::Gap,
+            Within::Block(opened, _) => Within::Block(opened, byte == b'*'),
+        };
+    }
+    let end = text.len();
+    match within {
+        Within::Slash(opened) => Err(fault_at(FaultKind::InvalidCharacter, opened, end)),
+        Within::Block(opened, _) => Err(fault_at(FaultKind::OpenComment, opened, end)),
+        Within::Gap | Within::Line => Ok(end),
+    }
+}

@@ -1,0 +1,286 @@
+//! The lexemes of a grammar file.
+
+ghost use Rattle.std.specs.Prelude.{◌+◌, ◌<◌, ◌≤◌, length, IfOk};
+
+use crate::code::{Ending, code_end};
+use crate::faults::{Fault, FaultKind};
+use crate::gaps::gap_end;
+use crate::places::Span;
+use crate::quotes::{between_quotes, character};
+
+/// What a lexeme is.
+#[derive(Clone, Copy, Debug, PartialEq, Eq)]
+pub enum LexemeKind {
+    /// `expr`.
+    Name,
+    /// `expr` before a colon, perhaps with a name in brackets between them.
+    RuleName,
+    /// `[left]`: a name that an action calls a symbol by.
+    BracketName,
+    /// `258` or `0x102`.
+    Number,
+    /// `'+'`: this byte.
+    Character(u8),
+    /// `"then"`.
+    Text,
+    /// `_("then")`: a text that is to be translated.
+    TranslatedText,
+    /// `<node>`: the type of a value.
+    Tag,
+    /// `<*>` or `<>`: each tag, or no tag.
+    AnyTag,
+    /// `%token`, and other words behind `%`.
+    Directive,
+    /// `%%`.
+    Separator,
+    /// `{ .. }`.
+    Action,
+    /// `%?{ .. }`.
+    Predicate,
+    /// `%{ .. %}`.
+    Prologue,
+    /// `:`.
+    Colon,
+    /// `|`.
+    Bar,
+    /// `;`.
+    Semicolon,
+    /// `=`.
+    Equals,
+}
+
+/// A lexeme, and where it stands.
+#[derive(Clone, Copy, Debug, PartialEq, Eq)]
+pub struct Lexeme {
+    /// What it is.
+    pub kind: LexemeKind,
+    /// Its place.
+    pub span: Span,
+}
+
+/// Whether a name may begin with the byte.
+fn is_name_start(byte: u8) -> bool {
+    byte.is_ascii_alphabetic() || matches!(byte, b'.' | b'_')
+}
+
+/// Whether a name may go on with the byte.
+fn is_name_byte(byte: u8) -> bool {
+    byte.is_ascii_alphanumeric() || matches!(byte, b'.' | b'_' | b'-')
+}
+
+/// The place from `from` on at which a name ends.
+fn name_end(text: &[u8], from: usize) -> usize
+    requires { from ≤ length text.now }
+    ensures from { from ≤ result }
+    ensures inside { result ≤ length text.now }
+{
+    for at in from..text.len() {
+        if !is_name_byte(text[at]) {
+            return at;
+        }
+    }
+    text.len()
+}
+
+/// The place behind a number that begins at a place, and behind the name that stands right behind it, which is a fault.
+fn number_end(text: &[u8], from: usize) -> Result<usize, Fault>
+    requires { from < length text.now }
+    ensures from { IfOk result (λ end. from < end) }
+    ensures inside { IfOk result (λ end. end ≤ length text.now) }
+{
+    let end = name_end(text, from + 1);
+    let digits = &text[from..end];
+    let is_number = match digits {
+        [b'0', b'x' | b'X', hex @ ..] => {
+            !hex.is_empty() && hex.iter().all(|byte| byte.is_ascii_hexdigit())
+        }
+        _ => digits.iter().all(|byte| byte.is_ascii_digit()),
+    };
+    if is_number {
+        return Ok(end);
+    }
+    let span = Span::new(from, end);
+    Err(Fault {
+        kind: FaultKind::InvalidName,
+        span,
+    })
+}
+
+/// The place behind the tag that begins at a place: tags nest, and `->` closes none.
+fn tag_end(text: &[u8], from: usize) -> Result<usize, Fault>
+    requires { from < length text.now }
+    ensures from { IfOk result (λ end. from < end) }
+    ensures inside { IfOk result (λ end. end ≤ length text.now) }
+{
+    let mut depth: usize = 0;
+    let mut before = b'<';
+    for at in from + 1..text.len() {
+        let byte = text[at];
+        if byte == b'<' {
+            depth = depth.saturating_add(1);
+        } else if byte == b'>' && before != b'-' {
+            match depth.checked_sub(1) {
+                Some(left) => depth = left,
+                None => return Ok(at + 1),
+            }
+        }
+        before = byte;
+    }
+    let span = Span::new(from, from + 1);
+    Err(Fault {
+        kind: FaultKind::OpenTag,
+        span,
+    })
+}
+
+/// The place behind the bracket that begins at a place: a name, perhaps between blanks.
+fn bracket_end(text: &[u8], from: usize) -> Result<usize, Fault>
+    requires { from < length text.now }
+    ensures from { IfOk result (λ end. from < end) }
+    ensures inside { IfOk result (λ end. end ≤ length text.now) }
+{
+    let name = gap_end(text, from + 1)?;
+    let behind = gap_end(text, name_end(text, name))?;
+    let begins = text.get(name).is_some_and(|byte| is_name_start(*byte));
+    if begins && text.get(behind) == Some(&b']') {
+        return Ok(behind + 1);
+    }
+    let span = Span::new(from, from + 1);
+    Err(Fault {
+        kind: FaultKind::InvalidBracket,
+        span,
+    })
+}
+
+/// No lexeme begins with the byte at a place.
+fn invalid(from: usize) -> Fault
+    requires { from < usize.MAX }
+{
+    let span = Span::new(from, from + 1);
+    Fault {
+        kind: FaultKind::InvalidCharacter,
+        span,
+    }
+}
+
+/// The code that begins at a place with a mark of so many bytes.
+fn code(
+    text: &[u8],
+    from: usize,
+    mark: usize,
+    kind: LexemeKind,
+    ending: Ending,
+) -> Result<(LexemeKind, usize), Fault>
+    requires mark { 0 < mark }
+    requires inside { from + mark ≤ length text.now }
+    ensures from { IfOk result (λ found. from < found.1) }
+    ensures inside { IfOk result (λ found. found.1 ≤ length text.now) }
+{
+    let opening = Span::new(from, from + mark);
+    Ok((kind, code_end(text, opening, from + mark, ending)?))
+}
+
+/// The lexeme whose `%` stands at a place.
+fn behind_percent(text: &[u8], from: usize) -> Result<(LexemeKind, usize), Fault>
+    requires { from < length text.now }
+    ensures from { IfOk result (λ found. from < found.1) }
+    ensures inside { IfOk result (λ found. found.1 ≤ length text.now) }
+{
+    let Some(byte) = text.get(from + 1) else {
+        return Err(invalid(from));
+    };
+    match *byte {
+        b'%' => Ok((LexemeKind::Separator, from + 2)),
+        b'{' => code(text, from, 2, LexemeKind::Prologue, Ending::PrologueMark),
+        b'?' => {
+            let brace = gap_end(text, from + 2)?;
+            if text.get(brace) != Some(&b'{') {
+                return Err(invalid(from));
+            }
+            code(text, brace, 1, LexemeKind::Predicate, Ending::Brace)
+        }
+        byte if is_name_start(byte) => Ok((LexemeKind::Directive, name_end(text, from + 1))),
+        _ => Err(invalid(from)),
+    }
+}
+
+/// Whether a colon that stands before the byte is a lexeme by itself.
+fn may_follow_colon(byte: u8) -> bool {
+    byte.is_ascii_alphanumeric()
+        || matches!(
+            byte,
+            b'[' | b'%' | b'_' | b'<' | b'>' | b'{' | b'}' | b'"' | b'\'' | b'*'
+        )
+        || matches!(byte, b';' | b'|' | b'=' | b'/' | b',')
+        || matches!(byte, b' ' | b'\t' | b'\n' | 0x0b | 0x0c | b'\r')
+}
+
+/// The colon at a place.
+fn colon(text: &[u8], from: usize) -> Result<(LexemeKind, usize), Fault>
+    requires { from < length text.now }
+    ensures from { IfOk result (λ found. from < found.1) }
+    ensures inside { IfOk result (λ found. found.1 ≤ length text.now) }
+{
+    if text
+        .get(from + 1)
+        .is_some_and(|byte| !may_follow_colon(*byte))
+    {
+        return Err(invalid(from));
+    }
+    Ok((LexemeKind::Colon, from + 1))
+}
+
+/// The text to be translated that begins at a place with `_(`.
+fn translated(text: &[u8], from: usize) -> Result<(LexemeKind, usize), Fault>
+    requires { from + 2 < length text.now }
+    ensures from { IfOk result (λ found. from < found.1) }
+    ensures inside { IfOk result (λ found. found.1 ≤ length text.now) }
+{
+    let end = between_quotes(text, from + 2, b'"')?.end;
+    if text.get(end) != Some(&b')') {
+        return Err(invalid(from));
+    }
+    Ok((LexemeKind::TranslatedText, end + 1))
+}
+
+/// The tag that begins at a place.
+fn tag(text: &[u8], from: usize) -> Result<(LexemeKind, usize), Fault>
+    requires { from < length text.now }
+    ensures from { IfOk result (λ found. from < found.1) }
+    ensures inside { IfOk result (λ found. found.1 ≤ length text.now) }
+{
+    let end = tag_end(text, from)?;
+    let kind = match &text[from..end] {
+        b"<>" | b"<*>" => LexemeKind::AnyTag,
+        _ => LexemeKind::Tag,
+    };
+    Ok((kind, end))
+}
+
+/// The lexeme that begins at a place.
+pub(crate) fn lexeme_at(text: &[u8], from: usize) -> Result<(LexemeKind, usize), Fault>
+    requires { from < length text.now }
+    ensures from { IfOk result (λ found. from < found.1) }
+    ensures inside { IfOk result (λ found. found.1 ≤ length text.now) }
+{
+    let first = text[from];
+    match first {
+        b'_' if text[from..].starts_with(b"_(\"") => translated(text, from),
+        b'%' => behind_percent(text, from),
+        b'{' => code(text, from, 1, LexemeKind::Action, Ending::Brace),
+        b'<' => tag(text, from),
+        b'[' => Ok((LexemeKind::BracketName, bracket_end(text, from)?)),
+        b'\'' => {
+            let (byte, end) = character(text, from)?;
+            Ok((LexemeKind::Character(byte), end))
+        }
+        b'"' => Ok((LexemeKind::Text, between_quotes(text, from, b'"')?.end)),
+        b':' => colon(text, from),
+        b'|' => Ok((LexemeKind::Bar, from + 1)),
+        b';' => Ok((LexemeKind::Semicolon, from + 1)),
+        b'=' => Ok((LexemeKind::Equals, from + 1)),
+        _ if is_name_start(first) => Ok((LexemeKind::Name, name_end(text, from + 1))),
+        _ if first.is_ascii_digit() => Ok((LexemeKind::Number, number_end(text, from)?)),
+        _ => Err(invalid(from)),
+    }
+}

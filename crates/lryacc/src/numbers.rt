@@ -1,0 +1,33 @@
+//! The numbers that a file has.
+
+/// The value of a hexadecimal digit.
+fn digit_value(byte: u8) -> Option<u64> {
+    match byte {
+        b'0'..=b'9' => Some(u64::from(byte - b'0')),
+        b'a'..=b'f' => Some(u64::from(byte - b'a') + 10),
+        b'A'..=b'F' => Some(u64::from(byte - b'A') + 10),
+        _ => None,
+    }
+}
+
+/// The number that digits mean in a base; None where it is too large.
+fn value_in(base: u64, digits: &[u8]) -> Option<u64> {
+    let mut value: u64 = 0;
+    for digit in digits {
+        value = value.checked_mul(base)?.checked_add(digit_value(*digit)?)?;
+    }
+    Some(value)
+}
+
+/// The number that is written so, where it is at most the greatest `i32`.
+pub(crate) fn value_of(bytes: &[u8]) -> Option<u64> {
+    let value = match bytes {
+        [b'0', b'x' | b'X', digits @ ..] => value_in(16, digits)?,
+        _ => value_in(10, bytes)?,
+    };
+    if value <= 2_147_483_647 {
+        Some(value)
+    } else {
+        None
+    }
+}

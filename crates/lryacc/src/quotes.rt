@@ -1,0 +1,153 @@
+//! Characters and texts in quotes.
+
+ghost use Rattle.std.specs.Prelude.{◌<◌, ◌≤◌, length, IfOk, IfSome};
+
+use crate::faults::{Fault, FaultKind};
+use crate::places::Span;
+
+/// The number of at most so many digits from a place on, and the place behind them.
+fn digits(text: &[u8], from: usize, most: usize, radix: u32) -> (u32, usize)
+    requires from { from ≤ length text.now }
+    requires radix { 2 ≤ radix }
+    requires digits { radix ≤ 36 }
+    ensures from { from ≤ result.1 }
+    ensures inside { result.1 ≤ length text.now }
+{
+    let stop = text.len().min(from.saturating_add(most));
+    let mut value: u32 = 0;
+    for at in from..stop {
+        match char::from(text[at]).to_digit(radix) {
+            Some(digit) => value = value.saturating_mul(radix).saturating_add(digit),
+            None => return (value, at),
+        }
+    }
+    (value, stop)
+}
+
+/// The byte that a letter behind a backslash stands for by itself.
+fn letter_value(letter: u8) -> Option<u8> {
+    Some(match letter {
+        b'a' => 7,
+        b'b' => 8,
+        b'f' => 12,
+        b'n' => b'\n',
+        b'r' => b'\r',
+        b't' => b'\t',
+        b'v' => 11,
+        b'\\' | b'\'' | b'"' | b'?' => letter,
+        _ => return None,
+    })
+}
+
+/// The number of an escape whose backslash stands at a place, and the place behind it; None where no escape begins so.
+fn escape_number(text: &[u8], from: usize) -> Option<(u32, usize)>
+    requires { from < length text.now }
+    ensures from { IfSome result (λ found. from < found.1) }
+    ensures inside { IfSome result (λ found. found.1 ≤ length text.now) }
+{
+    let letter = *text.get(from + 1)?;
+    let behind = from + 2;
+    if let Some(byte) = letter_value(letter) {
+        return Some((u32::from(byte), behind));
+    }
+    match letter {
+        b'0'..=b'7' => Some(digits(text, from + 1, 3, 8)),
+        b'x' => Some(digits(text, behind, text.len(), 16)),
+        b'u' => Some(digits(text, behind, 4, 16)),
+        b'U' => Some(digits(text, behind, 8, 16)),
+        _ => None,
+    }
+}
+
+/// The byte that the escape whose backslash stands at a place is, and the place behind it.
+fn escape(text: &[u8], from: usize) -> Result<(u8, usize), Fault>
+    requires { from < length text.now }
+    ensures from { IfOk result (λ found. from < found.1) }
+    ensures inside { IfOk result (λ found. found.1 ≤ length text.now) }
+{
+    let Some((number, end)) = escape_number(text, from) else {
+        let span = Span::new(from, from + 1);
+        return Err(Fault {
+            kind: FaultKind::UnknownEscape,
+            span,
+        });
+    };
+    match u8::try_from(number) {
+        Ok(byte) if byte != 0 => Ok((byte, end)),
+        _ => {
+            let span = Span::new(from, end);
+            Err(Fault {
+                kind: FaultKind::EscapeOutOfRange,
+                span,
+            })
+        }
+    }
+}
+
+/// What was read between quotes.
+#[derive(Clone, Copy)]
+pub(crate) struct Quoted {
+    /// The place behind the closing quote.
+    pub(crate) end: usize,
+    /// How many bytes it is.
+    pub(crate) bytes: usize,
+    /// The last of them; 0 where there is none.
+    pub(crate) last: u8,
+}
+
+/// What stands behind the quote at a place, up to the next such quote.
+pub(crate) fn between_quotes(text: &[u8], from: usize, quote: u8) -> Result<Quoted, Fault>
+    requires { from < length text.now }
+    ensures from { IfOk result (λ found. from < found.end) }
+    ensures inside { IfOk result (λ found. found.end ≤ length text.now) }
+{
+    let mut bytes: usize = 0;
+    let mut last = 0;
+    // The place behind the last escape.
+    let mut behind = from;
+    for at in from + 1..text.len() {
+        if at < behind {
+            continue;
+        }
+        let byte = text[at];
+        if byte == quote {
+            return Ok(Quoted {
+                end: at + 1,
+                bytes,
+                last,
+            });
+        }
+        if byte == b'\n' {
+            break;
+        }
+        if byte == b'\\' {
+            (last, behind) = escape(text, at)?;
+        } else {
+            last = byte;
+        }
+        bytes = bytes.saturating_add(1);
+    }
+    let kind = if quote == b'"' {
+        FaultKind::OpenText
+    } else {
+        FaultKind::OpenCharacter
+    };
+    let span = Span::new(from, from + 1);
+    Err(Fault { kind, span })
+}
+
+/// The byte of the character whose quote stands at a place, and the place behind it.
+pub(crate) fn character(text: &[u8], from: usize) -> Result<(u8, usize), Fault>
+    requires { from < length text.now }
+    ensures from { IfOk result (λ found. from < found.1) }
+    ensures inside { IfOk result (λ found. found.1 ≤ length text.now) }
+{
+    let Quoted { end, bytes, last } = between_quotes(text, from, b'\'')?;
+    let kind = match bytes {
+        0 => FaultKind::EmptyCharacter,
+        1 => return Ok((last, end)),
+        _ => FaultKind::LongCharacter,
+    };
+    let span = Span::new(from, end);
+    Err(Fault { kind, span })
+}

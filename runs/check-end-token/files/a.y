@@ -1,0 +1,3 @@
+%token END 0 "end of file"
+%%
+s: s 'a' | %empty;

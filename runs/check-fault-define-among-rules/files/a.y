@@ -1,0 +1,3 @@
+%%
+a: 'x';
+%define foo;

@@ -1,0 +1,4 @@
+%nterm a
+%token a
+%%
+a: 'x';

@@ -1,0 +1,2 @@
+%%
+a: 'x' %dprec 1 %dprec 2;

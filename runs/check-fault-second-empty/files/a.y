@@ -1,0 +1,2 @@
+%%
+a: %empty %empty;

@@ -1,0 +1,3 @@
+%token T
+%%
+a: 'x' %prec T %prec T;

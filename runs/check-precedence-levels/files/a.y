@@ -1,0 +1,4 @@
+%precedence '+'
+%precedence NEG
+%%
+e: '-' e %prec NEG | e '+' 'x' | 'x';

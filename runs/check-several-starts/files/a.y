@@ -1,0 +1,4 @@
+%start s t
+%%
+s: 'a' s | 'a';
+t: t 'b' | s;
