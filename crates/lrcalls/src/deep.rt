@@ -5,9 +5,9 @@ ghost use Rattle.lrspec.specs.tables.Table.{IsTableFor};
 ghost use Rattle.lrtable.specs.RunAnswers.{text_of};
 
 use crate::problems::Problem;
+use crate::subjects::tokens;
 use lrgrammar::grammar::YaccGrammar;
 use lrgrammar::idx::TIdx;
-use lrtable::machine::line_tokens;
 use lrtable::{Minimiser, StateTable, from_yacc};
 use lrtree::{Parsed, parse};
 use std::alloc::{AllocError, Global};
@@ -76,8 +76,6 @@ pub fn try_deep(rt: &HostRuntime) -> Result<(), Problem> {
         Ok((_graph, table)) => table,
         Err(_) => return Err(Problem::Unfit),
     };
-    match line_tokens(&grm, words(alloc)?.as_bytes())? {
-        Ok(text) => parse_in_window(rt, &grm, &table, &text),
-        Err(_) => Err(Problem::Unfit),
-    }
+    let text = tokens(&grm, words(alloc)?.as_str())?;
+    parse_in_window(rt, &grm, &table, text.as_slice())
 }

@@ -168,7 +168,7 @@ pub fn line(lines: &'static str, number: usize) -> &'static str {
 }
 
 /// The tokens that the words of the line name, and none where one is unknown.
-fn tokens(grm: &YaccGrammar<u32>, line: &str) -> Result<Vec<TIdx<u32>>, AllocError>
+pub fn tokens(grm: &YaccGrammar<u32>, line: &str) -> Result<Vec<TIdx<u32>>, AllocError>
     ensures { IfOk result (λ v. AreNamed grm.now (text_of (λ n. n) v.items)) }
 {
     match line_tokens(grm, line.as_bytes())? {
