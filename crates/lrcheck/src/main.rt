@@ -1,14 +1,12 @@
 //! `lrcheck`: tells whether the grammar of a Yacc or Bison file has conflicts, and where the file has faults.
 #![tactic(auto)]
 
-use lrreport::report_on;
-use std::alloc::AllocError;
+use clap::{Arg, ArgAction, Command, value_parser};
+use lrreport::{Options, report_on};
+use std::alloc::{AllocError, Global};
 use std::io::{self, Read, Write};
 use std::process::ExitCode;
 use std::{env, fs};
-
-/// How the program is called.
-const USAGE: &str = "usage: lrcheck FILE..";
 
 /// Why the program can't go on.
 enum Stop {
@@ -41,12 +39,12 @@ fn input(rt: &HostRuntime, name: &str) -> Result<Option<Vec<u8>>, AllocError> {
 }
 
 /// Checks a file, and answers the exit status.
-fn check(rt: &HostRuntime, name: &str) -> Result<u8, Stop> {
+fn check(rt: &HostRuntime, name: &str, options: Options) -> Result<u8, Stop> {
     let Some(bytes) = input(rt, name)? else {
         let _ = eprintln!(rt; "lrcheck: cannot read {name}");
         return Ok(2);
     };
-    let told = report_on(rt.alloc(), name, bytes.as_slice())?;
+    let told = report_on(rt.alloc(), name, bytes.as_slice(), options)?;
     match rt.stdout().write_all(told.text.as_bytes()) {
         Ok(()) => Ok(told.status),
         Err(_) => Err(Stop::Output),
@@ -54,40 +52,90 @@ fn check(rt: &HostRuntime, name: &str) -> Result<u8, Stop> {
 }
 
 /// Checks the files, and answers the greatest exit status.
-fn check_all(rt: &HostRuntime, names: &[String]) -> Result<u8, Stop> {
+fn check_all(rt: &HostRuntime, names: &[&str], options: Options) -> Result<u8, Stop> {
     let mut status = 0;
     for name in names {
-        status = check(rt, name.as_str())?.max(status);
+        status = check(rt, name, options)?.max(status);
     }
     Ok(status)
 }
 
-/// The arguments without the program's name.
+/// What the program is called with.
+fn command_line<'a>(alloc: Global) -> Result<Command<'a>, AllocError> {
+    let files = Arg::new(alloc, "FILE")
+        .required(true)
+        .action(ArgAction::Append)
+        .num_args(1..)
+        .help("Grammar files of Yacc or Bison; - is standard input");
+    let summary = Arg::new(alloc, "summary")
+        .long("summary")
+        .action(ArgAction::SetTrue)
+        .help("Tells the verdict of each file alone");
+    let all = Arg::new(alloc, "all")
+        .long("all")
+        .action(ArgAction::SetTrue)
+        .help("Shows each conflict, and not the first 20 alone");
+    let expect = Arg::new(alloc, "expect")
+        .long("expect")
+        .value_name("N")
+        .value_parser(value_parser!(u64))
+        .help("Expects N shift/reduce conflicts, whatever the file says");
+    Command::new(alloc, "lrcheck")
+        .version("0.1.0")
+        .about(
+            "Tells whether grammars have conflicts, where they are, and which grammars are unambiguous",
+        )
+        .arg(files)?
+        .arg(summary)?
+        .arg(all)?
+        .arg(expect)
+}
+
+/// Tells why the program stopped, and answers the exit status.
+fn tell(rt: &HostRuntime, stop: Stop) -> ExitCode {
+    let why = match stop {
+        Stop::Memory => "out of memory",
+        Stop::Output => "cannot write standard output",
+    };
+    let _ = eprintln!(rt; "lrcheck: {why}");
+    ExitCode::from(2)
+}
+
+/// The arguments with the program's name.
 fn arguments(rt: &HostRuntime) -> io::Result<Vec<String>> {
     let mut args = Vec::new(rt.alloc());
-    for arg in env::args(rt)?.skip(1) {
+    for arg in env::args(rt)? {
         args.push(arg)?;
     }
     Ok(args)
 }
 
-fn main(rt: HostRuntime) -> ExitCode {
-    let names = match arguments(&rt) {
-        Ok(names) if !names.is_empty() => names,
-        _ => {
-            let _ = eprintln!(rt; "{USAGE}");
-            return ExitCode::from(2);
+/// Does what the words say, and answers the exit status.
+fn act(rt: &HostRuntime, words: &[String]) -> Result<ExitCode, Stop> {
+    let command = command_line(rt.alloc())?;
+    let matches = match command.try_get_matches_from(words) {
+        Ok(matches) => matches,
+        Err(error) => {
+            let _ = error.print(rt);
+            return Ok(ExitCode::from(error.exit_code() as u8));
         }
     };
-    match check_all(&rt, names.as_slice()) {
-        Ok(status) => ExitCode::from(status),
-        Err(Stop::Memory) => {
-            let _ = eprintln!(rt; "lrcheck: out of memory");
-            ExitCode::from(2)
-        }
-        Err(Stop::Output) => {
-            let _ = eprintln!(rt; "lrcheck: cannot write standard output");
-            ExitCode::from(2)
-        }
+    let options = Options {
+        is_summary: matches.get_flag("summary"),
+        tells_all: matches.get_flag("all"),
+        expected: matches.get_one::<u64>("expect"),
+    };
+    let names: &[&str] = matches.get_strs("FILE").unwrap_or(&[]);
+    Ok(ExitCode::from(check_all(rt, names, options)?))
+}
+
+fn main(rt: HostRuntime) -> ExitCode {
+    let Ok(words) = arguments(&rt) else {
+        let _ = eprintln!(rt; "lrcheck: an argument is not UTF-8");
+        return ExitCode::from(2);
+    };
+    match act(&rt, words.as_slice()) {
+        Ok(status) => status,
+        Err(stop) => tell(&rt, stop),
     }
 }

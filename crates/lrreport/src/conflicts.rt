@@ -11,9 +11,6 @@ use lryacc::{FileGrammar, Span};
 use std::alloc::{AllocError, Global};
 use std::collections::BTreeMap;
 
-/// How many conflicts are told one by one.
-const TOLD: usize = 20;
-
 /// How many productions are told that go on by a shift.
 const GOING_ON: usize = 3;
 
@@ -80,6 +77,9 @@ impl<'a> Checked<'a> {
 
     /// The name of a token.
     fn token_name(&self, token: TIdx<u32>) -> &'a str {
+        if usize::from(token) >= usize::from(self.grm.tokens_len()) {
+            return "$end";
+        }
         self.grm.token_name(token).unwrap_or("$end")
     }
 
@@ -257,19 +257,20 @@ impl<'a> Checked<'a> {
         Ok(marks)
     }
 
-    /// Adds the conflicts: the first ones, and how many there are besides.
+    /// Adds the conflicts: the first ones, so many at the most, and how many there are besides.
     pub(crate) fn push_conflicts(
         &self,
         text: &mut String,
         conflicts: Option<&Conflicts<u32>>,
+        most: usize,
     ) -> Result<(), AllocError> {
         let groups = self.groups(*text.allocator(), conflicts)?;
-        for (meeting, tokens) in groups.iter().take(TOLD) {
+        for (meeting, tokens) in groups.iter().take(most) {
             self.push_meeting(text, *meeting, tokens.as_slice())?;
         }
-        let more = groups.len().saturating_sub(TOLD);
+        let more = groups.len().saturating_sub(most);
         if more > 0 {
-            write!(text, "and {more} more like these\n\n")?;
+            write!(text, "and {more} more, which --all shows\n\n")?;
         }
         Ok(())
     }

@@ -109,20 +109,34 @@ pub(crate) fn push_placed(
     push_marks(text, source, marks)
 }
 
-/// Adds a fault.
+/// Adds a fault, or what is warned of.
 pub(crate) fn push_fault(
     text: &mut String,
     source: &Source<'_>,
     fault: &Fault,
+    weight: &str,
 ) -> Result<(), AllocError> {
     let alloc = *text.allocator();
     let at = source.position(fault.span.start);
     let (name, kind) = (source.name, fault.kind);
-    write!(text, "{name}:{}:{}: error: {kind}\n", at.line, at.column)?;
+    write!(text, "{name}:{}:{}: {weight}: {kind}\n", at.line, at.column)?;
     let mark = Mark {
         span: fault.span,
         mark: '^',
         label: String::new(alloc),
     };
     push_marks(text, source, vec![in alloc; mark]?.as_slice())
+}
+
+/// Adds faults, or what is warned of.
+pub(crate) fn push_faults(
+    text: &mut String,
+    source: &Source<'_>,
+    faults: &[Fault],
+    weight: &str,
+) -> Result<(), AllocError> {
+    for fault in faults {
+        push_fault(text, source, fault, weight)?;
+    }
+    Ok(())
 }

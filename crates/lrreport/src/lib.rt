@@ -8,5 +8,5 @@ mod sources;
 mod ties;
 mod verdicts;
 
-pub use crate::reports::{Report, report_on};
+pub use crate::reports::{Options, Report, report_on};
 pub use crate::verdicts::Verdict;

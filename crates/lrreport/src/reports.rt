@@ -1,13 +1,13 @@
 //! The report on a file.
 
 use crate::conflicts::Checked;
-use crate::diagnostics::push_fault;
+use crate::diagnostics::push_faults;
 use crate::sources::Source;
 use crate::ties::ties_of;
 use crate::verdicts::checked;
 use lrgrammar::grammar::YaccGrammar;
 use lrtable::BuildError;
-use lryacc::{Fault, FileGrammar, FileRead, read_file};
+use lryacc::{Expected, Fault, FileGrammar, FileRead, read_file};
 use std::alloc::{AllocError, Global};
 use std::fmt;
 
@@ -20,6 +20,30 @@ pub struct Report {
     pub status: u8,
 }
 
+/// How a report is made.
+#[derive(Clone, Copy, Debug, Default, PartialEq, Eq)]
+pub struct Options {
+    /// Whether of a grammar the verdict alone is told.
+    pub is_summary: bool,
+    /// Whether all conflicts are told one by one, and not the first ones.
+    pub tells_all: bool,
+    /// How many shift/reduce conflicts are expected, whatever the file says.
+    pub expected: Option<u64>,
+}
+
+impl Options {
+    /// How many conflicts are expected of a file that says so.
+    fn beside(self, file: Expected) -> Expected {
+        Expected {
+            shift_reduce: self.expected.or(file.shift_reduce),
+            reduce_reduce: file.reduce_reduce,
+        }
+    }
+}
+
+/// How many conflicts of a file are told one by one.
+const TOLD: usize = 20;
+
 /// The report on the faults of a file.
 fn report_on_faults(
     alloc: Global,
@@ -27,9 +51,7 @@ fn report_on_faults(
     faults: &[Fault],
 ) -> Result<Report, AllocError> {
     let mut text = String::new(alloc);
-    for fault in faults {
-        push_fault(&mut text, source, fault)?;
-    }
+    push_faults(&mut text, source, faults, "error")?;
     Ok(Report { text, status: 2 })
 }
 
@@ -50,6 +72,9 @@ fn report_on_grammar(
     alloc: Global,
     source: &Source<'_>,
     file: &FileGrammar,
+    expected: Expected,
+    warnings: &[Fault],
+    options: Options,
 ) -> Result<Report, AllocError> {
     let grm = match YaccGrammar::<u32>::from_parts(alloc, &file.parts) {
         Ok(grm) => grm,
@@ -59,7 +84,9 @@ fn report_on_grammar(
     match checked(&grm) {
         Ok((graph, table, verdict)) => {
             let ties = ties_of(alloc, &grm, &graph)?;
-            let verdict = verdict.with_ties(ties.len());
+            let verdict = verdict
+                .with_ties(ties.len())
+                .beside(options.beside(expected));
             let checked = Checked {
                 source,
                 file,
@@ -68,7 +95,11 @@ fn report_on_grammar(
                 ties: ties.as_slice(),
             };
             let mut text = String::new(alloc);
-            checked.push_conflicts(&mut text, table.conflicts())?;
+            if !options.is_summary {
+                push_faults(&mut text, source, warnings, "warning")?;
+                let most = if options.tells_all { usize::MAX } else { TOLD };
+                checked.push_conflicts(&mut text, table.conflicts(), most)?;
+            }
             write!(text, "{name}: {verdict}\n")?;
             Ok(Report {
                 text,
@@ -81,10 +112,24 @@ fn report_on_grammar(
 }
 
 /// The report on a file of that name, which holds these bytes. The error says that memory was refused.
-pub fn report_on(alloc: Global, name: &str, bytes: &[u8]) -> Result<Report, AllocError> {
+pub fn report_on(
+    alloc: Global,
+    name: &str,
+    bytes: &[u8],
+    options: Options,
+) -> Result<Report, AllocError> {
     let source = Source::new(alloc, name, bytes)?;
     match read_file(alloc, bytes)? {
-        FileRead::Grammar(file, _) => report_on_grammar(alloc, &source, &file),
+        FileRead::Grammar(file, expected, warnings) => {
+            report_on_grammar(
+                alloc,
+                &source,
+                &file,
+                expected,
+                warnings.as_slice(),
+                options,
+            )
+        }
         FileRead::Faults(faults) => report_on_faults(alloc, &source, faults.as_slice()),
     }
 }

@@ -27,6 +27,9 @@ fn tying_level(grm: &YaccGrammar<u32>, prod: PIdx<u32>) -> Option<u64> {
 
 /// Whether a token has that level.
 fn has_level(grm: &YaccGrammar<u32>, token: TIdx<u32>, level: u64) -> bool {
+    if usize::from(token) >= usize::from(grm.tokens_len()) {
+        return false;
+    }
     match grm.token_precedence(token) {
         Some(precedence) => precedence.level == level,
         None => false,
@@ -46,8 +49,11 @@ fn add_ties(
         return Ok(());
     };
     for token in grm.iter_tidxs() {
-        let is_met = tokens.get(usize::from(token)) && has_level(grm, token, level);
-        if is_met && graph.edge(state, Symbol::Token(token)).is_some() {
+        let is_met = usize::from(token) < tokens.len() && tokens.get(usize::from(token));
+        if is_met
+            && has_level(grm, token, level)
+            && graph.edge(state, Symbol::Token(token)).is_some()
+        {
             ties.push((token, prod, state))?;
         }
     }

@@ -1,6 +1,6 @@
 //! The verdict of a grammar.
 
-ghost use Rattle.std.specs.Prelude.{◌≡◌, IfOk};
+ghost use Rattle.std.specs.Prelude.{◌≡◌, ◌≢◌, IfOk};
 ghost use Rattle.lrspec.specs.merging.Graph.{IsGraphOf};
 ghost use Rattle.lrspec.specs.tables.Recognition.{IsUnambiguous};
 ghost use Rattle.lrspec.specs.tables.Table.{IsTableOf};
@@ -9,6 +9,7 @@ ghost use Rattle.lrreport.specs.declared.verdicts.Verdict.TheVariants.{Unambiguo
 use lrgrammar::grammar::YaccGrammar;
 use lrgrammar::idx::IndexStorage;
 use lrtable::{BuildError, Minimiser, StateGraph, StateTable, from_yacc};
+use lryacc::Expected;
 use std::fmt;
 
 /// What is told of a grammar.
@@ -25,6 +26,20 @@ pub enum Verdict {
         /// How many between two reductions.
         reduce_reduce: usize,
     },
+    /// There are as many conflicts as the file expects.
+    Expected {
+        /// How many between a shift and a reduction.
+        shift_reduce: usize,
+        /// How many between two reductions.
+        reduce_reduce: usize,
+    },
+    /// There are other numbers of conflicts than the file expects.
+    Unexpected {
+        /// How many between a shift and a reduction, and how many are expected.
+        shift_reduce: (usize, u64),
+        /// How many between two reductions, and how many are expected.
+        reduce_reduce: (usize, u64),
+    },
 }
 
 /// The graph, the table and the verdict of a grammar. The error is that of `from_yacc`.
@@ -36,15 +51,24 @@ pub fn checked<T: IndexStorage>(
     ensures unambiguous { IfOk result (λ r. r.2 ≡ Unambiguous → IsUnambiguous grm.now) }
 {
     let (graph, table) = from_yacc(grm.allocator(), grm, Minimiser::Pager)?;
-    let verdict = match table.conflicts() {
+    if grm.has_precedences() || table.conflicts().is_some() {
+        let verdict = by_conflicts(&table);
+        return Ok((graph, table, verdict));
+    }
+    Ok((graph, table, Verdict::Unambiguous))
+}
+
+/// The verdict of a grammar that has precedences or conflicts.
+fn by_conflicts<T: IndexStorage>(table: &StateTable<T>) -> Verdict
+    ensures { result ≢ Unambiguous }
+{
+    match table.conflicts() {
         Some(conflicts) => Verdict::Conflicts {
             shift_reduce: conflicts.sr_len(),
             reduce_reduce: conflicts.rr_len(),
         },
-        None if grm.has_precedences() => Verdict::NoConflicts,
-        None => Verdict::Unambiguous,
-    };
-    Ok((graph, table, verdict))
+        None => Verdict::NoConflicts,
+    }
 }
 
 impl Verdict {
@@ -67,13 +91,45 @@ impl Verdict {
                 shift_reduce: shift_reduce.saturating_add(ties),
                 reduce_reduce,
             },
+            other => other,
+        }
+    }
+
+    /// The verdict where the file says how many conflicts it expects. One number that it does not say is 0.
+    pub fn beside(self, expected: Expected) -> Verdict
+        ensures { result ≡ Unambiguous → self ≡ Unambiguous }
+    {
+        if expected == Expected::default() {
+            return self;
+        }
+        let wanted = (
+            expected.shift_reduce.unwrap_or(0),
+            expected.reduce_reduce.unwrap_or(0),
+        );
+        let (shift_reduce, reduce_reduce) = match self {
+            Verdict::Conflicts {
+                shift_reduce,
+                reduce_reduce,
+            } => (shift_reduce, reduce_reduce),
+            _ if wanted == (0, 0) => return self,
+            _ => (0, 0),
+        };
+        if (shift_reduce as u64, reduce_reduce as u64) == wanted {
+            return Verdict::Expected {
+                shift_reduce,
+                reduce_reduce,
+            };
+        }
+        Verdict::Unexpected {
+            shift_reduce: (shift_reduce, wanted.0),
+            reduce_reduce: (reduce_reduce, wanted.1),
         }
     }
 
     /// The exit status: 1 where there are conflicts.
     pub fn status(self) -> u8 {
         match self {
-            Verdict::Conflicts { .. } => 1,
+            Verdict::Conflicts { .. } | Verdict::Unexpected { .. } => 1,
             _ => 0,
         }
     }
@@ -94,32 +150,58 @@ impl fmt::Display for Count {
     }
 }
 
+/// Adds the numbers of conflicts of both kinds, without one that is 0.
+fn write_counts<W: fmt::Write>(
+    f: &mut fmt::Formatter<W>,
+    shift_reduce: usize,
+    reduce_reduce: usize,
+) -> fmt::Result {
+    let shifts = Count {
+        number: shift_reduce,
+        kind: "shift/reduce",
+    };
+    let reductions = Count {
+        number: reduce_reduce,
+        kind: "reduce/reduce",
+    };
+    match (shift_reduce, reduce_reduce) {
+        (_, 0) => write!(f, "{shifts}"),
+        (0, _) => write!(f, "{reductions}"),
+        _ => write!(f, "{shifts}, {reductions}"),
+    }
+}
+
 impl fmt::Display for Verdict {
     fn fmt<W: fmt::Write>(&self, f: &mut fmt::Formatter<W>) -> fmt::Result {
-        let (shift_reduce, reduce_reduce) = match *self {
-            Verdict::Unambiguous => {
-                return f.write_str("unambiguous (proved): no text has two trees");
-            }
-            Verdict::NoConflicts => {
-                return f.write_str("no conflicts; precedences may have settled some");
-            }
+        match *self {
+            Verdict::Unambiguous => f.write_str("unambiguous (proved): no text has two trees"),
+            Verdict::NoConflicts => f.write_str("no conflicts; precedences may have settled some"),
             Verdict::Conflicts {
                 shift_reduce,
                 reduce_reduce,
-            } => (shift_reduce, reduce_reduce),
-        };
-        let shifts = Count {
-            number: shift_reduce,
-            kind: "shift/reduce",
-        };
-        let reductions = Count {
-            number: reduce_reduce,
-            kind: "reduce/reduce",
-        };
-        match (shift_reduce, reduce_reduce) {
-            (_, 0) => write!(f, "{shifts}"),
-            (0, _) => write!(f, "{reductions}"),
-            _ => write!(f, "{shifts}, {reductions}"),
+            } => write_counts(f, shift_reduce, reduce_reduce),
+            Verdict::Expected {
+                shift_reduce,
+                reduce_reduce,
+            } => {
+                f.write_str("as expected: ")?;
+                write_counts(f, shift_reduce, reduce_reduce)
+            }
+            Verdict::Unexpected {
+                shift_reduce,
+                reduce_reduce,
+            } => {
+                write_counts(f, shift_reduce.0, reduce_reduce.0)?;
+                let (shifts, reductions) = (shift_reduce.1, reduce_reduce.1);
+                match (shifts, reductions) {
+                    (_, 0) => write!(f, "; {shifts} shift/reduce expected"),
+                    (0, _) => write!(f, "; {reductions} reduce/reduce expected"),
+                    _ => write!(
+                        f,
+                        "; {shifts} shift/reduce and {reductions} reduce/reduce expected"
+                    ),
+                }
+            }
         }
     }
 }

@@ -78,6 +78,14 @@ pub enum FaultKind {
     LargeNumber,
     /// The file is too large for what reads it.
     TooLarge,
+    /// Only warned of: the rule is not reached, or derives no text.
+    UselessRule,
+    /// Only warned of: the production derives no text.
+    UselessProduction,
+    /// Only warned of: no declaration and no body names the token behind `%prec`.
+    UnknownPrecedence,
+    /// Only warned of: the symbol or the text has another name already.
+    SecondName,
 }
 
 /// What should stand at a place.
@@ -171,6 +179,10 @@ impl fmt::Display for FaultKind {
             FaultKind::StartIsUnproductive => "the start rule derives no text",
             FaultKind::LargeNumber => "the number is too large",
             FaultKind::TooLarge => "the file is too large",
+            FaultKind::UselessRule => "this rule is never reached, or derives no text",
+            FaultKind::UselessProduction => "this derives no text",
+            FaultKind::UnknownPrecedence => "nothing else names this token",
+            FaultKind::SecondName => "this is no name of the symbol, since one of them has another",
         };
         f.write_str(words)
     }

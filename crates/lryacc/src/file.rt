@@ -2,20 +2,20 @@
 
 use crate::contents::Contents;
 use crate::faults::{Fault, FaultKind};
-use crate::meaning::Meaning;
+use crate::meaning::{Expected, Meaning};
 use crate::numbering::{FileGrammar, file_grammar};
 use crate::places::Span;
 use crate::reader::Reader;
 use crate::scanner::lexemes;
-use crate::useful::{Useless, without_useless};
+use crate::useful::without_useless;
 use std::alloc::{AllocError, Global};
 use std::collections::BTreeMap;
 
 /// What a file comes to.
 #[derive(Debug, Drop)]
 pub enum FileRead {
-    /// Its grammar, and what of the file is not in it, since it is not reached or derives no text.
-    Grammar(FileGrammar, Useless),
+    /// Its grammar, without what is not reached or derives no text; how many conflicts it expects, and what it is warned of.
+    Grammar(FileGrammar, Expected, Vec<Fault>),
     /// What is wrong with it: at least one fault.
     Faults(Vec<Fault>),
 }
@@ -71,7 +71,27 @@ pub fn read_file(alloc: Global, text: &[u8]) -> Result<FileRead, AllocError> {
     if grammar.parts.prods.is_empty() {
         return Ok(FileRead::Faults(unproductive_start(alloc, &meaning, &contents)?));
     }
-    Ok(FileRead::Grammar(grammar, useless))
+    let mut warnings = meaning.warnings;
+    warn_of(
+        &mut warnings,
+        FaultKind::UselessRule,
+        useless.rules.as_slice(),
+    )?;
+    warn_of(
+        &mut warnings,
+        FaultKind::UselessProduction,
+        useless.productions.as_slice(),
+    )?;
+    let warnings = in_order(alloc, warnings.as_slice())?;
+    Ok(FileRead::Grammar(grammar, meaning.expected, warnings))
+}
+
+/// Adds a warning for each of the places.
+fn warn_of(warnings: &mut Vec<Fault>, kind: FaultKind, places: &[Span]) -> Result<(), AllocError> {
+    for span in places {
+        warnings.push(Fault { kind, span: *span })?;
+    }
+    Ok(())
 }
 
 /// The fault that the start rule derives no text.

@@ -22,6 +22,6 @@ mod useful;
 
 pub use crate::faults::{Fault, FaultKind, Wanted};
 pub use crate::file::{FileRead, read_file};
+pub use crate::meaning::Expected;
 pub use crate::numbering::FileGrammar;
 pub use crate::places::Span;
-pub use crate::useful::Useless;

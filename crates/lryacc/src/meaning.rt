@@ -9,6 +9,15 @@ use crate::symbols::{Class, Symbols};
 use std::alloc::{AllocError, Global};
 use std::collections::BTreeMap;
 
+/// How many conflicts a file expects, where it says so.
+#[derive(Clone, Copy, Debug, Default, PartialEq, Eq)]
+pub struct Expected {
+    /// By `%expect`.
+    pub shift_reduce: Option<u64>,
+    /// By `%expect-rr`.
+    pub reduce_reduce: Option<u64>,
+}
+
 /// What is known of the symbols of a file so far.
 #[derive(Drop)]
 pub(crate) struct Meaning<'a> {
@@ -23,7 +32,10 @@ pub(crate) struct Meaning<'a> {
     codes: BTreeMap<u64, usize>,
     /// Whether productions without `%prec` have the precedence of their last token.
     pub(crate) has_default_precedence: bool,
+    /// How many conflicts are expected.
+    pub(crate) expected: Expected,
     pub(crate) faults: Vec<Fault>,
+    pub(crate) warnings: Vec<Fault>,
 }
 
 impl<'a> Meaning<'a> {
@@ -36,13 +48,21 @@ impl<'a> Meaning<'a> {
             end: None,
             codes: BTreeMap::new(alloc),
             has_default_precedence: true,
+            expected: Expected::default(),
             faults,
+            warnings: Vec::new(alloc),
         }
     }
 
     /// Tells a fault.
     fn tell(&mut self, kind: FaultKind, span: Span) -> Result<(), AllocError> {
         self.faults.push(Fault { kind, span })?;
+        Ok(())
+    }
+
+    /// Warns of something.
+    fn warn(&mut self, kind: FaultKind, span: Span) -> Result<(), AllocError> {
+        self.warnings.push(Fault { kind, span })?;
         Ok(())
     }
 
@@ -92,9 +112,23 @@ impl<'a> Meaning<'a> {
                 self.starts.push(symbol)?;
             }
             Statement::DefaultPrecedence(is_on) => self.has_default_precedence = is_on,
-            Statement::ExpectShiftReduce(_) | Statement::ExpectReduceReduce(_) => {}
+            Statement::ExpectShiftReduce(number) => {
+                self.expected.shift_reduce = self.number(number)?;
+            }
+            Statement::ExpectReduceReduce(number) => {
+                self.expected.reduce_reduce = self.number(number)?;
+            }
         }
         Ok(())
+    }
+
+    /// The number that a lexeme is; None where it is too large, which is told.
+    fn number(&mut self, number: Lexeme) -> Result<Option<u64>, AllocError> {
+        let value = value_of(self.symbols.bytes(number));
+        if value.is_none() {
+            self.tell(FaultKind::LargeNumber, number.span)?;
+        }
+        Ok(value)
     }
 
     /// Takes in that a symbol is declared a token.
@@ -120,8 +154,8 @@ impl<'a> Meaning<'a> {
     /// Takes in the number of a token.
     fn take_code(&mut self, lexeme: Lexeme, number: Lexeme) -> Result<(), AllocError> {
         let symbol = self.symbols.named(lexeme)?;
-        let Some(code) = value_of(self.symbols.bytes(number)) else {
-            return self.tell(FaultKind::LargeNumber, number.span);
+        let Some(code) = self.number(number)? else {
+            return Ok(());
         };
         if self.class(symbol) == Class::Rule {
             return self.tell(FaultKind::CodeOfRule, number.span);
@@ -163,8 +197,12 @@ impl<'a> Meaning<'a> {
             let class = self.class(one);
             self.set_partner(one, other, class);
             self.set_partner(other, one, class);
+            return Ok(());
         }
-        Ok(())
+        if self.partner(one) == Some(other) {
+            return Ok(());
+        }
+        self.warn(FaultKind::SecondName, text.span)
     }
 
     /// The symbol that is the other name of a symbol.
@@ -258,6 +296,34 @@ impl<'a> Meaning<'a> {
         Ok(())
     }
 
+    /// Warns of tokens that stand behind `%prec` and nowhere else.
+    fn warn_of_precedences(&mut self, alternatives: &[Alternative]) -> Result<(), AllocError> {
+        for alternative in alternatives {
+            if let Some(token) = alternative.precedence {
+                if !self.is_known(token) {
+                    self.warn(FaultKind::UnknownPrecedence, token.span)?;
+                }
+            }
+        }
+        Ok(())
+    }
+
+    /// Whether a declaration or a body names a token.
+    fn is_known(&self, token: Lexeme) -> bool {
+        let Some(number) = self.symbols.find(token) else {
+            return false;
+        };
+        match self.symbols.list.get(number) {
+            Some(symbol) => {
+                symbol.declared.is_some()
+                    || symbol.level.is_some()
+                    || symbol.partner.is_some()
+                    || symbol.is_used
+            }
+            None => false,
+        }
+    }
+
     /// Tells which symbols are nothing, though bodies have them.
     fn tell_undefined(&mut self) -> Result<(), AllocError> {
         for number in 0..self.symbols.list.len() {
@@ -296,6 +362,7 @@ impl<'a> Meaning<'a> {
         self.take_statements(contents.statements.as_slice())?;
         self.take_rules(contents.alternatives.as_slice())?;
         self.take_bodies(contents.alternatives.as_slice())?;
+        self.warn_of_precedences(contents.alternatives.as_slice())?;
         self.tell_levels()?;
         self.tell_undefined()?;
         self.tell_starts()?;

@@ -191,11 +191,11 @@ fn find_rules(search: &mut Search, symbols: &[PartSymbol]) -> Result<(), AllocEr
 
 /// What was taken out of a grammar.
 #[derive(Debug, Drop)]
-pub struct Useless {
+pub(crate) struct Useless {
     /// Where the rules are named that are not reached, or derive no text.
-    pub rules: Vec<Span>,
-    /// Where the other productions stand that are not reached, or derive no text.
-    pub productions: Vec<Span>,
+    pub(crate) rules: Vec<Span>,
+    /// Where the other productions stand that derive no text.
+    pub(crate) productions: Vec<Span>,
 }
 
 /// The new number of each rule that stays.

@@ -1,0 +1,3 @@
+%expect 3
+%%
+s: 'i' s | 'i' s 'e' s | 'x';

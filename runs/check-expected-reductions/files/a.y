@@ -1,0 +1,5 @@
+%expect-rr 1
+%%
+s: a 'x' | b 'x';
+a: 'c';
+b: 'c';

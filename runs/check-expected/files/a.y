@@ -1,0 +1,3 @@
+%expect 1
+%%
+s: 'i' s | 'i' s 'e' s | 'x';
