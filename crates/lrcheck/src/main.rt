@@ -2,7 +2,7 @@
 #![tactic(auto)]
 
 use clap::{Arg, ArgAction, Command, value_parser};
-use lrreport::{Options, report_on};
+use lrreport::{Options, Output, report_on};
 use std::alloc::{AllocError, Global};
 use std::io::{self, Read, Write};
 use std::process::ExitCode;
@@ -121,8 +121,16 @@ fn act(rt: &HostRuntime, words: &[String]) -> Result<ExitCode, Stop> {
         }
     };
     let options = Options {
-        is_summary: matches.get_flag("summary"),
+        output: if matches.get_flag("summary") {
+            Output::Summary
+        } else {
+            Output::Report
+        },
         tells_all: matches.get_flag("all"),
+        tells_settled: false,
+        ignores_precedences: false,
+        is_plain: false,
+        has_colours: false,
         expected: matches.get_one::<u64>("expect"),
     };
     let names: &[&str] = matches.get_strs("FILE").unwrap_or(&[]);

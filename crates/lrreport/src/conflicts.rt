@@ -1,92 +1,53 @@
-//! The conflicts of a table, each with the places of the productions that meet in it.
+//! Conflicts, each with the places of the productions that meet in it.
+
+ghost use Rattle.std.specs.Prelude.{◌≡◌, List, IfOk};
 
 use crate::diagnostics::{Mark, push_placed};
 use crate::sources::Source;
-use crate::ties::Tie;
-use lrgrammar::grammar::{PartSymbol, YaccGrammar};
-use lrgrammar::idx::{PIdx, SIdx, StIdx, TIdx};
-use lrtable::StateGraph;
-use lrtable::statetable::Conflicts;
+use lrfindings::{Entry, Findings};
+use lrgrammar::grammar::PartSymbol;
+use lrgrammar::idx::{IndexStorage, StIdx};
 use lryacc::{FileGrammar, Span};
 use std::alloc::{AllocError, Global};
-use std::collections::BTreeMap;
 
 /// How many productions are told that go on by a shift.
 const GOING_ON: usize = 3;
 
-/// A grammar that was read from a file, with its graph.
+/// A file's grammar, with what was found in it.
 #[derive(Clone, Copy)]
-pub(crate) struct Checked<'a> {
+pub(crate) struct Checked<'a, T: IndexStorage> {
     pub(crate) source: &'a Source<'a>,
     pub(crate) file: &'a FileGrammar,
-    pub(crate) grm: &'a YaccGrammar<u32>,
-    pub(crate) graph: &'a StateGraph<u32>,
-    /// What `%precedence` lines leave open.
-    pub(crate) ties: &'a [Tie],
+    pub(crate) found: &'a Findings<T>,
 }
 
-/// What meets in a state; in the order of the file.
-#[derive(Clone, Copy, PartialEq, Eq, PartialOrd, Ord)]
-struct Meeting {
-    /// Where the production stands by which the state reduces.
-    place: usize,
-    state: StIdx<u32>,
-    /// By which the state reduces.
-    prod: PIdx<u32>,
-    /// By which it could reduce as well; None where it could shift.
-    other: Option<PIdx<u32>>,
-}
-
-/// The tokens at which the same meets in the same state.
-type Groups = BTreeMap<Meeting, Vec<TIdx<u32>>>;
-
-/// Adds a token to those of its group.
-fn add_to_group(
-    alloc: Global,
-    groups: &mut Groups,
-    meeting: Meeting,
-    token: TIdx<u32>,
-) -> Result<(), AllocError> {
-    if let Some(tokens) = groups.get_mut(&meeting) {
-        tokens.push(token)?;
-        return Ok(());
-    }
-    let tokens = vec![in alloc; token]?;
-    groups.insert(meeting, tokens)?;
-    Ok(())
-}
-
-impl<'a> Checked<'a> {
+impl<'a, T: IndexStorage> Checked<'a, T> {
     /// Where the body of a production stands.
-    fn place(&self, prod: PIdx<u32>) -> Span {
-        let place = self.file.production_places.get(usize::from(prod));
+    fn place(&self, production: usize) -> Span {
+        let place = self.file.production_places.get(production);
         place.copied().unwrap_or(Span::new(0, 0))
     }
 
-    /// How many productions are those of `$accept`, which come first.
-    fn starts(&self) -> usize {
-        let mut count: usize = 0;
-        for prod in &self.file.parts.prods {
-            if prod.rule != 0 {
-                return count;
-            }
-            count = count.saturating_add(1);
+    /// Whether a production is one of `$accept`.
+    fn is_start(&self, production: usize) -> bool {
+        match self.file.parts.prods.get(production) {
+            Some(prod) => prod.rule == 0,
+            None => false,
         }
-        count
     }
 
     /// The name of a token.
-    fn token_name(&self, token: TIdx<u32>) -> &'a str {
-        if usize::from(token) >= usize::from(self.grm.tokens_len()) {
-            return "$end";
+    pub(crate) fn token_name(&self, token: usize) -> &'a str {
+        match self.file.parts.tokens.get(token) {
+            Some(token) => token.name.as_str(),
+            None => "$end",
         }
-        self.grm.token_name(token).unwrap_or("$end")
     }
 
     /// The name of the rule of a production.
-    fn rule_name(&self, prod: PIdx<u32>) -> &'a str {
+    pub(crate) fn rule_name(&self, production: usize) -> &'a str {
         let file = self.file;
-        let Some(prod) = file.parts.prods.get(usize::from(prod)) else {
+        let Some(prod) = file.parts.prods.get(production) else {
             return "";
         };
         match file.parts.rules.get(prod.rule) {
@@ -95,105 +56,76 @@ impl<'a> Checked<'a> {
         }
     }
 
-    /// The place of the symbol behind the dot of an item, where it is one of the tokens.
-    fn shifted_at(&self, prod: PIdx<u32>, dot: SIdx<u32>, tokens: &[TIdx<u32>]) -> Option<Span> {
-        let (number, dot) = (usize::from(prod), usize::from(dot));
-        let symbol = *self.file.parts.prods.get(number)?.symbols.get(dot)?;
-        for token in tokens {
-            if symbol == PartSymbol::Token(usize::from(*token)) {
-                return self.file.symbol_places.get(number)?.get(dot).copied();
-            }
-        }
-        None
+    /// Whether the symbol behind the dot of an item is the token of one of the entries.
+    fn is_shifted(&self, production: usize, dot: usize, entries: &[Entry]) -> bool {
+        let Some(prod) = self.file.parts.prods.get(production) else {
+            return false;
+        };
+        let Some(PartSymbol::Token(token)) = prod.symbols.get(dot) else {
+            return false;
+        };
+        entries.iter().any(|entry| entry.token == *token)
     }
 
-    /// The names of tokens, parted by commas.
-    fn names(&self, alloc: Global, tokens: &[TIdx<u32>]) -> Result<String, AllocError> {
+    /// Where the symbol behind the dot of an item stands.
+    fn symbol_place(&self, production: usize, dot: usize) -> Span {
+        let places = self.file.symbol_places.get(production);
+        match places.and_then(|places| places.get(dot).copied()) {
+            Some(place) => place,
+            None => self.place(production),
+        }
+    }
+
+    /// The names of the tokens of entries, parted by commas.
+    fn names(&self, alloc: Global, entries: &[Entry]) -> Result<String, AllocError> {
         let mut text = String::new(alloc);
-        for token in tokens {
+        for entry in entries {
             if !text.is_empty() {
                 text.push_str(", ")?;
             }
-            text.push_str(self.token_name(*token))?;
+            text.push_str(self.token_name(entry.token))?;
         }
         Ok(text)
     }
 
-    /// The conflicts in groups.
-    fn groups(
+    /// The items of a state, as production and dot, in which it goes on by the token of one of the entries.
+    pub(crate) fn shifting_items(
         &self,
         alloc: Global,
-        conflicts: Option<&Conflicts<u32>>,
-    ) -> Result<Groups, AllocError> {
-        let mut groups = BTreeMap::new(alloc);
-        for (token, prod, state) in self.ties {
-            add_to_group(alloc, &mut groups, self.shift(*prod, *state), *token)?;
+        state: usize,
+        entries: &[Entry],
+    ) -> Result<Vec<(usize, usize)>, AllocError> {
+        let mut list = Vec::new(alloc);
+        let graph = &self.found.graph;
+        let Some(number) = T::from_usize(state) else {
+            return Ok(list);
+        };
+        if state >= usize::from(graph.all_states_len()) {
+            return Ok(list);
         }
-        if let Some(conflicts) = conflicts {
-            self.add_shifts(alloc, &mut groups, conflicts)?;
-            self.add_reductions(alloc, &mut groups, conflicts)?;
+        for key in graph.closed_state(StIdx(number)).items.keys() {
+            let (production, dot) = (usize::from(key.0), usize::from(key.1));
+            if self.is_shifted(production, dot, entries) {
+                list.push((production, dot))?;
+            }
         }
-        Ok(groups)
+        Ok(list)
     }
 
-    /// A production by which a state reduces, and a shift.
-    fn shift(&self, prod: PIdx<u32>, state: StIdx<u32>) -> Meeting {
-        Meeting {
-            place: self.place(prod).start,
-            state,
-            prod,
-            other: None,
-        }
-    }
-
-    /// Adds the conflicts with shifts.
-    fn add_shifts(
-        &self,
-        alloc: Global,
-        groups: &mut Groups,
-        conflicts: &Conflicts<u32>,
-    ) -> Result<(), AllocError> {
-        for (token, prod, state) in conflicts.sr_conflicts() {
-            add_to_group(alloc, groups, self.shift(*prod, *state), *token)?;
-        }
-        Ok(())
-    }
-
-    /// Adds the conflicts between reductions.
-    fn add_reductions(
-        &self,
-        alloc: Global,
-        groups: &mut Groups,
-        conflicts: &Conflicts<u32>,
-    ) -> Result<(), AllocError> {
-        for (token, prod, other, state) in conflicts.rr_conflicts() {
-            let meeting = Meeting {
-                place: self.place(*prod).start,
-                state: *state,
-                prod: *prod,
-                other: Some(*other),
-            };
-            add_to_group(alloc, groups, meeting, *token)?;
-        }
-        Ok(())
-    }
-
-    /// Adds a conflict.
-    fn push_meeting(
-        &self,
-        text: &mut String,
-        meeting: Meeting,
-        tokens: &[TIdx<u32>],
-    ) -> Result<(), AllocError> {
-        let names = self.names(*text.allocator(), tokens)?;
-        let kinds = match meeting.other {
+    /// Adds a conflict: entries at which the same meets in the same state.
+    fn push_meeting(&self, text: &mut String, entries: &[Entry]) -> Result<(), AllocError> {
+        let Some(first) = entries.first() else {
+            return Ok(());
+        };
+        let names = self.names(*text.allocator(), entries)?;
+        let kinds = match first.other {
             Some(_) => "reduce or reduce",
             None => "shift or reduce",
         };
         write!(text, "conflict: {kinds} at {names}\n")?;
-        let marks = match meeting.other {
-            Some(other) => self.marks_of_reductions(*text.allocator(), meeting.prod, other)?,
-            None => self.marks_of_shifts(*text.allocator(), meeting, tokens)?,
+        let marks = match first.other {
+            Some(other) => self.marks_of_reductions(*text.allocator(), first.production, other)?,
+            None => self.marks_of_shifts(*text.allocator(), *first, entries)?,
         };
         push_placed(text, self.source, marks.as_slice())?;
         text.push('\n')
@@ -203,12 +135,12 @@ impl<'a> Checked<'a> {
     fn marks_of_reductions(
         &self,
         alloc: Global,
-        prod: PIdx<u32>,
-        other: PIdx<u32>,
+        production: usize,
+        other: usize,
     ) -> Result<Vec<Mark>, AllocError> {
-        let (one, two) = (self.rule_name(prod), self.rule_name(other));
+        let (one, two) = (self.rule_name(production), self.rule_name(other));
         let taken = Mark {
-            span: self.place(prod),
+            span: self.place(production),
             mark: '^',
             label: format!(in alloc; "reduce: {one} can end here; the table does this")?,
         };
@@ -224,54 +156,57 @@ impl<'a> Checked<'a> {
     fn marks_of_shifts(
         &self,
         alloc: Global,
-        meeting: Meeting,
-        tokens: &[TIdx<u32>],
+        first: Entry,
+        entries: &[Entry],
     ) -> Result<Vec<Mark>, AllocError> {
-        let rule = self.rule_name(meeting.prod);
+        let rule = self.rule_name(first.production);
         let mut marks = Vec::new(alloc);
         marks.push(Mark {
-            span: self.place(meeting.prod),
+            span: self.place(first.production),
             mark: '^',
             label: format!(in alloc; "reduce: {rule} can end here")?,
         })?;
-        if usize::from(meeting.state) >= usize::from(self.graph.all_states_len()) {
-            return Ok(marks);
-        }
-        for (prod, dot) in self.graph.closed_state(meeting.state).items.keys() {
-            if marks.len() > GOING_ON {
-                break;
-            }
-            if let Some(span) = self.shifted_at(*prod, *dot, tokens) {
-                let label = match (marks.len(), usize::from(*prod) < self.starts()) {
-                    (1, false) => "shift: or go on; the table does this",
-                    (1, true) => "shift: or the text ends here; the table does this",
-                    _ => "or go on here",
-                };
-                marks.push(Mark {
-                    span,
-                    mark: '-',
-                    label: String::from_str(alloc, label)?,
-                })?;
-            }
+        let items = self.shifting_items(alloc, first.state, entries)?;
+        for (production, dot) in items.iter().take(GOING_ON) {
+            let label = match (marks.len(), self.is_start(*production)) {
+                (1, false) => "shift: or go on; the table does this",
+                (1, true) => "shift: or the text ends here; the table does this",
+                _ => "or go on here",
+            };
+            marks.push(Mark {
+                span: self.symbol_place(*production, *dot),
+                mark: '-',
+                label: String::from_str(alloc, label)?,
+            })?;
         }
         Ok(marks)
     }
 
     /// Adds the conflicts: the first ones, so many at the most, and how many there are besides.
-    pub(crate) fn push_conflicts(
-        &self,
-        text: &mut String,
-        conflicts: Option<&Conflicts<u32>>,
-        most: usize,
-    ) -> Result<(), AllocError> {
-        let groups = self.groups(*text.allocator(), conflicts)?;
-        for (meeting, tokens) in groups.iter().take(most) {
-            self.push_meeting(text, *meeting, tokens.as_slice())?;
+    pub(crate) fn push_conflicts(&self, text: &mut String, most: usize) -> Result<(), AllocError> {
+        let entries = self.left_open(*text.allocator())?;
+        let mut told: usize = 0;
+        for meeting in entries
+            .as_slice()
+            .chunk_by(|one, other| one.meets_like(other))
+        {
+            if told < most {
+                self.push_meeting(text, meeting)?;
+            }
+            told = told.saturating_add(1);
         }
-        let more = groups.len().saturating_sub(most);
+        let more = told.saturating_sub(most);
         if more > 0 {
             write!(text, "and {more} more, which --all shows\n\n")?;
         }
         Ok(())
+    }
+
+    /// The conflicts of the table and what `%precedence` lines leave open, in the order of the file.
+    fn left_open(&self, alloc: Global) -> Result<Vec<Entry>, AllocError> {
+        let mut entries = Vec::from_slice(alloc, self.found.conflicts.as_slice())?;
+        entries.extend_from_slice(self.found.ties.as_slice())?;
+        entries.sort_unstable();
+        Ok(entries)
     }
 }

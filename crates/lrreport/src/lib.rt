@@ -1,12 +1,11 @@
-//! What there is to tell of a grammar file: its faults, and the verdict of its grammar.
+//! What there is to tell of a grammar file: its faults, or the conflicts and the verdict of its grammar.
 #![tactic(auto)]
 
 mod conflicts;
 mod diagnostics;
+mod options;
 mod reports;
 mod sources;
-mod ties;
-mod verdicts;
 
-pub use crate::reports::{Options, Report, report_on};
-pub use crate::verdicts::Verdict;
+pub use crate::options::{Options, Output};
+pub use crate::reports::{Report, report_on};

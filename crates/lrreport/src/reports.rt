@@ -2,14 +2,12 @@
 
 use crate::conflicts::Checked;
 use crate::diagnostics::push_faults;
+use crate::options::{Options, Output};
 use crate::sources::Source;
-use crate::ties::ties_of;
-use crate::verdicts::checked;
-use lrgrammar::grammar::YaccGrammar;
-use lrtable::BuildError;
+use lrfindings::{FindError, Findings, find, small_text};
+use lrgrammar::idx::IndexStorage;
 use lryacc::{Expected, Fault, FileGrammar, FileRead, read_file};
 use std::alloc::{AllocError, Global};
-use std::fmt;
 
 /// What is told of a file.
 #[derive(Debug, Drop)]
@@ -20,29 +18,17 @@ pub struct Report {
     pub status: u8,
 }
 
-/// How a report is made.
-#[derive(Clone, Copy, Debug, Default, PartialEq, Eq)]
-pub struct Options {
-    /// Whether of a grammar the verdict alone is told.
-    pub is_summary: bool,
-    /// Whether all conflicts are told one by one, and not the first ones.
-    pub tells_all: bool,
-    /// How many shift/reduce conflicts are expected, whatever the file says.
-    pub expected: Option<u64>,
-}
-
-impl Options {
-    /// How many conflicts are expected of a file that says so.
-    fn beside(self, file: Expected) -> Expected {
-        Expected {
-            shift_reduce: self.expected.or(file.shift_reduce),
-            reduce_reduce: file.reduce_reduce,
-        }
-    }
-}
-
 /// How many conflicts of a file are told one by one.
 const TOLD: usize = 20;
+
+/// A file that was read as a grammar.
+#[derive(Clone, Copy)]
+struct Read<'a> {
+    source: &'a Source<'a>,
+    file: &'a FileGrammar,
+    expected: Expected,
+    warnings: &'a [Fault],
+}
 
 /// The report on the faults of a file.
 fn report_on_faults(
@@ -56,58 +42,69 @@ fn report_on_faults(
 }
 
 /// The report on a grammar that can't be checked.
-fn report_on_refusal(
+fn report_on_refusal(alloc: Global, name: &str, why: FindError) -> Result<Report, AllocError> {
+    match why {
+        FindError::Memory => Err(AllocError),
+        why => Ok(Report {
+            text: format!(in alloc; "{name}: error: {why}\n")?,
+            status: 2,
+        }),
+    }
+}
+
+/// The report on what was found in the grammar of a file.
+fn report_on_findings<T: IndexStorage>(
     alloc: Global,
-    name: &str,
-    why: impl fmt::Display + Drop,
+    read: Read<'_>,
+    found: &Findings<T>,
+    options: Options,
 ) -> Result<Report, AllocError> {
+    let verdict = found.verdict.beside(options.beside(read.expected));
+    let checked = Checked {
+        source: read.source,
+        file: read.file,
+        found,
+    };
+    let mut text = String::new(alloc);
+    if options.output == Output::Report {
+        push_faults(&mut text, read.source, read.warnings, "warning")?;
+        let most = if options.tells_all { usize::MAX } else { TOLD };
+        checked.push_conflicts(&mut text, most)?;
+    }
+    let name = read.source.name;
+    write!(text, "{name}: {verdict}")?;
+    let settled = found.settled.len();
+    if settled > 0 {
+        write!(text, "; precedences settle {settled}")?;
+    }
+    text.push('\n')?;
     Ok(Report {
-        text: format!(in alloc; "{name}: error: {why}\n")?,
-        status: 2,
+        text,
+        status: verdict.status(),
     })
 }
 
-/// The report on the grammar of a file.
+/// The report on a file that was read as a grammar.
 fn report_on_grammar(
     alloc: Global,
-    source: &Source<'_>,
-    file: &FileGrammar,
-    expected: Expected,
-    warnings: &[Fault],
+    read: Read<'_>,
     options: Options,
 ) -> Result<Report, AllocError> {
-    let grm = match YaccGrammar::<u32>::from_parts(alloc, &file.parts) {
-        Ok(grm) => grm,
-        Err(error) => return report_on_refusal(alloc, source.name, error),
-    };
-    let name = source.name;
-    match checked(&grm) {
-        Ok((graph, table, verdict)) => {
-            let ties = ties_of(alloc, &grm, &graph)?;
-            let verdict = verdict
-                .with_ties(ties.len())
-                .beside(options.beside(expected));
-            let checked = Checked {
-                source,
-                file,
-                grm: &grm,
-                graph: &graph,
-                ties: ties.as_slice(),
-            };
-            let mut text = String::new(alloc);
-            if !options.is_summary {
-                push_faults(&mut text, source, warnings, "warning")?;
-                let most = if options.tells_all { usize::MAX } else { TOLD };
-                checked.push_conflicts(&mut text, table.conflicts(), most)?;
-            }
-            write!(text, "{name}: {verdict}\n")?;
-            Ok(Report {
-                text,
-                status: verdict.status(),
-            })
-        }
-        Err(BuildError::Memory) => Err(AllocError),
-        Err(error) => report_on_refusal(alloc, name, error),
+    let has_precedences = !options.ignores_precedences;
+    if options.output == Output::Grammar {
+        return Ok(Report {
+            text: small_text(alloc, read.file, has_precedences)?,
+            status: 0,
+        });
+    }
+    match find::<u16>(alloc, read.file, has_precedences) {
+        Ok(found) => return report_on_findings(alloc, read, &found, options),
+        Err(FindError::TooLarge) => {}
+        Err(why) => return report_on_refusal(alloc, read.source.name, why),
+    }
+    match find::<u32>(alloc, read.file, has_precedences) {
+        Ok(found) => report_on_findings(alloc, read, &found, options),
+        Err(why) => report_on_refusal(alloc, read.source.name, why),
     }
 }
 
@@ -121,14 +118,13 @@ pub fn report_on(
     let source = Source::new(alloc, name, bytes)?;
     match read_file(alloc, bytes)? {
         FileRead::Grammar(file, expected, warnings) => {
-            report_on_grammar(
-                alloc,
-                &source,
-                &file,
+            let read = Read {
+                source: &source,
+                file: &file,
                 expected,
-                warnings.as_slice(),
-                options,
-            )
+                warnings: warnings.as_slice(),
+            };
+            report_on_grammar(alloc, read, options)
         }
         FileRead::Faults(faults) => report_on_faults(alloc, &source, faults.as_slice()),
     }

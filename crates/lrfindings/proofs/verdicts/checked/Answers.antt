@@ -1,9 +1,9 @@
-use Rattle.std.proofs.Common.{◌≡◌, true, false, Option, None, Some, sym, ◌∙◌}
+use Rattle.std.proofs.Common.{◌≡◌, false, Option, None, Some, sym, ◌∙◌}
 use Rattle.std.specs.Option.{MatchOption, is_some}
 use Rattle.lrspec.specs.tables.Exactness.{HasNoPrecedences, ListsNothing}
 use Rattle.lrspec.proofs.tables.NoPrecedences.{no_precedences}
 use Rattle.lrspec.proofs.tables.ExactWithoutPrecedences.{recognises_without_precedences}
-use Rattle.lrreport.proofs.verdicts.checked.Goals as goal
+use Rattle.lrfindings.proofs.verdicts.checked.Goals as goal
 
 -- what holds where there is none
 at_none : {X : Type 0} (o : Option X) (P : Type 0) (Q : X → Type 0) → is_some o ≡ false → MatchOption o P Q → P

@@ -1,0 +1,36 @@
+-- entries that were added to a list, and sorted
+use Rattle.std.proofs.Common.{◌≡◌, ℕ, List, ◌++◌, map, refl}
+use Rattle.std.proofs.lemmas.Simd.{map-map}
+use Rattle.std.proofs.lemmas.List.Sorted.{IsPermutation-map}
+use Rattle.std.proofs.lemmas.List.{append_assoc}
+use Rattle.std.specs.List.Sorted.{IsPermutation}
+use Rattle.lrgrammar.specs.declared.idx.PIdx.{PIdx}
+use Rattle.lrgrammar.specs.declared.idx.StIdx.{StIdx}
+use Rattle.lrgrammar.specs.declared.idx.TIdx.{TIdx}
+use Rattle.lrspec.specs.tables.Table.{Lists}
+use Rattle.lrrows.specs.StoredLists.{mix_of, mixes_of, pair_of, pairs_of}
+use Rattle.lrfindings.specs.declared.conflicts.Entry.{Entry}
+use Rattle.lrfindings.specs.Listed.{Listing, told, listed, shift_listing, reduction_listing}
+
+-- those of the first list, and then those of the second, are those of both
+pub both_added :
+    {T : Type 0} (number : T → ℕ) (k : Lists) (ms : List (TIdx T × PIdx T × StIdx T)) (ps : List (TIdx T × PIdx T × PIdx T × StIdx T))
+    (old mid new : List Listing)
+    → mixes_of number ms ≡ k.shift_reduce → pairs_of number ps ≡ k.reduce_reduce
+    → mid ≡ old ++ map (λ c. shift_listing (mix_of number c)) ms
+    → new ≡ mid ++ map (λ c. reduction_listing (pair_of number c)) ps
+    → new ≡ old ++ listed k
+both_added number k ms ps old mid new i j e f =
+    rw (
+      f,
+      e,
+      ← i,
+      ← j,
+      map-map shift_listing (mix_of number) ms,
+      map-map reduction_listing (pair_of number) ps,
+      append_assoc old (map (λ c. shift_listing (mix_of number c)) ms) (map (λ c. reduction_listing (pair_of number c)) ps),
+    ) refl
+
+-- entries stay those of a list when they are sorted
+pub sorted_entries : (l : List Listing) (xs ys : List Entry) → map told xs ≡ l → IsPermutation xs ys → IsPermutation l (map told ys)
+sorted_entries l xs ys e p = rw (← e) (IsPermutation-map told xs ys p)

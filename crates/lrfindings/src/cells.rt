@@ -1,0 +1,311 @@
+//! What precedences make of the cells in which a shift and reductions meet.
+//!
+//! A `%precedence` line says which level is higher, and settles nothing between its own tokens. A production whose precedence
+//! would be that of such a line has the odd level below its tokens, whose level is even: so the table shifts, and both are
+//! left.
+
+use crate::conflicts::{Entry, place_of};
+use lrgrammar::grammar::{AssocKind, PartProd, PartSymbol, Precedence};
+use lrgrammar::idx::{IndexStorage, PIdx, SIdx, StIdx, Symbol, TIdx};
+use lrgrammar::vob::Vob;
+use lrtable::StateGraph;
+use lryacc::FileGrammar;
+use std::alloc::{AllocError, Global};
+
+/// What precedences have a table do.
+#[derive(Clone, Copy, Debug, PartialEq, Eq)]
+pub enum Winner {
+    /// The token's level is higher, or its kind is `%right`.
+    Shift,
+    /// The production's level is higher, or its kind is `%left`.
+    Reduce,
+    /// The levels are equal, and their kind is `%nonassoc`: the token is an error.
+    Neither,
+}
+
+/// A shift and a reduction between which precedences decide.
+#[derive(Clone, Copy, Debug, PartialEq, Eq)]
+pub struct Settled {
+    /// What meets.
+    pub entry: Entry,
+    /// What is done.
+    pub winner: Winner,
+}
+
+/// What precedences make of a shift and a reduction.
+#[derive(Clone, Copy, PartialEq, Eq)]
+enum Outcome {
+    /// One wins, or neither.
+    Won(Winner),
+    /// They are of one `%precedence` line.
+    Tie,
+    /// One of them has no precedence.
+    Open,
+}
+
+/// The precedences of a grammar: those of its tokens and of its productions, by their numbers.
+#[derive(Drop)]
+struct Precedences {
+    tokens: Vec<Option<Precedence>>,
+    productions: Vec<Option<Precedence>>,
+    /// The tokens that have one.
+    with: Vec<usize>,
+}
+
+/// The token by which a production has its precedence: the one that it names, or else the last one of its body.
+fn precedence_token(prod: &PartProd) -> Option<usize> {
+    if prod.precedence.is_some() {
+        return prod.precedence;
+    }
+    for symbol in prod.symbols.iter().rev() {
+        if let PartSymbol::Token(token) = symbol {
+            return Some(*token);
+        }
+    }
+    None
+}
+
+impl Precedences {
+    /// Those of a file's grammar.
+    fn new(alloc: Global, file: &FileGrammar) -> Result<Precedences, AllocError> {
+        let mut precedences = Precedences {
+            tokens: Vec::new(alloc),
+            productions: Vec::new(alloc),
+            with: Vec::new(alloc),
+        };
+        precedences.add_tokens(file)?;
+        precedences.add_productions(file)?;
+        Ok(precedences)
+    }
+
+    /// Adds those of the tokens.
+    fn add_tokens(&mut self, file: &FileGrammar) -> Result<(), AllocError> {
+        for number in 0..file.parts.tokens.len() {
+            let precedence = file.parts.tokens[number].precedence;
+            if precedence.is_some() {
+                self.with.push(number)?;
+            }
+            self.tokens.push(precedence)?;
+        }
+        Ok(())
+    }
+
+    /// Adds those of the productions.
+    fn add_productions(&mut self, file: &FileGrammar) -> Result<(), AllocError> {
+        for prod in &file.parts.prods {
+            let precedence = match precedence_token(prod) {
+                Some(token) => self.of_token(token),
+                None => None,
+            };
+            self.productions.push(precedence)?;
+        }
+        Ok(())
+    }
+
+    /// That of a token.
+    fn of_token(&self, token: usize) -> Option<Precedence> {
+        self.tokens.get(token).copied().flatten()
+    }
+
+    /// That of a production.
+    fn of_production(&self, production: usize) -> Option<Precedence> {
+        self.productions.get(production).copied().flatten()
+    }
+
+    /// What they make of the shift of a token and the reduction by a production.
+    fn outcome(&self, token: usize, production: usize) -> Outcome {
+        let (Some(shift), Some(reduce)) = (self.of_token(token), self.of_production(production))
+        else {
+            return Outcome::Open;
+        };
+        if reduce.level % 2 == 1 && reduce.level.checked_add(1) == Some(shift.level) {
+            return Outcome::Tie;
+        }
+        Outcome::Won(if reduce.level < shift.level {
+            Winner::Shift
+        } else if shift.level < reduce.level {
+            Winner::Reduce
+        } else {
+            match shift.kind {
+                AssocKind::Left => Winner::Reduce,
+                AssocKind::Right => Winner::Shift,
+                AssocKind::Nonassoc => Winner::Neither,
+            }
+        })
+    }
+}
+
+/// What is found in the cells of a graph.
+#[derive(Drop)]
+pub(crate) struct Cells {
+    /// What is left of a tie: a shift, and the first of the reductions that are left.
+    pub(crate) ties: Vec<Entry>,
+    pub(crate) settled: Vec<Settled>,
+}
+
+/// A complete item of a state: its production, and the tokens at which the state could reduce by it.
+#[derive(Clone, Copy)]
+struct Reduction<'a> {
+    production: usize,
+    tokens: &'a Vob,
+}
+
+impl Reduction<'_> {
+    /// Whether the state could reduce at the token.
+    fn is_at(&self, token: usize) -> bool {
+        token < self.tokens.len() && self.tokens.get(token)
+    }
+}
+
+/// What is left of a shift and the reductions at a token, tried one after another, each against a shift that still stands.
+/// None where no shift, or no reduction, is left, or no tie is among them.
+fn left_of_tie(
+    precedences: &Precedences,
+    reductions: &[Reduction<'_>],
+    token: usize,
+) -> Option<usize> {
+    let mut left = None;
+    let mut has_tie = false;
+    for reduction in reductions {
+        if reduction.is_at(token) {
+            match precedences.outcome(token, reduction.production) {
+                Outcome::Won(Winner::Shift) => {}
+                Outcome::Won(_) => return None,
+                Outcome::Tie => {
+                    has_tie = true;
+                    left = left.or(Some(reduction.production));
+                }
+                Outcome::Open => left = left.or(Some(reduction.production)),
+            }
+        }
+    }
+    if has_tie { left } else { None }
+}
+
+/// The first of the reductions at a token.
+fn first_at(reductions: &[Reduction<'_>], token: usize) -> Option<usize> {
+    for reduction in reductions {
+        if reduction.is_at(token) {
+            return Some(reduction.production);
+        }
+    }
+    None
+}
+
+/// What is looked at.
+#[derive(Clone, Copy)]
+struct Looked<'a, T: IndexStorage> {
+    file: &'a FileGrammar,
+    graph: &'a StateGraph<T>,
+    precedences: &'a Precedences,
+}
+
+impl<T: IndexStorage> Looked<'_, T> {
+    /// What meets at a token in a state.
+    fn entry(&self, state: StIdx<T>, production: usize, token: usize) -> Entry {
+        Entry {
+            place: place_of(self.file, production),
+            state: usize::from(state),
+            production,
+            other: None,
+            token,
+        }
+    }
+
+    /// Whether the state shifts the token.
+    fn shifts(&self, state: StIdx<T>, token: usize) -> bool {
+        match T::from_usize(token) {
+            Some(token) => self.graph.edge(state, Symbol::Token(TIdx(token))).is_some(),
+            None => false,
+        }
+    }
+
+    /// The complete items of a state, upwards by production, of which the productions of `$accept` are none.
+    fn reductions<'b>(
+        &'b self,
+        alloc: Global,
+        state: StIdx<T>,
+    ) -> Result<Vec<Reduction<'b>>, AllocError> {
+        let mut reductions = Vec::new(alloc);
+        if usize::from(state) >= usize::from(self.graph.all_states_len()) {
+            return Ok(reductions);
+        }
+        for (key, tokens) in &self.graph.closed_state(state).items {
+            let (production, dot) = (usize::from(key.0), usize::from(key.1));
+            if let Some(prod) = self.file.parts.prods.get(production) {
+                if dot == prod.symbols.len() {
+                    reductions.push(Reduction { production, tokens })?;
+                }
+            }
+        }
+        Ok(reductions)
+    }
+
+    /// Adds what precedences make of a cell.
+    fn add_cell(
+        &self,
+        cells: &mut Cells,
+        state: StIdx<T>,
+        reductions: &[Reduction<'_>],
+        token: usize,
+    ) -> Result<(), AllocError> {
+        let Some(first) = first_at(reductions, token) else {
+            return Ok(());
+        };
+        if !self.shifts(state, token) {
+            return Ok(());
+        }
+        let outcome = self.precedences.outcome(token, first);
+        if let Outcome::Won(winner) = outcome {
+            let entry = self.entry(state, first, token);
+            cells.settled.push(Settled { entry, winner })?;
+        }
+        if outcome == Outcome::Open {
+            return Ok(());
+        }
+        if let Some(production) = left_of_tie(self.precedences, reductions, token) {
+            cells.ties.push(self.entry(state, production, token))?;
+        }
+        Ok(())
+    }
+
+    /// Adds what precedences make of the cells of a state.
+    fn add_state(&self, cells: &mut Cells, state: StIdx<T>) -> Result<(), AllocError> {
+        let alloc = *self.file.production_places.allocator();
+        let reductions = self.reductions(alloc, state)?;
+        if reductions.is_empty() {
+            return Ok(());
+        }
+        for token in &self.precedences.with {
+            self.add_cell(cells, state, reductions.as_slice(), *token)?;
+        }
+        Ok(())
+    }
+}
+
+/// What precedences make of the cells of a graph, in the order of the file; nothing where they are not in force.
+pub(crate) fn cells_of<T: IndexStorage>(
+    alloc: Global,
+    file: &FileGrammar,
+    graph: &StateGraph<T>,
+    has_precedences: bool,
+) -> Result<Cells, AllocError> {
+    let mut cells = Cells {
+        ties: Vec::new(alloc),
+        settled: Vec::new(alloc),
+    };
+    let precedences = Precedences::new(alloc, file)?;
+    let looked = Looked {
+        file,
+        graph,
+        precedences: &precedences,
+    };
+    if has_precedences && !precedences.with.is_empty() {
+        for state in graph.iter_stidxs() {
+            looked.add_state(&mut cells, state)?;
+        }
+    }
+    cells.ties.sort_unstable();
+    cells.settled.sort_unstable_by_key(|settled| settled.entry);
+    Ok(cells)
+}

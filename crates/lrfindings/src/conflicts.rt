@@ -1,0 +1,139 @@
+//! The conflicts of a table, in the order of a file.
+
+ghost use Rattle.std.specs.Prelude.{◌≡◌, ◌++◌, map, IfOk, OnOk};
+ghost use Rattle.std.specs.List.Sorted.{IsPermutation};
+ghost use Rattle.lrspec.specs.tables.Table.{lists_of};
+ghost use Rattle.lrfindings.specs.Listed.{told, listed, shift_listing, reduction_listing};
+ghost use Rattle.lrrows.specs.StoredLists.{mix_of, pair_of};
+
+use lrgrammar::idx::{IndexStorage, PIdx, StIdx, TIdx};
+use lrtable::StateTable;
+use lrtable::statetable::Conflicts;
+use lryacc::{FileGrammar, Span};
+use std::alloc::{AllocError, Global};
+
+/// What meets at a token in a state: a production by which the state could reduce, and something else. Entries stand in the
+/// order of the file, by where that production stands, and then by state.
+#[derive(Clone, Copy, Debug, PartialEq, Eq, PartialOrd, Ord)]
+pub struct Entry {
+    /// The byte of the file at which the body of the production begins.
+    pub place: usize,
+    /// The state.
+    pub state: usize,
+    /// The production by which it could reduce.
+    pub production: usize,
+    /// The other production by which it could reduce; None where it could shift.
+    pub other: Option<usize>,
+    /// The token.
+    pub token: usize,
+}
+
+impl Entry {
+    /// Whether the same meets in the same state, perhaps at another token.
+    pub fn meets_like(&self, entry: &Entry) -> bool {
+        self.state == entry.state
+            && self.production == entry.production
+            && self.other == entry.other
+    }
+}
+
+/// Where the body of a production stands.
+pub(crate) fn place_of(file: &FileGrammar, production: usize) -> usize {
+    let place = file.production_places.get(production).copied();
+    place.unwrap_or(Span::new(0, 0)).start
+}
+
+/// The entry of a shift/reduce conflict: token, production and state.
+fn shift_entry<T: IndexStorage>(file: &FileGrammar, conflict: (TIdx<T>, PIdx<T>, StIdx<T>)) -> Entry
+    ensures { told result ≡ shift_listing (mix_of T.number conflict) }
+{
+    let (token, production, state) = conflict;
+    let production = usize::from(production);
+    Entry {
+        place: place_of(file, production),
+        state: usize::from(state),
+        production,
+        other: None,
+        token: usize::from(token),
+    }
+}
+
+/// The entry of a reduce/reduce conflict: token, both productions, and state.
+fn reduction_entry<T: IndexStorage>(
+    file: &FileGrammar,
+    conflict: (TIdx<T>, PIdx<T>, PIdx<T>, StIdx<T>),
+) -> Entry
+    ensures { told result ≡ reduction_listing (pair_of T.number conflict) }
+{
+    let (token, production, other, state) = conflict;
+    let production = usize::from(production);
+    Entry {
+        place: place_of(file, production),
+        state: usize::from(state),
+        production,
+        other: Some(usize::from(other)),
+        token: usize::from(token),
+    }
+}
+
+/// Adds the conflicts with shifts.
+fn push_shifts<T: IndexStorage>(
+    entries: &mut Vec<Entry>,
+    file: &FileGrammar,
+    conflicts: &[(TIdx<T>, PIdx<T>, StIdx<T>)],
+) -> Result<(), AllocError>
+    ensures { OnOk result (map told entries.new.items
+        ≡ map told entries.old.items ++ map (λ c. shift_listing (mix_of T.number c)) conflicts.now) }
+{
+    for conflict in conflicts {
+        entries.push(shift_entry(file, *conflict))?;
+    }
+    Ok(())
+}
+
+/// Adds the conflicts between reductions.
+fn push_reductions<T: IndexStorage>(
+    entries: &mut Vec<Entry>,
+    file: &FileGrammar,
+    conflicts: &[(TIdx<T>, PIdx<T>, PIdx<T>, StIdx<T>)],
+) -> Result<(), AllocError>
+    ensures { OnOk result (map told entries.new.items
+        ≡ map told entries.old.items
+        ++ map (λ c. reduction_listing (pair_of T.number c)) conflicts.now) }
+{
+    for conflict in conflicts {
+        entries.push(reduction_entry(file, *conflict))?;
+    }
+    Ok(())
+}
+
+/// Adds both lists.
+fn push_conflicts<T: IndexStorage>(
+    entries: &mut Vec<Entry>,
+    file: &FileGrammar,
+    conflicts: &Conflicts<T>,
+) -> Result<(), AllocError>
+    ensures { OnOk result (map told entries.new.items
+        ≡ map told entries.old.items ++ listed conflicts.now) }
+{
+    push_shifts(entries, file, conflicts.sr_conflicts().as_slice())?;
+    push_reductions(entries, file, conflicts.rr_conflicts().as_slice())?;
+    Ok(())
+}
+
+/// The entries of both lists of a table, each once.
+pub(crate) fn entries_of<T: IndexStorage>(
+    alloc: Global,
+    file: &FileGrammar,
+    table: &StateTable<T>,
+) -> Result<Vec<Entry>, AllocError>
+    ensures { IfOk result (λ entries.
+        IsPermutation (listed (lists_of table.now)) (map told entries.items)) }
+{
+    let mut entries = Vec::new(alloc);
+    if let Some(conflicts) = table.conflicts() {
+        push_conflicts(&mut entries, file, conflicts)?;
+    }
+    entries.sort_unstable();
+    Ok(entries)
+}

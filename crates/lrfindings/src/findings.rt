@@ -1,0 +1,147 @@
+//! What is found in the grammar of a file.
+
+ghost use Rattle.std.specs.Prelude.{◌≡◌, map, IfOk};
+ghost use Rattle.std.specs.List.Sorted.{IsPermutation};
+ghost use Rattle.std.specs.String.{string_bytes};
+ghost use Rattle.lrspec.specs.merging.Graph.{IsGraphOf};
+ghost use Rattle.lrspec.specs.tables.Recognition.{IsUnambiguous};
+ghost use Rattle.lrspec.specs.tables.Table.{IsTableOf, lists_of};
+ghost use Rattle.lrgrammar.specs.TextErrors.{IsGrammarOf};
+ghost use Rattle.lrfindings.specs.Listed.{told, listed};
+ghost use Rattle.lrfindings.specs.declared.verdicts.Verdict.TheVariants.{Unambiguous};
+
+use crate::cells::{Cells, Settled, cells_of};
+use crate::conflicts::{Entry, entries_of};
+use crate::texts::small_text;
+use crate::verdicts::{Verdict, checked};
+use lrgrammar::grammar::{GrammarError, TextError, YaccGrammar};
+use lrgrammar::idx::IndexStorage;
+use lrtable::{BuildError, StateGraph, StateTable};
+use lryacc::FileGrammar;
+use std::alloc::{AllocError, Global};
+
+/// What is found in the grammar of a small text.
+#[derive(Drop)]
+pub struct Findings<T: IndexStorage> {
+    /// The text, which `lrt` reads.
+    pub text: String,
+    /// Its grammar.
+    pub grm: YaccGrammar<T>,
+    /// The state graph of the grammar.
+    pub graph: StateGraph<T>,
+    /// The table of the graph.
+    pub table: StateTable<T>,
+    /// The conflicts of the table, in the order of the file.
+    pub conflicts: Vec<Entry>,
+    /// The shifts and reductions that tokens of a `%precedence` line leave open, in the order of the file.
+    pub ties: Vec<Entry>,
+    /// What precedences settle, in the order of the file.
+    pub settled: Vec<Settled>,
+    /// The verdict.
+    pub verdict: Verdict,
+}
+
+/// Why nothing is found in the grammar of a file.
+#[derive(Debug, Drop, thiserror::Error)]
+pub enum FindError {
+    /// The grammar, or its graph, is too large for the index type.
+    #[error("the grammar is too large")]
+    TooLarge,
+    /// The grammar is refused.
+    #[error(transparent)]
+    Refused(GrammarError),
+    /// The small text is none, or names something that it doesn't define.
+    #[error("the grammar has no text")]
+    Text,
+    /// A state accepts and reduces at the end of the text, so that there is no table.
+    #[error("a state accepts and reduces at the end of the text")]
+    NoTable,
+    /// Memory was refused.
+    #[error("out of memory")]
+    Memory,
+}
+
+impl From<AllocError> for FindError {
+    fn from(_refused: AllocError) -> FindError {
+        FindError::Memory
+    }
+}
+
+impl From<TextError> for FindError {
+    fn from(error: TextError) -> FindError {
+        match error {
+            TextError::Grammar(
+                GrammarError::TooManyRules
+                | GrammarError::TooManyTokens
+                | GrammarError::TooManyProductions
+                | GrammarError::BodyTooLong,
+            ) => FindError::TooLarge,
+            TextError::Grammar(error) => FindError::Refused(error),
+            TextError::Memory => FindError::Memory,
+            _ => FindError::Text,
+        }
+    }
+}
+
+impl<T: IndexStorage> From<BuildError<T>> for FindError {
+    fn from(error: BuildError<T>) -> FindError {
+        match error {
+            BuildError::Table(_) => FindError::NoTable,
+            BuildError::TooLarge => FindError::TooLarge,
+            BuildError::Memory => FindError::Memory,
+        }
+    }
+}
+
+/// What is found in the grammar of a file, with its precedences or without them.
+fn find_with<T: IndexStorage>(
+    alloc: Global,
+    file: &FileGrammar,
+    has_precedences: bool,
+) -> Result<Findings<T>, FindError>
+    ensures grammar { IfOk result (λ f. IsGrammarOf T.MAX (string_bytes f.text) f.grm) }
+    ensures graph { IfOk result (λ f. IsGraphOf f.grm f.graph) }
+    ensures table { IfOk result (λ f. IsTableOf f.grm f.graph f.table) }
+    ensures conflicts { IfOk result (λ f.
+        IsPermutation (listed (lists_of f.table)) (map told f.conflicts.items)) }
+    ensures unambiguous { IfOk result (λ f. f.verdict ≡ Unambiguous → IsUnambiguous f.grm) }
+{
+    let text = small_text(alloc, file, has_precedences)?;
+    let grm = YaccGrammar::<T>::from_text(alloc, text.as_str())?;
+    let (graph, table, verdict) = checked(&grm)?;
+    let cells = cells_of(alloc, file, &graph, has_precedences)?;
+    let conflicts = entries_of(alloc, file, &table)?;
+    let verdict = verdict.with_ties(cells.ties.len());
+    let Cells { ties, settled } = cells;
+    Ok(Findings {
+        text,
+        grm,
+        graph,
+        table,
+        conflicts,
+        ties,
+        settled,
+        verdict,
+    })
+}
+
+/// What is found in the grammar of a file, with its precedences or without them; without them also where there are no
+/// conflicts and they settle nothing. `TooLarge` where the index type is too small for the grammar or its graph.
+pub fn find<T: IndexStorage>(
+    alloc: Global,
+    file: &FileGrammar,
+    has_precedences: bool,
+) -> Result<Findings<T>, FindError>
+    ensures grammar { IfOk result (λ f. IsGrammarOf T.MAX (string_bytes f.text) f.grm) }
+    ensures graph { IfOk result (λ f. IsGraphOf f.grm f.graph) }
+    ensures table { IfOk result (λ f. IsTableOf f.grm f.graph f.table) }
+    ensures conflicts { IfOk result (λ f.
+        IsPermutation (listed (lists_of f.table)) (map told f.conflicts.items)) }
+    ensures unambiguous { IfOk result (λ f. f.verdict ≡ Unambiguous → IsUnambiguous f.grm) }
+{
+    let found = find_with(alloc, file, has_precedences)?;
+    if found.verdict == Verdict::NoConflicts && found.settled.is_empty() {
+        return find_with(alloc, file, false);
+    }
+    Ok(found)
+}

@@ -1,0 +1,15 @@
+//! What there is to find in the grammar of a file: its conflicts, what its precedences settle, and its verdict.
+#![tactic(auto)]
+
+mod cells;
+mod conflicts;
+mod findings;
+mod names;
+mod texts;
+mod verdicts;
+
+pub use crate::cells::{Settled, Winner};
+pub use crate::conflicts::Entry;
+pub use crate::findings::{FindError, Findings, find};
+pub use crate::texts::small_text;
+pub use crate::verdicts::{Counts, Verdict};

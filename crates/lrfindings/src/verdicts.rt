@@ -1,0 +1,202 @@
+//! The verdict of a grammar.
+
+ghost use Rattle.std.specs.Prelude.{◌≡◌, ◌≢◌, IfOk};
+ghost use Rattle.lrspec.specs.merging.Graph.{IsGraphOf};
+ghost use Rattle.lrspec.specs.tables.Recognition.{IsUnambiguous};
+ghost use Rattle.lrspec.specs.tables.Table.{IsTableOf};
+ghost use Rattle.lrfindings.specs.declared.verdicts.Verdict.TheVariants.{Unambiguous};
+
+use lrgrammar::grammar::YaccGrammar;
+use lrgrammar::idx::IndexStorage;
+use lrtable::{BuildError, Minimiser, StateGraph, StateTable, from_yacc};
+use lryacc::Expected;
+use std::fmt;
+
+/// How many conflicts there are.
+#[derive(Clone, Copy, Debug, Default, PartialEq, Eq)]
+pub struct Counts {
+    /// Between a shift and a reduction.
+    pub shift_reduce: usize,
+    /// Between two reductions.
+    pub reduce_reduce: usize,
+}
+
+impl Counts {
+    /// Whether there are none.
+    pub fn is_zero(self) -> bool {
+        self == Counts::default()
+    }
+}
+
+/// What is told of a grammar.
+#[derive(Clone, Copy, Debug, PartialEq, Eq)]
+pub enum Verdict {
+    /// No text has two trees.
+    Unambiguous,
+    /// There are no conflicts, but precedences may have settled some.
+    NoConflicts,
+    /// There are conflicts.
+    Conflicts(Counts),
+    /// There are as many conflicts as the file expects.
+    Expected(Counts),
+    /// There are other numbers of conflicts than the file expects.
+    Unexpected {
+        /// How many there are.
+        found: Counts,
+        /// How many are expected.
+        expected: (u64, u64),
+    },
+}
+
+/// The graph, the table and the verdict of a grammar. The error is that of `from_yacc`.
+pub(crate) fn checked<T: IndexStorage>(
+    grm: &YaccGrammar<T>,
+) -> Result<(StateGraph<T>, StateTable<T>, Verdict), BuildError<T>>
+    ensures graph { IfOk result (λ r. IsGraphOf grm.now r.0) }
+    ensures table { IfOk result (λ r. IsTableOf grm.now r.0 r.1) }
+    ensures unambiguous { IfOk result (λ r. r.2 ≡ Unambiguous → IsUnambiguous grm.now) }
+{
+    let (graph, table) = from_yacc(grm.allocator(), grm, Minimiser::Pager)?;
+    if grm.has_precedences() || table.conflicts().is_some() {
+        let verdict = by_conflicts(&table);
+        return Ok((graph, table, verdict));
+    }
+    Ok((graph, table, Verdict::Unambiguous))
+}
+
+/// The verdict of a grammar that has precedences or conflicts.
+fn by_conflicts<T: IndexStorage>(table: &StateTable<T>) -> Verdict
+    ensures { result ≢ Unambiguous }
+{
+    match table.conflicts() {
+        Some(conflicts) => Verdict::Conflicts(Counts {
+            shift_reduce: conflicts.sr_len(),
+            reduce_reduce: conflicts.rr_len(),
+        }),
+        None => Verdict::NoConflicts,
+    }
+}
+
+impl Verdict {
+    /// The verdict where so many shifts and reductions more are left as they are.
+    pub(crate) fn with_ties(self, ties: usize) -> Verdict
+        ensures { result ≡ Unambiguous → self ≡ Unambiguous }
+    {
+        if ties == 0 {
+            return self;
+        }
+        let counts = match self {
+            Verdict::Conflicts(counts) => counts,
+            _ => Counts::default(),
+        };
+        Verdict::Conflicts(Counts {
+            shift_reduce: counts.shift_reduce.saturating_add(ties),
+            reduce_reduce: counts.reduce_reduce,
+        })
+    }
+
+    /// How many conflicts there are.
+    pub fn counts(self) -> Counts {
+        match self {
+            Verdict::Unambiguous | Verdict::NoConflicts => Counts::default(),
+            Verdict::Conflicts(counts) | Verdict::Expected(counts) => counts,
+            Verdict::Unexpected { found, .. } => found,
+        }
+    }
+
+    /// The verdict where the file says how many conflicts it expects. One number that it does not say is 0.
+    pub fn beside(self, expected: Expected) -> Verdict
+        ensures { result ≡ Unambiguous → self ≡ Unambiguous }
+    {
+        if expected == Expected::default() {
+            return self;
+        }
+        let wanted = (
+            expected.shift_reduce.unwrap_or(0),
+            expected.reduce_reduce.unwrap_or(0),
+        );
+        let found = self.counts();
+        if found.is_zero() && wanted == (0, 0) {
+            return self;
+        }
+        if (found.shift_reduce as u64, found.reduce_reduce as u64) == wanted {
+            return Verdict::Expected(found);
+        }
+        Verdict::Unexpected {
+            found,
+            expected: wanted,
+        }
+    }
+
+    /// The exit status: 1 where there are conflicts that are not expected.
+    pub fn status(self) -> u8 {
+        match self {
+            Verdict::Conflicts(_) | Verdict::Unexpected { .. } => 1,
+            _ => 0,
+        }
+    }
+}
+
+/// Conflicts of a kind.
+#[derive(Clone, Copy)]
+struct Kind {
+    number: usize,
+    name: &'static str,
+}
+
+impl fmt::Display for Kind {
+    fn fmt<W: fmt::Write>(&self, f: &mut fmt::Formatter<W>) -> fmt::Result {
+        let (number, name) = (self.number, self.name);
+        let word = if number == 1 { "conflict" } else { "conflicts" };
+        write!(f, "{number} {name} {word}")
+    }
+}
+
+impl fmt::Display for Counts {
+    fn fmt<W: fmt::Write>(&self, f: &mut fmt::Formatter<W>) -> fmt::Result {
+        let shifts = Kind {
+            number: self.shift_reduce,
+            name: "shift/reduce",
+        };
+        let reductions = Kind {
+            number: self.reduce_reduce,
+            name: "reduce/reduce",
+        };
+        match (self.shift_reduce, self.reduce_reduce) {
+            (_, 0) => write!(f, "{shifts}"),
+            (0, _) => write!(f, "{reductions}"),
+            _ => write!(f, "{shifts}, {reductions}"),
+        }
+    }
+}
+
+/// Writes how many conflicts are expected.
+fn write_expected<W: fmt::Write>(
+    f: &mut fmt::Formatter<W>,
+    shifts: u64,
+    reductions: u64,
+) -> fmt::Result {
+    match (shifts, reductions) {
+        (_, 0) => write!(f, "{shifts} shift/reduce expected"),
+        (0, _) => write!(f, "{reductions} reduce/reduce expected"),
+        _ => write!(
+            f,
+            "{shifts} shift/reduce and {reductions} reduce/reduce expected"
+        ),
+    }
+}
+
+impl fmt::Display for Verdict {
+    fn fmt<W: fmt::Write>(&self, f: &mut fmt::Formatter<W>) -> fmt::Result {
+        match *self {
+            Verdict::Unambiguous => f.write_str("unambiguous (proved): no text has two trees"),
+            Verdict::NoConflicts => f.write_str("no conflicts"),
+            Verdict::Conflicts(counts) => write!(f, "{counts}"),
+            Verdict::Expected(counts) => write!(f, "as expected: {counts}"),
+            Verdict::Unexpected { found, expected } => {
+                write!(f, "{found}; ")?;
+                write_expected(f, expected.0, expected.1)
+            }
+        }
+    }
+}

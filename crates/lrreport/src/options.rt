@@ -1,0 +1,48 @@
+//! How a report is made.
+
+use lryacc::Expected;
+
+/// What is told of a file.
+#[derive(Clone, Copy, Debug, Default, PartialEq, Eq)]
+pub enum Output {
+    /// Warnings, conflicts, and the verdict.
+    #[default]
+    Report,
+    /// The verdict alone.
+    Summary,
+    /// One object, as JSON.
+    Json,
+    /// The small text of the grammar.
+    Grammar,
+    /// The states of the graph, and the verdict.
+    States,
+}
+
+/// How a report is made.
+#[derive(Clone, Copy, Debug, Default, PartialEq, Eq)]
+pub struct Options {
+    /// What is told.
+    pub output: Output,
+    /// Whether all conflicts are told one by one, and not the first ones alone.
+    pub tells_all: bool,
+    /// Whether what precedences settle is told too.
+    pub tells_settled: bool,
+    /// Whether precedences are left out of the grammar.
+    pub ignores_precedences: bool,
+    /// Whether lines are as long as they come, and not folded at 80 columns.
+    pub is_plain: bool,
+    /// Whether colours are used.
+    pub has_colours: bool,
+    /// How many shift/reduce conflicts are expected, whatever the file says.
+    pub expected: Option<u64>,
+}
+
+impl Options {
+    /// How many conflicts are expected of a file that says so.
+    pub(crate) fn beside(self, file: Expected) -> Expected {
+        Expected {
+            shift_reduce: self.expected.or(file.shift_reduce),
+            reduce_reduce: file.reduce_reduce,
+        }
+    }
+}
