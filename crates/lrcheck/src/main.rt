@@ -2,7 +2,7 @@
 #![tactic(auto)]
 
 use clap::{Arg, ArgAction, Command, value_parser};
-use lrreport::{Options, Output, report_on};
+use lrreport::{Dialect, Options, Output, report_on};
 use std::alloc::{AllocError, Global};
 use std::io::{self, Read, Write};
 use std::process::ExitCode;
@@ -132,6 +132,7 @@ fn act(rt: &HostRuntime, words: &[String]) -> Result<ExitCode, Stop> {
         is_plain: false,
         has_colours: false,
         expected: matches.get_one::<u64>("expect"),
+        dialect: Dialect::Bison,
     };
     let names: &[&str] = matches.get_strs("FILE").unwrap_or(&[]);
     Ok(ExitCode::from(check_all(rt, names, options)?))

@@ -1,8 +1,9 @@
 //! What precedences make of the cells in which a shift and reductions meet.
 //!
-//! A `%precedence` line says which level is higher, and settles nothing between its own tokens. A production whose precedence
-//! would be that of such a line has the odd level below its tokens, whose level is even: so the table shifts, and both are
-//! left.
+//! As Bison does it, each reduction of a cell is tried against the shift, in the order of the productions, as long as the shift
+//! stands; a table tries the first one alone. A `%precedence` line says which level is higher, and settles nothing between its
+//! own tokens. A production whose precedence would be that of such a line has the odd level below its tokens, whose level is
+//! even: so the table shifts, and both are left.
 
 use crate::conflicts::{Entry, place_of};
 use lrgrammar::grammar::{AssocKind, PartProd, PartSymbol, Precedence};
@@ -138,9 +139,12 @@ impl Precedences {
 /// What is found in the cells of a graph.
 #[derive(Drop)]
 pub(crate) struct Cells {
-    /// What is left of a tie: a shift, and the first of the reductions that are left.
-    pub(crate) ties: Vec<Entry>,
+    /// The decisions between a shift and a reduction.
     pub(crate) settled: Vec<Settled>,
+    /// Entries of the table's lists that are none where each reduction is tried by itself.
+    pub(crate) closed: Vec<Entry>,
+    /// Entries that are left then, and stand in no list of the table.
+    pub(crate) opened: Vec<Entry>,
 }
 
 /// A complete item of a state: its production, and the tokens at which the state could reduce by it.
@@ -157,39 +161,34 @@ impl Reduction<'_> {
     }
 }
 
-/// What is left of a shift and the reductions at a token, tried one after another, each against a shift that still stands.
-/// None where no shift, or no reduction, is left, or no tie is among them.
-fn left_of_tie(
-    precedences: &Precedences,
-    reductions: &[Reduction<'_>],
+/// A cell with a shift, of which the reductions were tried one after another, each against a shift that still stands.
+#[derive(Drop)]
+struct Cell {
+    state: usize,
     token: usize,
-) -> Option<usize> {
-    let mut left = None;
-    let mut has_tie = false;
-    for reduction in reductions {
-        if reduction.is_at(token) {
-            match precedences.outcome(token, reduction.production) {
-                Outcome::Won(Winner::Shift) => {}
-                Outcome::Won(_) => return None,
-                Outcome::Tie => {
-                    has_tie = true;
-                    left = left.or(Some(reduction.production));
-                }
-                Outcome::Open => left = left.or(Some(reduction.production)),
-            }
-        }
-    }
-    if has_tie { left } else { None }
+    /// Whether the shift is left.
+    is_shifting: bool,
+    /// The reductions, and for each whether it is left.
+    reductions: Vec<(usize, bool)>,
+    /// Whether the table lists the shift beside the first reduction.
+    is_listed: bool,
 }
 
-/// The first of the reductions at a token.
-fn first_at(reductions: &[Reduction<'_>], token: usize) -> Option<usize> {
-    for reduction in reductions {
-        if reduction.is_at(token) {
-            return Some(reduction.production);
-        }
+impl Cell {
+    /// The first reduction.
+    fn first(&self) -> Option<usize> {
+        Some(self.reductions.first()?.0)
     }
-    None
+
+    /// The first reduction that is left.
+    fn first_left(&self) -> Option<usize> {
+        for (production, is_left) in &self.reductions {
+            if *is_left {
+                return Some(*production);
+            }
+        }
+        None
+    }
 }
 
 /// What is looked at.
@@ -201,14 +200,14 @@ struct Looked<'a, T: IndexStorage> {
 }
 
 impl<T: IndexStorage> Looked<'_, T> {
-    /// What meets at a token in a state.
-    fn entry(&self, state: StIdx<T>, production: usize, token: usize) -> Entry {
+    /// What meets in a cell.
+    fn entry(&self, cell: &Cell, production: usize, other: Option<usize>) -> Entry {
         Entry {
             place: place_of(self.file, production),
-            state: usize::from(state),
+            state: cell.state,
             production,
-            other: None,
-            token,
+            other,
+            token: cell.token,
         }
     }
 
@@ -241,6 +240,86 @@ impl<T: IndexStorage> Looked<'_, T> {
         Ok(reductions)
     }
 
+    /// Tries the reductions of a cell, one after another, each against a shift that still stands.
+    fn try_reductions(
+        &self,
+        settled: &mut Vec<Settled>,
+        state: StIdx<T>,
+        reductions: &[Reduction<'_>],
+        token: usize,
+    ) -> Result<Cell, AllocError> {
+        let mut cell = Cell {
+            state: usize::from(state),
+            token,
+            is_shifting: true,
+            reductions: Vec::new(*settled.allocator()),
+            is_listed: false,
+        };
+        for reduction in reductions {
+            if !reduction.is_at(token) {
+                continue;
+            }
+            let production = reduction.production;
+            let outcome = self.precedences.outcome(token, production);
+            let is_first = cell.reductions.is_empty();
+            cell.is_listed = cell.is_listed || is_first && outcome == Outcome::Open;
+            let mut is_left = true;
+            if let Outcome::Won(winner) = outcome {
+                if cell.is_shifting {
+                    is_left = winner == Winner::Reduce;
+                    cell.is_shifting = winner == Winner::Shift;
+                    let entry = self.entry(&cell, production, None);
+                    settled.push(Settled { entry, winner })?;
+                }
+            }
+            cell.reductions.push((production, is_left))?;
+        }
+        Ok(cell)
+    }
+
+    /// Adds the entries in which a cell and the table's lists differ: those with the shift.
+    fn add_shifts(&self, cells: &mut Cells, cell: &Cell) -> Result<(), AllocError> {
+        let listed = if cell.is_listed { cell.first() } else { None };
+        let left = if cell.is_shifting {
+            cell.first_left()
+        } else {
+            None
+        };
+        if listed != left {
+            if let Some(production) = listed {
+                cells.closed.push(self.entry(cell, production, None))?;
+            }
+            if let Some(production) = left {
+                cells.opened.push(self.entry(cell, production, None))?;
+            }
+        }
+        Ok(())
+    }
+
+    /// Adds the entries in which they differ: those between reductions.
+    fn add_reductions(&self, cells: &mut Cells, cell: &Cell) -> Result<(), AllocError> {
+        let (Some(first), left) = (cell.first(), cell.first_left()) else {
+            return Ok(());
+        };
+        for (production, is_left) in &cell.reductions {
+            let is_open = *is_left && left != Some(*production);
+            let is_same = is_open && left == Some(first);
+            if *production != first && !is_same {
+                cells
+                    .closed
+                    .push(self.entry(cell, first, Some(*production)))?;
+            }
+            if is_open && !is_same {
+                if let Some(left) = left {
+                    cells
+                        .opened
+                        .push(self.entry(cell, left, Some(*production)))?;
+                }
+            }
+        }
+        Ok(())
+    }
+
     /// Adds what precedences make of a cell.
     fn add_cell(
         &self,
@@ -249,24 +328,14 @@ impl<T: IndexStorage> Looked<'_, T> {
         reductions: &[Reduction<'_>],
         token: usize,
     ) -> Result<(), AllocError> {
-        let Some(first) = first_at(reductions, token) else {
-            return Ok(());
-        };
-        if !self.shifts(state, token) {
-            return Ok(());
-        }
-        let outcome = self.precedences.outcome(token, first);
-        if let Outcome::Won(winner) = outcome {
-            let entry = self.entry(state, first, token);
-            cells.settled.push(Settled { entry, winner })?;
-        }
-        if outcome == Outcome::Open {
+        if !reductions.iter().any(|reduction| reduction.is_at(token))
+            || !self.shifts(state, token)
+        {
             return Ok(());
         }
-        if let Some(production) = left_of_tie(self.precedences, reductions, token) {
-            cells.ties.push(self.entry(state, production, token))?;
-        }
-        Ok(())
+        let cell = self.try_reductions(&mut cells.settled, state, reductions, token)?;
+        self.add_shifts(cells, &cell)?;
+        self.add_reductions(cells, &cell)
     }
 
     /// Adds what precedences make of the cells of a state.
@@ -291,8 +360,9 @@ pub(crate) fn cells_of<T: IndexStorage>(
     has_precedences: bool,
 ) -> Result<Cells, AllocError> {
     let mut cells = Cells {
-        ties: Vec::new(alloc),
         settled: Vec::new(alloc),
+        closed: Vec::new(alloc),
+        opened: Vec::new(alloc),
     };
     let precedences = Precedences::new(alloc, file)?;
     let looked = Looked {
@@ -305,7 +375,8 @@ pub(crate) fn cells_of<T: IndexStorage>(
             looked.add_state(&mut cells, state)?;
         }
     }
-    cells.ties.sort_unstable();
+    cells.closed.sort_unstable();
+    cells.opened.sort_unstable();
     cells.settled.sort_unstable_by_key(|settled| settled.entry);
     Ok(cells)
 }

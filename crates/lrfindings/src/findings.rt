@@ -13,7 +13,7 @@ ghost use Rattle.lrfindings.specs.declared.verdicts.Verdict.TheVariants.{Unambig
 use crate::cells::{Cells, Settled, cells_of};
 use crate::conflicts::{Entry, entries_of};
 use crate::texts::small_text;
-use crate::verdicts::{Verdict, checked};
+use crate::verdicts::{Counts, Verdict, checked};
 use lrgrammar::grammar::{GrammarError, TextError, YaccGrammar};
 use lrgrammar::idx::IndexStorage;
 use lrtable::{BuildError, StateGraph, StateTable};
@@ -33,8 +33,11 @@ pub struct Findings<T: IndexStorage> {
     pub table: StateTable<T>,
     /// The conflicts of the table, in the order of the file.
     pub conflicts: Vec<Entry>,
-    /// The shifts and reductions that tokens of a `%precedence` line leave open, in the order of the file.
-    pub ties: Vec<Entry>,
+    /// Those of them that are settled where each reduction is tried by itself against a shift, as Bison does; in their order.
+    pub closed: Vec<Entry>,
+    /// The conflicts that are left then and that the table does not list, as those of tokens of one `%precedence` line; in the
+    /// order of the file.
+    pub opened: Vec<Entry>,
     /// What precedences settle, in the order of the file.
     pub settled: Vec<Settled>,
     /// The verdict.
@@ -111,15 +114,20 @@ fn find_with<T: IndexStorage>(
     let (graph, table, verdict) = checked(&grm)?;
     let cells = cells_of(alloc, file, &graph, has_precedences)?;
     let conflicts = entries_of(alloc, file, &table)?;
-    let verdict = verdict.with_ties(cells.ties.len());
-    let Cells { ties, settled } = cells;
+    let Cells {
+        settled,
+        closed,
+        opened,
+    } = cells;
+    let verdict = verdict.adjusted(Counts::of(closed.as_slice()), Counts::of(opened.as_slice()));
     Ok(Findings {
         text,
         grm,
         graph,
         table,
         conflicts,
-        ties,
+        closed,
+        opened,
         settled,
         verdict,
     })

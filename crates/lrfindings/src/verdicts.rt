@@ -6,6 +6,7 @@ ghost use Rattle.lrspec.specs.tables.Recognition.{IsUnambiguous};
 ghost use Rattle.lrspec.specs.tables.Table.{IsTableOf};
 ghost use Rattle.lrfindings.specs.declared.verdicts.Verdict.TheVariants.{Unambiguous};
 
+use crate::conflicts::Entry;
 use lrgrammar::grammar::YaccGrammar;
 use lrgrammar::idx::IndexStorage;
 use lrtable::{BuildError, Minimiser, StateGraph, StateTable, from_yacc};
@@ -22,6 +23,35 @@ pub struct Counts {
 }
 
 impl Counts {
+    /// How many entries there are of either kind.
+    pub(crate) fn of(entries: &[Entry]) -> Counts {
+        let mut counts = Counts::default();
+        for entry in entries {
+            let count = match entry.other {
+                Some(_) => &mut counts.reduce_reduce,
+                None => &mut counts.shift_reduce,
+            };
+            *count = count.saturating_add(1);
+        }
+        counts
+    }
+
+    /// Both together.
+    fn and(self, more: Counts) -> Counts {
+        Counts {
+            shift_reduce: self.shift_reduce.saturating_add(more.shift_reduce),
+            reduce_reduce: self.reduce_reduce.saturating_add(more.reduce_reduce),
+        }
+    }
+
+    /// Without so many.
+    fn less(self, fewer: Counts) -> Counts {
+        Counts {
+            shift_reduce: self.shift_reduce.saturating_sub(fewer.shift_reduce),
+            reduce_reduce: self.reduce_reduce.saturating_sub(fewer.reduce_reduce),
+        }
+    }
+
     /// Whether there are none.
     pub fn is_zero(self) -> bool {
         self == Counts::default()
@@ -78,21 +108,19 @@ fn by_conflicts<T: IndexStorage>(table: &StateTable<T>) -> Verdict
 }
 
 impl Verdict {
-    /// The verdict where so many shifts and reductions more are left as they are.
-    pub(crate) fn with_ties(self, ties: usize) -> Verdict
+    /// The verdict where so many conflicts are none, and so many more are left.
+    pub(crate) fn adjusted(self, closed: Counts, opened: Counts) -> Verdict
         ensures { result ≡ Unambiguous → self ≡ Unambiguous }
     {
-        if ties == 0 {
+        if closed.is_zero() && opened.is_zero() {
             return self;
         }
-        let counts = match self {
-            Verdict::Conflicts(counts) => counts,
-            _ => Counts::default(),
-        };
-        Verdict::Conflicts(Counts {
-            shift_reduce: counts.shift_reduce.saturating_add(ties),
-            reduce_reduce: counts.reduce_reduce,
-        })
+        let counts = self.counts().less(closed).and(opened);
+        if counts.is_zero() {
+            Verdict::NoConflicts
+        } else {
+            Verdict::Conflicts(counts)
+        }
     }
 
     /// How many conflicts there are.

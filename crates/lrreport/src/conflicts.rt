@@ -202,10 +202,15 @@ impl<'a, T: IndexStorage> Checked<'a, T> {
         Ok(())
     }
 
-    /// The conflicts of the table and what `%precedence` lines leave open, in the order of the file.
+    /// The conflicts that are left open, in the order of the file.
     fn left_open(&self, alloc: Global) -> Result<Vec<Entry>, AllocError> {
-        let mut entries = Vec::from_slice(alloc, self.found.conflicts.as_slice())?;
-        entries.extend_from_slice(self.found.ties.as_slice())?;
+        let found = self.found;
+        let mut entries = Vec::from_slice(alloc, found.opened.as_slice())?;
+        for entry in &found.conflicts {
+            if found.closed.binary_search(entry).is_err() {
+                entries.push(*entry)?;
+            }
+        }
         entries.sort_unstable();
         Ok(entries)
     }

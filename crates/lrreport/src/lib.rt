@@ -9,3 +9,4 @@ mod sources;
 
 pub use crate::options::{Options, Output};
 pub use crate::reports::{Report, report_on};
+pub use lryacc::Dialect;

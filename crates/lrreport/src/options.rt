@@ -1,6 +1,6 @@
 //! How a report is made.
 
-use lryacc::Expected;
+use lryacc::{Dialect, Expected};
 
 /// What is told of a file.
 #[derive(Clone, Copy, Debug, Default, PartialEq, Eq)]
@@ -35,6 +35,8 @@ pub struct Options {
     pub has_colours: bool,
     /// How many shift/reduce conflicts are expected, whatever the file says.
     pub expected: Option<u64>,
+    /// What the file is taken for.
+    pub dialect: Dialect,
 }
 
 impl Options {

@@ -116,7 +116,7 @@ pub fn report_on(
     options: Options,
 ) -> Result<Report, AllocError> {
     let source = Source::new(alloc, name, bytes)?;
-    match read_file(alloc, bytes)? {
+    match read_file(alloc, bytes, options.dialect)? {
         FileRead::Grammar(file, expected, warnings) => {
             let read = Read {
                 source: &source,

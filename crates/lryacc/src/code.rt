@@ -42,7 +42,7 @@ enum Escape {
 
 /// Code that was read up to some byte.
 #[derive(Drop)]
-struct CodeReader {
+pub(crate) struct CodeReader {
     ending: Ending,
     within: Within,
     escape: Escape,
@@ -56,7 +56,7 @@ struct CodeReader {
 
 /// What a byte of code brings.
 #[derive(Clone, Copy)]
-enum Step {
+pub(crate) enum Step {
     /// The code goes on.
     On,
     /// The code ends with this byte.
@@ -72,7 +72,7 @@ fn is_line_blank(byte: u8) -> bool {
 
 impl CodeReader {
     /// Nothing was read.
-    fn new(ending: Ending) -> CodeReader {
+    pub(crate) fn new(ending: Ending) -> CodeReader {
         CodeReader {
             ending,
             within: Within::Code,
@@ -83,8 +83,13 @@ impl CodeReader {
         }
     }
 
+    /// Whether the next byte stands outside of quotes and comments.
+    pub(crate) fn is_in_code(&self) -> bool {
+        matches!(self.within, Within::Code)
+    }
+
     /// Takes the byte at a place.
-    fn take(&mut self, at: usize, byte: u8) -> Step {
+    pub(crate) fn take(&mut self, at: usize, byte: u8) -> Step {
         match self.within {
             Within::Code => self.take_in_code(at, byte),
             Within::Quotes(quote) => self.take_in_quotes(quote, byte),

@@ -27,12 +27,18 @@ pub(crate) enum Statement {
     Code(Lexeme, Lexeme),
     /// The token has this text for another name.
     Alias(Lexeme, Lexeme),
-    /// A precedence line begins.
-    Level(LevelKind),
+    /// A precedence line begins with this directive.
+    Level(LevelKind, Lexeme),
     /// The symbol is one of the precedence line in hand.
     InLevel(Lexeme),
     /// The symbol is named.
     Mention(Lexeme),
+    /// The values of the symbol have this tag.
+    Tagged(Lexeme, Lexeme),
+    /// The symbol stands before a colon.
+    LeftSide(Lexeme),
+    /// The symbol stands behind `%prec`.
+    NamedPrecedence(Lexeme),
     /// The symbol is the start rule.
     Start(Lexeme),
     /// So many shift/reduce conflicts are expected.
@@ -48,8 +54,8 @@ pub(crate) enum Statement {
 pub(crate) enum BodyPart {
     /// A symbol.
     Symbol(Lexeme),
-    /// An action or a predicate.
-    Action(Lexeme),
+    /// An action or a predicate, and its name in brackets.
+    Action(Lexeme, Option<Lexeme>),
 }
 
 /// One body of a rule.

@@ -1,10 +1,43 @@
 //! Declarations.
 
 use crate::contents::{LevelKind, Statement};
-use crate::directives::{Form, form_of};
-use crate::faults::{Fault, FaultKind, Halt, Wanted};
+use crate::directives::{Form, form_of, is_name_in_any_case};
+use crate::faults::{Fault, FaultKind, Halt, OldForm, Wanted};
 use crate::lexemes::{Lexeme, LexemeKind};
 use crate::reader::Reader;
+use std::alloc::AllocError;
+
+/// What is wrong with a directive that Bison doesn't know.
+fn unknown(directive: &[u8]) -> FaultKind {
+    FaultKind::Old(match directive {
+        b"%<" => OldForm::Left,
+        b"%>" => OldForm::Right,
+        b"%2" => OldForm::Nonassoc,
+        b"%0" => OldForm::Token,
+        [b'\\', name @ ..] if is_name_in_any_case(name) => OldForm::Backslash,
+        [b'%', name @ ..] if is_name_in_any_case(name) => OldForm::Capitals,
+        _ => return FaultKind::UnknownDirective,
+    })
+}
+
+/// Symbols behind a directive, some of them perhaps behind tags.
+#[derive(Clone, Copy)]
+struct Listing {
+    /// The last tag.
+    tag: Option<Lexeme>,
+    /// Whether a symbol is to stand here: at first, and behind a tag.
+    wants_symbol: bool,
+}
+
+impl Listing {
+    /// Nothing was read.
+    fn new() -> Listing {
+        Listing {
+            tag: None,
+            wants_symbol: true,
+        }
+    }
+}
 
 impl<'a> Reader<'a> {
     /// Reads a declaration.
@@ -13,14 +46,14 @@ impl<'a> Reader<'a> {
             return Err(self.wants(Wanted::Declaration));
         };
         let Some(form) = self.form(directive) else {
-            let kind = FaultKind::UnknownDirective;
+            let kind = unknown(self.bytes(directive));
             let span = directive.span;
             return Err(Halt::Fault(Fault { kind, span }));
         };
         match form {
             Form::Tokens => self.declared(true),
             Form::Rules => self.declared(false),
-            Form::Level(kind) => self.level(kind),
+            Form::Level(kind) => self.level(kind, directive),
             Form::Types => self.typed(),
             Form::Starts => self.starts(),
             Form::DefaultPrecedence(is_on) => Ok(self.state(Statement::DefaultPrecedence(is_on))?),
@@ -31,14 +64,16 @@ impl<'a> Reader<'a> {
         }
     }
 
-    /// What stands behind a directive.
+    /// What stands behind a directive; None where Bison doesn't know it.
     pub(crate) fn form(&self, directive: Lexeme) -> Option<Form> {
-        let (_, name) = self.bytes(directive).split_first()?;
-        form_of(name)
+        match self.bytes(directive) {
+            [b'%', name @ ..] => form_of(name),
+            _ => None,
+        }
     }
 
     /// Reads how many conflicts are expected.
-    fn expected(&mut self, is_of_shifts: bool) -> Result<(), Halt> {
+    pub(crate) fn expected(&mut self, is_of_shifts: bool) -> Result<(), Halt> {
         let number = self.want(LexemeKind::Number, Wanted::Number)?;
         self.state(if is_of_shifts {
             Statement::ExpectShiftReduce(number)
@@ -79,25 +114,46 @@ impl<'a> Reader<'a> {
 
     /// Reads the symbols of a `%token` or a `%nterm`, each perhaps with a number and a text.
     fn declared(&mut self, is_token: bool) -> Result<(), Halt> {
-        let mut is_first = true;
+        let mut listing = Listing::new();
         for _ in 0..self.lexemes.len() {
-            let Some(lexeme) = self.here() else {
+            if self.take_tag(&mut listing) {
+                continue;
+            }
+            if self.kind() == Some(LexemeKind::Text) {
+                break;
+            }
+            let Some(symbol) = self.take_symbol() else {
                 break;
             };
-            match lexeme.kind {
-                LexemeKind::Tag => self.pass(),
-                LexemeKind::Name | LexemeKind::Character(_) => {
-                    self.pass();
-                    self.declared_symbol(lexeme, is_token)?;
-                    is_first = false;
-                }
-                _ => break,
-            }
+            self.declared_symbol(symbol, is_token)?;
+            self.listed(symbol, &mut listing)?;
         }
-        if is_first {
+        if listing.wants_symbol {
             return Err(self.wants(Wanted::Declared));
         }
         Ok(())
+    }
+
+    /// Takes a tag, which is for the symbols behind it; false where none stands here, or another one stands right before it.
+    fn take_tag(&mut self, listing: &mut Listing) -> bool {
+        if listing.wants_symbol && listing.tag.is_some() {
+            return false;
+        }
+        let Some(tag) = self.take(LexemeKind::Tag) else {
+            return false;
+        };
+        listing.tag = Some(tag);
+        listing.wants_symbol = true;
+        true
+    }
+
+    /// Takes in that a symbol stands in a listing.
+    fn listed(&mut self, symbol: Lexeme, listing: &mut Listing) -> Result<(), AllocError> {
+        listing.wants_symbol = false;
+        match listing.tag {
+            Some(tag) => self.state(Statement::Tagged(symbol, tag)),
+            None => Ok(()),
+        }
     }
 
     /// Reads what stands behind a symbol of a `%token` or a `%nterm`.
@@ -121,11 +177,11 @@ impl<'a> Reader<'a> {
     }
 
     /// Reads the tokens of a precedence line.
-    fn level(&mut self, kind: LevelKind) -> Result<(), Halt> {
-        self.state(Statement::Level(kind))?;
-        let mut is_first = true;
+    fn level(&mut self, kind: LevelKind, directive: Lexeme) -> Result<(), Halt> {
+        self.state(Statement::Level(kind, directive))?;
+        let mut listing = Listing::new();
         for _ in 0..self.lexemes.len() {
-            if self.take(LexemeKind::Tag).is_some() {
+            if self.take_tag(&mut listing) {
                 continue;
             }
             let Some(symbol) = self.take_symbol() else {
@@ -137,9 +193,9 @@ impl<'a> Reader<'a> {
                     self.state(Statement::Code(symbol, number))?;
                 }
             }
-            is_first = false;
+            self.listed(symbol, &mut listing)?;
         }
-        if is_first {
+        if listing.wants_symbol {
             return Err(self.wants(Wanted::Symbol));
         }
         Ok(())
@@ -147,18 +203,18 @@ impl<'a> Reader<'a> {
 
     /// Reads the symbols behind `%type`.
     fn typed(&mut self) -> Result<(), Halt> {
-        let mut is_first = true;
+        let mut listing = Listing::new();
         for _ in 0..self.lexemes.len() {
-            if self.take(LexemeKind::Tag).is_some() {
+            if self.take_tag(&mut listing) {
                 continue;
             }
             let Some(symbol) = self.take_symbol() else {
                 break;
             };
             self.state(Statement::Mention(symbol))?;
-            is_first = false;
+            self.listed(symbol, &mut listing)?;
         }
-        if is_first {
+        if listing.wants_symbol {
             return Err(self.wants(Wanted::Symbol));
         }
         Ok(())

@@ -120,6 +120,13 @@ fn form_in(names: &[(&str, Form)], name: &[u8]) -> Option<Form> {
     None
 }
 
+/// Whether a directive has that name, in letters of either case.
+pub(crate) fn is_name_in_any_case(name: &[u8]) -> bool {
+    NAMES
+        .iter()
+        .any(|(listed, _)| listed.as_bytes().eq_ignore_ascii_case(name))
+}
+
 /// What stands behind the directive of that name, which is written without its `%`; None where there is no such one.
 pub(crate) fn form_of(name: &[u8]) -> Option<Form> {
     match form_in(&NAMES, name) {

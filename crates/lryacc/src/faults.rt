@@ -36,6 +36,8 @@ pub enum FaultKind {
     LongCharacter,
     /// No escape begins so.
     UnknownEscape,
+    /// A string of Rust that isn't closed before the file ends.
+    OpenString,
     /// The number of an escape is 0, or past 255.
     EscapeOutOfRange,
     /// A name that begins with a digit.
@@ -46,13 +48,15 @@ pub enum FaultKind {
     Wanted(Wanted),
     /// No directive has this name.
     UnknownDirective,
+    /// A form of old Yacc.
+    Old(OldForm),
     /// `%prec` or `%empty` stands twice in one body.
     Twice,
     /// `%empty` stands in a body that has parts.
     NotEmpty,
     /// The file has no rule.
     NoRules,
-    /// The symbol is no token, and has no rule.
+    /// The symbol is no token, and has no rule. Only warned of where no body has it.
     Undefined,
     /// The symbol is a token, and has a rule.
     RuleOfToken,
@@ -68,7 +72,11 @@ pub enum FaultKind {
     CodeTwice,
     /// Another token has that number.
     CodeOfOther,
-    /// The token is named in a precedence line already.
+    /// A rule is given a text for another name.
+    NameOfRule,
+    /// The symbol has a tag already.
+    TagTwice,
+    /// The last token that is named here has a precedence already.
     LevelTwice,
     /// The start symbol is a token.
     StartIsToken,
@@ -76,8 +84,16 @@ pub enum FaultKind {
     StartIsUnproductive,
     /// The number is too large.
     LargeNumber,
-    /// The file is too large for what reads it.
-    TooLarge,
+    /// Only warned of: the symbol is declared already.
+    DeclaredTwice,
+    /// Only warned of: the symbol is a start rule already.
+    StartTwice,
+    /// Of grmtools: an action that other parts of its body stand behind.
+    ActionNotLast,
+    /// Of grmtools: the directive stands in the file already.
+    SecondDirective,
+    /// Of grmtools: the token behind `%prec` is in no precedence line.
+    NoPrecedence,
     /// Only warned of: the rule is not reached, or derives no text.
     UselessRule,
     /// Only warned of: the production derives no text.
@@ -111,6 +127,33 @@ pub enum Wanted {
     Code,
     /// `;`.
     Semicolon,
+    /// `:`.
+    Colon,
+    /// A type of Rust.
+    Type,
+    /// A text in quotes of either kind.
+    Quoted,
+}
+
+/// A form of old Yacc, which Bison refuses.
+#[derive(Clone, Copy, Debug, PartialEq, Eq)]
+pub enum OldForm {
+    /// `=` before an action.
+    Equals,
+    /// `%<`.
+    Left,
+    /// `%>`.
+    Right,
+    /// `%2`.
+    Nonassoc,
+    /// `%0`.
+    Token,
+    /// `\\`.
+    Backslashes,
+    /// A backslash before the name of a directive.
+    Backslash,
+    /// A directive that has capital letters.
+    Capitals,
 }
 
 /// Why reading stops.
@@ -141,6 +184,24 @@ impl fmt::Display for Wanted {
             Wanted::Tag => "a tag in `<` and `>`",
             Wanted::Code => "code in braces",
             Wanted::Semicolon => "`;`",
+            Wanted::Colon => "`:`",
+            Wanted::Type => "a type",
+            Wanted::Quoted => "a text in quotes",
+        })
+    }
+}
+
+impl fmt::Display for OldForm {
+    fn fmt<W: fmt::Write>(&self, f: &mut fmt::Formatter<W>) -> fmt::Result {
+        f.write_str(match self {
+            OldForm::Equals => "`=` before an action is a form of old Yacc: leave it out",
+            OldForm::Left => "`%<` is an old form of `%left`",
+            OldForm::Right => "`%>` is an old form of `%right`",
+            OldForm::Nonassoc => "`%2` is an old form of `%nonassoc`",
+            OldForm::Token => "`%0` is an old form of `%token`",
+            OldForm::Backslashes => "`\\\\` is an old form of `%%`",
+            OldForm::Backslash => "a backslash is an old form of `%`",
+            OldForm::Capitals => "directives are written in small letters",
         })
     }
 }
@@ -158,11 +219,13 @@ impl fmt::Display for FaultKind {
             FaultKind::EmptyCharacter => "no character between the quotes",
             FaultKind::LongCharacter => "more than one character between the quotes",
             FaultKind::UnknownEscape => "unknown escape",
+            FaultKind::OpenString => "this string is never closed",
             FaultKind::EscapeOutOfRange => "the number of an escape is from 1 to 255",
             FaultKind::InvalidName => "a name begins with a letter, `_` or `.`",
             FaultKind::InvalidBracket => "a bracket holds one name",
             FaultKind::Wanted(wanted) => return write!(f, "{wanted} should stand here"),
             FaultKind::UnknownDirective => "unknown directive",
+            FaultKind::Old(form) => return write!(f, "{form}"),
             FaultKind::Twice => "this stands in the body already",
             FaultKind::NotEmpty => "`%empty` in a body that is not empty",
             FaultKind::NoRules => "the file has no rule",
@@ -174,11 +237,17 @@ impl fmt::Display for FaultKind {
             FaultKind::CodeOfRule => "a rule has no number",
             FaultKind::CodeTwice => "the token has another number already",
             FaultKind::CodeOfOther => "another token has this number",
-            FaultKind::LevelTwice => "this has a precedence already",
+            FaultKind::NameOfRule => "a rule has no text for another name",
+            FaultKind::TagTwice => "this has a tag already",
+            FaultKind::LevelTwice => "this names a token that has a precedence already",
             FaultKind::StartIsToken => "the start symbol is a token",
             FaultKind::StartIsUnproductive => "the start rule derives no text",
             FaultKind::LargeNumber => "the number is too large",
-            FaultKind::TooLarge => "the file is too large",
+            FaultKind::DeclaredTwice => "this is declared already",
+            FaultKind::StartTwice => "this is a start rule already",
+            FaultKind::ActionNotLast => "an action stands at the end of its body",
+            FaultKind::SecondDirective => "this directive stands in the file already",
+            FaultKind::NoPrecedence => "this token has no precedence",
             FaultKind::UselessRule => "this rule is never reached, or derives no text",
             FaultKind::UselessProduction => "this derives no text",
             FaultKind::UnknownPrecedence => "nothing else names this token",

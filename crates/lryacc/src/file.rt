@@ -1,6 +1,7 @@
 //! Reads a grammar file.
 
 use crate::contents::Contents;
+use crate::dialects::{Dialect, dialect_of};
 use crate::faults::{Fault, FaultKind};
 use crate::meaning::{Expected, Meaning};
 use crate::numbering::{FileGrammar, file_grammar};
@@ -21,11 +22,23 @@ pub enum FileRead {
 }
 
 /// What the file says, and its faults.
-fn contents(alloc: Global, text: &[u8]) -> Result<(Contents, Vec<Fault>), AllocError> {
-    let (lexemes, faults) = lexemes(alloc, text)?;
+fn contents(
+    alloc: Global,
+    text: &[u8],
+    dialect: Dialect,
+) -> Result<(Contents, Vec<Fault>), AllocError> {
+    let (lexemes, faults) = lexemes(alloc, text, dialect)?;
     let mut reader = Reader::new(alloc, text, lexemes.as_slice(), faults);
-    reader.declarations()?;
-    reader.rules()?;
+    match dialect {
+        Dialect::Bison => {
+            reader.declarations()?;
+            reader.rules()?;
+        }
+        Dialect::Grmtools => {
+            reader.grmtools_declarations()?;
+            reader.grmtools_rules()?;
+        }
+    }
     let Reader {
         contents,
         mut faults,
@@ -54,15 +67,19 @@ fn in_order(alloc: Global, faults: &[Fault]) -> Result<Vec<Fault>, AllocError> {
     Ok(ordered)
 }
 
-/// Reads a grammar file of Yacc or Bison: its grammar, or all faults that were come by. The error says that memory was
-/// refused.
-pub fn read_file(alloc: Global, text: &[u8]) -> Result<FileRead, AllocError> {
-    let (contents, faults) = contents(alloc, text)?;
+/// Reads a grammar file of a dialect: its grammar, or all faults that were come by. A file that begins with `%grmtools{` is one
+/// of grmtools in any case. The error says that memory was refused.
+pub fn read_file(alloc: Global, text: &[u8], dialect: Dialect) -> Result<FileRead, AllocError> {
+    let dialect = dialect_of(text, dialect);
+    let (contents, faults) = contents(alloc, text, dialect)?;
     if !faults.is_empty() {
         return Ok(FileRead::Faults(in_order(alloc, faults.as_slice())?));
     }
-    let mut meaning = Meaning::new(alloc, text, faults);
+    let mut meaning = Meaning::new(alloc, text, dialect, faults);
     meaning.take(&contents)?;
+    if dialect == Dialect::Grmtools {
+        meaning.tell_unknown(&contents)?;
+    }
     if !meaning.faults.is_empty() {
         return Ok(FileRead::Faults(in_order(alloc, meaning.faults.as_slice())?));
     }
@@ -71,11 +88,15 @@ pub fn read_file(alloc: Global, text: &[u8]) -> Result<FileRead, AllocError> {
     if grammar.parts.prods.is_empty() {
         return Ok(FileRead::Faults(unproductive_start(alloc, &meaning, &contents)?));
     }
+    let useless_rules = match dialect {
+        Dialect::Bison => useless.rules,
+        Dialect::Grmtools => meaning.unexpected(alloc, &contents, useless.rules)?,
+    };
     let mut warnings = meaning.warnings;
     warn_of(
         &mut warnings,
         FaultKind::UselessRule,
-        useless.rules.as_slice(),
+        useless_rules.as_slice(),
     )?;
     warn_of(
         &mut warnings,

@@ -2,6 +2,7 @@
 
 ghost use Rattle.std.specs.Prelude.{◌≤◌, length, IfOk};
 
+use crate::dialects::Dialect;
 use crate::faults::{Fault, FaultKind};
 use crate::places::Span;
 
@@ -18,9 +19,13 @@ enum Within {
     Block(usize, bool),
 }
 
-/// Whether the byte is a blank. A comma counts as one.
-fn is_blank(byte: u8) -> bool {
-    matches!(byte, b' ' | b'\t' | b'\n' | 0x0b | 0x0c | b'\r' | b',')
+/// Whether the byte is a blank. For Bison a comma counts as one.
+fn is_blank(byte: u8, dialect: Dialect) -> bool {
+    match byte {
+        b' ' | b'\t' | b'\n' | b'\r' => true,
+        0x0b | 0x0c | b',' => dialect == Dialect::Bison,
+        _ => false,
+    }
 }
 
 /// Whether a line that begins with `#line` begins at the place.
@@ -32,13 +37,13 @@ fn is_line_mark(text: &[u8], at: usize) -> bool
 }
 
 /// What the byte at a place behind a gap brings; None where a lexeme begins with it.
-fn begun(text: &[u8], at: usize, byte: u8) -> Option<Within>
+fn begun(text: &[u8], at: usize, byte: u8, dialect: Dialect) -> Option<Within>
     requires { at ≤ length text.now }
 {
     match byte {
         b'/' => Some(Within::Slash(at)),
-        b'#' if is_line_mark(text, at) => Some(Within::Line),
-        _ if is_blank(byte) => Some(Within::Gap),
+        b'#' if dialect == Dialect::Bison && is_line_mark(text, at) => Some(Within::Line),
+        _ if is_blank(byte, dialect) => Some(Within::Gap),
         _ => None,
     }
 }
@@ -50,7 +55,7 @@ fn fault_at(kind: FaultKind, start: usize, end: usize) -> Fault {
 }
 
 /// The place from `from` on at which a lexeme begins, or the text's length if none does.
-pub(crate) fn gap_end(text: &[u8], from: usize) -> Result<usize, Fault>
+pub(crate) fn gap_end(text: &[u8], from: usize, dialect: Dialect) -> Result<usize, Fault>
     requires { from ≤ length text.now }
     ensures from { IfOk result (λ end. from ≤ end) }
     ensures inside { IfOk result (λ end. end ≤ length text.now) }
@@ -59,7 +64,7 @@ pub(crate) fn gap_end(text: &[u8], from: usize) -> Result<usize, Fault>
     for at in from..text.len() {
         let byte = text[at];
         within = match within {
-            Within::Gap => match begun(text, at, byte) {
+            Within::Gap => match begun(text, at, byte, dialect) {
                 Some(within) => within,
                 None => return Ok(at),
             },

@@ -3,6 +3,7 @@
 ghost use Rattle.std.specs.Prelude.{◌+◌, ◌<◌, ◌≤◌, length, IfOk};
 
 use crate::code::{Ending, code_end};
+use crate::dialects::Dialect;
 use crate::faults::{Fault, FaultKind};
 use crate::gaps::gap_end;
 use crate::places::Span;
@@ -29,9 +30,9 @@ pub enum LexemeKind {
     Tag,
     /// `<*>` or `<>`: each tag, or no tag.
     AnyTag,
-    /// `%token`, and other words behind `%`.
+    /// `%token`, and other words behind `%`; in old Yacc also `\token` and `%<`.
     Directive,
-    /// `%%`.
+    /// `%%`; in old Yacc also `\\`.
     Separator,
     /// `{ .. }`.
     Action,
@@ -47,6 +48,14 @@ pub enum LexemeKind {
     Semicolon,
     /// `=`.
     Equals,
+    /// `'+'` or `"+"`, of grmtools: what stands between the quotes is the name.
+    QuotedName,
+    /// `"a \"name\""`, of grmtools: a text that has quotes.
+    QuotedText,
+    /// `-> Result<u64, ()>`, of grmtools: the type of a rule.
+    RuleType,
+    /// `%parse-param p: u64`, of grmtools: a directive with the rest of its line.
+    DirectiveLine,
 }
 
 /// A lexeme, and where it stands.
@@ -59,7 +68,7 @@ pub struct Lexeme {
 }
 
 /// Whether a name may begin with the byte.
-fn is_name_start(byte: u8) -> bool {
+pub(crate) fn is_name_start(byte: u8) -> bool {
     byte.is_ascii_alphabetic() || matches!(byte, b'.' | b'_')
 }
 
@@ -69,7 +78,7 @@ fn is_name_byte(byte: u8) -> bool {
 }
 
 /// The place from `from` on at which a name ends.
-fn name_end(text: &[u8], from: usize) -> usize
+pub(crate) fn name_end(text: &[u8], from: usize) -> usize
     requires { from ≤ length text.now }
     ensures from { from ≤ result }
     ensures inside { result ≤ length text.now }
@@ -139,13 +148,18 @@ fn bracket_end(text: &[u8], from: usize) -> Result<usize, Fault>
     ensures from { IfOk result (λ end. from < end) }
     ensures inside { IfOk result (λ end. end ≤ length text.now) }
 {
-    let name = gap_end(text, from + 1)?;
-    let behind = gap_end(text, name_end(text, name))?;
+    let name = gap_end(text, from + 1, Dialect::Bison)?;
+    let behind = gap_end(text, name_end(text, name), Dialect::Bison)?;
     let begins = text.get(name).is_some_and(|byte| is_name_start(*byte));
     if begins && text.get(behind) == Some(&b']') {
         return Ok(behind + 1);
     }
-    let span = Span::new(from, from + 1);
+    let wrong = if begins { behind } else { name };
+    let span = if wrong == text.len() {
+        Span::new(from, from + 1)
+    } else {
+        Span::new(wrong, name_end(text, wrong).max(wrong + 1))
+    };
     Err(Fault {
         kind: FaultKind::InvalidBracket,
         span,
@@ -153,7 +167,7 @@ fn bracket_end(text: &[u8], from: usize) -> Result<usize, Fault>
 }
 
 /// No lexeme begins with the byte at a place.
-fn invalid(from: usize) -> Fault
+pub(crate) fn invalid(from: usize) -> Fault
     requires { from < usize.MAX }
 {
     let span = Span::new(from, from + 1);
@@ -193,13 +207,29 @@ fn behind_percent(text: &[u8], from: usize) -> Result<(LexemeKind, usize), Fault
         b'%' => Ok((LexemeKind::Separator, from + 2)),
         b'{' => code(text, from, 2, LexemeKind::Prologue, Ending::PrologueMark),
         b'?' => {
-            let brace = gap_end(text, from + 2)?;
+            let brace = gap_end(text, from + 2, Dialect::Bison)?;
             if text.get(brace) != Some(&b'{') {
                 return Err(invalid(from));
             }
             code(text, brace, 1, LexemeKind::Predicate, Ending::Brace)
         }
+        b'<' | b'>' | b'0' | b'2' => Ok((LexemeKind::Directive, from + 2)),
         byte if is_name_start(byte) => Ok((LexemeKind::Directive, name_end(text, from + 1))),
+        _ => Err(invalid(from)),
+    }
+}
+
+/// The lexeme of old Yacc whose backslash stands at a place.
+fn behind_backslash(text: &[u8], from: usize) -> Result<(LexemeKind, usize), Fault>
+    requires { from < length text.now }
+    ensures from { IfOk result (λ found. from < found.1) }
+    ensures inside { IfOk result (λ found. found.1 ≤ length text.now) }
+{
+    match text.get(from + 1) {
+        Some(b'\\') => Ok((LexemeKind::Separator, from + 2)),
+        Some(byte) if is_name_start(*byte) => {
+            Ok((LexemeKind::Directive, name_end(text, from + 1)))
+        }
         _ => Err(invalid(from)),
     }
 }
@@ -267,6 +297,7 @@ pub(crate) fn lexeme_at(text: &[u8], from: usize) -> Result<(LexemeKind, usize),
     match first {
         b'_' if text[from..].starts_with(b"_(\"") => translated(text, from),
         b'%' => behind_percent(text, from),
+        b'\\' => behind_backslash(text, from),
         b'{' => code(text, from, 1, LexemeKind::Action, Ending::Brace),
         b'<' => tag(text, from),
         b'[' => Ok((LexemeKind::BracketName, bracket_end(text, from)?)),

@@ -1,13 +1,17 @@
-//! Grammar files of Yacc and Bison: what a file says, and the parts of a grammar that it means.
+//! Grammar files of Yacc, Bison and grmtools: what a file says, and the parts of a grammar that it means.
 #![tactic(auto)]
 
 mod code;
 mod contents;
 mod declarations;
+mod dialects;
 mod directives;
 mod faults;
 mod file;
 mod gaps;
+mod grmtools;
+mod grmtools_lexemes;
+mod grmtools_names;
 mod lexemes;
 mod meaning;
 mod numbering;
@@ -16,11 +20,14 @@ mod places;
 mod quotes;
 mod reader;
 mod rules;
+mod rust_code;
 mod scanner;
 mod symbols;
 mod useful;
+mod values;
 
-pub use crate::faults::{Fault, FaultKind, Wanted};
+pub use crate::dialects::Dialect;
+pub use crate::faults::{Fault, FaultKind, OldForm, Wanted};
 pub use crate::file::{FileRead, read_file};
 pub use crate::meaning::Expected;
 pub use crate::numbering::FileGrammar;

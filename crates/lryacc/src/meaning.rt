@@ -1,6 +1,7 @@
 //! What the names of a file mean: its symbols, and what is said of them.
 
 use crate::contents::{Alternative, BodyPart, Contents, LevelKind, Statement};
+use crate::dialects::Dialect;
 use crate::faults::{Fault, FaultKind};
 use crate::lexemes::{Lexeme, LexemeKind};
 use crate::numbers::value_of;
@@ -8,6 +9,9 @@ use crate::places::Span;
 use crate::symbols::{Class, Symbols};
 use std::alloc::{AllocError, Global};
 use std::collections::BTreeMap;
+
+/// The greatest number that is read, which no token has for its code.
+const GREATEST: u64 = 2_147_483_647;
 
 /// How many conflicts a file expects, where it says so.
 #[derive(Clone, Copy, Debug, Default, PartialEq, Eq)]
@@ -24,12 +28,12 @@ pub(crate) struct Meaning<'a> {
     pub(crate) symbols: Symbols<'a>,
     /// The kinds of the precedence lines, in the order of the file.
     pub(crate) levels: Vec<LevelKind>,
-    /// The symbols behind `%start`.
+    /// Where the precedence line in hand begins.
+    level_start: usize,
+    /// The symbols behind `%start`, each once.
     pub(crate) starts: Vec<Lexeme>,
     /// The first symbol with code 0: the end token.
     pub(crate) end: Option<usize>,
-    /// The symbols by their codes.
-    codes: BTreeMap<u64, usize>,
     /// Whether productions without `%prec` have the precedence of their last token.
     pub(crate) has_default_precedence: bool,
     /// How many conflicts are expected.
@@ -40,13 +44,18 @@ pub(crate) struct Meaning<'a> {
 
 impl<'a> Meaning<'a> {
     /// Nothing is known.
-    pub(crate) fn new(alloc: Global, text: &'a [u8], faults: Vec<Fault>) -> Meaning<'a> {
+    pub(crate) fn new(
+        alloc: Global,
+        text: &'a [u8],
+        dialect: Dialect,
+        faults: Vec<Fault>,
+    ) -> Meaning<'a> {
         Meaning {
-            symbols: Symbols::new(alloc, text),
+            symbols: Symbols::new(alloc, text, dialect),
             levels: Vec::new(alloc),
+            level_start: 0,
             starts: Vec::new(alloc),
             end: None,
-            codes: BTreeMap::new(alloc),
             has_default_precedence: true,
             expected: Expected::default(),
             faults,
@@ -102,15 +111,22 @@ impl<'a> Meaning<'a> {
             Statement::Rule(symbol) => self.take_rule_name(symbol)?,
             Statement::Code(symbol, number) => self.take_code(symbol, number)?,
             Statement::Alias(symbol, text) => self.take_alias(symbol, text)?,
-            Statement::Level(kind) => self.levels.push(kind)?,
+            Statement::Level(kind, directive) => {
+                self.levels.push(kind)?;
+                self.level_start = directive.span.start;
+            }
             Statement::InLevel(symbol) => self.take_in_level(symbol)?,
             Statement::Mention(symbol) => {
                 let _ = self.symbols.named(symbol)?;
             }
-            Statement::Start(symbol) => {
-                let _ = self.symbols.named(symbol)?;
-                self.starts.push(symbol)?;
+            Statement::Tagged(symbol, tag) => self.take_tag(symbol, tag)?,
+            Statement::LeftSide(rule) => {
+                let _ = self.classed(rule, Class::Rule, FaultKind::RuleOfToken)?;
             }
+            Statement::NamedPrecedence(token) => {
+                let _ = self.classed(token, Class::Token, FaultKind::PrecedenceOfRule)?;
+            }
+            Statement::Start(symbol) => self.take_start(symbol)?,
             Statement::DefaultPrecedence(is_on) => self.has_default_precedence = is_on,
             Statement::ExpectShiftReduce(number) => {
                 self.expected.shift_reduce = self.number(number)?;
@@ -134,11 +150,35 @@ impl<'a> Meaning<'a> {
     /// Takes in that a symbol is declared a token.
     fn take_token(&mut self, lexeme: Lexeme) -> Result<(), AllocError> {
         let number = self.classed(lexeme, Class::Token, FaultKind::BothKinds)?;
+        self.declare(number, lexeme)
+    }
+
+    /// Takes in that a symbol is declared here, and warns where it was declared before. For grmtools each use between quotes
+    /// declares a token.
+    fn declare(&mut self, number: usize, lexeme: Lexeme) -> Result<(), AllocError> {
+        let mut is_declared = false;
         if let Some(symbol) = self.symbols.list.get_mut(number) {
-            if symbol.declared.is_none() {
-                symbol.declared = Some(lexeme);
-            }
+            is_declared = symbol.declared.is_some();
+            symbol.declared = symbol.declared.or(Some(lexeme));
         }
+        if is_declared && self.symbols.dialect == Dialect::Bison {
+            self.warn(FaultKind::DeclaredTwice, lexeme.span)?;
+        }
+        Ok(())
+    }
+
+    /// Takes in that a symbol is a start rule, and warns where it was one before.
+    fn take_start(&mut self, lexeme: Lexeme) -> Result<(), AllocError> {
+        let number = self.symbols.named(lexeme)?;
+        let mut is_start = false;
+        if let Some(symbol) = self.symbols.list.get_mut(number) {
+            is_start = symbol.is_start;
+            symbol.is_start = true;
+        }
+        if is_start {
+            return self.warn(FaultKind::StartTwice, lexeme.span);
+        }
+        self.starts.push(lexeme)?;
         Ok(())
     }
 
@@ -147,11 +187,11 @@ impl<'a> Meaning<'a> {
         if lexeme.kind != LexemeKind::Name {
             return self.tell(FaultKind::CharacterAsRule, lexeme.span);
         }
-        let _ = self.classed(lexeme, Class::Rule, FaultKind::BothKinds)?;
-        Ok(())
+        let number = self.classed(lexeme, Class::Rule, FaultKind::BothKinds)?;
+        self.declare(number, lexeme)
     }
 
-    /// Takes in the number of a token.
+    /// Takes in the number of a token. It is less than the greatest one that is read.
     fn take_code(&mut self, lexeme: Lexeme, number: Lexeme) -> Result<(), AllocError> {
         let symbol = self.symbols.named(lexeme)?;
         let Some(code) = self.number(number)? else {
@@ -160,25 +200,88 @@ impl<'a> Meaning<'a> {
         if self.class(symbol) == Class::Rule {
             return self.tell(FaultKind::CodeOfRule, number.span);
         }
+        if code == GREATEST {
+            return self.tell(FaultKind::LargeNumber, number.span);
+        }
         let mut is_other = false;
         if let Some(symbol) = self.symbols.list.get_mut(symbol) {
             is_other = symbol.code.is_some_and(|known| known != code);
-            symbol.code = Some(code);
+            symbol.code = symbol.code.or(Some(code));
         }
         if is_other {
             return self.tell(FaultKind::CodeTwice, number.span);
         }
         if code == 0 {
             self.end = self.end.or(Some(symbol));
-            return Ok(());
         }
-        match self.codes.get(&code) {
-            Some(other) if *other != symbol => self.tell(FaultKind::CodeOfOther, lexeme.span),
-            _ => {
-                self.codes.insert(code, symbol)?;
-                Ok(())
+        Ok(())
+    }
+
+    /// The codes of symbols, with the places of these, in their order.
+    fn codes_in_order(&self) -> Result<BTreeMap<usize, (u64, Span)>, AllocError> {
+        let mut codes = BTreeMap::new(*self.faults.allocator());
+        for symbol in &self.symbols.list {
+            if let Some(code) = symbol.code {
+                codes.insert(symbol.place(), (code, symbol.span()))?;
             }
         }
+        Ok(codes)
+    }
+
+    /// Tells of each symbol whose code one before it has.
+    fn tell_codes(&mut self) -> Result<(), AllocError> {
+        let alloc = *self.faults.allocator();
+        let ordered = self.codes_in_order()?;
+        let mut found = BTreeMap::new(alloc);
+        for (code, span) in ordered.values() {
+            if found.get(code).is_some() {
+                self.tell(FaultKind::CodeOfOther, *span)?;
+            } else {
+                found.insert(*code, *span)?;
+            }
+        }
+        Ok(())
+    }
+
+    /// Takes in the tag of a symbol, by either of its names.
+    fn take_tag(&mut self, lexeme: Lexeme, tag: Lexeme) -> Result<(), AllocError> {
+        let number = self.symbols.named(lexeme)?;
+        if self.has_tag(number) {
+            return self.tell(FaultKind::TagTwice, lexeme.span);
+        }
+        if let Some(symbol) = self.symbols.list.get_mut(number) {
+            symbol.tag = Some((tag, lexeme));
+        }
+        Ok(())
+    }
+
+    /// The tag that a symbol has by this name, and where that is said.
+    fn tag(&self, number: usize) -> Option<(Lexeme, Lexeme)> {
+        self.symbols.list.get(number)?.tag
+    }
+
+    /// Whether a symbol has a tag, by this name or the other one.
+    fn has_tag(&self, number: usize) -> bool {
+        match self.partner(number) {
+            Some(other) => self.tag(number).is_some() || self.tag(other).is_some(),
+            None => self.tag(number).is_some(),
+        }
+    }
+
+    /// Tells where two names that become those of one symbol have two tags.
+    fn tell_tags(&mut self, one: usize, other: usize) -> Result<(), AllocError> {
+        let (Some((tag, here)), Some((other_tag, there))) = (self.tag(one), self.tag(other)) else {
+            return Ok(());
+        };
+        if self.symbols.bytes(tag) == self.symbols.bytes(other_tag) {
+            return Ok(());
+        }
+        let later = if here.span.start < there.span.start {
+            there
+        } else {
+            here
+        };
+        self.tell(FaultKind::TagTwice, later.span)
     }
 
     /// The class of a symbol.
@@ -193,11 +296,14 @@ impl<'a> Meaning<'a> {
     fn take_alias(&mut self, symbol: Lexeme, text: Lexeme) -> Result<(), AllocError> {
         let one = self.symbols.named(symbol)?;
         let other = self.symbols.named(text)?;
+        if self.class(one) == Class::Rule {
+            return self.tell(FaultKind::NameOfRule, text.span);
+        }
         if self.partner(one).is_none() && self.partner(other).is_none() && one != other {
             let class = self.class(one);
             self.set_partner(one, other, class);
             self.set_partner(other, one, class);
-            return Ok(());
+            return self.tell_tags(one, other);
         }
         if self.partner(one) == Some(other) {
             return Ok(());
@@ -221,16 +327,17 @@ impl<'a> Meaning<'a> {
     /// Puts a symbol into the precedence line in hand.
     fn take_in_level(&mut self, lexeme: Lexeme) -> Result<(), AllocError> {
         let level = self.levels.len();
+        let span = Span::new(self.level_start, lexeme.span.end);
         let number = self.classed(lexeme, Class::Token, FaultKind::BothKinds)?;
         let mut has_level = false;
         if let Some(symbol) = self.symbols.list.get_mut(number) {
             has_level = symbol.level.is_some();
             if !has_level {
-                symbol.level = Some((level, lexeme));
+                symbol.level = Some((level, span));
             }
         }
         if has_level {
-            self.tell(FaultKind::LevelTwice, lexeme.span)?;
+            self.tell(FaultKind::LevelTwice, span)?;
         }
         Ok(())
     }
@@ -238,39 +345,28 @@ impl<'a> Meaning<'a> {
     /// Tells of each token that has a level by both of its names.
     fn tell_levels(&mut self) -> Result<(), AllocError> {
         for number in 0..self.symbols.list.len() {
-            if let Some(lexeme) = self.second_level(number) {
-                self.tell(FaultKind::LevelTwice, lexeme.span)?;
+            if let Some(span) = self.second_level(number) {
+                self.tell(FaultKind::LevelTwice, span)?;
             }
         }
         Ok(())
     }
 
     /// Where a symbol stands in a precedence line behind one in which its other name stands.
-    fn second_level(&self, number: usize) -> Option<Lexeme> {
+    fn second_level(&self, number: usize) -> Option<Span> {
         let symbol = self.symbols.list.get(number)?;
         let partner = self.symbols.list.get(symbol.partner?)?;
         let (_, here) = symbol.level?;
         let (_, there) = partner.level?;
-        if there.span.start < here.span.start {
+        if there.end < here.end {
             Some(here)
         } else {
             None
         }
     }
 
-    /// Takes in which symbols have rules.
-    fn take_rules(&mut self, alternatives: &[Alternative]) -> Result<(), AllocError> {
-        for alternative in alternatives {
-            let _ = self.classed(alternative.rule, Class::Rule, FaultKind::RuleOfToken)?;
-        }
-        Ok(())
-    }
-
     /// Takes in the symbols of a body.
     fn take_body(&mut self, alternative: &Alternative) -> Result<(), AllocError> {
-        if let Some(token) = alternative.precedence {
-            let _ = self.classed(token, Class::Token, FaultKind::PrecedenceOfRule)?;
-        }
         for part in &alternative.parts {
             if let BodyPart::Symbol(lexeme) = part {
                 self.take_use(*lexeme)?;
@@ -324,20 +420,26 @@ impl<'a> Meaning<'a> {
         }
     }
 
-    /// Tells which symbols are nothing, though bodies have them.
+    /// Tells which symbols are nothing, though bodies have them, and warns of those that are only named by declarations.
     fn tell_undefined(&mut self) -> Result<(), AllocError> {
         for number in 0..self.symbols.list.len() {
             if let Some(symbol) = self.symbols.list.get(number).copied() {
-                let is_end = self.symbols.name(symbol.mention) == b"YYEOF".as_slice();
-                if symbol.class == Class::Unknown && symbol.is_used && !is_end {
+                let is_end = self.end.is_none()
+                    && self.symbols.name(symbol.mention) == b"YYEOF".as_slice();
+                if symbol.class != Class::Unknown || is_end {
+                    continue;
+                }
+                if symbol.is_used {
                     self.tell(FaultKind::Undefined, symbol.mention.span)?;
+                } else {
+                    self.warn(FaultKind::Undefined, symbol.mention.span)?;
                 }
             }
         }
         Ok(())
     }
 
-    /// Tells of start symbols that are tokens.
+    /// Tells of start symbols that are no rules.
     fn tell_starts(&mut self) -> Result<(), AllocError> {
         for at in 0..self.starts.len() {
             if let Some(start) = self.starts.get(at).copied() {
@@ -347,12 +449,22 @@ impl<'a> Meaning<'a> {
         Ok(())
     }
 
-    /// Tells of a start symbol that is a token.
+    /// Tells of a start symbol that is no rule. It may be a token where it isn't the only one.
     fn tell_start(&mut self, start: Lexeme) -> Result<(), AllocError> {
-        match self.symbols.find(start) {
-            Some(number) if self.class(number) == Class::Token => {
-                self.tell(FaultKind::StartIsToken, start.span)
+        let Some(number) = self.symbols.find(start) else {
+            return Ok(());
+        };
+        let Some(symbol) = self.symbols.list.get(number).copied() else {
+            return Ok(());
+        };
+        match symbol.class {
+            Class::Token if self.starts.len() == 1 => {
+                self.tell(FaultKind::StartIsToken, symbol.span())
             }
+            Class::Unknown if self.symbols.dialect == Dialect::Grmtools => {
+                self.tell(FaultKind::Undefined, start.span)
+            }
+            Class::Unknown => self.tell(FaultKind::StartIsUnproductive, start.span),
             _ => Ok(()),
         }
     }
@@ -360,10 +472,10 @@ impl<'a> Meaning<'a> {
     /// Takes in all that the file says of its symbols.
     pub(crate) fn take(&mut self, contents: &Contents) -> Result<(), AllocError> {
         self.take_statements(contents.statements.as_slice())?;
-        self.take_rules(contents.alternatives.as_slice())?;
         self.take_bodies(contents.alternatives.as_slice())?;
         self.warn_of_precedences(contents.alternatives.as_slice())?;
         self.tell_levels()?;
+        self.tell_codes()?;
         self.tell_undefined()?;
         self.tell_starts()?;
         self.find_end();

@@ -1,10 +1,12 @@
 //! The parts of the grammar of a file, with their places.
 
 use crate::contents::{Alternative, BodyPart, Contents, LevelKind};
+use crate::dialects::Dialect;
 use crate::lexemes::{Lexeme, LexemeKind};
 use crate::meaning::Meaning;
 use crate::places::Span;
 use crate::symbols::{Class, Symbol};
+use crate::values::used_values;
 use lrgrammar::grammar::{AssocKind, GrammarParts, PartProd, PartSymbol, PartToken, Precedence};
 use std::alloc::{AllocError, Global};
 use std::collections::BTreeMap;
@@ -149,20 +151,23 @@ impl<'m, 'a> Numbering<'m, 'a> {
 
     /// Adds the rules that the actions of a body are.
     fn add_actions(&mut self, alternative: &Alternative) -> Result<(), AllocError> {
-        for at in 0..alternative.parts.len() {
-            if let BodyPart::Action(action) = alternative.parts[at] {
+        let parts = alternative.parts.as_slice();
+        let used = used_values(self.allocator(), &self.meaning.symbols, parts)?;
+        for at in 0..parts.len() {
+            if let BodyPart::Action(action, _) = parts[at] {
                 if !is_last(alternative, at) {
-                    self.add_action(action)?;
+                    self.add_action(action, used.get(at) == Some(&true))?;
                 }
             }
         }
         Ok(())
     }
 
-    /// Adds the rule that an action is.
-    fn add_action(&mut self, action: Lexeme) -> Result<(), AllocError> {
+    /// Adds the rule that an action is. Its name begins with `@` where its value is used, and else with `$@`.
+    fn add_action(&mut self, action: Lexeme, is_used: bool) -> Result<(), AllocError> {
         let number = self.actions.len().saturating_add(1);
-        let name = format!(in self.allocator(); "$@{number}")?;
+        let mark = if is_used { "@" } else { "$@" };
+        let name = format!(in self.allocator(); "{mark}{number}")?;
         let rule = self.grammar.add_rule(name, action.span)?;
         self.actions.push(rule)?;
         Ok(())
@@ -219,6 +224,15 @@ impl<'m, 'a> Numbering<'m, 'a> {
         }
     }
 
+    /// The name that a token has in the grammar: as it stands in the file, and for grmtools always in quotes.
+    fn token_name(&self, symbol: Symbol) -> Result<String, AllocError> {
+        let name = String::from_utf8_lossy(self.allocator(), self.told_name(symbol))?;
+        match self.meaning.symbols.dialect {
+            Dialect::Bison => Ok(name),
+            Dialect::Grmtools => format!(in self.allocator(); "'{name}'"),
+        }
+    }
+
     /// Adds a token of the grammar, and answers its number.
     fn add_token(
         &mut self,
@@ -238,7 +252,7 @@ impl<'m, 'a> Numbering<'m, 'a> {
         let Some(symbol) = self.known(number) else {
             return Ok(());
         };
-        let name = String::from_utf8_lossy(self.allocator(), self.told_name(symbol))?;
+        let name = self.token_name(symbol)?;
         let precedence = self.precedence(number);
         let token = self.add_token(name, precedence)?;
         self.tokens.insert(number, token)?;
@@ -348,8 +362,8 @@ impl<'m, 'a> Numbering<'m, 'a> {
         for at in 0..alternative.parts.len() {
             let (symbol, place) = match alternative.parts[at] {
                 BodyPart::Symbol(lexeme) => (self.symbol(lexeme), lexeme.span),
-                BodyPart::Action(_) if is_last(alternative, at) => continue,
-                BodyPart::Action(action) => (self.add_action_production(action)?, action.span),
+                BodyPart::Action(..) if is_last(alternative, at) => continue,
+                BodyPart::Action(action, _) => (self.add_action_production(action)?, action.span),
             };
             if let Some(symbol) = symbol {
                 symbols.push(symbol)?;

@@ -93,11 +93,14 @@ impl<'a> Reader<'a> {
         text.get(lexeme.span.start..lexeme.span.end).unwrap_or(b"")
     }
 
-    /// Takes a symbol, as it stands in a body: a name, a character or a text.
+    /// Takes a symbol, as it stands in a body: a name, a character or a text; of grmtools a name, perhaps in quotes.
     pub(crate) fn take_symbol(&mut self) -> Option<Lexeme> {
         let lexeme = self.here()?;
         match lexeme.kind {
-            LexemeKind::Name | LexemeKind::Character(_) | LexemeKind::Text => {
+            LexemeKind::Name
+            | LexemeKind::Character(_)
+            | LexemeKind::Text
+            | LexemeKind::QuotedName => {
                 self.pass();
                 Some(lexeme)
             }

@@ -1,8 +1,8 @@
 //! Rules, and the file as a whole.
 
-use crate::contents::{Alternative, BodyPart};
+use crate::contents::{Alternative, BodyPart, Statement};
 use crate::directives::Form;
-use crate::faults::{Fault, FaultKind, Halt, Wanted};
+use crate::faults::{Fault, FaultKind, Halt, OldForm, Wanted};
 use crate::lexemes::{Lexeme, LexemeKind};
 use crate::places::Span;
 use crate::reader::Reader;
@@ -10,7 +10,7 @@ use std::alloc::{AllocError, Global};
 
 /// A body in hand.
 #[derive(Drop)]
-struct Body {
+pub(crate) struct Body {
     parts: Vec<BodyPart>,
     precedence: Option<Lexeme>,
     /// Whether `%dprec` and `%merge` were read.
@@ -51,14 +51,14 @@ fn is_before_rules(form: Form) -> bool {
 }
 
 /// A fault at a lexeme.
-fn fault_at(kind: FaultKind, lexeme: Lexeme) -> Halt {
+pub(crate) fn fault_at(kind: FaultKind, lexeme: Lexeme) -> Halt {
     let span = lexeme.span;
     Halt::Fault(Fault { kind, span })
 }
 
 impl Body {
     /// Nothing was read.
-    fn new(alloc: Global) -> Body {
+    pub(crate) fn new(alloc: Global) -> Body {
         Body {
             parts: Vec::new(alloc),
             precedence: None,
@@ -70,7 +70,7 @@ impl Body {
     }
 
     /// Has the body reach to the end of a lexeme.
-    fn reach(&mut self, lexeme: Lexeme) {
+    pub(crate) fn reach(&mut self, lexeme: Lexeme) {
         let start = match self.span {
             Some(span) => span.start,
             None => lexeme.span.start,
@@ -79,7 +79,7 @@ impl Body {
     }
 
     /// Adds a part.
-    fn add(&mut self, part: BodyPart, lexeme: Lexeme) -> Result<(), AllocError> {
+    pub(crate) fn add(&mut self, part: BodyPart, lexeme: Lexeme) -> Result<(), AllocError> {
         self.reach(lexeme);
         self.parts.push(part)?;
         Ok(())
@@ -99,14 +99,25 @@ impl<'a> Reader<'a> {
                 }
             }
         }
-        if self.take(LexemeKind::Separator).is_none() && self.faults.is_empty() {
+        if !self.separator()? && self.faults.is_empty() {
             self.note(self.wants(Wanted::Declaration))?;
         }
         Ok(())
     }
 
+    /// Takes `%%`, and tells of the old form of it; false where it doesn't stand here.
+    fn separator(&mut self) -> Result<bool, AllocError> {
+        let Some(mark) = self.take(LexemeKind::Separator) else {
+            return Ok(false);
+        };
+        if self.bytes(mark) != b"%%".as_slice() {
+            self.tell(FaultKind::Old(OldForm::Backslashes), mark.span)?;
+        }
+        Ok(true)
+    }
+
     /// Tells the fault that was come by, and passes over lexemes up to where something new may begin.
-    fn settle(&mut self, read: Result<(), Halt>) -> Result<(), AllocError> {
+    pub(crate) fn settle(&mut self, read: Result<(), Halt>) -> Result<(), AllocError> {
         let Err(halt) = read else {
             return Ok(());
         };
@@ -126,7 +137,7 @@ impl<'a> Reader<'a> {
     }
 
     /// Tells a fault.
-    fn note(&mut self, halt: Halt) -> Result<(), AllocError> {
+    pub(crate) fn note(&mut self, halt: Halt) -> Result<(), AllocError> {
         match halt {
             Halt::Fault(fault) => self.tell(fault.kind, fault.span),
             Halt::Memory => Err(AllocError),
@@ -139,7 +150,7 @@ impl<'a> Reader<'a> {
         for _ in 0..self.lexemes.len() {
             match self.kind() {
                 None | Some(LexemeKind::Separator) => break,
-                Some(LexemeKind::Semicolon) if !is_first => self.pass(),
+                Some(LexemeKind::Semicolon) if !self.faults.is_empty() => self.pass(),
                 Some(LexemeKind::RuleName) => {
                     let read = self.rule();
                     self.settle(read)?;
@@ -159,6 +170,7 @@ impl<'a> Reader<'a> {
         if is_first && self.faults.is_empty() {
             self.note(self.wants(Wanted::Rule))?;
         }
+        let _ = self.separator()?;
         Ok(())
     }
 
@@ -181,6 +193,7 @@ impl<'a> Reader<'a> {
     /// Reads a rule.
     fn rule(&mut self) -> Result<(), Halt> {
         let name = self.want(LexemeKind::RuleName, Wanted::Rule)?;
+        self.state(Statement::LeftSide(name))?;
         let _ = self.take(LexemeKind::BracketName);
         let mut mark = self.want(LexemeKind::Colon, Wanted::Rule)?;
         for _ in 0..self.lexemes.len() {
@@ -242,7 +255,10 @@ impl<'a> Reader<'a> {
                 body.add(BodyPart::Symbol(lexeme), lexeme)?;
             }
             LexemeKind::Action | LexemeKind::Predicate => {
-                body.add(BodyPart::Action(lexeme), lexeme)?;
+                self.pass();
+                let name = self.take(LexemeKind::BracketName);
+                body.add(BodyPart::Action(lexeme, name), lexeme)?;
+                return Ok(true);
             }
             LexemeKind::Tag => {
                 self.pass();
@@ -251,6 +267,7 @@ impl<'a> Reader<'a> {
                 }
                 return Ok(true);
             }
+            LexemeKind::Equals => return self.old_equals(lexeme),
             _ => return Ok(false),
         }
         self.pass();
@@ -258,8 +275,19 @@ impl<'a> Reader<'a> {
         Ok(true)
     }
 
+    /// Passes over the `=` that old Yacc has before an action, and tells of it; false where no action stands behind it.
+    fn old_equals(&mut self, equals: Lexeme) -> Result<bool, Halt> {
+        let behind = self.lexemes.get(self.at.saturating_add(1));
+        if !behind.is_some_and(|lexeme| lexeme.kind == LexemeKind::Action) {
+            return Ok(false);
+        }
+        self.pass();
+        self.tell(FaultKind::Old(OldForm::Equals), equals.span)?;
+        Ok(true)
+    }
+
     /// Reads what stands behind a directive of a body.
-    fn body_directive(
+    pub(crate) fn body_directive(
         &mut self,
         body: &mut Body,
         form: Form,
@@ -277,6 +305,7 @@ impl<'a> Reader<'a> {
                 if body.precedence.is_some() {
                     return Err(fault_at(FaultKind::Twice, symbol));
                 }
+                self.state(Statement::NamedPrecedence(symbol))?;
                 body.precedence = Some(symbol);
                 body.reach(symbol);
             }
@@ -302,7 +331,7 @@ impl<'a> Reader<'a> {
     }
 
     /// Adds the body to the contents.
-    fn end_body(&mut self, rule: Lexeme, mark: Lexeme, body: Body) -> Result<(), Halt> {
+    pub(crate) fn end_body(&mut self, rule: Lexeme, mark: Lexeme, body: Body) -> Result<(), Halt> {
         let Body {
             parts,
             precedence,
@@ -311,7 +340,7 @@ impl<'a> Reader<'a> {
             ..
         } = body;
         if let Some(empty) = empty {
-            if parts.iter().any(|part| matches!(part, BodyPart::Symbol(_))) {
+            if !matches!(parts.as_slice(), [] | [BodyPart::Action(..)]) {
                 self.tell(FaultKind::NotEmpty, empty)?;
             }
         }

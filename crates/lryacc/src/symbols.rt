@@ -1,6 +1,8 @@
 //! The symbols of a file.
 
+use crate::dialects::Dialect;
 use crate::lexemes::{Lexeme, LexemeKind};
+use crate::places::Span;
 use std::alloc::{AllocError, Global};
 use std::collections::BTreeMap;
 
@@ -21,16 +23,20 @@ pub(crate) struct Symbol {
     /// Where it is named first.
     pub(crate) mention: Lexeme,
     pub(crate) class: Class,
-    /// Where the first `%token` names it.
+    /// Where the first `%token` or `%nterm` names it.
     pub(crate) declared: Option<Lexeme>,
-    /// The number by which its lexer calls it, where the file gives it one.
+    /// The tag of its values, and where that is said.
+    pub(crate) tag: Option<(Lexeme, Lexeme)>,
+    /// The number by which its lexer calls it: that of a character, or where the file gives it one.
     pub(crate) code: Option<u64>,
-    /// The precedence line that it stands in, counted from 1, and where it is named there.
-    pub(crate) level: Option<(usize, Lexeme)>,
+    /// The precedence line that it stands in, counted from 1, and the line up to where it is named there.
+    pub(crate) level: Option<(usize, Span)>,
     /// The symbol that is its other name.
     pub(crate) partner: Option<usize>,
     /// Whether a body has it.
     pub(crate) is_used: bool,
+    /// Whether `%start` names it.
+    pub(crate) is_start: bool,
 }
 
 impl Symbol {
@@ -40,16 +46,26 @@ impl Symbol {
             mention,
             class,
             declared: None,
-            code: None,
+            tag: None,
+            code: match mention.kind {
+                LexemeKind::Character(byte) => Some(u64::from(byte)),
+                _ => None,
+            },
             level: None,
             partner: None,
             is_used: false,
+            is_start: false,
         }
+    }
+
+    /// Where it is declared, or else where it is named first.
+    pub(crate) fn span(&self) -> Span {
+        self.declared.unwrap_or(self.mention).span
     }
 
     /// The place by which it is ordered among the others of its class.
     pub(crate) fn place(&self) -> usize {
-        self.declared.unwrap_or(self.mention).span.start
+        self.span().start
     }
 }
 
@@ -57,6 +73,7 @@ impl Symbol {
 #[derive(Drop)]
 pub(crate) struct Symbols<'a> {
     text: &'a [u8],
+    pub(crate) dialect: Dialect,
     names: BTreeMap<&'a [u8], usize>,
     characters: BTreeMap<u8, usize>,
     pub(crate) list: Vec<Symbol>,
@@ -64,9 +81,10 @@ pub(crate) struct Symbols<'a> {
 
 impl<'a> Symbols<'a> {
     /// No symbols.
-    pub(crate) fn new(alloc: Global, text: &'a [u8]) -> Symbols<'a> {
+    pub(crate) fn new(alloc: Global, text: &'a [u8], dialect: Dialect) -> Symbols<'a> {
         Symbols {
             text,
+            dialect,
             names: BTreeMap::new(alloc),
             characters: BTreeMap::new(alloc),
             list: Vec::new(alloc),
@@ -79,12 +97,21 @@ impl<'a> Symbols<'a> {
         text.get(lexeme.span.start..lexeme.span.end).unwrap_or(b"")
     }
 
-    /// The number of the symbol of that name.
+    /// The number of the symbol of that name, which has a meaning of its own for Bison.
     pub(crate) fn find_name(&self, name: &'a [u8]) -> Option<usize> {
-        self.names.get(&name).copied()
+        match self.dialect {
+            Dialect::Bison => self.names.get(&name).copied(),
+            Dialect::Grmtools => None,
+        }
     }
 
-    /// The bytes that name a symbol: those of a text to be translated are those of the text, and `YYerror` is `error`.
+    /// Whether a name is one that has a meaning of its own for Bison.
+    fn is_of_bison(&self, name: &[u8], other: &[u8]) -> bool {
+        self.dialect == Dialect::Bison && name == other
+    }
+
+    /// The bytes that name a symbol: those of a text to be translated are those of the text, and `YYerror` is `error`. Quotes of
+    /// grmtools are no part of a name.
     pub(crate) fn name(&self, lexeme: Lexeme) -> &'a [u8] {
         let bytes = self.bytes(lexeme);
         match lexeme.kind {
@@ -92,7 +119,12 @@ impl<'a> Symbols<'a> {
                 [b'_', b'(', quoted @ .., b')'] => quoted,
                 _ => bytes,
             },
-            LexemeKind::Name if bytes == b"YYerror".as_slice() => b"error",
+            LexemeKind::QuotedName => match bytes {
+                [_, name @ .., _] => name,
+                _ => bytes,
+            },
+            LexemeKind::Name | LexemeKind::RuleName if self.is_of_bison(bytes, b"YYerror") =>
+                b"error",
             _ => bytes,
         }
     }
@@ -114,6 +146,17 @@ impl<'a> Symbols<'a> {
         }
     }
 
+    /// What the symbol that a lexeme names is before anything is said of it.
+    fn first_class(&self, lexeme: Lexeme) -> Class {
+        let is_name = matches!(lexeme.kind, LexemeKind::Name | LexemeKind::RuleName);
+        let name = self.name(lexeme);
+        if !is_name || self.is_of_bison(name, b"error") || self.is_of_bison(name, b"YYUNDEF") {
+            Class::Token
+        } else {
+            Class::Unknown
+        }
+    }
+
     /// The number of the symbol that a lexeme names, which is new where it wasn't named before.
     pub(crate) fn named(&mut self, lexeme: Lexeme) -> Result<usize, AllocError> {
         if let Some(number) = self.find(lexeme) {
@@ -121,11 +164,7 @@ impl<'a> Symbols<'a> {
             return Ok(number);
         }
         let number = self.list.len();
-        let class = match lexeme.kind {
-            LexemeKind::Name if self.name(lexeme) == b"error".as_slice() => Class::Token,
-            LexemeKind::Name | LexemeKind::RuleName => Class::Unknown,
-            _ => Class::Token,
-        };
+        let class = self.first_class(lexeme);
         self.list.push(Symbol::new(lexeme, class))?;
         match lexeme.kind {
             LexemeKind::Character(byte) => {

@@ -1,0 +1,236 @@
+//! The lexemes of a grammar file of grmtools.
+
+ghost use Rattle.std.specs.Prelude.{◌≡◌, ◌+◌, ◌<◌, ◌≤◌, length, IfOk, IsTrue};
+
+use crate::faults::{Fault, FaultKind, Wanted};
+use crate::lexemes::{LexemeKind, invalid};
+use crate::places::Span;
+use crate::rust_code::rust_code_end;
+
+/// Whether a name may have the byte.
+fn is_name_byte(byte: u8) -> bool {
+    byte.is_ascii_alphanumeric() || byte == b'_'
+}
+
+/// The place from `from` on at which a name ends.
+fn name_end(text: &[u8], from: usize) -> usize
+    requires { from ≤ length text.now }
+    ensures from { from ≤ result }
+    ensures inside { result ≤ length text.now }
+{
+    for at in from..text.len() {
+        if !is_name_byte(text[at]) {
+            return at;
+        }
+    }
+    text.len()
+}
+
+/// The place from `from` on at which the name of a directive ends, which may have `-`.
+fn directive_end(text: &[u8], from: usize) -> usize
+    requires { from ≤ length text.now }
+    ensures from { from ≤ result }
+    ensures inside { result ≤ length text.now }
+{
+    for at in from..text.len() {
+        if !is_name_byte(text[at]) && text[at] != b'-' {
+            return at;
+        }
+    }
+    text.len()
+}
+
+/// The place from `from` on at which a line ends.
+fn line_end(text: &[u8], from: usize) -> usize
+    requires { from ≤ length text.now }
+    ensures from { from ≤ result }
+    ensures inside { result ≤ length text.now }
+{
+    for at in from..text.len() {
+        if matches!(text[at], b'\n' | b'\r') {
+            return at;
+        }
+    }
+    text.len()
+}
+
+/// The fault that something else should stand at a place.
+fn wants(wanted: Wanted, start: usize, end: usize) -> Fault {
+    Fault {
+        kind: FaultKind::Wanted(wanted),
+        span: Span::new(start, end),
+    }
+}
+
+/// The place behind a number that begins at a place, and behind the name that stands right behind it, which is a fault.
+fn number_end(text: &[u8], from: usize) -> Result<usize, Fault>
+    requires { from < length text.now }
+    ensures from { IfOk result (λ end. from < end) }
+    ensures inside { IfOk result (λ end. end ≤ length text.now) }
+{
+    let end = name_end(text, from + 1);
+    if text[from..end].iter().all(|byte| byte.is_ascii_digit()) {
+        return Ok(end);
+    }
+    Err(Fault {
+        kind: FaultKind::InvalidName,
+        span: Span::new(from, end),
+    })
+}
+
+/// Whether a quote or a backslash stands between quotes by itself, as in `'''` and `'\'`.
+fn is_lone_mark(bytes: &[u8]) -> bool
+    ensures { IsTrue result → 3 ≤ length bytes.now }
+{
+    match bytes {
+        [quote, b'\\', end, next, ..] => *end == *quote && *next != *quote,
+        [quote, mark, end, ..] => *end == *quote && (*mark == *quote || *mark == b'\\'),
+        _ => false,
+    }
+}
+
+/// The name, or the text, in quotes whose first quote stands at a place. Only in a text a quote may stand behind a backslash.
+fn quoted(text: &[u8], from: usize) -> Result<(LexemeKind, usize), Fault>
+    requires { from < length text.now }
+    ensures from { IfOk result (λ found. from < found.1) }
+    ensures inside { IfOk result (λ found. found.1 ≤ length text.now) }
+{
+    if is_lone_mark(&text[from..]) {
+        return Ok((LexemeKind::QuotedName, from + 3));
+    }
+    let quote = text[from];
+    let mut kind = LexemeKind::QuotedName;
+    let mut before = quote;
+    for at in from + 1..text.len() {
+        let byte = text[at];
+        if before == b'\\' && matches!(byte, b'\'' | b'"') {
+            kind = LexemeKind::QuotedText;
+        } else if byte == quote {
+            return ended(kind, from, at);
+        } else if byte == b'\n' {
+            break;
+        }
+        before = if before == b'\\' { b' ' } else { byte };
+    }
+    Err(Fault {
+        kind: FaultKind::OpenText,
+        span: Span::new(from, from + 1),
+    })
+}
+
+/// The lexeme in quotes that stand at two places.
+fn ended(kind: LexemeKind, from: usize, last: usize) -> Result<(LexemeKind, usize), Fault>
+    requires order { from < last }
+    requires fits { last < usize.MAX }
+    ensures { IfOk result (λ found. found.1 ≡ last + 1) }
+{
+    if last == from + 1 {
+        return Err(Fault {
+            kind: FaultKind::EmptyCharacter,
+            span: Span::new(from, last + 1),
+        });
+    }
+    Ok((kind, last + 1))
+}
+
+/// The place at which the type of a rule ends, which begins with `->` at a place: that of a colon with no other one beside it,
+/// or of a `;` outside of brackets, before which the colon is missing.
+fn type_end(text: &[u8], from: usize) -> usize
+    requires { from < length text.now }
+    ensures from { from < result }
+    ensures inside { result ≤ length text.now }
+{
+    let mut brackets: usize = 0;
+    let mut is_second = false;
+    for at in from + 1..text.len() {
+        let byte = text[at];
+        if byte == b':' && !is_second {
+            if text.get(at + 1) != Some(&b':') {
+                return at;
+            }
+            is_second = true;
+            continue;
+        }
+        is_second = false;
+        match byte {
+            b'[' => brackets = brackets.saturating_add(1),
+            b']' => brackets = brackets.saturating_sub(1),
+            b';' if brackets == 0 => return at,
+            _ => {}
+        }
+    }
+    text.len()
+}
+
+/// The type of a rule that begins with `->` at a place.
+fn rule_type(text: &[u8], from: usize) -> Result<(LexemeKind, usize), Fault>
+    requires { from < length text.now }
+    ensures from { IfOk result (λ found. from < found.1) }
+    ensures inside { IfOk result (λ found. found.1 ≤ length text.now) }
+{
+    let end = type_end(text, from);
+    match text[from..end].trim_ascii() {
+        b"->" => Err(wants(Wanted::Type, end, end)),
+        _ => Ok((LexemeKind::RuleType, end)),
+    }
+}
+
+/// The directive whose `%` stands at a place, with the rest of its line where that is Rust.
+fn directive(text: &[u8], from: usize) -> Result<(LexemeKind, usize), Fault>
+    requires { from < length text.now }
+    ensures from { IfOk result (λ found. from < found.1) }
+    ensures inside { IfOk result (λ found. found.1 ≤ length text.now) }
+{
+    let end = directive_end(text, from + 1);
+    match &text[from..end] {
+        b"%actiontype" | b"%parse-param" | b"%parse-generics" => {}
+        _ => return Ok((LexemeKind::Directive, end)),
+    }
+    let behind = line_end(text, end);
+    let line = &text[end..behind];
+    if line.trim_ascii().is_empty() {
+        return Err(wants(Wanted::Type, end, end));
+    }
+    if &text[from..end] == b"%parse-param".as_slice() && !line.contains(&b':') {
+        return Err(wants(Wanted::Colon, behind, behind));
+    }
+    Ok((LexemeKind::DirectiveLine, behind))
+}
+
+/// The lexeme whose `%` stands at a place.
+fn behind_percent(text: &[u8], from: usize) -> Result<(LexemeKind, usize), Fault>
+    requires { from < length text.now }
+    ensures from { IfOk result (λ found. from < found.1) }
+    ensures inside { IfOk result (λ found. found.1 ≤ length text.now) }
+{
+    match text.get(from + 1) {
+        Some(b'%') => Ok((LexemeKind::Separator, from + 2)),
+        Some(byte) if byte.is_ascii_alphabetic() => directive(text, from),
+        _ => Err(invalid(from)),
+    }
+}
+
+/// The lexeme of a file of grmtools that begins at a place.
+pub(crate) fn grmtools_lexeme_at(text: &[u8], from: usize) -> Result<(LexemeKind, usize), Fault>
+    requires { from < length text.now }
+    ensures from { IfOk result (λ found. from < found.1) }
+    ensures inside { IfOk result (λ found. found.1 ≤ length text.now) }
+{
+    let first = text[from];
+    match first {
+        b'%' => behind_percent(text, from),
+        b'{' => {
+            let opening = Span::new(from, from + 1);
+            let end = rust_code_end(text, opening, from + 1)?;
+            Ok((LexemeKind::Action, end))
+        }
+        b'-' if text.get(from + 1) == Some(&b'>') => rule_type(text, from),
+        b'\'' | b'"' => quoted(text, from),
+        b':' => Ok((LexemeKind::Colon, from + 1)),
+        b'|' => Ok((LexemeKind::Bar, from + 1)),
+        b';' => Ok((LexemeKind::Semicolon, from + 1)),
+        _ if first.is_ascii_digit() => Ok((LexemeKind::Number, number_end(text, from)?)),
+        _ if is_name_byte(first) => Ok((LexemeKind::Name, name_end(text, from + 1))),
+        _ => Err(invalid(from)),
+    }
+}

@@ -1,0 +1,194 @@
+//! The values that actions use.
+
+ghost use Rattle.std.specs.Prelude.{◌<◌, ◌≤◌, length, IfSome};
+
+use crate::code::{CodeReader, Ending};
+use crate::contents::BodyPart;
+use crate::dialects::Dialect;
+use crate::gaps::gap_end;
+use crate::lexemes::{Lexeme, is_name_start, name_end};
+use crate::numbers::value_of;
+use crate::symbols::Symbols;
+use std::alloc::{AllocError, Global};
+use std::collections::BTreeMap;
+
+/// A value that an action uses.
+#[derive(Clone, Copy)]
+enum Value<'a> {
+    /// That of the action: `$$`.
+    Own,
+    /// That of the part with this number, counted from 1: `$2`.
+    Numbered(u64),
+    /// That of the part with this name: `$left`, `$[left]`.
+    Named(&'a [u8]),
+}
+
+/// The place behind the tag that begins at a place, or the place itself where none does; None where it isn't closed on its
+/// line, or is empty. `->` closes none.
+fn behind_tag(code: &[u8], from: usize) -> Option<usize>
+    requires { from ≤ length code.now }
+    ensures { IfSome result (λ end. end ≤ length code.now) }
+{
+    if code.get(from) != Some(&b'<') {
+        return Some(from);
+    }
+    let mut before = b'<';
+    for at in from + 1..code.len() {
+        match code[at] {
+            b'>' if before == b'<' => return None,
+            b'>' if before != b'-' => return Some(at + 1),
+            b'<' | b'\n' => return None,
+            byte => before = byte,
+        }
+    }
+    None
+}
+
+/// The place from `from` on at which digits end.
+fn digits_end(code: &[u8], from: usize) -> usize
+    requires { from ≤ length code.now }
+    ensures from { from ≤ result }
+    ensures inside { result ≤ length code.now }
+{
+    for at in from..code.len() {
+        if !code[at].is_ascii_digit() {
+            return at;
+        }
+    }
+    code.len()
+}
+
+/// A name up to its first `.` or `-`: what stands behind that is of the host language where the name has no brackets.
+fn plain_part(name: &[u8]) -> &[u8] {
+    match name.iter().position(|byte| matches!(byte, b'.' | b'-')) {
+        Some(end) => name.get(..end).unwrap_or(name),
+        None => name,
+    }
+}
+
+/// The value that is called so behind the `$` before a place, and the place behind what calls it.
+fn value_at(code: &[u8], from: usize) -> Option<(Value<'_>, usize)>
+    requires { from ≤ length code.now }
+{
+    let start = behind_tag(code, from)?;
+    let first = *code.get(start)?;
+    if first == b'$' {
+        return Some((Value::Own, start + 1));
+    }
+    if first.is_ascii_digit() {
+        let end = digits_end(code, start);
+        return Some((Value::Numbered(value_of(&code[start..end])?), end));
+    }
+    if is_name_start(first) {
+        let end = name_end(code, start);
+        return Some((Value::Named(plain_part(&code[start..end])), end));
+    }
+    if first != b'[' || !is_name_start(*code.get(start + 1)?) {
+        return None;
+    }
+    let end = name_end(code, start + 1);
+    if *code.get(end)? != b']' {
+        return None;
+    }
+    Some((Value::Named(&code[start + 1..end]), end + 1))
+}
+
+/// The value that the mark at a place calls, if it calls one, and the place behind what belongs to the mark. `@$` is the place of
+/// a value.
+fn value_of_mark(code: &[u8], at: usize) -> (Option<Value<'_>>, usize)
+    requires { at < length code.now }
+{
+    match (code[at], code.get(at + 1)) {
+        (b'$', _) => match value_at(code, at + 1) {
+            Some((value, end)) => (Some(value), end),
+            None => (None, at + 1),
+        },
+        (b'@', Some(b'$')) => (None, at + 2),
+        _ => (None, at + 1),
+    }
+}
+
+/// The values that an action uses. What stands in its quotes and comments uses none.
+fn values(alloc: Global, code: &[u8]) -> Result<Vec<Value<'_>>, AllocError> {
+    let mut values = Vec::new(alloc);
+    let mut reader = CodeReader::new(Ending::File);
+    // The place behind the last mark.
+    let mut behind: usize = 0;
+    for at in 0..code.len() {
+        if behind <= at && reader.is_in_code() {
+            let (value, end) = value_of_mark(code, at);
+            behind = end;
+            if let Some(value) = value {
+                values.push(value)?;
+            }
+        }
+        let _ = reader.take(at, code[at]);
+    }
+    Ok(values)
+}
+
+/// The name between brackets.
+fn name_between(bracket: &[u8]) -> &[u8] {
+    match bracket {
+        [b'[', inner @ ..] => {
+            let start = gap_end(inner, 0, Dialect::Bison).unwrap_or(0);
+            let end = name_end(inner, start);
+            inner.get(start..end).unwrap_or(inner)
+        }
+        _ => bracket,
+    }
+}
+
+/// The parts of a body whose values are used.
+#[derive(Drop)]
+struct Uses<'a> {
+    /// The actions that have names.
+    names: BTreeMap<&'a [u8], usize>,
+    /// By part, whether its value is used.
+    used: Vec<bool>,
+}
+
+impl<'a> Uses<'a> {
+    /// The part whose value the action at a place of the body uses.
+    fn part(&self, at: usize, value: Value<'a>) -> Option<usize> {
+        match value {
+            Value::Own => Some(at),
+            Value::Numbered(number) => usize::try_from(number).ok()?.checked_sub(1),
+            Value::Named(name) => self.names.get(&name).copied(),
+        }
+    }
+
+    /// Takes in the values that the action at a place of the body uses.
+    fn take(&mut self, at: usize, values: &[Value<'a>]) {
+        for value in values {
+            if let Some(part) = self.part(at, *value) {
+                if let Some(used) = self.used.get_mut(part) {
+                    *used = true;
+                }
+            }
+        }
+    }
+}
+
+/// By part of a body, whether its value is used by an action: by itself, by its number, or by its name, where it is an action
+/// before the end of the body.
+pub(crate) fn used_values(
+    alloc: Global,
+    symbols: &Symbols<'_>,
+    parts: &[BodyPart],
+) -> Result<Vec<bool>, AllocError> {
+    let mut uses = Uses {
+        names: BTreeMap::new(alloc),
+        used: vec![in alloc; false; parts.len()]?,
+    };
+    for at in 0..parts.len() {
+        if let BodyPart::Action(action, name) = parts[at] {
+            if let (Some(name), true) = (name, at.saturating_add(1) < parts.len()) {
+                uses.names.insert(name_between(symbols.bytes(name)), at)?;
+            }
+            let values = values(alloc, symbols.bytes(action))?;
+            uses.take(at, values.as_slice());
+        }
+    }
+    Ok(uses.used)
+}

@@ -1,0 +1,4 @@
+%token A
+%%
+a: A // one  a: ;
+ ; /* two */  %%

@@ -1,0 +1,5 @@
+%token A
+%token A
+%nterm a a
+%%
+a: A;

@@ -1,0 +1,3 @@
+%token YYEOF "x"
+%%
+a: b | c; b: ; c: ;

@@ -1,0 +1,3 @@
+%Token A
+%%
+a: A %PREC A;

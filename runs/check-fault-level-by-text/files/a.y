@@ -1,0 +1,4 @@
+%token PLUS "+"
+%left "+" PLUS
+%%
+a: a PLUS a | 'x';

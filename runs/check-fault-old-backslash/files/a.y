@@ -1,0 +1,3 @@
+\token A
+%%
+a: A \prec A;

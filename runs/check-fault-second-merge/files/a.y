@@ -1,0 +1,3 @@
+%glr-parser
+%%
+a: 'x' %merge <f> %merge <g>;

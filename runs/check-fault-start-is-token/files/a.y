@@ -1,0 +1,5 @@
+%left A
+%start A
+%token A
+%%
+a: A;

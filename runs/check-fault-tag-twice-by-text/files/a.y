@@ -1,0 +1,5 @@
+%token <a> A
+%type <b> "a"
+%token A "a"
+%%
+a: A;

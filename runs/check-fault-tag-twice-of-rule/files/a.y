@@ -1,0 +1,4 @@
+%type <a> a
+%type <b> a
+%%
+a: 'x';

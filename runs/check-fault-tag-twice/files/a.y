@@ -1,0 +1,4 @@
+%token <a> A
+%token <b> A
+%%
+a: A;

@@ -1,0 +1,3 @@
+%token A 0 B 0
+%%
+a: A B;

@@ -1,0 +1,3 @@
+%grmtools{yacckind: Grmtools}
+%%
+S -> (): 'x' { one() } 'y' { two() };

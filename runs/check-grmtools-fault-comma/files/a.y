@@ -1,0 +1,4 @@
+%grmtools{yacckind: Grmtools}
+%token A, B
+%%
+S -> (): A B { };

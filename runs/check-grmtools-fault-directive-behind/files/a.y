@@ -1,0 +1,4 @@
+%grmtools{yacckind: Grmtools}
+%%
+S -> (): 'x' { };
+%start S

@@ -1,0 +1,5 @@
+%grmtools{yacckind: Grmtools}
+%epp A
+%token A
+%%
+S -> (): A { };

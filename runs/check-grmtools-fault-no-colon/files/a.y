@@ -1,0 +1,3 @@
+%grmtools{yacckind: Grmtools}
+%%
+S -> Result<u64, ()> 'x';

@@ -1,0 +1,4 @@
+%grmtools{yacckind: Grmtools}
+%token X
+%%
+S -> (): 'x' %prec X { };

@@ -1,0 +1,4 @@
+%grmtools{yacckind: Grmtools}
+%actiontype
+%%
+S: 'x';

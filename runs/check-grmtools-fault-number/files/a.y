@@ -1,0 +1,4 @@
+%grmtools{yacckind: Grmtools}
+%token A 258
+%%
+S -> (): A { };

@@ -1,0 +1,4 @@
+%grmtools{yacckind: Grmtools}
+%left Y
+%%
+S -> (): 'x' Y { };

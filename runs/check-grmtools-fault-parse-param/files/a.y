@@ -1,0 +1,4 @@
+%grmtools{yacckind: Grmtools}
+%parse-param p
+%%
+S -> (): 'x' { };

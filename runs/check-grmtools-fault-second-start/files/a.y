@@ -1,0 +1,6 @@
+%grmtools{yacckind: Grmtools}
+%start S
+%start T
+%%
+S -> (): T { };
+T -> (): 'x' { };

@@ -1,0 +1,4 @@
+%grmtools{yacckind: Grmtools}
+%token S
+%%
+S -> (): 'x' { };

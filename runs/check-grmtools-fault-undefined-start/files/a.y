@@ -1,0 +1,4 @@
+%grmtools{yacckind: Grmtools}
+%start T
+%%
+S -> (): 'x' { };

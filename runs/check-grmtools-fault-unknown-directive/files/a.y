@@ -1,0 +1,4 @@
+%grmtools{yacckind: Grmtools}
+%precedence 'x'
+%%
+S -> (): 'x' { };

@@ -1,0 +1,4 @@
+%grmtools{yacckind: Grmtools}
+%expect-unused T
+%%
+S -> (): 'x' { };

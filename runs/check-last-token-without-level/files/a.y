@@ -1,0 +1,4 @@
+%left '+'
+%token T
+%%
+e: e '+' T e | T;

@@ -1,0 +1,4 @@
+%token A "x" B "x"
+%token A "y"
+%%
+a: A B "y";

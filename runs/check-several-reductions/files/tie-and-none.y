@@ -1,0 +1,8 @@
+%token D
+%precedence LOW T
+%precedence HIGH
+%%
+s: a T | b T | c;
+c: D T 'z';
+a: D %prec LOW;
+b: D;

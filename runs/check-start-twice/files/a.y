@@ -1,0 +1,4 @@
+%start a
+%start a
+%%
+a: 'x';

@@ -1,0 +1,4 @@
+%type <v> a B
+%token B
+%%
+a: B;

@@ -1,0 +1,4 @@
+%type <a> b
+%printer { } c
+%%
+a: 'x';
