@@ -58,6 +58,15 @@ pub(crate) enum BodyPart {
     Action(Lexeme, Option<Lexeme>),
 }
 
+impl BodyPart {
+    /// Its place.
+    pub(crate) fn span(self) -> Span {
+        match self {
+            BodyPart::Symbol(lexeme) | BodyPart::Action(lexeme, _) => lexeme.span,
+        }
+    }
+}
+
 /// One body of a rule.
 #[derive(Debug, Drop)]
 pub(crate) struct Alternative {

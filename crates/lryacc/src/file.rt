@@ -1,5 +1,9 @@
 //! Reads a grammar file.
 
+ghost use Rattle.std.specs.Prelude.{◌<◌, All, IfOk, length, vec_len};
+ghost use Rattle.lryacc.specs.Spans.{IsInside};
+ghost use Rattle.lryacc.specs.Told.{HasFaults, HasPlaces, told};
+
 use crate::contents::Contents;
 use crate::dialects::{Dialect, dialect_of};
 use crate::faults::{Fault, FaultKind};
@@ -8,7 +12,7 @@ use crate::numbering::{FileGrammar, file_grammar};
 use crate::places::Span;
 use crate::reader::Reader;
 use crate::scanner::lexemes;
-use crate::useful::without_useless;
+use crate::useful::{Useless, without_useless};
 use std::alloc::{AllocError, Global};
 use std::collections::BTreeMap;
 
@@ -54,26 +58,41 @@ fn contents(
     Ok((contents, faults))
 }
 
-/// The faults in the order of their places, one at each.
-fn in_order(alloc: Global, faults: &[Fault]) -> Result<Vec<Fault>, AllocError> {
+/// The faults in the order of their places, one at each, with places in the text.
+fn in_order(alloc: Global, text: &[u8], faults: &[Fault]) -> Result<Vec<Fault>, AllocError>
+    ensures inside { IfOk result (λ ordered. All (λ fault. IsInside fault.span text.now) ordered.items) }
+    ensures some { IfOk result (λ ordered. 0 < length faults.now → 0 < vec_len ordered) }
+{
     let mut by_place = BTreeMap::new(alloc);
     for fault in faults.iter().rev() {
-        by_place.insert(fault.span.start, *fault)?;
+        let span = fault.span.within(text);
+        let kind = fault.kind;
+        by_place.insert(span.start, Fault { kind, span })?;
     }
-    let mut ordered = Vec::new(alloc);
-    for fault in by_place.values() {
-        ordered.push(*fault)?;
-    }
-    Ok(ordered)
+    by_place.values().copied().collect(alloc)
+}
+
+/// What a file comes to that has these faults.
+fn faults_read(alloc: Global, text: &[u8], faults: &[Fault]) -> Result<FileRead, AllocError>
+    requires { 0 < length faults.now }
+    ensures inside { IfOk result (λ read. All (λ fault. IsInside fault.span text.now) (told read)) }
+    ensures faults { IfOk result HasFaults }
+    ensures placed { IfOk result HasPlaces }
+{
+    Ok(FileRead::Faults(in_order(alloc, text, faults)?))
 }
 
 /// Reads a grammar file of a dialect: its grammar, or all faults that were come by. A file that begins with `%grmtools{` is one
 /// of grmtools in any case. The error says that memory was refused.
-pub fn read_file(alloc: Global, text: &[u8], dialect: Dialect) -> Result<FileRead, AllocError> {
+pub fn read_file(alloc: Global, text: &[u8], dialect: Dialect) -> Result<FileRead, AllocError>
+    ensures inside { IfOk result (λ read. All (λ fault. IsInside fault.span text.now) (told read)) }
+    ensures faults { IfOk result HasFaults }
+    ensures placed { IfOk result HasPlaces }
+{
     let dialect = dialect_of(text, dialect);
     let (contents, faults) = contents(alloc, text, dialect)?;
     if !faults.is_empty() {
-        return Ok(FileRead::Faults(in_order(alloc, faults.as_slice())?));
+        return faults_read(alloc, text, faults.as_slice());
     }
     let mut meaning = Meaning::new(alloc, text, dialect, faults);
     meaning.take(&contents)?;
@@ -81,18 +100,46 @@ pub fn read_file(alloc: Global, text: &[u8], dialect: Dialect) -> Result<FileRea
         meaning.tell_unknown(&contents)?;
     }
     if !meaning.faults.is_empty() {
-        return Ok(FileRead::Faults(in_order(alloc, meaning.faults.as_slice())?));
+        return faults_read(alloc, text, meaning.faults.as_slice());
     }
-    let whole = file_grammar(alloc, &meaning, &contents)?;
+    grammar_read(alloc, text, &meaning, &contents)
+}
+
+/// What a file without faults comes to, once its names have their meaning.
+fn grammar_read(
+    alloc: Global,
+    text: &[u8],
+    meaning: &Meaning<'_>,
+    contents: &Contents,
+) -> Result<FileRead, AllocError>
+    ensures inside { IfOk result (λ read. All (λ fault. IsInside fault.span text.now) (told read)) }
+    ensures faults { IfOk result HasFaults }
+    ensures placed { IfOk result HasPlaces }
+{
+    let whole = file_grammar(alloc, meaning, contents)?;
     let (grammar, useless) = without_useless(alloc, whole)?;
-    if grammar.parts.prods.is_empty() {
-        return Ok(FileRead::Faults(unproductive_start(alloc, &meaning, &contents)?));
+    if !useless.starts.is_empty() {
+        return unproductive_starts(alloc, text, useless.starts.as_slice());
     }
-    let useless_rules = match dialect {
+    let warnings = warnings(alloc, text, meaning, contents, useless)?;
+    Ok(FileRead::Grammar(grammar, meaning.expected, warnings))
+}
+
+/// What is warned of: what is known, and what is useless.
+fn warnings(
+    alloc: Global,
+    text: &[u8],
+    meaning: &Meaning<'_>,
+    contents: &Contents,
+    useless: Useless,
+) -> Result<Vec<Fault>, AllocError>
+    ensures { IfOk result (λ warnings. All (λ fault. IsInside fault.span text.now) warnings.items) }
+{
+    let useless_rules = match meaning.symbols.dialect {
         Dialect::Bison => useless.rules,
-        Dialect::Grmtools => meaning.unexpected(alloc, &contents, useless.rules)?,
+        Dialect::Grmtools => meaning.unexpected(alloc, contents, useless.rules)?,
     };
-    let mut warnings = meaning.warnings;
+    let mut warnings = Vec::from_slice(alloc, meaning.warnings.as_slice())?;
     warn_of(
         &mut warnings,
         FaultKind::UselessRule,
@@ -103,8 +150,7 @@ pub fn read_file(alloc: Global, text: &[u8], dialect: Dialect) -> Result<FileRea
         FaultKind::UselessProduction,
         useless.productions.as_slice(),
     )?;
-    let warnings = in_order(alloc, warnings.as_slice())?;
-    Ok(FileRead::Grammar(grammar, meaning.expected, warnings))
+    in_order(alloc, text, warnings.as_slice())
 }
 
 /// Adds a warning for each of the places.
@@ -115,17 +161,17 @@ fn warn_of(warnings: &mut Vec<Fault>, kind: FaultKind, places: &[Span]) -> Resul
     Ok(())
 }
 
-/// The fault that the start rule derives no text.
-fn unproductive_start(
-    alloc: Global,
-    meaning: &Meaning<'_>,
-    contents: &Contents,
-) -> Result<Vec<Fault>, AllocError> {
-    let start = match meaning.starts.first() {
-        Some(start) => Some(*start),
-        None => contents.alternatives.first().map(|first| first.rule),
-    };
+/// What a file comes to whose start symbols at these places derive no text.
+fn unproductive_starts(alloc: Global, text: &[u8], places: &[Span]) -> Result<FileRead, AllocError>
+    requires { 0 < length places.now }
+    ensures inside { IfOk result (λ read. All (λ fault. IsInside fault.span text.now) (told read)) }
+    ensures faults { IfOk result HasFaults }
+    ensures placed { IfOk result HasPlaces }
+{
     let kind = FaultKind::StartIsUnproductive;
-    let span = start.map_or(Span::new(0, 0), |start| start.span);
-    Ok(vec![in alloc; Fault { kind, span }]?)
+    let faults: Vec<Fault> = places
+        .iter()
+        .map(|span| Fault { kind, span: *span })
+        .collect(alloc)?;
+    faults_read(alloc, text, faults.as_slice())
 }

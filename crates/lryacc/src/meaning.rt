@@ -424,9 +424,7 @@ impl<'a> Meaning<'a> {
     fn tell_undefined(&mut self) -> Result<(), AllocError> {
         for number in 0..self.symbols.list.len() {
             if let Some(symbol) = self.symbols.list.get(number).copied() {
-                let is_end = self.end.is_none()
-                    && self.symbols.name(symbol.mention) == b"YYEOF".as_slice();
-                if symbol.class != Class::Unknown || is_end {
+                if symbol.class != Class::Unknown {
                     continue;
                 }
                 if symbol.is_used {
@@ -449,7 +447,8 @@ impl<'a> Meaning<'a> {
         Ok(())
     }
 
-    /// Tells of a start symbol that is no rule. It may be a token where it isn't the only one.
+    /// Tells of a start symbol that is no rule. It may be a token where it isn't the only one, and for Bison one that nothing
+    /// else names is a rule without bodies.
     fn tell_start(&mut self, start: Lexeme) -> Result<(), AllocError> {
         let Some(number) = self.symbols.find(start) else {
             return Ok(());
@@ -464,7 +463,6 @@ impl<'a> Meaning<'a> {
             Class::Unknown if self.symbols.dialect == Dialect::Grmtools => {
                 self.tell(FaultKind::Undefined, start.span)
             }
-            Class::Unknown => self.tell(FaultKind::StartIsUnproductive, start.span),
             _ => Ok(()),
         }
     }
@@ -476,16 +474,21 @@ impl<'a> Meaning<'a> {
         self.warn_of_precedences(contents.alternatives.as_slice())?;
         self.tell_levels()?;
         self.tell_codes()?;
-        self.tell_undefined()?;
-        self.tell_starts()?;
         self.find_end();
-        Ok(())
+        self.tell_undefined()?;
+        self.tell_starts()
     }
 
     /// Takes `YYEOF` for the end token where no symbol has the code 0.
     fn find_end(&mut self) {
-        if self.end.is_none() {
-            self.end = self.symbols.find_name(b"YYEOF");
+        if self.end.is_some() {
+            return;
+        }
+        self.end = self.symbols.find_name(b"YYEOF");
+        if let Some(symbol) = self.end.and_then(|end| self.symbols.list.get_mut(end)) {
+            if symbol.class == Class::Unknown {
+                symbol.class = Class::Token;
+            }
         }
     }
 

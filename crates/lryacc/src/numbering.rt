@@ -1,10 +1,16 @@
 //! The parts of the grammar of a file, with their places.
 
+ghost use Rattle.std.specs.Prelude.{◌≡◌, [], ◌∷◌, ◌++◌, map, flat_map, IfOk, OnOk};
+ghost use Rattle.lryacc.specs.ProductionPlaces.{Adds, ArePlaced, IsPlaced, action_places, body_places};
+ghost use Rattle.lryacc.specs.ProductionPlaces.{file_places, parts_before_last, start_rules_of};
+
 use crate::contents::{Alternative, BodyPart, Contents, LevelKind};
 use crate::dialects::Dialect;
 use crate::lexemes::{Lexeme, LexemeKind};
 use crate::meaning::Meaning;
+use crate::names::name_text;
 use crate::places::Span;
+use crate::productions::Productions;
 use crate::symbols::{Class, Symbol};
 use crate::values::used_values;
 use lrgrammar::grammar::{AssocKind, GrammarParts, PartProd, PartSymbol, PartToken, Precedence};
@@ -15,7 +21,9 @@ use std::collections::BTreeMap;
 #[derive(Debug, Drop)]
 pub struct FileGrammar {
     /// Its parts. Rule 0 is `$accept`, with one production for each start rule, which the end token ends; token 0 is the end
-    /// token. An action that stands before the end of a body is a rule of its own, with one empty production.
+    /// token. An action that stands before the end of a body is a rule of its own, with one empty production. Names are those of
+    /// the file; in one that is no UTF-8, each byte that is not ASCII, and each backslash, is written by its number, as in
+    /// `\x{E9}`, so that other names stay other ones.
     pub parts: GrammarParts,
     /// By rule, where it is named first as one.
     pub rule_places: Vec<Span>,
@@ -49,24 +57,33 @@ impl FileGrammar {
         Ok(number)
     }
 
-    /// Adds a production.
-    pub(crate) fn add_production(
-        &mut self,
-        prod: PartProd,
-        place: Span,
-        symbol_places: Vec<Span>,
-    ) -> Result<(), AllocError> {
-        self.parts.prods.push(prod)?;
-        self.production_places.push(place)?;
-        self.symbol_places.push(symbol_places)?;
-        Ok(())
+    /// The same rules and tokens, with these productions.
+    pub(crate) fn with_productions(self, productions: Productions) -> FileGrammar
+        ensures prods { result.parts.prods.items ≡ productions.prods.items }
+        ensures places { result.production_places.items ≡ productions.places.items }
+        ensures symbol_places { result.symbol_places.items ≡ productions.symbol_places.items }
+    {
+        let FileGrammar {
+            parts,
+            rule_places,
+            ..
+        } = self;
+        FileGrammar {
+            parts: GrammarParts {
+                prods: productions.prods,
+                ..parts
+            },
+            rule_places,
+            production_places: productions.places,
+            symbol_places: productions.symbol_places,
+        }
     }
 }
 
 /// The token that has no precedence and stands in no body.
 const UNDEFINED: usize = 2;
 
-/// The parts in hand.
+/// The rules and tokens of a grammar, and which symbols of the file they are.
 #[derive(Drop)]
 struct Numbering<'m, 'a> {
     meaning: &'m Meaning<'a>,
@@ -75,9 +92,11 @@ struct Numbering<'m, 'a> {
     tokens: BTreeMap<usize, usize>,
     /// The token that stands below those of a `%precedence` line, by the number of the line.
     below: BTreeMap<usize, usize>,
-    /// The rules that stand for actions, in the order of the file, and how many of them are used.
-    actions: Vec<usize>,
-    used: usize,
+    /// The rules that actions before the ends of bodies are, by where these begin.
+    actions: BTreeMap<usize, usize>,
+    /// The tokens before the start rules, where there are several.
+    marks: Vec<usize>,
+    /// The rules and tokens themselves, with no production.
     grammar: FileGrammar,
 }
 
@@ -95,6 +114,25 @@ fn is_last(alternative: &Alternative, at: usize) -> bool {
     at.saturating_add(1) == alternative.parts.len()
 }
 
+/// Whether a symbol is a rule even where no colon stands behind it.
+fn is_bare_rule(symbol: &Symbol) -> bool {
+    match symbol.class {
+        Class::Rule => true,
+        Class::Unknown => symbol.is_start,
+        Class::Token => false,
+    }
+}
+
+/// The parts of a body before its last one.
+fn before_last(alternative: &Alternative) -> &[BodyPart]
+    ensures { result.now ≡ parts_before_last alternative.now }
+{
+    match alternative.parts.as_slice() {
+        [before @ .., _] => before,
+        [] => &[],
+    }
+}
+
 /// Where nothing of the file stands.
 fn nowhere() -> Span {
     Span::new(0, 0)
@@ -108,8 +146,8 @@ impl<'m, 'a> Numbering<'m, 'a> {
             rules: BTreeMap::new(alloc),
             tokens: BTreeMap::new(alloc),
             below: BTreeMap::new(alloc),
-            actions: Vec::new(alloc),
-            used: 0,
+            actions: BTreeMap::new(alloc),
+            marks: Vec::new(alloc),
             grammar: FileGrammar::empty(alloc),
         }
     }
@@ -130,7 +168,7 @@ impl<'m, 'a> Numbering<'m, 'a> {
         if self.rules.get(&symbol).is_some() {
             return Ok(());
         }
-        let text = String::from_utf8_lossy(self.allocator(), self.meaning.symbols.name(name))?;
+        let text = name_text(self.allocator(), self.meaning.symbols.name(name))?;
         let rule = self.grammar.add_rule(text, name.span)?;
         self.rules.insert(symbol, rule)?;
         Ok(())
@@ -149,15 +187,16 @@ impl<'m, 'a> Numbering<'m, 'a> {
         Ok(())
     }
 
-    /// Adds the rules that the actions of a body are.
+    /// Adds the rules that the actions before the end of a body are.
     fn add_actions(&mut self, alternative: &Alternative) -> Result<(), AllocError> {
-        let parts = alternative.parts.as_slice();
-        let used = used_values(self.allocator(), &self.meaning.symbols, parts)?;
-        for at in 0..parts.len() {
-            if let BodyPart::Action(action, _) = parts[at] {
-                if !is_last(alternative, at) {
-                    self.add_action(action, used.get(at) == Some(&true))?;
-                }
+        let used = used_values(
+            self.allocator(),
+            &self.meaning.symbols,
+            alternative.parts.as_slice(),
+        )?;
+        for (at, part) in before_last(alternative).iter().enumerate() {
+            if let BodyPart::Action(action, _) = part {
+                self.add_action(*action, used.get(at) == Some(&true))?;
             }
         }
         Ok(())
@@ -169,15 +208,15 @@ impl<'m, 'a> Numbering<'m, 'a> {
         let mark = if is_used { "@" } else { "$@" };
         let name = format!(in self.allocator(); "{mark}{number}")?;
         let rule = self.grammar.add_rule(name, action.span)?;
-        self.actions.push(rule)?;
+        self.actions.insert(action.span.start, rule)?;
         Ok(())
     }
 
-    /// Adds the rules that have no body, of symbols that are declared rules.
+    /// Adds the rules that have no body, of symbols that are declared rules, or start symbols.
     fn add_bare_rules(&mut self) -> Result<(), AllocError> {
         for number in 0..self.meaning.symbols.list.len() {
             if let Some(symbol) = self.known(number) {
-                if symbol.class == Class::Rule {
+                if is_bare_rule(&symbol) {
                     self.add_rule_of(number, symbol.mention)?;
                 }
             }
@@ -226,7 +265,7 @@ impl<'m, 'a> Numbering<'m, 'a> {
 
     /// The name that a token has in the grammar: as it stands in the file, and for grmtools always in quotes.
     fn token_name(&self, symbol: Symbol) -> Result<String, AllocError> {
-        let name = String::from_utf8_lossy(self.allocator(), self.told_name(symbol))?;
+        let name = name_text(self.allocator(), self.told_name(symbol))?;
         match self.meaning.symbols.dialect {
             Dialect::Bison => Ok(name),
             Dialect::Grmtools => format!(in self.allocator(); "'{name}'"),
@@ -323,6 +362,29 @@ impl<'m, 'a> Numbering<'m, 'a> {
         Ok(())
     }
 
+    /// The token of that name.
+    fn token_named(&self, name: &str) -> Option<usize> {
+        let tokens = self.grammar.parts.tokens.as_slice();
+        tokens.iter().position(|token| token.name.as_str() == name)
+    }
+
+    /// Adds the tokens before the start rules, where there are several. Where the file has a token of that name, it is that one.
+    fn add_marks(&mut self, starts: &[Lexeme]) -> Result<(), AllocError> {
+        if starts.len() == 1 {
+            return Ok(());
+        }
+        for start in starts {
+            let name = name_text(self.allocator(), self.meaning.symbols.name(*start))?;
+            let told = format!(in self.allocator(); "YY_PARSE_{name}")?;
+            let mark = match self.token_named(told.as_str()) {
+                Some(token) => token,
+                None => self.add_token(told, None)?,
+            };
+            self.marks.push(mark)?;
+        }
+        Ok(())
+    }
+
     /// The symbol of a body that a lexeme names, if it is one.
     fn symbol(&self, lexeme: Lexeme) -> Option<PartSymbol> {
         let number = self.meaning.canonical(self.meaning.symbols.find(lexeme)?);
@@ -335,39 +397,59 @@ impl<'m, 'a> Numbering<'m, 'a> {
         Some(PartSymbol::Token(*self.tokens.get(&number)?))
     }
 
-    /// Adds the empty production of the next rule that is an action, and answers that rule.
-    fn add_action_production(&mut self, action: Lexeme) -> Result<Option<PartSymbol>, AllocError> {
+    /// The rule before a colon.
+    fn rule_of(&self, name: Lexeme) -> usize {
+        match self.symbol(name) {
+            Some(PartSymbol::Rule(rule)) => rule,
+            _ => 0,
+        }
+    }
+
+    /// The rule that an action before the end of a body is.
+    fn rule_of_action(&self, action: Lexeme) -> usize {
+        self.actions.get(&action.span.start).copied().unwrap_or(0)
+    }
+
+    /// Adds the empty productions of the rules that the actions before the end of a body are.
+    fn add_empty_productions(
+        &self,
+        productions: &mut Productions,
+        alternative: &Alternative,
+    ) -> Result<(), AllocError>
+        ensures { OnOk result (Adds productions.old productions.new (action_places (parts_before_last alternative.now))) }
+    {
         let alloc = self.allocator();
-        let Some(rule) = self.actions.get(self.used).copied() else {
-            return Ok(None);
-        };
-        self.used = self.used.saturating_add(1);
-        let prod = PartProd {
-            rule,
-            symbols: Vec::new(alloc),
-            precedence: None,
-        };
-        self.grammar
-            .add_production(prod, action.span, Vec::new(alloc))?;
-        Ok(Some(PartSymbol::Rule(rule)))
+        for part in before_last(alternative) {
+            if let BodyPart::Action(action, _) = part {
+                let prod = PartProd {
+                    rule: self.rule_of_action(*action),
+                    symbols: Vec::new(alloc),
+                    precedence: None,
+                };
+                productions.add(prod, action.span, Vec::new(alloc))?;
+            }
+        }
+        Ok(())
+    }
+
+    /// The symbol that a part of a body is; None for an action at its end.
+    fn symbol_of(&self, part: BodyPart, is_last: bool) -> Option<PartSymbol> {
+        match part {
+            BodyPart::Symbol(name) => self.symbol(name),
+            BodyPart::Action(..) if is_last => None,
+            BodyPart::Action(action, _) => Some(PartSymbol::Rule(self.rule_of_action(action))),
+        }
     }
 
     /// The symbols of a body, and their places.
-    fn body(
-        &mut self,
-        alternative: &Alternative,
-    ) -> Result<(Vec<PartSymbol>, Vec<Span>), AllocError> {
+    fn body(&self, alternative: &Alternative) -> Result<(Vec<PartSymbol>, Vec<Span>), AllocError> {
         let mut symbols = Vec::new(self.allocator());
         let mut places = Vec::new(self.allocator());
         for at in 0..alternative.parts.len() {
-            let (symbol, place) = match alternative.parts[at] {
-                BodyPart::Symbol(lexeme) => (self.symbol(lexeme), lexeme.span),
-                BodyPart::Action(..) if is_last(alternative, at) => continue,
-                BodyPart::Action(action, _) => (self.add_action_production(action)?, action.span),
-            };
-            if let Some(symbol) = symbol {
+            let part = alternative.parts[at];
+            if let Some(symbol) = self.symbol_of(part, is_last(alternative, at)) {
                 symbols.push(symbol)?;
-                places.push(place)?;
+                places.push(part.span())?;
             }
         }
         Ok((symbols, places))
@@ -409,66 +491,105 @@ impl<'m, 'a> Numbering<'m, 'a> {
         }
     }
 
-    /// Adds the production of a body, behind those of its actions.
-    fn add_alternative(&mut self, alternative: &Alternative) -> Result<(), AllocError> {
-        let Some(PartSymbol::Rule(rule)) = self.symbol(alternative.rule) else {
-            return Ok(());
-        };
+    /// Adds the productions of a body: those of the actions before its end, and then its own.
+    fn add_alternative(
+        &self,
+        productions: &mut Productions,
+        alternative: &Alternative,
+    ) -> Result<(), AllocError>
+        ensures { OnOk result (Adds productions.old productions.new (body_places alternative.now)) }
+    {
+        self.add_empty_productions(productions, alternative)?;
         let (symbols, places) = self.body(alternative)?;
         let prod = PartProd {
-            rule,
+            rule: self.rule_of(alternative.rule),
             symbols,
             precedence: self.named_precedence(alternative),
         };
-        self.grammar.add_production(prod, alternative.span, places)
+        productions.add(prod, alternative.span, places)
     }
 
-    /// Adds the production that begins with a start rule, and with a token before it where there are several.
-    fn add_start(&mut self, start: Lexeme, is_only: bool) -> Result<(), AllocError> {
-        let mut symbols = Vec::new(self.allocator());
-        let mut places = Vec::new(self.allocator());
-        let Some(symbol) = self.symbol(start) else {
-            return Ok(());
-        };
-        if !is_only {
-            let name = String::from_utf8_lossy(self.allocator(), self.meaning.symbols.name(start))?;
-            let told = format!(in self.allocator(); "YY_PARSE_{name}")?;
-            symbols.push(PartSymbol::Token(self.add_token(told, None)?))?;
-            places.push(start.span)?;
+    /// Adds the productions of bodies.
+    fn add_alternatives(
+        &self,
+        productions: &mut Productions,
+        alternatives: &[Alternative],
+    ) -> Result<(), AllocError>
+        ensures { OnOk result (Adds productions.old productions.new (flat_map body_places alternatives.now)) }
+    {
+        for alternative in alternatives {
+            self.add_alternative(productions, alternative)?;
         }
-        symbols.push(symbol)?;
-        places.push(start.span)?;
-        symbols.push(PartSymbol::Token(0))?;
-        places.push(start.span)?;
+        Ok(())
+    }
+
+    /// Adds the production of `$accept` that begins with a start symbol, or with a token before it.
+    fn add_start(
+        &self,
+        productions: &mut Productions,
+        start: Lexeme,
+        mark: Option<usize>,
+    ) -> Result<(), AllocError>
+        ensures { OnOk result (Adds productions.old productions.new (start.span ∷ [])) }
+    {
+        let alloc = self.allocator();
+        let symbol = self.symbol(start).unwrap_or(PartSymbol::Rule(0));
+        let end = PartSymbol::Token(0);
+        let symbols = match mark {
+            Some(mark) => vec![in alloc; PartSymbol::Token(mark), symbol, end]?,
+            None => vec![in alloc; symbol, end]?,
+        };
+        let places = vec![in alloc; start.span; symbols.len()]?;
         let prod = PartProd {
             rule: 0,
             symbols,
             precedence: None,
         };
-        self.grammar.add_production(prod, start.span, places)
+        productions.add(prod, start.span, places)
     }
 
-    /// Adds the productions of `$accept`: of the rules behind `%start`, or of the first one.
-    fn add_starts(&mut self, alternatives: &[Alternative]) -> Result<(), AllocError> {
-        let is_only = self.meaning.starts.len() == 1;
-        for at in 0..self.meaning.starts.len() {
-            if let Some(start) = self.meaning.starts.get(at).copied() {
-                self.add_start(start, is_only)?;
-            }
-        }
-        match alternatives.first() {
-            Some(first) if self.meaning.starts.is_empty() => self.add_start(first.rule, true),
-            _ => Ok(()),
-        }
-    }
-
-    /// Adds the productions of bodies.
-    fn add_alternatives(&mut self, alternatives: &[Alternative]) -> Result<(), AllocError> {
-        for alternative in alternatives {
-            self.add_alternative(alternative)?;
+    /// Adds the productions of `$accept`.
+    fn add_starts(&self, productions: &mut Productions, starts: &[Lexeme]) -> Result<(), AllocError>
+        ensures { OnOk result (Adds productions.old productions.new (map (λ start. start.span) starts.now)) }
+    {
+        for (at, start) in starts.iter().enumerate() {
+            self.add_start(productions, *start, self.marks.get(at).copied())?;
         }
         Ok(())
     }
+
+    /// The productions: those of the start rules, and then those of the bodies.
+    fn productions(
+        &self,
+        starts: &[Lexeme],
+        alternatives: &[Alternative],
+    ) -> Result<Productions, AllocError>
+        ensures places { IfOk result (λ all. all.places.items
+            ≡ map (λ start. start.span) starts.now ++ flat_map body_places alternatives.now) }
+        ensures placed { IfOk result ArePlaced }
+    {
+        let mut productions = Productions::new(self.allocator());
+        self.add_starts(&mut productions, starts)?;
+        self.add_alternatives(&mut productions, alternatives)?;
+        Ok(productions)
+    }
+}
+
+/// The start rules: those behind `%start`, or else that of the first body.
+fn start_rules(
+    alloc: Global,
+    meaning: &Meaning<'_>,
+    alternatives: &[Alternative],
+) -> Result<Vec<Lexeme>, AllocError>
+    ensures { IfOk result (λ rules. rules.items ≡ start_rules_of meaning.now.starts.items alternatives.now) }
+{
+    let mut starts = Vec::from_slice(alloc, meaning.starts.as_slice())?;
+    if starts.is_empty() {
+        if let Some(first) = alternatives.first() {
+            starts.push(first.rule)?;
+        }
+    }
+    Ok(starts)
 }
 
 /// The grammar of what a file says. The error says that memory was refused.
@@ -476,14 +597,19 @@ pub(crate) fn file_grammar(
     alloc: Global,
     meaning: &Meaning<'_>,
     contents: &Contents,
-) -> Result<FileGrammar, AllocError> {
+) -> Result<FileGrammar, AllocError>
+    ensures places { IfOk result (λ file. file.production_places.items
+        ≡ file_places meaning.now.starts.items contents.now.alternatives.items) }
+    ensures placed { IfOk result IsPlaced }
+{
     let alternatives = contents.alternatives.as_slice();
+    let starts = start_rules(alloc, meaning, alternatives)?;
     let mut numbering = Numbering::new(alloc, meaning);
     numbering.add_tokens()?;
     numbering.add_tokens_below()?;
+    numbering.add_marks(starts.as_slice())?;
     numbering.add_rules(alternatives)?;
     numbering.add_bare_rules()?;
-    numbering.add_starts(alternatives)?;
-    numbering.add_alternatives(alternatives)?;
-    Ok(numbering.grammar)
+    let productions = numbering.productions(starts.as_slice(), alternatives)?;
+    Ok(numbering.grammar.with_productions(productions))
 }

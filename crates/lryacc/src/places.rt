@@ -12,11 +12,22 @@ pub struct Span {
 }
 
 impl Span {
+    ghost use Rattle.lryacc.specs.Spans.{IsInside};
+
     /// The bytes from `start` up to `end`.
     pub fn new(start: usize, end: usize) -> Span
         ensures start { result.start ≡ start }
         ensures end { result.end ≡ end }
     {
         Span { start, end }
+    }
+
+    /// What of these bytes lies in a text: all of them, but for a place behind its end.
+    pub(crate) fn within(self, text: &[u8]) -> Span
+        ensures inside { IsInside result text.now }
+        ensures same { IsInside self text.now → result ≡ self }
+    {
+        let end = self.end.min(text.len());
+        Span::new(self.start.min(end), end)
     }
 }

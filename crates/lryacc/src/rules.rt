@@ -1,5 +1,7 @@
 //! Rules, and the file as a whole.
 
+ghost use Rattle.std.specs.Prelude.{◌≡◌, [], ◌∷◌, ◌++◌, OnOk};
+
 use crate::contents::{Alternative, BodyPart, Statement};
 use crate::directives::Form;
 use crate::faults::{Fault, FaultKind, Halt, OldForm, Wanted};
@@ -355,7 +357,10 @@ impl<'a> Reader<'a> {
     }
 
     /// Adds a body.
-    fn add_alternative(&mut self, alternative: Alternative) -> Result<(), AllocError> {
+    fn add_alternative(&mut self, alternative: Alternative) -> Result<(), AllocError>
+        ensures { OnOk result (self.new.contents.alternatives.items
+            ≡ self.old.contents.alternatives.items ++ alternative ∷ []) }
+    {
         self.contents.alternatives.push(alternative)?;
         Ok(())
     }

@@ -1,7 +1,12 @@
 //! What of a grammar is useful: the productions that derive a text and are reached from the start.
 
+ghost use Rattle.std.specs.Prelude.{◌≡◌, [], ◌∷◌, All, IsSome, IfOk, OnOk, vec_len};
+ghost use Rattle.lryacc.specs.ProductionPlaces.{Adds, ArePlaced, IsPlaced};
+ghost use Rattle.lryacc.specs.Sublists.{IsSublist};
+
 use crate::numbering::FileGrammar;
 use crate::places::Span;
+use crate::productions::Productions;
 use lrgrammar::grammar::{GrammarParts, PartProd, PartSymbol};
 use std::alloc::{AllocError, Global};
 use std::mem;
@@ -189,15 +194,6 @@ fn find_rules(search: &mut Search, symbols: &[PartSymbol]) -> Result<(), AllocEr
     Ok(())
 }
 
-/// What was taken out of a grammar.
-#[derive(Debug, Drop)]
-pub(crate) struct Useless {
-    /// Where the rules are named that are not reached, or derive no text.
-    pub(crate) rules: Vec<Span>,
-    /// Where the other productions stand that derive no text.
-    pub(crate) productions: Vec<Span>,
-}
-
 /// The new number of each rule that stays.
 fn new_numbers(alloc: Global, kept: &Search) -> Result<Vec<Option<usize>>, AllocError> {
     let mut numbers = Vec::new(alloc);
@@ -213,7 +209,7 @@ fn new_numbers(alloc: Global, kept: &Search) -> Result<Vec<Option<usize>>, Alloc
     Ok(numbers)
 }
 
-/// The symbols with the rules by their new numbers; None where one of them is gone.
+/// The symbols with the rules by their new numbers.
 fn renumbered(
     alloc: Global,
     symbols: &[PartSymbol],
@@ -232,88 +228,164 @@ fn renumbered(
     Ok(list)
 }
 
+/// Which rules derive a text, and which of them stay.
+#[derive(Drop)]
+struct Selection {
+    productive: Search,
+    /// The new number of each rule that stays.
+    numbers: Vec<Option<usize>>,
+}
+
+impl Selection {
+    /// Of the rules of a grammar those stay that derive a text and are reached.
+    fn new(alloc: Global, parts: &GrammarParts) -> Result<Selection, AllocError> {
+        let productive = productive(alloc, parts)?;
+        let kept = reached(alloc, parts, &productive)?;
+        let numbers = new_numbers(alloc, &kept)?;
+        Ok(Selection {
+            productive,
+            numbers,
+        })
+    }
+
+    /// The memory that it takes.
+    fn allocator(&self) -> Global {
+        *self.numbers.allocator()
+    }
+
+    /// The new number of a rule; None where it is gone.
+    fn number(&self, rule: usize) -> Option<usize>
+        ensures { All (λ number. IsSome number) self.now.numbers.items → IsSome result }
+    {
+        self.numbers.get(rule).copied().unwrap_or(Some(0))
+    }
+
+    /// Adds a production with the new number of its rule, and rules in its body by their new numbers.
+    fn keep(
+        &self,
+        kept: &mut Productions,
+        rule: usize,
+        prod: &PartProd,
+        place: Span,
+        symbol_places: &[Span],
+    ) -> Result<(), AllocError>
+        ensures { OnOk result (Adds kept.old kept.new (place ∷ [])) }
+    {
+        let alloc = self.allocator();
+        let prod = PartProd {
+            rule,
+            symbols: renumbered(alloc, prod.symbols.as_slice(), self.numbers.as_slice())?,
+            precedence: prod.precedence,
+        };
+        kept.add(prod, place, Vec::from_slice(alloc, symbol_places)?)
+    }
+
+    /// The productions that stay. Notes where the others of the rules that stay stand.
+    fn productions(
+        &self,
+        whole: &FileGrammar,
+        useless: &mut Vec<Span>,
+    ) -> Result<Productions, AllocError>
+        requires { IsPlaced whole.now }
+        ensures sublist { IfOk result (λ kept. IsSublist kept.places.items whole.now.production_places.items) }
+        ensures placed { IfOk result ArePlaced }
+        ensures all { IfOk result (λ kept. All (λ number. IsSome number) self.now.numbers.items → useless.new.items ≡ []
+            → kept.places.items ≡ whole.now.production_places.items) }
+    {
+        let mut kept = Productions::new(self.allocator());
+        for at in 0..whole.parts.prods.len() {
+            let prod = &whole.parts.prods[at];
+            let place = whole.production_places[at];
+            let Some(rule) = self.number(prod.rule) else {
+                continue;
+            };
+            if !self.productive.has_all(prod.symbols.as_slice()) {
+                useless.push(place)?;
+                continue;
+            }
+            let places = whole.symbol_places[at].as_slice();
+            self.keep(&mut kept, rule, prod, place, places)?;
+        }
+        Ok(kept)
+    }
+
+    /// Where the start symbols are named that derive no text.
+    fn unproductive_starts(&self, whole: &FileGrammar) -> Result<Vec<Span>, AllocError>
+        requires { IsPlaced whole.now }
+    {
+        let mut starts = Vec::new(self.allocator());
+        for at in 0..whole.parts.prods.len() {
+            let prod = &whole.parts.prods[at];
+            if prod.rule == 0 && !self.productive.has_all(prod.symbols.as_slice()) {
+                starts.push(whole.production_places[at])?;
+            }
+        }
+        Ok(starts)
+    }
+
+    /// The rules that stay, and the tokens, with no production. Notes where the other rules stand.
+    fn rules(
+        &self,
+        whole: &mut FileGrammar,
+        useless: &mut Vec<Span>,
+    ) -> Result<FileGrammar, AllocError>
+        ensures { OnOk result (useless.new.items ≡ [] → All (λ number. IsSome number) self.now.numbers.items) }
+    {
+        let alloc = self.allocator();
+        let mut rules = FileGrammar::empty(alloc);
+        mem::swap(&mut rules.parts.tokens, &mut whole.parts.tokens);
+        for (rule, number) in self.numbers.iter().enumerate() {
+            let place = whole.rule_places.get(rule).copied();
+            let place = place.unwrap_or(Span::new(0, 0));
+            if number.is_none() {
+                useless.push(place)?;
+                continue;
+            }
+            let name = taken_name(alloc, &mut whole.parts.rules, rule);
+            let _ = rules.add_rule(name, place)?;
+        }
+        Ok(rules)
+    }
+}
+
+/// A name that is taken out of a list.
+fn taken_name(alloc: Global, names: &mut Vec<String>, at: usize) -> String {
+    let mut name = String::new(alloc);
+    if let Some(known) = names.get_mut(at) {
+        mem::swap(&mut name, known);
+    }
+    name
+}
+
+/// What was taken out of a grammar.
+#[derive(Debug, Drop)]
+pub(crate) struct Useless {
+    /// Where the rules are named that are not reached, or derive no text.
+    pub(crate) rules: Vec<Span>,
+    /// Where the other productions stand that derive no text.
+    pub(crate) productions: Vec<Span>,
+    /// Where the start symbols are named that derive no text: each has a production of rule 0.
+    pub(crate) starts: Vec<Span>,
+}
+
 /// The grammar without the rules and productions that are not reached or derive no text, and what was taken out.
 pub(crate) fn without_useless(
     alloc: Global,
     mut whole: FileGrammar,
-) -> Result<(FileGrammar, Useless), AllocError> {
-    let productive = productive(alloc, &whole.parts)?;
-    let kept = reached(alloc, &whole.parts, &productive)?;
+) -> Result<(FileGrammar, Useless), AllocError>
+    requires { IsPlaced whole }
+    ensures sublist { IfOk result (λ r. IsSublist r.0.production_places.items whole.production_places.items) }
+    ensures placed { IfOk result (λ r. IsPlaced r.0) }
+    ensures whole { IfOk result (λ r. r.1.rules.items ≡ [] → r.1.productions.items ≡ []
+        → r.0.production_places.items ≡ whole.production_places.items) }
+{
+    let selection = Selection::new(alloc, &whole.parts)?;
     let mut useless = Useless {
         rules: Vec::new(alloc),
         productions: Vec::new(alloc),
+        starts: selection.unproductive_starts(&whole)?,
     };
-    let mut useful = FileGrammar::empty(alloc);
-    mem::swap(&mut useful.parts.tokens, &mut whole.parts.tokens);
-    keep_rules(&mut useful, &mut whole, &kept, &mut useless)?;
-    let numbers = new_numbers(alloc, &kept)?;
-    keep_productions(
-        &mut useful,
-        whole,
-        &productive,
-        numbers.as_slice(),
-        &mut useless,
-    )?;
-    Ok((useful, useless))
-}
-
-/// Adds the productions that stay, with rules by their new numbers, and notes where the others of these rules stand.
-fn keep_productions(
-    useful: &mut FileGrammar,
-    whole: FileGrammar,
-    productive: &Search,
-    numbers: &[Option<usize>],
-    useless: &mut Useless,
-) -> Result<(), AllocError> {
-    let alloc = *useful.rule_places.allocator();
-    let FileGrammar {
-        parts,
-        production_places,
-        symbol_places,
-        ..
-    } = whole;
-    for ((prod, place), places) in parts
-        .prods
-        .into_iter()
-        .zip(production_places)
-        .zip(symbol_places)
-    {
-        let Some(rule) = numbers.get(prod.rule).copied().flatten() else {
-            continue;
-        };
-        if !productive.has_all(prod.symbols.as_slice()) {
-            useless.productions.push(place)?;
-            continue;
-        }
-        let kept = PartProd {
-            rule,
-            symbols: renumbered(alloc, prod.symbols.as_slice(), numbers)?,
-            precedence: prod.precedence,
-        };
-        useful.add_production(kept, place, places)?;
-    }
-    Ok(())
-}
-
-/// Moves the rules that stay into the grammar, and notes where the others stand.
-fn keep_rules(
-    useful: &mut FileGrammar,
-    whole: &mut FileGrammar,
-    kept: &Search,
-    useless: &mut Useless,
-) -> Result<(), AllocError> {
-    for rule in 0..whole.parts.rules.len() {
-        let place = whole.rule_places.get(rule).copied();
-        let place = place.unwrap_or(Span::new(0, 0));
-        if kept.has(rule) {
-            let mut name = String::new(*useful.rule_places.allocator());
-            if let Some(known) = whole.parts.rules.get_mut(rule) {
-                mem::swap(&mut name, known);
-            }
-            let _ = useful.add_rule(name, place)?;
-        } else {
-            useless.rules.push(place)?;
-        }
-    }
-    Ok(())
+    let productions = selection.productions(&whole, &mut useless.productions)?;
+    let rules = selection.rules(&mut whole, &mut useless.rules)?;
+    Ok((rules.with_productions(productions), useless))
 }

@@ -1,0 +1,3 @@
+pub mod AddedProductions
+pub mod MapsOfFaults
+pub mod Sublists

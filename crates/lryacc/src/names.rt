@@ -1,0 +1,30 @@
+//! The names of symbols in a grammar.
+
+use std::alloc::{AllocError, Global};
+use std::str;
+
+/// What begins a byte that is written by its number. No text for Bison holds it, since digits stand behind `\x` there.
+const ESCAPE: &str = "\\x{";
+
+/// The text of a name. Where it is no UTF-8, each byte of it that is not ASCII, and each backslash, is written by its number, as
+/// in `\x{E9}`. So they are in a name that holds such a beginning itself: names of other bytes have other texts.
+pub(crate) fn name_text(alloc: Global, name: &[u8]) -> Result<String, AllocError> {
+    match str::from_utf8(name) {
+        Ok(text) if !text.contains(ESCAPE) => String::from_str(alloc, text),
+        _ => escaped(alloc, name),
+    }
+}
+
+/// A name with its backslashes, and its bytes that are not ASCII, written by their numbers.
+fn escaped(alloc: Global, name: &[u8]) -> Result<String, AllocError> {
+    let mut text = String::new(alloc);
+    for byte in name {
+        if byte.is_ascii() && *byte != b'\\' {
+            text.push(char::from(*byte))?;
+        } else {
+            let number = format!(in alloc; "{ESCAPE}{byte:02X}}}")?;
+            text.push_str(number.as_str())?;
+        }
+    }
+    Ok(text)
+}

@@ -1,0 +1,48 @@
+//! Productions, and where they stand in a file.
+
+ghost use Rattle.std.specs.Prelude.{◌≡◌, [], ◌∷◌, OnOk};
+
+use crate::places::Span;
+use lrgrammar::grammar::PartProd;
+use std::alloc::{AllocError, Global};
+
+/// Productions with their places.
+#[derive(Debug, Drop)]
+pub(crate) struct Productions {
+    pub(crate) prods: Vec<PartProd>,
+    /// By production, where its body stands.
+    pub(crate) places: Vec<Span>,
+    /// By production, where the symbols of its body stand.
+    pub(crate) symbol_places: Vec<Vec<Span>>,
+}
+
+impl Productions {
+    ghost use Rattle.lryacc.specs.ProductionPlaces.{Adds, ArePlaced};
+
+    /// No production.
+    pub(crate) fn new(alloc: Global) -> Productions
+        ensures empty { result.places.items ≡ [] }
+        ensures placed { ArePlaced result }
+    {
+        Productions {
+            prods: Vec::new(alloc),
+            places: Vec::new(alloc),
+            symbol_places: Vec::new(alloc),
+        }
+    }
+
+    /// Adds a production.
+    pub(crate) fn add(
+        &mut self,
+        prod: PartProd,
+        place: Span,
+        symbol_places: Vec<Span>,
+    ) -> Result<(), AllocError>
+        ensures { OnOk result (Adds self.old self.new (place ∷ [])) }
+    {
+        self.prods.push(prod)?;
+        self.places.push(place)?;
+        self.symbol_places.push(symbol_places)?;
+        Ok(())
+    }
+}
