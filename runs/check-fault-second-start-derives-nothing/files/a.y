@@ -1,0 +1,6 @@
+%token T
+%start s a nix b
+%%
+s: T;
+a: T a;
+b: b;
