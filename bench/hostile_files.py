@@ -23,6 +23,7 @@ import subprocess
 import sys
 import tempfile
 import threading
+import unicodedata
 from concurrent.futures import ThreadPoolExecutor
 from pathlib import Path
 
@@ -39,8 +40,8 @@ LEXEME = re.compile(
 MARK = re.compile(rb"%\{|%\}|/\*|\*/|//|[{}'\"<>\[\]]")
 BYTES = b"%'\":;|/*{}<>[]\\$@#\n\r\t \x00\x7f\x80\xc3\xff" + b"azAZ09._-=,&"
 VERDICT = re.compile(
-    r"unambiguous \(proved\): no text has two trees|no conflicts; precedences may have settled some"
-    r"|(as expected: )?(\d+ (shift|reduce)/reduce conflicts?(, )?)+(; \d+ .+ expected)?"
+    r"(unambiguous \(proved\): no text has two trees|no conflicts"
+    r"|(as expected: )?(\d+ (shift|reduce)/reduce conflicts?(, )?)+(; \d+ .+ expected)?)(; precedences settle \d+( more)?)?"
 )
 
 
@@ -77,10 +78,11 @@ def called(words, folder):
 
 
 def width(line):
-    """The columns of a line: a tab reaches to the next multiple of 8."""
+    """The columns of a line, or more: a tab reaches to the next multiple of 8, and a wide character takes two."""
     columns = 0
     for character in line.decode("utf-8", "replace"):
-        columns = columns // 8 * 8 + 8 if character == "\t" else columns + 1
+        wide = unicodedata.east_asian_width(character) in "WF"
+        columns = columns // 8 * 8 + 8 if character == "\t" else columns + 1 + wide
     return columns
 
 
@@ -96,12 +98,13 @@ def wrong_place(lines, line, column):
 def faults_of(answer, name):
     """The faults of an answer, as (line, column, words), and the lines that are neither a fault nor show a line of the file."""
     head = re.compile(re.escape(name.encode()) + rb":(\d+):(\d+): error: (.+)")
+    more = re.compile(re.escape(name.encode()) + rb": and \d+ more errors?, which --all shows")
     faults, others = [], []
     for line in answer.text.split(b"\n")[:-1]:
         found = head.fullmatch(line)
         if found:
             faults.append((int(found[1]), int(found[2]), found[3].decode("utf-8", "replace")))
-        elif not re.match(rb" *\d* \|", line):
+        elif not re.match(rb" *\d* \|", line) and not more.fullmatch(line):
             others.append(line)
     return faults, others
 

@@ -5,7 +5,7 @@
 
 Takes the files `.y`, `.yy` and `.ypp` that are named or in the folders. For each it prints a row: rules, productions, tokens,
 tokens with a level, `%prec`, useless rules and productions, and numbers of conflicts, with precedences and without. A number on
-which both agree stands once; else Bison's stands before `/`, and `?` is what `lrcheck` does not tell. A line for each difference
+which both agree stands once; else Bison's stands before `/`. A line for each difference
 follows: where the first fault is, if either refuses the file; tokens with other levels or kinds; productions. Ends with status 1
 where there is a difference.
 
@@ -203,70 +203,38 @@ def read_by_bison(text, folder):
 # lrcheck.
 
 
-def options_of(program):
-    """The options that the program knows."""
-    run = subprocess.run([program, "--help"], capture_output=True, text=True)
-    return set(re.findall(r"--[\w-]+", run.stdout))
+def told_by_lrcheck(program, text, folder, *words):
+    """What `lrcheck` tells of a file, as JSON."""
+    (folder / "grammar.y").write_text(text, encoding="latin-1")
+    run = subprocess.run([program, "--json", *words, "grammar.y"], cwd=folder, capture_output=True)
+    return json.loads(run.stdout)
 
 
-def called(program, words, folder):
-    """What the program prints in a folder."""
-    run = subprocess.run([program, *words], cwd=folder, stdout=subprocess.PIPE, stderr=subprocess.STDOUT)
-    return run.stdout.decode("utf-8", "replace")
+def numbers_of_conflicts(told):
+    return told["shift_reduce"], told["reduce_reduce"]
 
 
-def conflicts_of_verdict(printed):
-    """The numbers of conflicts in the last line of a report; None where it has no verdict."""
-    last = printed.rstrip("\n").split("\n")[-1]
-    if "unambiguous" in last or ": no conflicts" in last:
-        return 0, 0
-    told = last.split(";")[0]
-    numbers = [re.search(rf"(\d+) {kind}/reduce conflict", told) for kind in ("shift", "reduce")]
-    if not any(numbers):
-        return None
-    return tuple(int(found[1]) if found else 0 for found in numbers)
-
-
-def fault_of_lrcheck(printed):
-    """The first fault of a report; None where it has none."""
-    found = re.search(r"^[^\n:]*:(?:(\d+):(\d+):)? error: ([^\n]*)", printed, re.MULTILINE)
-    return (int(found[1] or 0), int(found[2] or 0), found[3]) if found else None
-
-
-def read_by_lrcheck(program, options, text, folder):
-    """What `lrcheck` reads of a file. This knows how the program answers."""
-    name = "grammar.y"
-    (folder / name).write_text(text, encoding="latin-1")
-    printed = called(program, [name], folder)
-    fault = fault_of_lrcheck(printed)
-    if fault:
-        return Reading(fault=fault)
-    reading = Reading(conflicts=conflicts_of_verdict(printed))
-    reading.useless_rules = len(re.findall(rf"^{name}:\S+ warning: this rule is never reached", printed, re.MULTILINE))
-    reading.useless_productions = len(re.findall(rf"^{name}:\S+ warning: this derives no text", printed, re.MULTILINE))
-    if "--json" not in options:
-        return reading
-    told = json.loads(called(program, ["--json", *(["--grammar"] if "--grammar" in options else []), name], folder))
-    reading.counts = {"rules": told.get("rules"), "productions": told.get("productions"), "tokens": told.get("tokens")}
-    grammar = told.get("grammar")
-    if grammar:
-        reading.rules = [name_of(rule) for rule in grammar["rules"]]
-        reading.tokens = {token["name"]: (token.get("level"), token.get("kind")) for token in grammar["tokens"]}
-        reading.productions = [(prod["rule"], tuple(prod["body"]), prod.get("prec")) for prod in grammar["productions"]]
+def read_by_lrcheck(program, text, folder):
+    """What `lrcheck` reads of a file."""
+    told = told_by_lrcheck(program, text, folder, "--grammar")
+    if told["errors"]:
+        first = told["errors"][0]
+        return Reading(fault=(first["line"] or 0, first["column"] or 0, first["message"]))
+    reading = Reading(conflicts=numbers_of_conflicts(told))
+    warnings = [warning["message"] for warning in told["warnings"]]
+    reading.useless_rules = sum(it.startswith("this rule is never reached") for it in warnings)
+    reading.useless_productions = sum(it.startswith("this derives no text") for it in warnings)
+    reading.counts = {name: told[name] for name in ("rules", "productions", "tokens")}
+    grammar = told["grammar"]
+    reading.rules = grammar["rules"]
+    reading.tokens = {token["name"]: (token["level"], token["kind"]) for token in grammar["tokens"]}
+    reading.productions = [(it["rule"], tuple(it["body"]), it["prec"]) for it in grammar["productions"]]
     return reading
 
 
-def name_of(rule):
-    """The name of a rule, which is told by itself or as an object."""
-    return rule["name"] if isinstance(rule, dict) else rule
-
-
-def conflicts_without_precedences(program, options, text, folder):
+def conflicts_without_precedences(program, text, folder):
     """The numbers of conflicts that `lrcheck` counts without precedences."""
-    plain = "--without-precedences" in options
-    (folder / "grammar.y").write_text(text if plain else without(text, False), encoding="latin-1")
-    words = ["--summary", *(["--without-precedences"] if plain else []), "grammar.y"]
-    return conflicts_of_verdict(called(program, words, folder))
+    return numbers_of_conflicts(told_by_lrcheck(program, text, folder, "--without-precedences"))
 
 
 # Both.
@@ -377,13 +345,13 @@ def compared_faults(theirs, ours):
     return ["refused"], [", ".join(told)]
 
 
-def compared(program, options, path):
+def compared(program, path):
     """The cells of the row of a file, and a line for each difference."""
     text = path.read_bytes().decode("latin-1")
     with tempfile.TemporaryDirectory() as name:
         folder = Path(name)
         theirs = read_by_bison(text, folder)
-        ours = read_by_lrcheck(program, options, text, folder)
+        ours = read_by_lrcheck(program, text, folder)
         if theirs.fault or ours.fault:
             return compared_faults(theirs, ours)
         told = list(zip(numbers(theirs).items(), numbers(ours).values()))
@@ -394,7 +362,7 @@ def compared(program, options, path):
         if ours.productions is not None:
             lines += differing_productions(theirs.productions, ours.productions)
         without_levels = conflicts_of(*called_bison(without(text, False), "lalr", folder))
-        plain = conflicts_without_precedences(program, options, text, folder)
+        plain = conflicts_without_precedences(program, text, folder)
         for which, of_bison, of_lrcheck in (
             ("with precedences", theirs.conflicts, ours.conflicts),
             ("without precedences", without_levels, plain),
@@ -420,13 +388,12 @@ def main():
     parser.add_argument("folders", nargs="+", type=Path)
     arguments = parser.parse_args()
     program = os.path.abspath(arguments.program)
-    options = options_of(program)
     paths = list(grammar_files(arguments.folders))
     heads = ["File", *numbers(Reading()), "conflicts", "without precedences"]
     print(f"| {' | '.join(heads)} |\n|{'---|' * len(heads)}")
     all_lines, refused = [], 0
     with ThreadPoolExecutor(PROCESSES) as pool:
-        for path, (cells, lines) in zip(paths, pool.map(lambda path: compared(program, options, path), paths)):
+        for path, (cells, lines) in zip(paths, pool.map(lambda path: compared(program, path), paths)):
             print(f"| {' | '.join([f'`{path}`', *cells])} |", flush=True)
             all_lines += [f"{path}: {line}" for line in lines]
             refused += cells == ["refused by both"]

@@ -22,7 +22,9 @@ KEPT = Path(__file__).resolve().parent.parent / "out" / "lrcalls"
 os.environ["LRT_PROGRAM"] = os.environ.get("LRCALLS_PROGRAM", str(KEPT))
 from cases import Case
 from rules import Fault
-from run import PROGRAM, Room, Unfit, built_library, main, shown, tell_wrong
+from run import PROGRAMS, Room, Unfit, built_library, main, shown, tell_wrong
+
+PROGRAM = PROGRAMS["lrt"]
 
 # One request is refused, or in the cases of calls that take no memory each one.
 ONE = Fault("memory", "refused", False, None)
@@ -118,7 +120,7 @@ def outcomes_of(words):
     if not PROGRAM.exists():
         raise Unfit(f"there is no {PROGRAM}: ./test calls builds it")
     with tempfile.TemporaryDirectory() as folder:
-        library = built_library(folder)
+        library = built_library(folder, [PROGRAM])
         names = listed_names()
         if len(words) == 2 and words[0] in names and words[1].isdecimal():
             return show_one(library, words[0], int(words[1]))

@@ -1,5 +1,5 @@
-"""The cases: with what lrt is called. Each has a name of its own, and its grammar text lies in the file FILE of the folder
-of the call."""
+"""The cases of lrt: with what it is called. Each has a name of its own, and its grammar text lies in the file FILE of the
+folder of the call."""
 
 from collections import namedtuple
 
@@ -7,7 +7,15 @@ FILE = "a.y"
 
 # `words` are the arguments. `text` is what the file holds, and None where there is no file. `given` is standard input:
 # where it is not to be read, another grammar text. `status` is how the call ends where nothing fails.
-Case = namedtuple("Case", "name words text given status", defaults=(b"%% Other: 'other';", 0))
+class Case(namedtuple("Case", "name words text given status", defaults=(b"%% Other: 'other';", 0))):
+    program = "lrt"
+    lone_words = ()
+
+    @property
+    def files(self):
+        return {} if self.text is None else {FILE: self.text}
+
+
 
 PRINTING = ("start", "core", "closed", "conflicts")
 ANSWERING = ("run", "tree")

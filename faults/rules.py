@@ -5,8 +5,8 @@ from collections import namedtuple
 from cases import ANSWERING, FILE
 
 # What a call answered: its status and its streams. `faults` are the faults that were made on each descriptor (0, 1, 2 and
-# others), and `input_read` the bytes that were read of standard input.
-Answer = namedtuple("Answer", "status out err faults input_read")
+# others), and `input_read` the bytes that were read of standard input. `parts` are the answers of which a whole one is made.
+Answer = namedtuple("Answer", "status out err faults input_read parts", defaults=((),))
 
 INPUT, OUTPUT, ERRORS = range(3)
 

@@ -1,6 +1,6 @@
 #!/usr/bin/env python3
-"""Has each request of lrt for memory refused in turn, and each open, read, write and close fail in turn, in all cases or in
-those that the arguments name. README.md says how the answers are judged. The last line is 'N passed, M failed'.
+"""Has each request of lrt and of lrcheck for memory refused in turn, and each open, read, write and close fail in turn, in all
+cases or in those that the arguments name. README.md says how the answers are judged. The last line is 'N passed, M failed'.
 
     run.py [CASE..]
     run.py CASE FAULT NUMBER    makes this one fault, and prints what is answered"""
@@ -21,11 +21,22 @@ import tempfile
 from pathlib import Path
 
 sys.dont_write_bytecode = True
-from cases import CASES, FILE
-from rules import FAULTS, Answer, is_whole, leaves_input
+import cases
+import check_cases
+import check_rules
+import rules
+from rules import Answer
 
 HERE = Path(__file__).resolve().parent
-PROGRAM = Path(os.environ.get("LRT_PROGRAM", HERE.parent / "out" / "lrt")).resolve()
+CASES = {**cases.CASES, **check_cases.CASES}
+RULES = {"lrt": rules, "lrcheck": check_rules}
+
+
+def path_of(program):
+    return Path(os.environ.get(f"{program.upper()}_PROGRAM", HERE.parent / "out" / program)).resolve()
+
+
+PROGRAMS = {program: path_of(program) for program in RULES}
 SECONDS = 60
 SHOWN = 3
 
@@ -36,7 +47,10 @@ REPORT = struct.Struct(f"={len(CALLS)}Q4QQ")
 # What the program may take from the C library: that which faults.c stands in for, and that which neither asks for memory nor
 # reaches a device.
 STOOD_IN_FOR = "malloc calloc realloc memalign aligned_alloc posix_memalign open read write __write close __libc_start_main"
-HARMLESS = "free memcpy memmove memset memcmp bcmp strlen __errno_location __sysv_signal __x86_get_cpuid_feature_leaf"
+HARMLESS = (
+    "free memcpy memmove memset memcmp bcmp strlen __errno_location __xpg_strerror_r __sysv_signal __x86_get_cpuid_feature_leaf "
+    "clock_gettime environ getenv isatty"
+)
 
 
 class Unfit(Exception):
@@ -48,8 +62,8 @@ class Room:
 
     def __init__(self, folder, library, case, more=None):
         self.folder, self.library, self.case, self.more = Path(folder), library, case, more or {}
-        if case.text is not None:
-            self.file(FILE).write_bytes(case.text)
+        for name, text in case.files.items():
+            self.file(name).write_bytes(text)
         self.file("given").write_bytes(case.given)
         self.file("report").write_bytes(bytes(REPORT.size))
         with open(self.file("report"), "r+b") as it:
@@ -58,16 +72,24 @@ class Room:
     def file(self, name):
         return self.folder / name
 
-    def call(self, fault=None, number=0):
-        """What is answered where the call of that number meets the fault, and how many calls there were of each name."""
+    def call(self, fault=None, number=0, words=None):
+        """What is answered where the call of that number meets the fault, and how many calls there were of each name. The
+        arguments are those of the case, or others."""
+        command = [PROGRAMS[self.case.program], *(self.case.words if words is None else words)]
         told = {"LD_PRELOAD": self.library, "FAULT_REPORT": self.file("report"), **self.more, **settings(fault, number)}
         self.report[:] = bytes(REPORT.size)
         with open(self.file("given"), "rb") as given, open(self.file("out"), "wb") as out, open(self.file("err"), "wb") as err:
             streams = {"stdin": given, "stdout": out, "stderr": err}
-            status = ended(subprocess.Popen([PROGRAM, *self.case.words], cwd=self.folder, env=told, **streams))
+            status = ended(subprocess.Popen(command, cwd=self.folder, env=told, **streams))
         counts = REPORT.unpack(self.report)
         written = self.file("out").read_bytes(), self.file("err").read_bytes()
         return Answer(status, *written, counts[len(CALLS) : -1], counts[-1]), dict(zip(CALLS, counts))
+
+    def whole(self):
+        """What is answered without a fault, with its parts, and how many calls there were of each name."""
+        found, calls = self.call()
+        parts = [self.call(words=words)[0] for words in self.case.lone_words]
+        return found._replace(parts=tuple(parts or [found])), calls
 
 
 def settings(fault, number):
@@ -108,13 +130,14 @@ def shown(answer):
 
 def is_right(case, fault, whole, found):
     """Whether the answer may come where the whole one does without a fault, or where no fault was met."""
-    may_come = fault.rule(case, whole, found) if any(found.faults) else found == whole
-    return may_come and leaves_input(case, found)
+    may_come = fault.rule(case, whole, found) if any(found.faults) else found == whole._replace(parts=())
+    return may_come and RULES[case.program].leaves_input(case, found)
 
 
 def try_fault(room, whole, calls, name):
     """Makes the fault at each call in turn, until none is met. Answers how many were made, and what was wrong."""
-    fault, case, wrong = FAULTS[name], room.case, []
+    case, wrong = room.case, []
+    fault = RULES[case.program].FAULTS[name]
     for number in itertools.count(1):
         found, _ = room.call(fault, number)
         if not is_right(case, fault, whole, found):
@@ -135,12 +158,12 @@ def outcome(library, case):
     tried, wrong = {}, []
     with tempfile.TemporaryDirectory() as folder:
         room = Room(folder, library, case)
-        whole, calls = room.call()
-        if not is_whole(case, whole):
+        whole, calls = room.whole()
+        if not RULES[case.program].is_whole(case, whole):
             return tried, calls, [f"without a fault {shown(whole)}, wanted: status {case.status}, and what is told with it"]
-        if not leaves_input(case, whole):
+        if not RULES[case.program].leaves_input(case, whole):
             return tried, calls, [f"{whole.input_read} bytes of standard input are read, wanted: none"]
-        for name in FAULTS:
+        for name in rules.FAULTS:
             tried[name], more = try_fault(room, whole, calls, name)
             wrong += more
     return tried, calls, wrong
@@ -160,7 +183,7 @@ def try_all(library, cases):
         found = workers.map(functools.partial(outcome, library), cases)
         for case, (faults, calls, wrong) in zip(cases, found):
             if not calls["memory"]:
-                wrong.append(f"no request of {PROGRAM} for memory was counted")
+                wrong.append(f"no request of {PROGRAMS[case.program]} for memory was counted")
             tried.update(faults)
             tell_wrong(case, wrong)
             outcomes.append("failed" if wrong else "passed")
@@ -170,10 +193,10 @@ def try_all(library, cases):
 
 def show_one(library, case, name, number):
     """Makes one fault, prints what is answered, and answers the outcome."""
-    fault = FAULTS[name]
+    fault = RULES[case.program].FAULTS[name]
     with tempfile.TemporaryDirectory() as folder:
         room = Room(folder, library, case)
-        whole, _ = room.call()
+        whole, _ = room.whole()
         found, calls = room.call(fault, number)
     print(f"without a fault: {shown(whole)}")
     print(f"with the fault: {shown(found)}")
@@ -181,39 +204,51 @@ def show_one(library, case, name, number):
     return ["passed" if is_right(case, fault, whole, found) else "failed"]
 
 
-def taken_from_c_library():
-    listed = subprocess.run(["nm", "-D", "--undefined-only", PROGRAM], stdout=subprocess.PIPE, text=True)
+def taken_from_c_library(program):
+    listed = subprocess.run(["nm", "-D", "--undefined-only", program], stdout=subprocess.PIPE, text=True)
     words = [line.split() for line in listed.stdout.splitlines()]
     return {name.split("@")[0] for kind, name in words if kind == "U"}
 
 
-def built_library(folder):
-    """Compiles faults.c into the folder, if it stands in for all that the program takes from the C library."""
+def require_fit(program):
+    """Sees that faults.c stands in for all that the program takes from the C library."""
+    if not program.exists():
+        raise Unfit(f"there is no {program}: ./test builds it")
+    taken = taken_from_c_library(program)
+    if "__libc_start_main" not in taken:
+        raise Unfit(f"{program} takes nothing from a shared C library")
+    unknown = taken - {*STOOD_IN_FOR.split(), *HARMLESS.split()}
+    if unknown:
+        raise Unfit(f"{program} takes from the C library what faults.c does not stand in for: {', '.join(sorted(unknown))}")
+
+
+def built_library(folder, programs):
+    """Compiles faults.c into the folder, if it fits the programs."""
     for tool in ("cc", "nm"):
         if not shutil.which(tool):
             raise Unfit(f"there is no {tool}: faults are tried with a C compiler and its nm")
-    if not PROGRAM.exists():
-        raise Unfit(f"there is no {PROGRAM}: ./lrt builds it")
-    taken = taken_from_c_library()
-    if "__libc_start_main" not in taken:
-        raise Unfit(f"{PROGRAM} takes nothing from a shared C library")
-    unknown = taken - {*STOOD_IN_FOR.split(), *HARMLESS.split()}
-    if unknown:
-        raise Unfit(f"{PROGRAM} takes from the C library what faults.c does not stand in for: {', '.join(sorted(unknown))}")
+    for program in programs:
+        require_fit(program)
     library = f"{folder}/faults.so"
     if subprocess.run(["cc", "-O1", "-fno-builtin", "-fPIC", "-shared", "-o", library, HERE / "faults.c", "-ldl"]).returncode:
         raise Unfit("faults.c could not be compiled")
     return library
 
 
+def library_for(folder, cases):
+    return built_library(folder, {PROGRAMS[case.program] for case in cases})
+
+
 def outcomes_of(words):
     unknown = [word for word in words if word not in CASES]
     with tempfile.TemporaryDirectory() as folder:
-        if len(words) == 3 and words[0] in CASES and words[1] in FAULTS:
-            return show_one(built_library(folder), CASES[words[0]], words[1], int(words[2]))
+        if len(words) == 3 and words[0] in CASES and words[1] in rules.FAULTS:
+            case = CASES[words[0]]
+            return show_one(library_for(folder, [case]), case, words[1], int(words[2]))
         if unknown:
             raise Unfit(f"there is no case {unknown[0]}")
-        return try_all(built_library(folder), [CASES[word] for word in words or CASES])
+        asked = [CASES[word] for word in words or CASES]
+        return try_all(library_for(folder, asked), asked)
 
 
 def main(words, outcomes_of=outcomes_of):

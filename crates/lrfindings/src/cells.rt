@@ -6,6 +6,7 @@
 //! even: so the table shifts, and both are left.
 
 use crate::conflicts::{Entry, place_of};
+use crate::idle::{Deciding, Idle};
 use lrgrammar::grammar::{AssocKind, PartProd, PartSymbol, Precedence};
 use lrgrammar::idx::{IndexStorage, PIdx, SIdx, StIdx, Symbol, TIdx};
 use lrgrammar::vob::Vob;
@@ -53,17 +54,22 @@ struct Precedences {
     with: Vec<usize>,
 }
 
-/// The token by which a production has its precedence: the one that it names, or else the last one of its body.
-fn precedence_token(prod: &PartProd) -> Option<usize> {
-    if prod.precedence.is_some() {
-        return prod.precedence;
-    }
+/// The last token of a body.
+pub(crate) fn last_token(prod: &PartProd) -> Option<usize> {
     for symbol in prod.symbols.iter().rev() {
         if let PartSymbol::Token(token) = symbol {
             return Some(*token);
         }
     }
     None
+}
+
+/// The token by which a production has its precedence: the one that it names, or else the last one of its body.
+fn precedence_token(prod: &PartProd) -> Option<usize> {
+    match prod.precedence {
+        Some(token) => Some(token),
+        None => last_token(prod),
+    }
 }
 
 impl Precedences {
@@ -138,13 +144,56 @@ impl Precedences {
 
 /// What is found in the cells of a graph.
 #[derive(Drop)]
-pub(crate) struct Cells {
+pub(crate) struct CellFindings {
     /// The decisions between a shift and a reduction.
     pub(crate) settled: Vec<Settled>,
     /// Entries of the table's lists that are none where each reduction is tried by itself.
     pub(crate) closed: Vec<Entry>,
     /// Entries that are left then, and stand in no list of the table.
     pub(crate) opened: Vec<Entry>,
+    /// What of the file takes no part in the decisions, and what of its tokens in no rule.
+    pub(crate) idle: Idle,
+}
+
+/// What was found in cells so far.
+#[derive(Drop)]
+struct Cells {
+    settled: Vec<Settled>,
+    closed: Vec<Entry>,
+    opened: Vec<Entry>,
+    /// Which tokens and productions take part in decisions.
+    deciding: Deciding,
+}
+
+impl Cells {
+    /// Nothing was found.
+    fn new(alloc: Global, file: &FileGrammar) -> Result<Cells, AllocError> {
+        Ok(Cells {
+            settled: Vec::new(alloc),
+            closed: Vec::new(alloc),
+            opened: Vec::new(alloc),
+            deciding: Deciding::new(alloc, file)?,
+        })
+    }
+
+    /// What was found, in the order of the file.
+    fn in_order(self, file: &FileGrammar) -> Result<CellFindings, AllocError> {
+        let Cells {
+            mut settled,
+            mut closed,
+            mut opened,
+            deciding,
+        } = self;
+        settled.sort_unstable_by_key(|settled| settled.entry);
+        closed.sort_unstable();
+        opened.sort_unstable();
+        Ok(CellFindings {
+            settled,
+            closed,
+            opened,
+            idle: deciding.idle(file)?,
+        })
+    }
 }
 
 /// A complete item of a state: its production, and the tokens at which the state could reduce by it.
@@ -243,7 +292,7 @@ impl<T: IndexStorage> Looked<'_, T> {
     /// Tries the reductions of a cell, one after another, each against a shift that still stands.
     fn try_reductions(
         &self,
-        settled: &mut Vec<Settled>,
+        cells: &mut Cells,
         state: StIdx<T>,
         reductions: &[Reduction<'_>],
         token: usize,
@@ -252,7 +301,7 @@ impl<T: IndexStorage> Looked<'_, T> {
             state: usize::from(state),
             token,
             is_shifting: true,
-            reductions: Vec::new(*settled.allocator()),
+            reductions: Vec::new(*cells.settled.allocator()),
             is_listed: false,
         };
         for reduction in reductions {
@@ -263,18 +312,31 @@ impl<T: IndexStorage> Looked<'_, T> {
             let outcome = self.precedences.outcome(token, production);
             let is_first = cell.reductions.is_empty();
             cell.is_listed = cell.is_listed || is_first && outcome == Outcome::Open;
-            let mut is_left = true;
-            if let Outcome::Won(winner) = outcome {
-                if cell.is_shifting {
-                    is_left = winner == Winner::Reduce;
-                    cell.is_shifting = winner == Winner::Shift;
-                    let entry = self.entry(&cell, production, None);
-                    settled.push(Settled { entry, winner })?;
-                }
-            }
+            let is_left = !cell.is_shifting
+                || self.try_reduction(cells, &mut cell, production, outcome)?;
             cell.reductions.push((production, is_left))?;
         }
         Ok(cell)
+    }
+
+    /// Does what precedences make of the shift of a cell and a reduction, and answers whether the reduction is left.
+    fn try_reduction(
+        &self,
+        cells: &mut Cells,
+        cell: &mut Cell,
+        production: usize,
+        outcome: Outcome,
+    ) -> Result<bool, AllocError> {
+        if outcome != Outcome::Open {
+            cells.deciding.note(self.file, cell.token, production);
+        }
+        let Outcome::Won(winner) = outcome else {
+            return Ok(true);
+        };
+        cell.is_shifting = winner == Winner::Shift;
+        let entry = self.entry(cell, production, None);
+        cells.settled.push(Settled { entry, winner })?;
+        Ok(winner == Winner::Reduce)
     }
 
     /// Adds the entries in which a cell and the table's lists differ: those with the shift.
@@ -333,7 +395,7 @@ impl<T: IndexStorage> Looked<'_, T> {
         {
             return Ok(());
         }
-        let cell = self.try_reductions(&mut cells.settled, state, reductions, token)?;
+        let cell = self.try_reductions(cells, state, reductions, token)?;
         self.add_shifts(cells, &cell)?;
         self.add_reductions(cells, &cell)
     }
@@ -358,12 +420,8 @@ pub(crate) fn cells_of<T: IndexStorage>(
     file: &FileGrammar,
     graph: &StateGraph<T>,
     has_precedences: bool,
-) -> Result<Cells, AllocError> {
-    let mut cells = Cells {
-        settled: Vec::new(alloc),
-        closed: Vec::new(alloc),
-        opened: Vec::new(alloc),
-    };
+) -> Result<CellFindings, AllocError> {
+    let mut cells = Cells::new(alloc, file)?;
     let precedences = Precedences::new(alloc, file)?;
     let looked = Looked {
         file,
@@ -375,8 +433,5 @@ pub(crate) fn cells_of<T: IndexStorage>(
             looked.add_state(&mut cells, state)?;
         }
     }
-    cells.closed.sort_unstable();
-    cells.opened.sort_unstable();
-    cells.settled.sort_unstable_by_key(|settled| settled.entry);
-    Ok(cells)
+    cells.in_order(file)
 }

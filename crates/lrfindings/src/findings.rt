@@ -10,8 +10,9 @@ ghost use Rattle.lrgrammar.specs.TextErrors.{IsGrammarOf};
 ghost use Rattle.lrfindings.specs.Listed.{told, listed};
 ghost use Rattle.lrfindings.specs.declared.verdicts.Verdict.TheVariants.{Unambiguous};
 
-use crate::cells::{Cells, Settled, cells_of};
+use crate::cells::{CellFindings, Settled, cells_of};
 use crate::conflicts::{Entry, entries_of};
+use crate::idle::Idle;
 use crate::texts::small_text;
 use crate::verdicts::{Counts, Verdict, checked};
 use lrgrammar::grammar::{GrammarError, TextError, YaccGrammar};
@@ -40,6 +41,8 @@ pub struct Findings<T: IndexStorage> {
     pub opened: Vec<Entry>,
     /// What precedences settle, in the order of the file.
     pub settled: Vec<Settled>,
+    /// Which precedences settle nothing, all of them where none is in force; and which tokens are in no rule.
+    pub idle: Idle,
     /// The verdict.
     pub verdict: Verdict,
 }
@@ -114,10 +117,11 @@ fn find_with<T: IndexStorage>(
     let (graph, table, verdict) = checked(&grm)?;
     let cells = cells_of(alloc, file, &graph, has_precedences)?;
     let conflicts = entries_of(alloc, file, &table)?;
-    let Cells {
+    let CellFindings {
         settled,
         closed,
         opened,
+        idle,
     } = cells;
     let verdict = verdict.adjusted(Counts::of(closed.as_slice()), Counts::of(opened.as_slice()));
     Ok(Findings {
@@ -129,6 +133,7 @@ fn find_with<T: IndexStorage>(
         closed,
         opened,
         settled,
+        idle,
         verdict,
     })
 }

@@ -4,6 +4,7 @@
 mod cells;
 mod conflicts;
 mod findings;
+mod idle;
 mod names;
 mod texts;
 mod verdicts;
@@ -11,5 +12,6 @@ mod verdicts;
 pub use crate::cells::{Settled, Winner};
 pub use crate::conflicts::Entry;
 pub use crate::findings::{FindError, Findings, find};
+pub use crate::idle::Idle;
 pub use crate::texts::small_text;
 pub use crate::verdicts::{Counts, Verdict};

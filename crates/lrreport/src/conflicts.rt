@@ -1,9 +1,11 @@
 //! Conflicts, each with the places of the productions that meet in it.
 
-ghost use Rattle.std.specs.Prelude.{◌≡◌, List, IfOk};
+ghost use Rattle.std.specs.Prelude.{◌≡◌, IfOk, IsTrue, Contains};
+ghost use Rattle.std.specs.List.{flat_map};
+ghost use Rattle.lrreport.specs.LeftOpen.{AreLeftOpen};
 
-use crate::diagnostics::{Mark, push_placed};
-use crate::sources::Source;
+use crate::options::Options;
+use lrdiagnostics::{Layout, Mark, Source, Style, Teller, comma_words};
 use lrfindings::{Entry, Findings};
 use lrgrammar::grammar::PartSymbol;
 use lrgrammar::idx::{IndexStorage, StIdx};
@@ -13,17 +15,21 @@ use std::alloc::{AllocError, Global};
 /// How many productions are told that go on by a shift.
 const GOING_ON: usize = 3;
 
+/// What is said of what the table does.
+pub(crate) const DONE: &str = "; the table does this";
+
 /// A file's grammar, with what was found in it.
 #[derive(Clone, Copy)]
 pub(crate) struct Checked<'a, T: IndexStorage> {
     pub(crate) source: &'a Source<'a>,
     pub(crate) file: &'a FileGrammar,
     pub(crate) found: &'a Findings<T>,
+    pub(crate) options: Options,
 }
 
 impl<'a, T: IndexStorage> Checked<'a, T> {
     /// Where the body of a production stands.
-    fn place(&self, production: usize) -> Span {
+    pub(crate) fn place(&self, production: usize) -> Span {
         let place = self.file.production_places.get(production);
         place.copied().unwrap_or(Span::new(0, 0))
     }
@@ -76,16 +82,37 @@ impl<'a, T: IndexStorage> Checked<'a, T> {
         }
     }
 
-    /// The names of the tokens of entries, parted by commas.
-    fn names(&self, alloc: Global, entries: &[Entry]) -> Result<String, AllocError> {
-        let mut text = String::new(alloc);
-        for entry in entries {
-            if !text.is_empty() {
-                text.push_str(", ")?;
-            }
-            text.push_str(self.token_name(entry.token))?;
+    /// Where the places of the file are told.
+    pub(crate) fn teller(&self) -> Teller<'a> {
+        Teller {
+            source: self.source,
+            has_colours: self.options.has_colours,
         }
-        Ok(text)
+    }
+
+    /// Adds what is told first of entries that meet alike: a word, what meets, and the tokens at which it does.
+    pub(crate) fn push_heading(
+        &self,
+        text: &mut String,
+        word: &str,
+        entries: &[Entry],
+    ) -> Result<(), AllocError> {
+        let kinds = match entries.first() {
+            Some(Entry { other: Some(_), .. }) => "reduce or reduce",
+            _ => "shift or reduce",
+        };
+        Style::Bold.push(text, word, self.options.has_colours)?;
+        write!(text, ": {kinds} at ")?;
+        let mut names = Vec::new(*text.allocator());
+        for entry in entries {
+            names.push(self.token_name(entry.token))?;
+        }
+        let indent = word.len().saturating_add(2);
+        let column = indent.saturating_add(kinds.len()).saturating_add(4);
+        let words = comma_words(*text.allocator(), names.as_slice())?;
+        let layout = Layout::new(self.options.is_plain);
+        layout.push_words(text, words.as_slice(), column, indent)?;
+        text.push('\n')
     }
 
     /// The items of a state, as production and dot, in which it goes on by the token of one of the entries.
@@ -117,17 +144,19 @@ impl<'a, T: IndexStorage> Checked<'a, T> {
         let Some(first) = entries.first() else {
             return Ok(());
         };
-        let names = self.names(*text.allocator(), entries)?;
-        let kinds = match first.other {
-            Some(_) => "reduce or reduce",
-            None => "shift or reduce",
-        };
-        write!(text, "conflict: {kinds} at {names}\n")?;
+        self.push_heading(text, "conflict", entries)?;
+        let alloc = *text.allocator();
         let marks = match first.other {
-            Some(other) => self.marks_of_reductions(*text.allocator(), first.production, other)?,
-            None => self.marks_of_shifts(*text.allocator(), *first, entries)?,
+            Some(other) => self.marks_of_reductions(alloc, first.production, other)?,
+            None => {
+                let mut marks = vec![in alloc;
+                    self.mark_of_reduction(alloc, first.production, "")?,
+                ]?;
+                self.push_marks_of_shifts(&mut marks, entries, DONE)?;
+                marks
+            }
         };
-        push_placed(text, self.source, marks.as_slice())?;
+        self.teller().push_placed(text, marks.as_slice())?;
         text.push('\n')
     }
 
@@ -138,80 +167,111 @@ impl<'a, T: IndexStorage> Checked<'a, T> {
         production: usize,
         other: usize,
     ) -> Result<Vec<Mark>, AllocError> {
-        let (one, two) = (self.rule_name(production), self.rule_name(other));
-        let taken = Mark {
-            span: self.place(production),
-            mark: '^',
-            label: format!(in alloc; "reduce: {one} can end here; the table does this")?,
-        };
+        let taken = self.mark_of_reduction(alloc, production, DONE)?;
         let left = Mark {
             span: self.place(other),
             mark: '-',
-            label: format!(in alloc; "reduce: or {two}")?,
+            style: Style::Blue,
+            label: format!(in alloc; "reduce: or {}", self.rule_name(other))?,
         };
         Ok(vec![in alloc; taken, left]?)
     }
 
-    /// The place of the production by which a state reduces, and where others go on in it by one of the tokens.
-    fn marks_of_shifts(
+    /// The place of a production by which a state can reduce, and what follows from that.
+    pub(crate) fn mark_of_reduction(
         &self,
         alloc: Global,
-        first: Entry,
-        entries: &[Entry],
-    ) -> Result<Vec<Mark>, AllocError> {
-        let rule = self.rule_name(first.production);
-        let mut marks = Vec::new(alloc);
-        marks.push(Mark {
-            span: self.place(first.production),
+        production: usize,
+        so: &str,
+    ) -> Result<Mark, AllocError> {
+        let rule = self.rule_name(production);
+        Ok(Mark {
+            span: self.place(production),
             mark: '^',
-            label: format!(in alloc; "reduce: {rule} can end here")?,
-        })?;
-        let items = self.shifting_items(alloc, first.state, entries)?;
+            style: Style::Red,
+            label: format!(in alloc; "reduce: {rule} can end here{so}")?,
+        })
+    }
+
+    /// Adds the places at which the state of entries goes on by one of their tokens, and what follows from that.
+    pub(crate) fn push_marks_of_shifts(
+        &self,
+        marks: &mut Vec<Mark>,
+        entries: &[Entry],
+        so: &str,
+    ) -> Result<(), AllocError> {
+        let alloc = *marks.allocator();
+        let state = entries.first().map_or(0, |entry| entry.state);
+        let items = self.shifting_items(alloc, state, entries)?;
+        let mut is_first = true;
         for (production, dot) in items.iter().take(GOING_ON) {
-            let label = match (marks.len(), self.is_start(*production)) {
-                (1, false) => "shift: or go on; the table does this",
-                (1, true) => "shift: or the text ends here; the table does this",
-                _ => "or go on here",
+            let label = match (is_first, self.is_start(*production)) {
+                (true, false) => format!(in alloc; "shift: or go on{so}")?,
+                (true, true) => format!(in alloc; "shift: or the text ends here{so}")?,
+                _ => String::from_str(alloc, "or go on here")?,
             };
             marks.push(Mark {
                 span: self.symbol_place(*production, *dot),
                 mark: '-',
-                label: String::from_str(alloc, label)?,
+                style: Style::Blue,
+                label,
             })?;
+            is_first = false;
         }
-        Ok(marks)
+        Ok(())
     }
 
     /// Adds the conflicts: the first ones, so many at the most, and how many there are besides.
     pub(crate) fn push_conflicts(&self, text: &mut String, most: usize) -> Result<(), AllocError> {
         let entries = self.left_open(*text.allocator())?;
-        let mut told: usize = 0;
-        for meeting in entries
-            .as_slice()
-            .chunk_by(|one, other| one.meets_like(other))
-        {
-            if told < most {
-                self.push_meeting(text, meeting)?;
-            }
-            told = told.saturating_add(1);
+        let meetings = meetings(*text.allocator(), entries.as_slice())?;
+        for meeting in meetings.iter().take(most) {
+            self.push_meeting(text, meeting)?;
         }
-        let more = told.saturating_sub(most);
-        if more > 0 {
-            write!(text, "and {more} more, which --all shows\n\n")?;
-        }
-        Ok(())
+        push_more(text, meetings.len().saturating_sub(most))
     }
 
     /// The conflicts that are left open, in the order of the file.
-    fn left_open(&self, alloc: Global) -> Result<Vec<Entry>, AllocError> {
+    pub(crate) fn left_open(&self, alloc: Global) -> Result<Vec<Entry>, AllocError>
+        ensures { IfOk result (λ entries.
+            AreLeftOpen self.now.found.now.conflicts.items self.now.found.now.closed.items
+            self.now.found.now.opened.items entries.items) }
+    {
         let found = self.found;
         let mut entries = Vec::from_slice(alloc, found.opened.as_slice())?;
         for entry in &found.conflicts {
-            if found.closed.binary_search(entry).is_err() {
+            if !is_among(found.closed.as_slice(), entry) {
                 entries.push(*entry)?;
             }
         }
         entries.sort_unstable();
         Ok(entries)
     }
+}
+
+/// Whether an entry is one of a list, which is in order.
+fn is_among(list: &[Entry], entry: &Entry) -> bool
+    ensures { IsTrue result → Contains list.now entry.now }
+{
+    match list.binary_search(entry) {
+        Ok(at) => list[at] == *entry,
+        Err(_) => false,
+    }
+}
+
+/// The entries in groups, in each of which the same meets in the same state.
+fn meetings(alloc: Global, entries: &[Entry]) -> Result<Vec<&[Entry]>, AllocError>
+    ensures { IfOk result (λ meetings. flat_map (λ meeting. meeting.now) meetings.items ≡ entries.now) }
+{
+    entries
+        .chunk_by(|one, other| one.meets_like(other))
+        .collect(alloc)
+}
+
+/// Adds how many are not told.
+pub(crate) fn push_more(text: &mut String, more: usize) -> Result<(), AllocError> {
+    if more > 0 {
+        write!(text, "and {more} more, which --all shows\n\n")?;
+    }
+    Ok(())
 }

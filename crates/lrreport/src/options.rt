@@ -33,6 +33,8 @@ pub struct Options {
     pub is_plain: bool,
     /// Whether colours are used.
     pub has_colours: bool,
+    /// Whether JSON has the grammar too.
+    pub tells_grammar: bool,
     /// How many shift/reduce conflicts are expected, whatever the file says.
     pub expected: Option<u64>,
     /// What the file is taken for.

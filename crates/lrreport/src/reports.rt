@@ -1,10 +1,16 @@
 //! The report on a file.
 
+ghost use Rattle.std.specs.Prelude.{◌≡◌, IfOk, IfSome, string_bytes};
+ghost use Rattle.lrspec.specs.tables.Recognition.{IsUnambiguous};
+ghost use Rattle.lrgrammar.specs.TextErrors.{IsGrammarOf};
+ghost use Rattle.lrfindings.specs.declared.verdicts.Verdict.TheVariants.{Unambiguous};
+ghost use Rattle.lrreport.specs.Conclusions.{IsProved};
+
 use crate::conflicts::Checked;
-use crate::diagnostics::push_faults;
+use crate::json_lines::{json_of_faults, json_of_findings, json_of_refusal};
 use crate::options::{Options, Output};
-use crate::sources::Source;
-use lrfindings::{FindError, Findings, find, small_text};
+use lrdiagnostics::{Layout, Source, TOLD, Teller, Weight, messages_of};
+use lrfindings::{FindError, Findings, Verdict, find, small_text};
 use lrgrammar::idx::IndexStorage;
 use lryacc::{Expected, Fault, FileGrammar, FileRead, read_file};
 use std::alloc::{AllocError, Global};
@@ -16,10 +22,36 @@ pub struct Report {
     pub text: String,
     /// The exit status: 0 without conflicts, 1 with conflicts, 2 where the file can't be read as a grammar.
     pub status: u8,
+    /// What was concluded; None where nothing was checked.
+    pub conclusion: Option<Conclusion>,
 }
 
-/// How many conflicts of a file are told one by one.
-const TOLD: usize = 20;
+/// What was concluded of a grammar.
+#[derive(Debug, Drop)]
+pub struct Conclusion {
+    /// The grammar, as the small text that `Output::Grammar` tells.
+    pub grammar: String,
+    /// The verdict, which the lines tell.
+    pub verdict: Verdict,
+}
+
+impl Report {
+    /// That of a file in which nothing was checked.
+    fn unread(text: String) -> Report
+        ensures { result.conclusion ≡ None }
+    {
+        Report {
+            text,
+            status: 2,
+            conclusion: None,
+        }
+    }
+}
+
+/// How many faults of a file, or conflicts, are told one by one at the most.
+fn most_told(options: Options) -> usize {
+    if options.tells_all { usize::MAX } else { TOLD }
+}
 
 /// A file that was read as a grammar.
 #[derive(Clone, Copy)]
@@ -35,76 +67,169 @@ fn report_on_faults(
     alloc: Global,
     source: &Source<'_>,
     faults: &[Fault],
-) -> Result<Report, AllocError> {
+    options: Options,
+) -> Result<Report, AllocError>
+    ensures { IfOk result (λ r. r.conclusion ≡ None) }
+{
+    if options.output == Output::Json {
+        let text = json_of_faults(alloc, source, faults, options.tells_grammar)?;
+        return Ok(Report::unread(text));
+    }
     let mut text = String::new(alloc);
-    push_faults(&mut text, source, faults, "error")?;
-    Ok(Report { text, status: 2 })
+    let teller = Teller {
+        source,
+        has_colours: options.has_colours,
+    };
+    let messages = messages_of(alloc, faults)?;
+    let most = most_told(options);
+    teller.push_messages(&mut text, messages.as_slice(), Weight::Error, most)?;
+    Ok(Report::unread(text))
 }
 
 /// The report on a grammar that can't be checked.
-fn report_on_refusal(alloc: Global, name: &str, why: FindError) -> Result<Report, AllocError> {
-    match why {
-        FindError::Memory => Err(AllocError),
-        why => Ok(Report {
-            text: format!(in alloc; "{name}: error: {why}\n")?,
-            status: 2,
-        }),
+fn report_on_refusal(
+    alloc: Global,
+    read: Read<'_>,
+    why: FindError,
+    options: Options,
+) -> Result<Report, AllocError>
+    ensures { IfOk result (λ r. r.conclusion ≡ None) }
+{
+    if let FindError::Memory = why {
+        return Err(AllocError);
     }
+    let name = read.source.name;
+    let text = if options.output == Output::Json {
+        let why = format!(in alloc; "{why}")?;
+        let tells_grammar = options.tells_grammar;
+        json_of_refusal(
+            alloc,
+            read.source,
+            read.file,
+            read.warnings,
+            why,
+            tells_grammar,
+        )?
+    } else {
+        format!(in alloc; "{name}: error: {why}\n")?
+    };
+    Ok(Report::unread(text))
+}
+
+/// The line of a file's verdict: with how many conflicts precedences settle, and how they are shown where they could be.
+fn verdict_line(
+    alloc: Global,
+    name: &str,
+    verdict: Verdict,
+    settled: usize,
+    options: Options,
+) -> Result<String, AllocError> {
+    let mut line = format!(in alloc; "{name}: {verdict}")?;
+    if settled > 0 {
+        let counts = verdict.counts();
+        let more = if counts.is_zero() { "" } else { " more" };
+        write!(line, "; precedences settle {settled}{more}")?;
+        if options.output == Output::Report && !options.tells_settled {
+            line.push_str(" (--settled)")?;
+        }
+    }
+    Ok(line)
+}
+
+/// The lines on what was found in the grammar of a file, with that verdict.
+fn lines_on_findings<T: IndexStorage>(
+    alloc: Global,
+    read: Read<'_>,
+    found: &Findings<T>,
+    verdict: Verdict,
+    options: Options,
+) -> Result<String, AllocError> {
+    let checked = Checked {
+        source: read.source,
+        file: read.file,
+        found,
+        options,
+    };
+    if options.output == Output::Json {
+        let expected = options.beside(read.expected);
+        return json_of_findings(alloc, checked, read.warnings, expected, verdict);
+    }
+    let mut text = String::new(alloc);
+    if options.output == Output::States {
+        checked.push_states(&mut text)?;
+    }
+    if options.output == Output::Report {
+        let most = most_told(options);
+        checked.push_warnings(&mut text, read.warnings, most)?;
+        checked.push_conflicts(&mut text, most)?;
+        if options.tells_settled {
+            checked.push_settled(&mut text, most)?;
+        }
+    }
+    let line = verdict_line(
+        alloc,
+        read.source.name,
+        verdict,
+        found.settled.len(),
+        options,
+    )?;
+    let layout = Layout::new(options.is_plain || options.output == Output::Summary);
+    layout.push_line(&mut text, line.as_str(), 4)?;
+    Ok(text)
 }
 
 /// The report on what was found in the grammar of a file.
 fn report_on_findings<T: IndexStorage>(
     alloc: Global,
     read: Read<'_>,
-    found: &Findings<T>,
+    found: Findings<T>,
     options: Options,
-) -> Result<Report, AllocError> {
+) -> Result<Report, AllocError>
+    requires grammar { IsGrammarOf T.MAX (string_bytes found.text) found.grm }
+    requires unambiguous { found.verdict ≡ Unambiguous → IsUnambiguous found.grm }
+    ensures { IfOk result (λ r. IfSome r.conclusion IsProved) }
+{
     let verdict = found.verdict.beside(options.beside(read.expected));
-    let checked = Checked {
-        source: read.source,
-        file: read.file,
-        found,
-    };
-    let mut text = String::new(alloc);
-    if options.output == Output::Report {
-        push_faults(&mut text, read.source, read.warnings, "warning")?;
-        let most = if options.tells_all { usize::MAX } else { TOLD };
-        checked.push_conflicts(&mut text, most)?;
-    }
-    let name = read.source.name;
-    write!(text, "{name}: {verdict}")?;
-    let settled = found.settled.len();
-    if settled > 0 {
-        write!(text, "; precedences settle {settled}")?;
-    }
-    text.push('\n')?;
+    let text = lines_on_findings(alloc, read, &found, verdict, options)?;
     Ok(Report {
         text,
         status: verdict.status(),
+        conclusion: Some(Conclusion {
+            grammar: found.text,
+            verdict,
+        }),
     })
 }
 
+/// Whether the numbers of a grammar's parts may fit into 16 bits.
+fn is_small(file: &FileGrammar) -> bool {
+    let parts = &file.parts;
+    let most = parts.tokens.len().max(parts.prods.len());
+    most.max(parts.rules.len()) < usize::from(u16::MAX)
+}
+
 /// The report on a file that was read as a grammar.
-fn report_on_grammar(
-    alloc: Global,
-    read: Read<'_>,
-    options: Options,
-) -> Result<Report, AllocError> {
+fn report_on_grammar(alloc: Global, read: Read<'_>, options: Options) -> Result<Report, AllocError>
+    ensures { IfOk result (λ r. IfSome r.conclusion IsProved) }
+{
     let has_precedences = !options.ignores_precedences;
     if options.output == Output::Grammar {
         return Ok(Report {
             text: small_text(alloc, read.file, has_precedences)?,
             status: 0,
+            conclusion: None,
         });
     }
-    match find::<u16>(alloc, read.file, has_precedences) {
-        Ok(found) => return report_on_findings(alloc, read, &found, options),
-        Err(FindError::TooLarge) => {}
-        Err(why) => return report_on_refusal(alloc, read.source.name, why),
+    if is_small(read.file) {
+        match find::<u16>(alloc, read.file, has_precedences) {
+            Ok(found) => return report_on_findings(alloc, read, found, options),
+            Err(FindError::TooLarge) => {}
+            Err(why) => return report_on_refusal(alloc, read, why, options),
+        }
     }
     match find::<u32>(alloc, read.file, has_precedences) {
-        Ok(found) => report_on_findings(alloc, read, &found, options),
-        Err(why) => report_on_refusal(alloc, read.source.name, why),
+        Ok(found) => report_on_findings(alloc, read, found, options),
+        Err(why) => report_on_refusal(alloc, read, why, options),
     }
 }
 
@@ -114,7 +239,9 @@ pub fn report_on(
     name: &str,
     bytes: &[u8],
     options: Options,
-) -> Result<Report, AllocError> {
+) -> Result<Report, AllocError>
+    ensures { IfOk result (λ r. IfSome r.conclusion IsProved) }
+{
     let source = Source::new(alloc, name, bytes)?;
     match read_file(alloc, bytes, options.dialect)? {
         FileRead::Grammar(file, expected, warnings) => {
@@ -126,6 +253,6 @@ pub fn report_on(
             };
             report_on_grammar(alloc, read, options)
         }
-        FileRead::Faults(faults) => report_on_faults(alloc, &source, faults.as_slice()),
+        FileRead::Faults(faults) => report_on_faults(alloc, &source, faults.as_slice(), options),
     }
 }

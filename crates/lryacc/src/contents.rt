@@ -33,6 +33,8 @@ pub(crate) enum Statement {
     InLevel(Lexeme),
     /// The symbol is named.
     Mention(Lexeme),
+    /// The symbol need not be in a rule.
+    NotInRules(Lexeme),
     /// The values of the symbol have this tag.
     Tagged(Lexeme, Lexeme),
     /// The symbol stands before a colon.

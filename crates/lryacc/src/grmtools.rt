@@ -15,8 +15,10 @@ enum Said {
     Token,
     /// It is one of the precedence line in hand.
     InLevel,
-    /// It is named.
-    Mention,
+    /// It is a token that lexers pass over.
+    PassedOver,
+    /// It need not be in a rule.
+    NotInRules,
 }
 
 impl<'a> Reader<'a> {
@@ -68,11 +70,12 @@ impl<'a> Reader<'a> {
             return Err(halt);
         };
         match self.bytes(directive) {
-            b"%token" | b"%avoid_insert" | b"%implicit_tokens" => self.said(Said::Token),
+            b"%token" | b"%avoid_insert" => self.said(Said::Token),
+            b"%implicit_tokens" => self.said(Said::PassedOver),
             b"%left" => self.grmtools_level(LevelKind::Left, directive),
             b"%right" => self.grmtools_level(LevelKind::Right, directive),
             b"%nonassoc" => self.grmtools_level(LevelKind::Nonassoc, directive),
-            b"%expect-unused" => self.said(Said::Mention),
+            b"%expect-unused" => self.said(Said::NotInRules),
             b"%epp" => self.shown_text(),
             b"%start" => self.once(directive, Form::Starts),
             b"%expect" => self.once(directive, Form::ShiftReduce),
@@ -97,10 +100,14 @@ impl<'a> Reader<'a> {
     /// Adds what is said of a symbol.
     fn say(&mut self, said: Said, symbol: Lexeme) -> Result<(), AllocError> {
         self.state(match said {
-            Said::Token => Statement::Token(symbol),
+            Said::Token | Said::PassedOver => Statement::Token(symbol),
             Said::InLevel => Statement::InLevel(symbol),
-            Said::Mention => Statement::Mention(symbol),
-        })
+            Said::NotInRules => Statement::Mention(symbol),
+        })?;
+        match said {
+            Said::PassedOver | Said::NotInRules => self.state(Statement::NotInRules(symbol)),
+            Said::Token | Said::InLevel => Ok(()),
+        }
     }
 
     /// Reads the tokens of a precedence line.

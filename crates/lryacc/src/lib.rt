@@ -32,5 +32,5 @@ pub use crate::dialects::Dialect;
 pub use crate::faults::{Fault, FaultKind, OldForm, Wanted};
 pub use crate::file::{FileRead, read_file};
 pub use crate::meaning::Expected;
-pub use crate::numbering::FileGrammar;
+pub use crate::numbering::{FileGrammar, NamedPrecedence, TokenPlaces};
 pub use crate::places::Span;

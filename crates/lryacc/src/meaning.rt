@@ -119,6 +119,7 @@ impl<'a> Meaning<'a> {
             Statement::Mention(symbol) => {
                 let _ = self.symbols.named(symbol)?;
             }
+            Statement::NotInRules(_) => {}
             Statement::Tagged(symbol, tag) => self.take_tag(symbol, tag)?,
             Statement::LeftSide(rule) => {
                 let _ = self.classed(rule, Class::Rule, FaultKind::RuleOfToken)?;

@@ -4,11 +4,14 @@ ghost use Rattle.std.specs.Prelude.{◌≡◌, [], ◌∷◌, ◌++◌, map, fla
 ghost use Rattle.lryacc.specs.ProductionPlaces.{Adds, ArePlaced, IsPlaced, action_places, body_places};
 ghost use Rattle.lryacc.specs.ProductionPlaces.{file_places, parts_before_last, start_rules_of};
 
+mod token_places;
+
 use crate::contents::{Alternative, BodyPart, Contents, LevelKind};
 use crate::dialects::Dialect;
 use crate::lexemes::{Lexeme, LexemeKind};
 use crate::meaning::Meaning;
 use crate::names::name_text;
+pub use crate::numbering::token_places::{NamedPrecedence, TokenPlaces};
 use crate::places::Span;
 use crate::productions::Productions;
 use crate::symbols::{Class, Symbol};
@@ -31,6 +34,8 @@ pub struct FileGrammar {
     pub production_places: Vec<Span>,
     /// By production, where the symbols of its body stand.
     pub symbol_places: Vec<Vec<Span>>,
+    /// Where declarations have its tokens, and what stands behind `%prec`.
+    pub token_places: TokenPlaces,
 }
 
 impl FileGrammar {
@@ -46,6 +51,7 @@ impl FileGrammar {
             rule_places: Vec::new(alloc),
             production_places: Vec::new(alloc),
             symbol_places: Vec::new(alloc),
+            token_places: TokenPlaces::new(alloc),
         }
     }
 
@@ -66,6 +72,7 @@ impl FileGrammar {
         let FileGrammar {
             parts,
             rule_places,
+            token_places,
             ..
         } = self;
         FileGrammar {
@@ -76,6 +83,7 @@ impl FileGrammar {
             rule_places,
             production_places: productions.places,
             symbol_places: productions.symbol_places,
+            token_places,
         }
     }
 }
@@ -610,6 +618,7 @@ pub(crate) fn file_grammar(
     numbering.add_marks(starts.as_slice())?;
     numbering.add_rules(alternatives)?;
     numbering.add_bare_rules()?;
+    numbering.add_token_places(contents)?;
     let productions = numbering.productions(starts.as_slice(), alternatives)?;
     Ok(numbering.grammar.with_productions(productions))
 }

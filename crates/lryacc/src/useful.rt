@@ -334,6 +334,7 @@ impl Selection {
         let alloc = self.allocator();
         let mut rules = FileGrammar::empty(alloc);
         mem::swap(&mut rules.parts.tokens, &mut whole.parts.tokens);
+        mem::swap(&mut rules.token_places, &mut whole.token_places);
         for (rule, number) in self.numbers.iter().enumerate() {
             let place = whole.rule_places.get(rule).copied();
             let place = place.unwrap_or(Span::new(0, 0));

@@ -1,0 +1,108 @@
+//! Files that are read, checked and told of.
+
+ghost use Rattle.std.specs.Prelude.{◌≡◌, IfOk, OnOk, IfSome, string_bytes};
+ghost use Rattle.std.specs.Io.KnownBytes.{Appends};
+
+use crate::terminals::Progress;
+use lrreport::{Options, Report, report_on};
+use std::alloc::{AllocError, Global};
+use std::fs;
+use std::io::{self, Read, Write};
+
+/// The name of standard input.
+pub(crate) const INPUT: &str = "-";
+
+/// Why the program can't go on.
+#[derive(Clone, Copy)]
+pub(crate) enum Stop {
+    Memory,
+    Output,
+}
+
+impl From<AllocError> for Stop {
+    fn from(_refused: AllocError) -> Stop {
+        Stop::Memory
+    }
+}
+
+/// What comes of a file.
+#[derive(Drop)]
+enum Outcome {
+    Checked(Report),
+    Unread(io::Error),
+}
+
+/// All bytes that a reader has left.
+fn bytes_of<R: Read + Drop>(alloc: Global, mut reader: R) -> io::Result<Vec<u8>>
+    ensures bytes { IfOk result (λ bytes. IfSome (R.remaining reader) (λ all. bytes.items ≡ all)) }
+{
+    let mut bytes = Vec::new(alloc);
+    reader.read_to_end(&mut bytes)?;
+    Ok(bytes)
+}
+
+/// The bytes of the file of that name, or of standard input.
+fn read(rt: &HostRuntime, name: &str) -> io::Result<Vec<u8>> {
+    if name == INPUT {
+        bytes_of(rt.alloc(), rt.stdin())
+    } else {
+        bytes_of(rt.alloc(), fs::File::open(rt, name)?)
+    }
+}
+
+/// Reads a file and checks it.
+fn check(rt: &HostRuntime, name: &str, options: Options) -> Result<Outcome, AllocError> {
+    match read(rt, name) {
+        Ok(bytes) => {
+            let report = report_on(rt.alloc(), name, bytes.as_slice(), options)?;
+            Ok(Outcome::Checked(report))
+        }
+        Err(error) if error.kind() == io::ErrorKind::OutOfMemory => Err(AllocError),
+        Err(error) => Ok(Outcome::Unread(error)),
+    }
+}
+
+/// Writes a report, and answers its exit status where all of it was written.
+fn write_report<W: Write>(output: &mut W, report: &Report) -> Result<u8, Stop>
+    ensures status { IfOk result (λ status. status ≡ report.now.status) }
+    ensures written { OnOk result (Appends (W.contents output.old) (W.contents output.new)
+        (string_bytes report.now.text)) }
+{
+    match output.write_all(report.text.as_bytes()) {
+        Ok(()) => Ok(report.status),
+        Err(_) => Err(Stop::Output),
+    }
+}
+
+/// Tells what came of a file, and answers the exit status.
+fn tell(rt: &HostRuntime, name: &str, outcome: &Outcome) -> Result<u8, Stop> {
+    match outcome {
+        Outcome::Checked(report) => write_report(&mut rt.stdout(), report),
+        Outcome::Unread(error) => {
+            let name = if name == INPUT {
+                "standard input"
+            } else {
+                name
+            };
+            let _ = eprintln!(rt; "lrcheck: cannot read {name}: {error}");
+            Ok(2)
+        }
+    }
+}
+
+/// Checks the files in turn, and answers the greatest exit status.
+pub(crate) fn check_all(
+    rt: &HostRuntime,
+    names: &[&str],
+    options: Options,
+    mut progress: Progress,
+) -> Result<u8, Stop> {
+    let mut status = 0;
+    for k in 0..names.len() {
+        progress.show(rt, k + 1, names.len(), names[k]);
+        let outcome = check(rt, names[k], options);
+        progress.clear(rt);
+        status = tell(rt, names[k], &outcome?)?.max(status);
+    }
+    Ok(status)
+}

@@ -1,0 +1,84 @@
+//! What is written to a terminal alone: colours, and how far the work has come.
+
+use lrreport::{Options, Output};
+use std::alloc::AllocError;
+use std::env::{self, VarError};
+use std::io::IsTerminal;
+use std::time::{Duration, Instant};
+
+/// Takes away the line in which the cursor stands.
+const CLEAR: &str = "\r\x1b[K";
+
+/// Whether the user wants no colours: NO_COLOR is set to something.
+fn refuses_colours(rt: &HostRuntime) -> Result<bool, AllocError> {
+    match env::var(rt, "NO_COLOR") {
+        Ok(value) => Ok(!value.is_empty()),
+        Err(VarError::NotPresent) => Ok(false),
+        Err(VarError::NotUnicode) => Ok(true),
+        Err(VarError::OutOfMemory) => Err(AllocError),
+    }
+}
+
+/// Whether a report has colours. What other programs read has none.
+pub(crate) fn has_colours(rt: &HostRuntime, options: Options) -> Result<bool, AllocError> {
+    let is_for_programs = matches!(options.output, Output::Json | Output::Grammar);
+    if is_for_programs || options.is_plain || !rt.stdout().is_terminal() {
+        return Ok(false);
+    }
+    Ok(!refuses_colours(rt)?)
+}
+
+/// A line on standard error that tells which file is checked, where that is a terminal and a second has passed.
+#[derive(Drop)]
+pub(crate) struct Progress {
+    /// When the program began; None where nothing is to be told.
+    start: Option<Instant>,
+    is_shown: bool,
+}
+
+impl Progress {
+    /// The progress of a program that begins now.
+    pub(crate) fn new(rt: &HostRuntime) -> Progress {
+        let start = if rt.stderr().is_terminal() {
+            Instant::now(rt).ok()
+        } else {
+            None
+        };
+        Progress {
+            start,
+            is_shown: false,
+        }
+    }
+
+    /// Whether a second has passed.
+    fn is_late(&self, rt: &HostRuntime) -> bool {
+        let Some(start) = self.start else {
+            return false;
+        };
+        match start.elapsed(rt) {
+            Ok(time) => time >= Duration::from_secs(1),
+            Err(_) => false,
+        }
+    }
+
+    /// Tells that a file is checked, if a second has passed. A line that is too long for the terminal is cut by it.
+    pub(crate) fn show(&mut self, rt: &HostRuntime, number: usize, count: usize, name: &str) {
+        if self.is_late(rt) {
+            let name = if name.chars().any(|character| character.is_control()) {
+                "?"
+            } else {
+                name
+            };
+            let _ = eprint!(rt; "{CLEAR}\x1b[?7llrcheck: file {number} of {count}: {name}\x1b[?7h");
+            self.is_shown = true;
+        }
+    }
+
+    /// Takes the line away.
+    pub(crate) fn clear(&mut self, rt: &HostRuntime) {
+        if self.is_shown {
+            let _ = eprint!(rt; "{CLEAR}");
+            self.is_shown = false;
+        }
+    }
+}

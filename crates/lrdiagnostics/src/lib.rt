@@ -1,0 +1,14 @@
+//! How places of a file are shown: their lines, with marks under them, as a terminal can show them.
+#![tactic(auto)]
+
+mod diagnostics;
+mod lines;
+mod sources;
+mod styles;
+mod words;
+
+pub use crate::diagnostics::{Mark, Message, TOLD, Teller, Weight, messages_of};
+pub use crate::lines::push_shown;
+pub use crate::sources::{Position, Source};
+pub use crate::styles::Style;
+pub use crate::words::{Layout, comma_words, push_blanks, width_of};

@@ -1,0 +1,54 @@
+-- conflicts that are left open, one entry after the other
+use Rattle.std.proofs.Common.{◌≡◌, ℕ, ◌+◌, ◌<◌, ◌≤◌, List, [], ◌∷◌, ◌++◌, append_assoc, length, take}
+use Rattle.std.proofs.lemmas.List.{take_all, take_more}
+use Rattle.std.proofs.lemmas.List.Elements.{All-nil, All-push}
+use Rattle.std.proofs.lemmas.List.Sorted.{IsPermutation-refl, IsPermutation-trans, IsPermutation-append_left, IsPermutation-append_right, IsPermutation-append_comm}
+use Rattle.std.specs.List.{Contains, slice_index_or}
+use Rattle.std.specs.List.Sorted.{IsPermutation}
+use Rattle.lrfindings.specs.declared.conflicts.Entry.{Entry}
+use Rattle.lrreport.specs.LeftOpen.{AreLeftOpen}
+
+module _ (closed opened : List Entry) where
+  pub none : AreLeftOpen [] closed opened opened
+  none = record {
+    dropped = [];
+    of_closed = All-nil (Contains closed);
+    each = IsPermutation-refl (opened ++ []);
+  }
+
+  one_kept : (conflicts left : List Entry) (e : Entry) → AreLeftOpen conflicts closed opened left → AreLeftOpen (conflicts ++ e ∷ []) closed opened (left ++ e ∷ [])
+  one_kept conflicts left e a = record {
+    dropped = a.dropped;
+    of_closed = a.of_closed;
+    each =
+        let moved : IsPermutation ((left ++ a.dropped) ++ e ∷ []) ((left ++ e ∷ []) ++ a.dropped) =
+        rw (append_assoc left a.dropped (e ∷ []), append_assoc left (e ∷ []) a.dropped)
+        (IsPermutation-append_right left _ _ (IsPermutation-append_comm a.dropped (e ∷ []))) in
+        rw (← append_assoc opened conflicts (e ∷ []))
+        (IsPermutation-trans _ _ _ (IsPermutation-append_left (e ∷ []) _ _ a.each) moved);
+  }
+
+  one_dropped : (conflicts left : List Entry) (e : Entry) → Contains closed e → AreLeftOpen conflicts closed opened left → AreLeftOpen (conflicts ++ e ∷ []) closed opened left
+  one_dropped conflicts left e among a = record {
+    dropped = a.dropped ++ e ∷ [];
+    of_closed = All-push (Contains closed) a.dropped e a.of_closed among;
+    each =
+        rw (← append_assoc opened conflicts (e ∷ []), ← append_assoc left a.dropped (e ∷ []))
+        (IsPermutation-append_left (e ∷ []) _ _ a.each);
+  }
+
+  module _ (conflicts left : List Entry) (i : ℕ) (a : AreLeftOpen (take i conflicts) closed opened left) where
+    pub next_kept : (d : Entry) (new : List Entry) → i < length conflicts → new ≡ left ++ slice_index_or conflicts i d ∷ [] → AreLeftOpen (take (i + 1) conflicts) closed opened new
+    next_kept d new inside added = rw (take_more conflicts i d inside, added) (one_kept (take i conflicts) left _ a)
+
+    pub next_dropped : (d : Entry) → i < length conflicts → Contains closed (slice_index_or conflicts i d) → AreLeftOpen (take (i + 1) conflicts) closed opened left
+    next_dropped d inside among = rw (take_more conflicts i d inside) (one_dropped (take i conflicts) left _ among a)
+
+    pub in_order : (ordered : List Entry) → length conflicts ≤ i → IsPermutation left ordered → AreLeftOpen conflicts closed opened ordered
+    in_order ordered all moved =
+        let whole = rw (take_all i conflicts all) at a in
+        record {
+          dropped = whole.dropped;
+          of_closed = whole.of_closed;
+          each = IsPermutation-trans _ _ _ whole.each (IsPermutation-append_left whole.dropped left ordered moved);
+        }

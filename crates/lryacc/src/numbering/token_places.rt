@@ -1,0 +1,148 @@
+//! Where declarations have the tokens of a grammar, and what its productions name by `%prec`.
+
+use crate::contents::{Alternative, Contents, Statement};
+use crate::dialects::Dialect;
+use crate::lexemes::Lexeme;
+use crate::numbering::{FileGrammar, Numbering};
+use crate::places::Span;
+use lrgrammar::grammar::PartSymbol;
+use std::alloc::{AllocError, Global};
+use std::collections::BTreeMap;
+use std::mem;
+
+/// A token behind `%prec`.
+#[derive(Clone, Copy, Debug, PartialEq, Eq)]
+pub struct NamedPrecedence {
+    /// Its number.
+    pub token: usize,
+    /// Where it stands.
+    pub place: Span,
+}
+
+/// Where declarations have tokens, and what stands behind `%prec`.
+#[derive(Debug, Drop)]
+pub struct TokenPlaces {
+    /// By token, where a declaration has it first.
+    tokens: BTreeMap<usize, Span>,
+    /// By token, where it stands in its precedence line.
+    levels: BTreeMap<usize, Span>,
+    /// What stands behind `%prec`, by where the body ends.
+    precedences: BTreeMap<usize, NamedPrecedence>,
+}
+
+impl TokenPlaces {
+    /// Nothing is declared.
+    pub(crate) fn new(alloc: Global) -> TokenPlaces {
+        TokenPlaces {
+            tokens: BTreeMap::new(alloc),
+            levels: BTreeMap::new(alloc),
+            precedences: BTreeMap::new(alloc),
+        }
+    }
+}
+
+impl FileGrammar {
+    /// Where a token is declared: by `%token`, or in a precedence line before that. None for one that is not, and for one of
+    /// which a declaration says that it need not be in a rule.
+    pub fn declared_place(&self, token: usize) -> Option<Span> {
+        self.token_places.tokens.get(&token).copied()
+    }
+
+    /// Where a token stands in its precedence line.
+    pub fn level_place(&self, token: usize) -> Option<Span> {
+        self.token_places.levels.get(&token).copied()
+    }
+
+    /// What a production names by `%prec`.
+    pub fn named_precedence(&self, production: usize) -> Option<NamedPrecedence> {
+        let place = self.production_places.get(production)?;
+        self.token_places.precedences.get(&place.end).copied()
+    }
+}
+
+/// Takes a place for that of a token, unless it has one.
+fn add_first(
+    places: &mut BTreeMap<usize, Span>,
+    token: Option<usize>,
+    place: Span,
+) -> Result<(), AllocError> {
+    if let Some(token) = token {
+        if places.get(&token).is_none() {
+            places.insert(token, place)?;
+        }
+    }
+    Ok(())
+}
+
+impl<'m, 'a> Numbering<'m, 'a> {
+    /// Adds where declarations have tokens, and what stands behind `%prec`.
+    pub(super) fn add_token_places(&mut self, contents: &Contents) -> Result<(), AllocError> {
+        let mut places = TokenPlaces::new(self.allocator());
+        self.add_declared(&mut places, contents.statements.as_slice())?;
+        self.leave_out(&mut places, contents.statements.as_slice());
+        self.add_named(&mut places, contents.alternatives.as_slice())?;
+        mem::swap(&mut self.grammar.token_places, &mut places);
+        Ok(())
+    }
+
+    /// The token that a lexeme names.
+    fn token(&self, lexeme: Lexeme) -> Option<usize> {
+        match self.symbol(lexeme) {
+            Some(PartSymbol::Token(token)) => Some(token),
+            _ => None,
+        }
+    }
+
+    /// Adds where declarations have tokens. For grmtools, tokens of bodies are no declarations, and those stand before the rules.
+    fn add_declared(
+        &self,
+        places: &mut TokenPlaces,
+        statements: &[Statement],
+    ) -> Result<(), AllocError> {
+        for statement in statements {
+            match *statement {
+                Statement::Token(name) => {
+                    add_first(&mut places.tokens, self.token(name), name.span)?;
+                }
+                Statement::InLevel(name) => {
+                    add_first(&mut places.tokens, self.token(name), name.span)?;
+                    add_first(&mut places.levels, self.token(name), name.span)?;
+                }
+                Statement::LeftSide(_) if self.meaning.symbols.dialect == Dialect::Grmtools =>
+                    break,
+                _ => {}
+            }
+        }
+        Ok(())
+    }
+
+    /// Leaves out the tokens that need not be in a rule.
+    fn leave_out(&self, places: &mut TokenPlaces, statements: &[Statement]) {
+        for statement in statements {
+            if let Statement::NotInRules(name) = statement {
+                if let Some(token) = self.token(*name) {
+                    let _ = places.tokens.remove(&token);
+                }
+            }
+        }
+    }
+
+    /// Adds what stands behind `%prec`.
+    fn add_named(
+        &self,
+        places: &mut TokenPlaces,
+        alternatives: &[Alternative],
+    ) -> Result<(), AllocError> {
+        for alternative in alternatives {
+            let Some(name) = alternative.precedence else {
+                continue;
+            };
+            if let Some(token) = self.token(name) {
+                let place = name.span;
+                let named = NamedPrecedence { token, place };
+                places.precedences.insert(alternative.span.end, named)?;
+            }
+        }
+        Ok(())
+    }
+}

@@ -1,0 +1,57 @@
+"""The cases of lrcheck: with what it is called. Each has a name of its own, that begins with `check-`."""
+
+from collections import namedtuple
+
+# `words` are the arguments, and of these `names`, at the end, the names of files, which lie in the folder of the call by
+# `files`. `given` is standard input: where it is not to be read, another grammar. `status` is how the call ends where nothing
+# fails, and `told` with what standard error then begins; where it is empty, nothing is there.
+FIELDS = "name words names files given status told"
+
+
+class CheckCase(namedtuple("CheckCase", FIELDS, defaults=(b"%% other: 'other';", 0, b""))):
+    program = "lrcheck"
+
+    @property
+    def lone_words(self):
+        """The arguments of a call for each file alone."""
+        options = self.words[: len(self.words) - len(self.names)]
+        return [[*options, name] for name in self.names]
+
+
+# Grammars: no conflict; three of them, of both kinds; one, which a precedence settles; none, and precedences and tokens without
+# use; a file that is none.
+UNAMBIGUOUS = b"%% s: 'a' | ;"
+AMBIGUOUS = b"%% s: 'a' | s s | t; t: 'a';"
+SETTLED = b"%left 'a' %% s: s 'a' s | 'b';"
+IDLE = b"%token t u\n%left 'a' t\n%% s: 'b' %prec u | 'a';"
+FAULTY = b"%token a a\n%%\ns: t 'x;\n"
+
+FILES = {"none.y": None, "a.y": AMBIGUOUS, "f.y": FAULTY, "i.y": IDLE, "p.y": SETTLED, "u.y": UNAMBIGUOUS}
+
+
+def case(name, options, names, **more):
+    files = {it: FILES[it] for it in names if FILES.get(it)}
+    return CheckCase(f"check-{name}", [*options, *names], names, files, **more)
+
+
+def cases():
+    yield case("conflicts", [], ["a.y"], status=1)
+    yield case("all-settled", ["--all", "--settled"], ["p.y"])
+    yield case("without-precedences", ["--without-precedences", "--expect", "1"], ["p.y"])
+    yield case("warnings", [], ["i.y"])
+    yield case("faults", [], ["f.y"], status=2)
+    yield case("two-files", ["--summary"], ["a.y", "u.y"], status=1)
+    yield case("standard-input", [], ["-"], given=UNAMBIGUOUS)
+    yield case("standard-input-between", ["--summary"], ["u.y", "-", "a.y"], given=SETTLED, status=1)
+    yield case("no-file-between", ["--summary"], ["u.y", "none.y", "a.y"], status=2, told=b"lrcheck: cannot read none.y: ")
+    yield case("json", ["--json"], ["a.y"], status=1)
+    yield case("json-warnings", ["--json"], ["i.y"])
+    yield case("grammar", ["--grammar"], ["a.y"])
+    yield case("states", ["--states"], ["a.y"], status=1)
+    yield case("help", ["--help"], [])
+    yield case("usage", ["--wrong", "a.y"], [], status=2, told=b"error: ")
+    yield case("usage-input-twice", ["-", "-"], [], status=2, told=b"error: ")
+    yield case("usage-argument-not-utf8", [b"\xff"], [], status=2, told=b"lrcheck: ")
+
+
+CASES = {it.name: it for it in cases()}

@@ -1,0 +1,134 @@
+"""What lrcheck may answer where a fault is made. The faults are those of rules.py.
+
+The answer to a call is made of parts: the answers to its files, of which each has a status and its texts on both streams. In
+place of a part stands what comes of the fault."""
+
+import errno
+import os
+from collections import namedtuple
+
+import rules
+from rules import ERRORS, INPUT, OUTPUT, is_beginning, is_same
+
+ELSEWHERE = 3
+
+Part = namedtuple("Part", "status out err")
+
+OUT_OF_MEMORY = Part(2, b"", b"lrcheck: out of memory\n")
+CANNOT_WRITE = Part(2, b"", b"lrcheck: cannot write standard output\n")
+
+
+def unread(name):
+    """The answer to a file that can't be read."""
+    named = "standard input" if name == "-" else name
+    return Part(2, b"", f"lrcheck: cannot read {named}: {os.strerror(errno.EIO)} (os error {errno.EIO})\n".encode())
+
+
+def joined(parts):
+    """The answer that is made of these parts."""
+    status = max((part.status for part in parts), default=0)
+    return status, b"".join(part.out for part in parts), b"".join(part.err for part in parts)
+
+
+def is_whole(case, found):
+    """A call without a fault ends as the case says, and its answer is made of its parts."""
+    told = found.err.startswith(case.told) and bool(found.err) == bool(case.told)
+    return found.status == case.status and told and found[:3] == joined(found.parts)
+
+
+def leaves_input(case, found):
+    """Standard input is read only where a file is named so."""
+    return "-" in case.names or not (found.input_read or found.faults[INPUT])
+
+
+def memory_used_up(case, whole, found):
+    """The fault is told behind whole parts, and nothing comes behind it."""
+    return any(found[:3] == joined([*whole.parts[:k], OUT_OF_MEMORY]) for k in range(len(whole.parts)))
+
+
+def memory(case, whole, found):
+    """Memory is enough after all, or the fault is told."""
+    return is_same(case, whole, found) or memory_used_up(case, whole, found)
+
+
+def are_unread(whole, found, unread_parts):
+    """Whether the parts of these numbers are in place of those of the whole answer, and nothing is behind an output that
+    fails."""
+    parts = [unread_parts.get(k, part) for k, part in enumerate(whole.parts)]
+    if not found.faults[OUTPUT]:
+        return found[:3] == joined(parts)
+    ends = [k for k in range(max(unread_parts), len(parts)) if parts[k].out][:1]
+    return found.faults[OUTPUT] == 1 and any(found[:3] == joined([*parts[:k], CANNOT_WRITE]) for k in ends)
+
+
+def are_told_unread(case, whole, found, files):
+    """Each of the files that can't be read, as many in a row as there were faults, is told, and the others are answered."""
+    count = found.faults[INPUT] + found.faults[ELSEWHERE]
+    rows = [files[k : k + count] for k in range(len(files) + 1 - count)]
+    return any(are_unread(whole, found, {k: unread(case.names[k]) for k in row}) for row in rows)
+
+
+def opening(case, whole, found):
+    """The file is told, and the others are answered."""
+    return are_told_unread(case, whole, found, range(len(case.names)))
+
+
+def reading(case, whole, found):
+    """Each file that can't be read is told, and not tried again, and the others are answered."""
+    opened = [k for k, name in enumerate(case.names) if name == "-" or name in case.files]
+    return are_told_unread(case, whole, found, opened)
+
+
+def are_told(texts, found):
+    """Whether these texts stand on standard error one behind another, but for those in a row whose write failed: as many as
+    failed writes, the first of them cut at its end, and the others not there."""
+    cut, texts = found.faults[ERRORS], [text for text in texts if text]
+    if not cut:
+        return found.err == b"".join(texts)
+    for k in range(len(texts) + 1 - cut):
+        front, back = b"".join(texts[:k]), b"".join(texts[k + cut :])
+        if len(found.err) >= len(front) + len(back) and found.err.startswith(front) and found.err.endswith(back):
+            if is_beginning(found.err[len(front) : len(found.err) - len(back)], texts[k]):
+                return True
+    return False
+
+
+def output_ends(whole, found, k):
+    """Whether the output ends within part k, which is told."""
+    front = b"".join(part.out for part in whole.parts[:k])
+    begun = found.out.startswith(front) and is_beginning(found.out[len(front) :], whole.parts[k].out)
+    return begun and are_told([*(part.err for part in whole.parts[:k]), CANNOT_WRITE.err], found)
+
+
+def writing(case, whole, found):
+    """On standard output a beginning of the answer stands, and the fault is told. On standard error beginnings of lines
+    stand, and nothing else comes of the fault."""
+    if found.faults[OUTPUT] > 1:
+        return False
+    if found.faults[OUTPUT]:
+        return found.status == 2 and any(output_ends(whole, found, k) for k in range(len(whole.parts)))
+    return found[:2] == whole[:2] and are_told([part.err for part in whole.parts], found)
+
+
+def writing_behind_one_byte(case, whole, found):
+    """A write that had more to take is followed by one of standard output that fails."""
+    followed = found.faults[OUTPUT] - (not found.faults[ERRORS])
+    if followed < 1:
+        return is_same(case, whole, found)
+    return writing(case, whole, found._replace(faults=(0, followed, 0, 0)))
+
+
+# The rule of lrcheck for each one of lrt. What is interrupted is always taken up again.
+RULES = {
+    rules.is_same: is_same,
+    rules.memory: memory,
+    rules.memory_used_up: memory_used_up,
+    rules.opening: opening,
+    rules.reading: reading,
+    rules.interrupted_reading: is_same,
+    rules.writing: writing,
+    rules.interrupted_writing: is_same,
+    rules.writing_behind_one_byte: writing_behind_one_byte,
+}
+
+FAULTS = {name: fault._replace(rule=RULES[fault.rule]) for name, fault in rules.FAULTS.items()}

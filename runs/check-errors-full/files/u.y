@@ -1,0 +1,5 @@
+%%
+list: %empty | list pair ;
+pair: key '=' value ';' ;
+key: 'k' ;
+value: 'v' | '{' list '}' ;

@@ -1,0 +1,7 @@
+%token ID
+%%
+list: item | list ',' itm
+ ;
+item: ID
+	| number
+ ;
