@@ -1,0 +1,6 @@
+-- what moves put together
+pub mod ReadingSteps
+-- and how the code does
+pub mod SymbolTests
+pub mod StoredLeaves
+pub mod ReplaySteps

@@ -1,0 +1,29 @@
+use Rattle.std.proofs.Common.{[]}
+use Rattle.std.proofs.lemmas.Option.{IfSome_then}
+use Rattle.lrtable.specs.RunAnswers.{text_of}
+use Rattle.lrambiguity.specs.StoredMoves.{moves_stored}
+use Rattle.lrambiguity.proofs.reading.read_moves.Goals as goal
+
+pub make_all-requires : goal.make_all-requires
+make_all-requires g c = ([], c.new-replay.ensures c.args.grm.now (text_of g.T.IndexStorage.number c.args.text.now))
+
+pub returns-in-Ok-true-clause-tree : goal.returns-in-Ok-true-clause-tree
+returns-in-Ok-true-clause-tree g c =
+    let number = g.T.IndexStorage.number in
+    let ms = moves_stored number c.args.moves.now in
+    let made = c.in-Ok-true.ensures c.in-Ok-true.field-0-test [] (c.new-replay.ensures c.args.grm.now (text_of number c.args.text.now)) in
+    IfSome_then c.into_tree.result c.into_tree.ensures (λ tree is. (is ms made).of_start)
+
+pub returns-in-Ok-true-clause-text : goal.returns-in-Ok-true-clause-text
+returns-in-Ok-true-clause-text g c =
+    let number = g.T.IndexStorage.number in
+    let ms = moves_stored number c.args.moves.now in
+    let made = c.in-Ok-true.ensures c.in-Ok-true.field-0-test [] (c.new-replay.ensures c.args.grm.now (text_of number c.args.text.now)) in
+    IfSome_then c.into_tree.result c.into_tree.ensures (λ tree is. (is ms made).leaves_are)
+
+pub returns-in-Ok-true-clause-moves : goal.returns-in-Ok-true-clause-moves
+returns-in-Ok-true-clause-moves g c =
+    let number = g.T.IndexStorage.number in
+    let ms = moves_stored number c.args.moves.now in
+    let made = c.in-Ok-true.ensures c.in-Ok-true.field-0-test [] (c.new-replay.ensures c.args.grm.now (text_of number c.args.text.now)) in
+    IfSome_then c.into_tree.result c.into_tree.ensures (λ tree is. (is ms made).moves_are)

@@ -1,0 +1,35 @@
+use Rattle.std.proofs.Common.{◌≡◌, ◌-◌, [], ◌∷◌, ◌++◌, length, take, ap, ◌∙◌, refl, arith}
+use Rattle.lrgrammar.specs.declared.idx.Symbol.TheVariants as code
+use Rattle.lrtree.proofs.FoldedTrees.{tree_of_node}
+use Rattle.lrambiguity.proofs.SymbolTests.{list_ends}
+use Rattle.lrambiguity.proofs.ReplaySteps.{count_of_roots, reduce_made}
+use Rattle.lrambiguity.proofs.replays.Replay.reduce.Goals as goal
+
+pub split_off-requires : goal.split_off-requires
+split_off-requires g c =
+    let roots = c.args.self.now.roots in
+    let trees = c.args.self.now.trees in
+    let paired = count_of_roots g.T.IndexStorage.number c.args.grm.now roots.items trees.items c.requires in
+    omega (arith, paired, c.if-not-ends_with.ensures.bound refl, ap length c.deref.ensures.value, trees.ok.0)
+
+pub returns : goal.returns
+returns g c = λ _ text ms.
+    let number = g.T.IndexStorage.number in
+    let law = g.met.T.IndexStorage in
+    let trees = c.args.self.now.trees.items in
+    let roots = c.args.self.now.roots in
+    let now = c.push.new.self in
+    let is = c.in_ok-push.ensures in
+    let body = c.prod-body.result.now in
+    let children = c.in_ok-children.children in
+    let front = take (length roots.items - length body) roots.items in
+    let ends =
+    list_ends number g.T.PartialEq.eq law.same law.injective _
+    (record { rules = λ r s. refl; rule_token = λ r t. refl; token_rule = λ t r. refl; tokens = λ t u. refl }) c.deref.result.now body c.if-not-ends_with.ensures.value in
+    let split : roots.items ≡ front ++ body = rw c.deref.ensures.value at ends in
+    let kept : c.truncate.new.self.items ≡ front = c.truncate.ensures.items ∙ ap (λ n. take n roots.items) (omega (arith, c.len.ensures, roots.ok.0)) in
+    rw is.used
+    (reduce_made number c.args.grm.now ms roots.items trees (take c.args.self.now.used text) (number c.args.pidx.0) c.prod_to_rule.result body front now.roots.items _
+    c.split_off.new.trees.items children.items now.trees.items c.prod-body.ensures.body c.prod_to_rule.ensures.rule split c.in_ok-children.ensures.trees
+    (omega (arith, c.in_ok-children.ensures.count, children.ok.0)) (tree_of_node number c.args.pidx children) is.trees
+    (is.roots ∙ ap (λ l. l ++ code.Rule c.prod_to_rule.result ∷ []) kept))

@@ -1,0 +1,179 @@
+//! Moves made again, one after the other.
+
+ghost use Rattle.std.specs.Prelude.{◌≡◌, ℕ, ◌≤◌, List, [], ◌∷◌, ◌++◌, map, length, vec_len, IfOk, OnOk, IfSome, IsTrue};
+ghost use Rattle.lrspec.specs.grammars.Grammar.{Grammar};
+ghost use Rattle.lrtable.specs.RunAnswers.{text_of};
+ghost use Rattle.lrtree.specs.StoredTrees.{tree_of};
+ghost use Rattle.lrambiguity.specs.Moves as plain;
+ghost use Rattle.lrambiguity.specs.Moves.{IsTreeBy};
+ghost use Rattle.lrambiguity.specs.StoredMoves.{move_of, moves_stored};
+ghost use Rattle.lrambiguity.specs.StoredReplays.{AreRoots, HasMade, HasMadeSome, Makes};
+
+use crate::moves::Move;
+use lrgrammar::grammar::YaccGrammar;
+use lrgrammar::idx::{IndexStorage, PIdx, Symbol, TIdx};
+use lrtree::Tree;
+use std::alloc::{AllocError, Global};
+
+/// Takes the last trees off the others, so many of them.
+fn split_off<T: IndexStorage>(
+    alloc: Global,
+    trees: &mut Vec<Tree<T>>,
+    count: usize,
+) -> Result<Vec<Tree<T>>, AllocError>
+    requires { count ≤ vec_len trees.old }
+    ensures count { IfOk result (λ v. vec_len v ≡ count) }
+    ensures trees { IfOk result (λ v. trees.old.items ≡ trees.new.items ++ v.items) }
+{
+    let mut children = Vec::with_capacity(alloc, count)?;
+    for _ in 0..count {
+        let child = trees.pop().unwrap();
+        children.push(child).unwrap();
+    }
+    children.reverse();
+    Ok(children)
+}
+
+/// What moves have put together of a text: trees in a row.
+#[derive(Drop)]
+pub(crate) struct Replay<T> {
+    /// The trees, from left to right.
+    trees: Vec<Tree<T>>,
+    /// The root of each.
+    roots: Vec<Symbol<T>>,
+    /// How many tokens of the text they have.
+    used: usize,
+}
+
+impl<T: IndexStorage> Replay<T> {
+    /// No moves made.
+    pub(crate) fn new(alloc: Global) -> Replay<T>
+        ensures { (m : Grammar) (text : List ℕ) → HasMade T.number m text [] result }
+    {
+        Replay {
+            trees: Vec::new(alloc),
+            roots: Vec::new(alloc),
+            used: 0,
+        }
+    }
+
+    /// Puts a tree behind the others, or takes it apart where memory is refused.
+    fn push(&mut self, root: Symbol<T>, tree: Tree<T>) -> Result<(), AllocError>
+        ensures trees { OnOk result (self.new.trees.items ≡ self.old.trees.items ++ tree ∷ []) }
+        ensures roots { OnOk result (self.new.roots.items ≡ self.old.roots.items ++ root ∷ []) }
+        ensures used { self.new.used ≡ self.old.used }
+    {
+        match self.trees.push(tree) {
+            Ok(()) => {
+                self.roots.push(root)?;
+                Ok(())
+            }
+            Err(refused) => {
+                refused.value.take_apart();
+                Err(AllocError)
+            }
+        }
+    }
+
+    /// Makes a leaf of the next token; false where the text is used up.
+    fn shift(&mut self, text: &[TIdx<T>]) -> Result<bool, AllocError>
+        ensures { IfOk result (λ made. IsTrue made → (m : Grammar) →
+            Makes T.number m (text_of T.number text.now) (plain.Shift ∷ []) self.old self.new) }
+    {
+        let Some(tidx) = text.get(self.used) else {
+            return Ok(false);
+        };
+        self.push(Symbol::Token(*tidx), Tree::Token(*tidx))?;
+        self.used += 1;
+        Ok(true)
+    }
+
+    /// Puts a node of the production over the last trees; false where their roots aren't its body, or where it is the start
+    /// production or none of the grammar.
+    fn reduce(
+        &mut self,
+        alloc: Global,
+        grm: &YaccGrammar<T>,
+        pidx: PIdx<T>,
+    ) -> Result<bool, AllocError>
+        requires { AreRoots T.number grm.now self.old }
+        ensures { IfOk result (λ made. IsTrue made → (text : List ℕ) →
+            Makes T.number grm.now text (plain.Reduce (T.number pidx.0) ∷ []) self.old self.new) }
+    {
+        // `prods_len` says of a grammar that the start production comes last
+        let _ = grm.prods_len();
+        if usize::from(pidx) >= usize::from(grm.start_prod()) {
+            return Ok(false);
+        }
+        let body = grm.prod(pidx);
+        if !self.roots.ends_with(body) {
+            return Ok(false);
+        }
+        let children = split_off(alloc, &mut self.trees, body.len())?;
+        self.roots.truncate(self.roots.len() - body.len());
+        self.push(
+            Symbol::Rule(grm.prod_to_rule(pidx)),
+            Tree::Node(pidx, children),
+        )?;
+        Ok(true)
+    }
+
+    /// Makes the move; false where it can't be made.
+    fn make(
+        &mut self,
+        alloc: Global,
+        grm: &YaccGrammar<T>,
+        text: &[TIdx<T>],
+        action: Move<T>,
+    ) -> Result<bool, AllocError>
+        requires { HasMadeSome T.number grm.now (text_of T.number text.now) self.old }
+        ensures { IfOk result (λ made. IsTrue made →
+            Makes T.number grm.now (text_of T.number text.now) (move_of T.number action ∷ []) self.old self.new) }
+    {
+        match action {
+            Move::Shift => self.shift(text),
+            Move::Reduce(pidx) => self.reduce(alloc, grm, pidx),
+        }
+    }
+
+    /// Makes the moves, up to the first one that can't be made; false where there is such a one.
+    pub(crate) fn make_all(
+        &mut self,
+        alloc: Global,
+        grm: &YaccGrammar<T>,
+        text: &[TIdx<T>],
+        moves: &[Move<T>],
+    ) -> Result<bool, AllocError>
+        requires { HasMadeSome T.number grm.now (text_of T.number text.now) self.old }
+        ensures { IfOk result (λ made. IsTrue made →
+            Makes T.number grm.now (text_of T.number text.now) (moves_stored T.number moves.now) self.old self.new) }
+    {
+        for action in moves {
+            if !self.make(alloc, grm, text, *action)? {
+                return Ok(false);
+            }
+        }
+        Ok(true)
+    }
+
+    /// The tree, where there is one alone, for the start rule, of all the text; else the trees are taken apart.
+    pub(crate) fn into_tree(mut self, grm: &YaccGrammar<T>, text: &[TIdx<T>]) -> Option<Tree<T>>
+        ensures { IfSome result (λ tree. (ms : List plain.Move) → HasMade T.number grm.now (text_of T.number text.now) ms self
+            → IsTreeBy grm.now ms (text_of T.number text.now) (tree_of T.number tree)) }
+    {
+        // `prods_len` says of a grammar that the start production is one of its productions
+        let _ = grm.prods_len();
+        if self.used == text.len() && self.roots.as_slice() == grm.prod(grm.start_prod()) {
+            return self.trees.pop();
+        }
+        self.take_apart();
+        None
+    }
+
+    /// Takes the trees apart.
+    pub(crate) fn take_apart(self) {
+        for tree in self.trees {
+            tree.take_apart();
+        }
+    }
+}
