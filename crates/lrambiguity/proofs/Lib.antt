@@ -4,3 +4,7 @@ pub mod ReadingSteps
 pub mod SymbolTests
 pub mod StoredLeaves
 pub mod ReplaySteps
+-- and what that tells
+pub mod TwoTrees
+pub mod ReadOnce
+pub mod NextMoves

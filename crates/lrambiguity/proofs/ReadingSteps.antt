@@ -61,11 +61,3 @@ read_tree r t a e start =
       leaves_are = sym (append-nil (leaves t)) ∙ a.used;
       moves_are = sym (append-nil (moves_of t)) ∙ a.made;
     }
-
--- where moves differ, the trees do
-pub trees_differ : (t u : Tree) (ms ns : List Move) → moves_of t ≡ ms → moves_of u ≡ ns → ms ≢ ns → t ≢ u
-trees_differ t u ms ns e f n = λ same. n (sym e ∙ ap moves_of same ∙ f)
-
--- a grammar with two trees of one text is ambiguous
-pub ambiguous : (g : Grammar) (text : List ℕ) (s u : IsSentence g text) → s.tree ≢ u.tree → ¬ (IsUnambiguous g)
-ambiguous g text s u n = λ one. n (one text s u)

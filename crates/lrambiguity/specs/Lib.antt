@@ -4,3 +4,4 @@ pub mod Replays
 -- how the code stores them
 pub mod StoredMoves
 pub mod StoredReplays
+pub mod StoredAmbiguities

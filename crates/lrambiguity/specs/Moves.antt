@@ -1,7 +1,9 @@
 -- the moves by which a parser puts a tree together
 use Rattle.std.specs.Prelude.{◌≡◌, ℕ, List, [], ◌∷◌, ◌++◌}
 use Rattle.lrspec.specs.grammars.Grammar.{Rule, Grammar, body_of}
-use Rattle.lrspec.specs.grammars.Trees.{Tree, Forest, Leaf, Node, Bare, And, leaves, IsTree}
+use Rattle.lrspec.specs.grammars.Candidates as candidate
+use Rattle.lrspec.specs.grammars.Candidates.{Candidate}
+use Rattle.lrspec.specs.grammars.Trees.{Tree, Forest, Leaf, Node, Bare, And, leaves, IsTree, IsSentence}
 
 -- what a parser does: it shifts the next token of the text, or reduces by a production
 pub data Move : Type 0 where
@@ -30,3 +32,12 @@ pub record IsTreeBy (g : Grammar) (ms : List Move) (text : List ℕ) (t : Tree) 
   pub of_start : IsTreeOfStart g t
   pub leaves_are : leaves t ≡ text
   pub moves_are : moves_of t ≡ ms
+
+-- the text is a sentence, and this is a tree of it
+abbrev pub IsTreeOfText : Grammar → List ℕ → Tree → Type 0
+IsTreeOfText g text t = (s : IsSentence g text) × (s.tree ≡ t)
+
+-- what can be done where the move is made
+abbrev pub candidate_of : Move → Candidate
+candidate_of Shift = candidate.Candidate.Shift
+candidate_of (Reduce p) = candidate.Candidate.Reduce p
