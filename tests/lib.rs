@@ -1,5 +1,6 @@
 //! Tests of what is public, and of the parts of graphs below it. They are compiled without a proof (docs/CHECKING.md).
 
+mod ambiguities;
 mod commands;
 mod examples;
 mod fixtures;

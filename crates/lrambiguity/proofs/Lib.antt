@@ -4,6 +4,9 @@ pub mod ReadingSteps
 pub mod SymbolTests
 pub mod StoredLeaves
 pub mod ReplaySteps
+pub mod MoveTests
+pub mod ItemKeys
+pub mod Contests
 -- and what that tells
 pub mod TwoTrees
 pub mod ReadOnce

@@ -1,8 +1,8 @@
 -- behind the first moves of a tree of a sentence its next move is canonical
 use Rattle.std.proofs.Common.{◌≡◌, ◌≢◌, ℕ, suc, List, [], ◌∷◌, ◌++◌, ◌⊎◌, inl, inr, length, take, refl, sym, ap, ◌∙◌, append_assoc, append-nil, arith}
 use Rattle.std.proofs.lemmas.List.{take_all}
-use Rattle.lrspec.specs.grammars.Grammar.{Symbol, Rule, Token, Grammar, IsGrammar, end_token, body_of, rest, IsProductionOf}
-use Rattle.lrspec.specs.grammars.Trees.{Tree, Forest, Leaf, Node, Bare, And, leaves, forest_leaves, IsTree, IsForest, token, production, bare, and}
+use Rattle.lrspec.specs.grammars.Grammar.{Symbol, Rule, Token, Grammar, IsGrammar, body_of, rest, IsProductionOf}
+use Rattle.lrspec.specs.grammars.Trees.{Tree, Forest, Bare, And, leaves, forest_leaves, IsTree, IsForest, token, production, bare, and}
 use Rattle.lrspec.specs.grammars.First.{none}
 use Rattle.lrspec.specs.grammars.CanonicalItems as item
 use Rattle.lrspec.specs.grammars.CanonicalItems.{Stands, Looks}

@@ -1,7 +1,7 @@
 -- moves read a text in one way
-use Rattle.std.proofs.Common.{◌≡◌, ℕ, suc, ◌+◌, ◌-◌, List, [], ◌∷◌, ◌++◌, length, refl, sym, ap, ◌∙◌, append_assoc, append-nil, arith}
+use Rattle.std.proofs.Common.{◌≡◌, ℕ, ◌+◌, ◌-◌, List, [], ◌∷◌, ◌++◌, length, refl, sym, ap, ◌∙◌, append_assoc, append-nil, arith}
 use Rattle.std.proofs.lemmas.List.{append_cancel_left}
-use Rattle.lrspec.specs.grammars.Grammar.{Symbol, Rule, Token, Grammar, body_of, IsProductionOf}
+use Rattle.lrspec.specs.grammars.Grammar.{Symbol, Rule, Token, Grammar, body_of}
 use Rattle.lrspec.specs.grammars.Trees.{Tree, Forest, Leaf, Node, Bare, And, leaves, forest_leaves, joined, size, first_trees, trees_behind, IsTree, IsForest, token, production, bare, and}
 use Rattle.lrspec.specs.tables.TreeMachine.{under}
 use Rattle.lrspec.proofs.grammars.BodyFacts.{rule_unique}

@@ -1,8 +1,7 @@
 -- what each move makes of the trees in a row, and when they are a tree of the text
-use Rattle.std.proofs.Common.{◌≡◌, ◌≢◌, ℕ, List, [], ◌∷◌, ◌++◌, length, refl, sym, ap, ◌∙◌, append_assoc, append-nil}
+use Rattle.std.proofs.Common.{◌≡◌, ℕ, List, [], ◌∷◌, ◌++◌, length, refl, sym, ap, ◌∙◌, append_assoc, append-nil}
 use Rattle.lrspec.specs.grammars.Grammar.{Symbol, Rule, Token, Grammar, body_of, IsProductionOf}
-use Rattle.lrspec.specs.grammars.Trees.{Tree, Forest, Leaf, Node, Bare, And, leaves, forest_leaves, joined, size, token, production, bare, and, IsSentence}
-use Rattle.lrspec.specs.tables.Recognition.{IsUnambiguous}
+use Rattle.lrspec.specs.grammars.Trees.{Tree, Forest, Leaf, Node, Bare, And, leaves, forest_leaves, joined, size, token, production, bare, and}
 use Rattle.lrspec.proofs.grammars.TreeFacts.{leaves_pushed, node_leaves, forest_joined, forest_parts, forest_alone}
 use Rattle.lrambiguity.specs.Moves.{Move, Shift, Reduce, moves_of, forest_moves, IsTreeBy}
 use Rattle.lrambiguity.specs.Replays.{Reads}

@@ -1,8 +1,7 @@
 -- what two trees of a text tell of a grammar
-use Rattle.std.proofs.Common.{◌≡◌, ◌≢◌, ℕ, List, [], ◌∷◌, ◌++◌, map, refl, sym, ap, ◌∙◌, Some, None}
+use Rattle.std.proofs.Common.{◌≡◌, ◌≢◌, ℕ, List, [], ◌∷◌, refl, sym, ap, ◌∙◌, Some}
 use Rattle.std.specs.Prelude.{slice_get}
 use Rattle.std.proofs.lemmas.List.{append_cancel_left}
-use Rattle.lrgrammar.specs.declared.idx.PIdx.{PIdx}
 use Rattle.lrgrammar.specs.declared.idx.TIdx.{TIdx}
 use Rattle.lrspec.specs.grammars.Grammar.{Grammar, IsGrammar}
 use Rattle.lrspec.specs.grammars.Trees as math

@@ -1,17 +1,20 @@
 //! Moves made again, one after the other.
 
-ghost use Rattle.std.specs.Prelude.{◌≡◌, ℕ, ◌≤◌, List, [], ◌∷◌, ◌++◌, map, length, vec_len, IfOk, OnOk, IfSome, IsTrue};
+ghost use Rattle.std.specs.Prelude.{◌≡◌, ℕ, ◌≤◌, List, [], ◌∷◌, ◌++◌, map, length, vec_len, drop, IfOk, OnOk, IfSome, IsTrue};
 ghost use Rattle.lrspec.specs.grammars.Grammar.{Grammar};
+ghost use Rattle.lrspec.specs.merging.Graph.{Leads};
+ghost use Rattle.lrspec.specs.tables.Machine.{next_token};
 ghost use Rattle.lrtable.specs.RunAnswers.{text_of};
 ghost use Rattle.lrtree.specs.StoredTrees.{tree_of};
 ghost use Rattle.lrambiguity.specs.Moves as plain;
 ghost use Rattle.lrambiguity.specs.Moves.{IsTreeBy};
 ghost use Rattle.lrambiguity.specs.StoredMoves.{move_of, moves_stored};
-ghost use Rattle.lrambiguity.specs.StoredReplays.{AreRoots, HasMade, HasMadeSome, Makes};
+ghost use Rattle.lrambiguity.specs.StoredReplays.{roots_of, AreRoots, HasMade, HasMadeSome, Makes};
 
 use crate::moves::Move;
 use lrgrammar::grammar::YaccGrammar;
-use lrgrammar::idx::{IndexStorage, PIdx, Symbol, TIdx};
+use lrgrammar::idx::{IndexStorage, PIdx, StIdx, Symbol, TIdx};
+use lrtable::StateGraph;
 use lrtree::Tree;
 use std::alloc::{AllocError, Global};
 
@@ -168,6 +171,27 @@ impl<T: IndexStorage> Replay<T> {
         }
         self.take_apart();
         None
+    }
+
+    /// The next token, or the end token where the text is used up.
+    pub(crate) fn next_token(&self, grm: &YaccGrammar<T>, text: &[TIdx<T>]) -> TIdx<T>
+        ensures { T.number result.0 ≡ next_token grm.now (drop self.now.used (text_of T.number text.now)) }
+    {
+        match text.get(self.used) {
+            Some(token) => *token,
+            None => grm.eof_token_idx(),
+        }
+    }
+
+    /// The state to which the edges on the roots lead from the start state, if there are these edges.
+    pub(crate) fn state_reached(&self, graph: &StateGraph<T>) -> Option<StIdx<T>>
+        ensures { IfSome result (λ s. Leads graph.now (roots_of T.number self.now) (T.number s.0)) }
+    {
+        let mut state = graph.start_state();
+        for root in &self.roots {
+            state = graph.edge(state, *root)?;
+        }
+        Some(state)
     }
 
     /// Takes the trees apart.

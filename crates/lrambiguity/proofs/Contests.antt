@@ -1,0 +1,37 @@
+-- both moves contend where the trees part
+use Rattle.std.proofs.Common.{◌≡◌, ℕ, List, ◌∷◌, ◌++◌, take, drop, sym, ap, ◌∙◌}
+use Rattle.std.proofs.lemmas.List.{take-append-drop}
+use Rattle.lrspec.specs.grammars.Grammar.{Symbol, Grammar, IsGrammar}
+use Rattle.lrspec.specs.grammars.Trees.{Tree, Forest}
+use Rattle.lrspec.specs.grammars.Candidates.{IsCandidate}
+use Rattle.lrspec.specs.grammars.ItemSets.{Items, HasItem}
+use Rattle.lrspec.specs.merging.Cores.{HasCoreAfter}
+use Rattle.lrspec.specs.merging.Graph.{Graph, core_of}
+use Rattle.lrspec.specs.tables.Machine.{next_token}
+use Rattle.lrambiguity.specs.Moves.{Move, candidate_of, IsTreeBy}
+use Rattle.lrambiguity.specs.Partings.{Contend}
+use Rattle.lrambiguity.specs.Replays.{Reads}
+use Rattle.lrambiguity.proofs.NextMoves.{next_is_candidate}
+
+module _ {g : Grammar} (shape : IsGrammar g) (before : List Move) (text : List ℕ) (used : ℕ) (w : List Symbol) (ts : Forest) (reads : Reads g before (take used text) w ts) (n : ℕ) (next : next_token g (drop used text) ≡ n) where
+  -- the first of the moves behind those that are made is a candidate
+  first_is_candidate : (ms : List Move) (t : Tree) (m : Move) (rest : List Move) → ms ≡ m ∷ rest → IsTreeBy g (before ++ ms) text t → IsCandidate g w n (candidate_of m)
+  first_is_candidate ms t m rest e a =
+      rw next at (next_is_candidate shape (drop used text) t m rest a.of_start (a.leaves_are ∙ sym (take-append-drop used text)) (a.moves_are ∙ ap (λ l. before ++ l) e) reads)
+
+  pub contend :
+      (h : Graph) (s : ℕ) (ms ns : List Move) (t u : Tree) (m k : Move) → HasCoreAfter g w (core_of h s) → IsTreeBy g (before ++ ms) text t → IsTreeBy g (before ++ ns) text u
+      → (rest : List Move) × (ms ≡ m ∷ rest) → (rest : List Move) × (ns ≡ k ∷ rest) → Contend g h s n m k
+  contend h s ms ns t u m k core a b one other = record {
+    roots = w;
+    core = core;
+    is_one = first_is_candidate ms t m one.0 one.1 a;
+    is_other = first_is_candidate ns u k other.0 other.1 b;
+  }
+
+-- item sets with the same items have the core after the same lists
+pub same_core : {g : Grammar} {w : List Symbol} {a b : Items} → ((p d : ℕ) → HasItem a p d → HasItem b p d) → ((p d : ℕ) → HasItem b p d → HasItem a p d) → HasCoreAfter g w a → HasCoreAfter g w b
+same_core f k c = record {
+  items = λ p d. (λ i. (c.items p d).0 (k p d i), λ i. f p d ((c.items p d).1 i));
+  some = (c.some.0, c.some.1, f c.some.0 c.some.1 c.some.2);
+}
