@@ -11,3 +11,4 @@ pub mod Contests
 pub mod TwoTrees
 pub mod ReadOnce
 pub mod NextMoves
+pub mod DeadEnds

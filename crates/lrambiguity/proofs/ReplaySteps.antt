@@ -1,8 +1,8 @@
 -- what shifts and reductions make of stored trees and roots
-use Rattle.std.proofs.Common.{◌≡◌, ℕ, ◌+◌, ◌<◌, List, [], ◌∷◌, ◌++◌, length, map, take, get_or, refl, sym, ap, ◌∙◌, suc, append_assoc, append-nil, Option, None, Some, arith}
-use Rattle.std.specs.Prelude.{IfSome}
+use Rattle.std.proofs.Common.{◌≡◌, ℕ, ◌+◌, ◌<◌, ◌≤◌, List, [], ◌∷◌, ◌++◌, length, map, take, drop, get_or, refl, sym, ap, ◌∙◌, suc, append_assoc, append-nil, Option, None, Some, arith}
+use Rattle.std.specs.Prelude.{IfSome, IfNone, IsSome}
 use Rattle.std.specs.Option.{option_to_list}
-use Rattle.std.proofs.lemmas.List.{take_more, map-append, length-map, take_all, length-append}
+use Rattle.std.proofs.lemmas.List.{take_more, map-append, length-map, take_all, length-append, take-append-drop}
 use Rattle.std.proofs.Math.ListN.{get_or-map}
 use Rattle.lrgrammar.specs.declared.idx.Symbol.{Symbol}
 use Rattle.lrgrammar.specs.declared.idx.Symbol.TheVariants as code
@@ -20,7 +20,7 @@ use Rattle.lrtree.specs.declared.trees.Tree.{Tree}
 use Rattle.lrtree.specs.StoredTrees.{tree_of, forest_of}
 use Rattle.lrambiguity.specs.declared.moves.Move as stored
 use Rattle.lrambiguity.specs.declared.replays.Replay.{Replay}
-use Rattle.lrambiguity.specs.Moves.{Move, Shift, Reduce, IsTreeBy}
+use Rattle.lrambiguity.specs.Moves.{Move, Shift, Reduce, IsTreeBy, HasNoTree}
 use Rattle.lrambiguity.specs.StoredMoves.{move_of, moves_stored}
 use Rattle.lrambiguity.specs.StoredReplays.{HasMade, HasMadeSome, Makes}
 use Rattle.lrambiguity.specs.Replays.{Reads}
@@ -86,34 +86,55 @@ module _ {T : Type 0} (number : T → ℕ) where
         (ap (map (symbol_of number)) f ∙ map-append (symbol_of number) front (code.Rule r ∷ []))
         (ap (forest_of number) e ∙ trees_append others (node ∷ []) ∙ ap (λ u. joined us (And u Bare)) one)
 
-  -- where the roots are the body of the start production, and all the text is used, the last tree is one of the text
+  -- where the roots are the body of the start production, there is one tree
+  pub one_tree :
+      (g : Grammar) (roots : List (Symbol T)) (trees : List (Tree T)) → IsGrammar g → map (symbol_of number) roots ≡ body_of g g.start_production
+      → IsForest g (map (symbol_of number) roots) (forest_of number trees) → length trees ≡ 1
+  one_tree g roots trees m start f = count_of_roots g roots trees f ∙ sym (length-map roots (symbol_of number)) ∙ ap length (start ∙ start_body m)
+
+  -- where all the text is used too, the last tree is one of the text
   pub tree_alone :
-      (g : Grammar) (ms : List Move) (text : List (TIdx T)) (used : ℕ) (roots body : List (Symbol T)) (trees others : List (Tree T)) (t : Tree T) → IsGrammar g
-      → map (symbol_of number) body ≡ body_of g g.start_production → roots ≡ body → used ≡ length text → trees ≡ others ++ t ∷ []
+      (g : Grammar) (ms : List Move) (text : List (TIdx T)) (used : ℕ) (roots : List (Symbol T)) (trees others : List (Tree T)) (t : Tree T) → IsGrammar g
+      → map (symbol_of number) roots ≡ body_of g g.start_production → length text ≤ used → trees ≡ others ++ t ∷ []
       → Reads g ms (take used (text_of number text)) (map (symbol_of number) roots) (forest_of number trees)
       → IsTreeBy g ms (text_of number text) (tree_of number t)
-  tree_alone g ms text used roots body trees others t m is same all last a = by_others others last
+  tree_alone g ms text used roots trees others t m start all last a = by_others others last
     where
-      start : map (symbol_of number) roots ≡ plain.Rule m.start.0 ∷ []
-      start = ap (map (symbol_of number)) same ∙ is ∙ start_body m
-
-      one : length trees ≡ 1
-      one = count_of_roots g roots trees a.roots ∙ sym (length-map roots (symbol_of number)) ∙ ap length start
-
       used_all : text_of number text ≡ take used (text_of number text)
       used_all = sym (take_all used (text_of number text) (omega (arith, all, length-map text (λ x. number x.0))))
 
       by_others : (os : List (Tree T)) → trees ≡ os ++ t ∷ [] → IsTreeBy g ms (text_of number text) (tree_of number t)
-      by_others [] e = read_tree m.start.0 (tree_of number t) (reads_same a used_all (sym start) (ap (forest_of number) (sym e))) refl (start_body m)
-      by_others (o ∷ os) e = absurd (omega (arith, one, ap length e, length-append os (t ∷ [])))
+      by_others [] e = read_tree m.start.0 (tree_of number t) (reads_same a used_all (sym (start ∙ start_body m)) (ap (forest_of number) (sym e))) refl (start_body m)
+      by_others (o ∷ os) e = absurd (omega (arith, one_tree g roots trees m start a.roots, ap length e, length-append os (t ∷ [])))
 
-  -- so is the tree that is taken from the end
-  pub last_tree_alone :
-      (g : Grammar) (text : List (TIdx T)) (r : Replay T) (body : List (Symbol T)) (others : List (Tree T)) (o : Option (Tree T)) → IsGrammar g
-      → map (symbol_of number) body ≡ body_of g g.start_production → r.roots.items ≡ body → r.used ≡ length text → r.trees.items ≡ others ++ option_to_list o
-      → IfSome o (λ t. (ms : List Move) → HasMade number g (text_of number text) ms r → IsTreeBy g ms (text_of number text) (tree_of number t))
-  last_tree_alone g text r body others None m is same all last = tt
-  last_tree_alone g text r body others (Some t) m is same all last = λ ms. tree_alone g ms text r.used r.roots.items body r.trees.items others t m is same all last
+  module _ (g : Grammar) (text : List (TIdx T)) (r : Replay T) (m : IsGrammar g) (start : map (symbol_of number) r.roots.items ≡ body_of g g.start_production) where
+    -- so is the tree that is taken from the end
+    pub last_tree_alone :
+        (others : List (Tree T)) (o : Option (Tree T)) → length text ≤ r.used → r.trees.items ≡ others ++ option_to_list o
+        → IfSome o (λ t. (ms : List Move) → HasMade number g (text_of number text) ms r → IsTreeBy g ms (text_of number text) (tree_of number t))
+    last_tree_alone others None all last = tt
+    last_tree_alone others (Some t) all last = λ ms. tree_alone g ms text r.used r.roots.items r.trees.items others t m start all last
+
+    -- and there is such a tree
+    pub last_tree_there :
+        (o : Option (Tree T)) → (0 < length r.trees.items → IsSome o)
+        → IfNone o ((ms : List Move) → HasMade number g (text_of number text) ms r → HasNoTree g ms (text_of number text))
+    last_tree_there None there = λ ms a t b. let some : IsSome {T = Tree T} None = there (omega (arith, one_tree g r.roots.items r.trees.items m start a.roots)) in cc
+    last_tree_there (Some t) there = tt
+
+  -- the moves that are made, the next one, and the others
+  pub moves_split :
+      (ms rest : List Move) (moves : List (stored.Move T)) (i : ℕ) (one : stored.Move T) → i < length moves → one ≡ get_or moves i one
+      → (ms ++ moves_stored number moves) ++ rest
+      ≡ ((ms ++ moves_stored number (take i moves)) ++ move_of number one ∷ []) ++ (moves_stored number (drop (i + 1) moves) ++ rest)
+  moves_split ms rest moves i one l is =
+      let next : take (i + 1) moves ≡ take i moves ++ one ∷ [] = take_more moves i one l ∙ ap (λ x. take i moves ++ x ∷ []) (sym is) in
+      let front : moves_stored number (take (i + 1) moves) ≡ moves_stored number (take i moves) ++ move_of number one ∷ [] =
+      ap (moves_stored number) next ∙ map-append (move_of number) (take i moves) (one ∷ []) in
+      let whole : moves_stored number moves ≡ (moves_stored number (take i moves) ++ move_of number one ∷ []) ++ moves_stored number (drop (i + 1) moves) =
+      ap (moves_stored number) (sym (take-append-drop (i + 1) moves)) ∙ map-append (move_of number) (take (i + 1) moves) (drop (i + 1) moves)
+      ∙ ap (λ x. x ++ moves_stored number (drop (i + 1) moves)) front in
+      ap (λ x. (ms ++ x) ++ rest) whole ∙ simp append_assoc
 
   -- no moves make nothing
   pub makes_nothing : (g : Grammar) (text : List ℕ) (r : Replay T) → Makes number g text [] r r
@@ -132,3 +153,10 @@ module _ {T : Type 0} (number : T → ℕ) where
   -- what has made some moves has made some more
   pub some_more : (g : Grammar) (text : List ℕ) (ns : List Move) (old new : Replay T) → Makes number g text ns old new → HasMadeSome number g text old → HasMadeSome number g text new
   some_more g text ns old new makes (ms, a) = (ms ++ ns, makes ms a)
+
+  -- where nothing that was made is a tree, these moves put together none
+  pub no_tree_made :
+      {X : Type 0} (g : Grammar) (text : List ℕ) (r : Replay T) (ms : List Move) (o : Option X) → HasMade number g text ms r
+      → IfNone o ((ns : List Move) → HasMade number g text ns r → HasNoTree g ns text) → IfNone o (HasNoTree g ms text)
+  no_tree_made g text r ms None a none = none ms a
+  no_tree_made g text r ms (Some x) a none = tt

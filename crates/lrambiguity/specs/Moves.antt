@@ -33,6 +33,10 @@ pub record IsTreeBy (g : Grammar) (ms : List Move) (text : List ℕ) (t : Tree) 
   pub leaves_are : leaves t ≡ text
   pub moves_are : moves_of t ≡ ms
 
+-- these moves put together no tree of the text
+abbrev pub HasNoTree : Grammar → List Move → List ℕ → Type 0
+HasNoTree g ms text = (t : Tree) → ¬ (IsTreeBy g ms text t)
+
 -- the text is a sentence, and this is a tree of it
 abbrev pub IsTreeOfText : Grammar → List ℕ → Tree → Type 0
 IsTreeOfText g text t = (s : IsSentence g text) × (s.tree ≡ t)

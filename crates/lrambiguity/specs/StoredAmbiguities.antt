@@ -4,6 +4,7 @@ use Rattle.std.specs.declared.vec.Vec.{Vec}
 use Rattle.std.specs.declared.alloc.Global.{Global}
 use Rattle.lrgrammar.specs.declared.idx.TIdx.{TIdx}
 use Rattle.lrspec.specs.grammars.Grammar.{Grammar}
+use Rattle.lrspec.specs.grammars.Trees as math
 use Rattle.lrtable.specs.RunAnswers.{text_of}
 use Rattle.lrtree.specs.declared.trees.Tree.{Tree}
 use Rattle.lrtree.specs.StoredTrees.{tree_of}
@@ -17,6 +18,13 @@ pub record AreTreesBy {T : Type 0} (number : T → ℕ) (g : Grammar) (text : Li
   pub first : IsTreeBy g (moves_stored number before ++ moves_stored number one) (text_of number text) (tree_of number one_tree)
   pub second : IsTreeBy g (moves_stored number before ++ moves_stored number other) (text_of number text) (tree_of number other_tree)
   pub part : slice_get one 0 ≢ slice_get other 0
+
+-- where both put together a tree of the text, they begin with the same move
+abbrev pub BeginAlike : {T : Type 0} → (T → ℕ) → Grammar → List (TIdx T) → List (stored.Move T) → List (stored.Move T) → List (stored.Move T) → Type 0
+BeginAlike number g text before one other =
+    (t u : math.Tree) → IsTreeBy g (moves_stored number before ++ moves_stored number one) (text_of number text) t
+    → IsTreeBy g (moves_stored number before ++ moves_stored number other) (text_of number text) u
+    → slice_get one 0 ≡ slice_get other 0
 
 -- the ambiguity is one of the grammar
 abbrev pub IsAmbiguity : {T : Type 0} → (T → ℕ) → Grammar → Ambiguity T → Type 0

@@ -5,7 +5,7 @@ use Rattle.lrspec.specs.grammars.Trees.{IsForest}
 use Rattle.lrgrammar.specs.Symbols.{symbol_of}
 use Rattle.lrtree.specs.StoredTrees.{forest_of}
 use Rattle.lrambiguity.specs.declared.replays.Replay.{Replay}
-use Rattle.lrambiguity.specs.Moves.{Move}
+use Rattle.lrambiguity.specs.Moves.{Move, HasNoTree}
 use Rattle.lrambiguity.specs.Replays.{Reads}
 
 -- the roots of the trees
@@ -27,3 +27,8 @@ HasMadeSome number g text r = (ms : List Move) × HasMade number g text ms r
 -- between the one and the other these moves are made
 abbrev pub Makes : {T : Type 0} → (T → ℕ) → Grammar → List ℕ → List Move → Replay T → Replay T → Type 0
 Makes number g text ns old new = (ms : List Move) → HasMade number g text ms old → HasMade number g text (ms ++ ns) new
+
+-- no moves that go on with these put together a tree of the text
+abbrev pub LeadsNowhere : {T : Type 0} → (T → ℕ) → Grammar → List ℕ → List Move → Replay T → Type 0
+LeadsNowhere number g text ns old =
+    (ms rest : List Move) → HasMade number g text ms old → HasNoTree g ((ms ++ ns) ++ rest) text

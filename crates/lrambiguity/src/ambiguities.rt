@@ -1,14 +1,14 @@
 //! Ambiguities.
 
-ghost use Rattle.std.specs.Prelude.{◌≡◌, ◌≢◌, ◌++◌, IfOk, IfSome, IsSome, IsTrue, slice_get};
+ghost use Rattle.std.specs.Prelude.{◌≡◌, ◌≢◌, false, ◌++◌, IfOk, IfSome, IfNone, IsSome, IsTrue, slice_get};
 ghost use Rattle.lrspec.specs.tables.Recognition.{IsUnambiguous};
 ghost use Rattle.lrspec.specs.tables.Table.{Table, IsTableFor};
 ghost use Rattle.lrspec.specs.tables.Exactness.{HasNoPrecedences, ListsNothing};
 ghost use Rattle.lrtable.specs.RunAnswers.{text_of};
 ghost use Rattle.lrtree.specs.StoredTrees.{tree_of};
-ghost use Rattle.lrambiguity.specs.Moves.{IsTreeBy, IsTreeOfText};
+ghost use Rattle.lrambiguity.specs.Moves.{HasNoTree, IsTreeBy, IsTreeOfText};
 ghost use Rattle.lrambiguity.specs.StoredMoves.{moves_stored};
-ghost use Rattle.lrambiguity.specs.StoredAmbiguities.{AreTreesBy, IsAmbiguity, IsGiven};
+ghost use Rattle.lrambiguity.specs.StoredAmbiguities.{AreTreesBy, BeginAlike, IsAmbiguity, IsGiven};
 
 use crate::moves::Move;
 use crate::reading::read_moves;
@@ -44,9 +44,10 @@ impl<T: IndexStorage> Ambiguity<T> {
 
 /// Whether the first moves differ.
 fn differ_at_once<T: IndexStorage>(one: &[Move<T>], other: &[Move<T>]) -> bool
-    ensures { IsTrue result → slice_get one.now 0 ≢ slice_get other.now 0 }
+    ensures differ { IsTrue result → slice_get one.now 0 ≢ slice_get other.now 0 }
+    ensures same { result ≡ false → slice_get one.now 0 ≡ slice_get other.now 0 }
 {
-    one.first() != other.first()
+    one.first().copied() != other.first().copied()
 }
 
 /// The tree of the text that the moves before and those behind them put together.
@@ -57,9 +58,12 @@ fn read_joined<T: IndexStorage>(
     before: &[Move<T>],
     after: &[Move<T>],
 ) -> Result<Option<Tree<T>>, AllocError>
-    ensures { IfOk result (λ o. IfSome o (λ tree.
+    ensures tree { IfOk result (λ o. IfSome o (λ tree.
         IsTreeBy grm.now (moves_stored T.number before.now ++ moves_stored T.number after.now)
         (text_of T.number text.now) (tree_of T.number tree))) }
+    ensures none { IfOk result (λ o. IfNone o
+        (HasNoTree grm.now (moves_stored T.number before.now ++ moves_stored T.number after.now)
+        (text_of T.number text.now))) }
 {
     let mut moves = Vec::from_slice(alloc, before)?;
     moves.extend_from_slice(after)?;
@@ -76,8 +80,10 @@ fn read_both<T: IndexStorage>(
     one: &[Move<T>],
     other: &[Move<T>],
 ) -> Result<Option<(Tree<T>, Tree<T>)>, AllocError>
-    ensures { IfOk result (λ o. IfSome o (λ trees.
+    ensures trees { IfOk result (λ o. IfSome o (λ trees.
         AreTreesBy T.number grm.now text.now before.now one.now other.now trees.0 trees.1)) }
+    ensures none { IfOk result (λ o. IfNone o
+        (BeginAlike T.number grm.now text.now before.now one.now other.now)) }
 {
     if !differ_at_once(one, other) {
         return Ok(None);
@@ -112,6 +118,8 @@ pub fn check_ambiguity<T: IndexStorage>(
 ) -> Result<Option<Ambiguity<T>>, AllocError>
     ensures given { IfOk result (λ o. IfSome o (λ a. IsGiven a text before one other)) }
     ensures trees { IfOk result (λ o. IfSome o (IsAmbiguity T.number grm.now)) }
+    ensures none { IfOk result (λ o. IfNone o
+        (BeginAlike T.number grm.now text.items before.items one.items other.items)) }
     ensures one { IfOk result (λ o. IfSome o (λ a.
         IsTreeOfText grm.now (text_of T.number a.text.items) (tree_of T.number a.one_tree))) }
     ensures other { IfOk result (λ o. IfSome o (λ a.

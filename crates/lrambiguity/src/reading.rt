@@ -1,10 +1,10 @@
 //! Reading: the tree that moves put together.
 
-ghost use Rattle.std.specs.Prelude.{◌≡◌, IfOk, IfSome};
+ghost use Rattle.std.specs.Prelude.{◌≡◌, IfOk, IfSome, IfNone};
 ghost use Rattle.lrspec.specs.grammars.Trees.{leaves};
 ghost use Rattle.lrtable.specs.RunAnswers.{text_of};
 ghost use Rattle.lrtree.specs.StoredTrees.{tree_of};
-ghost use Rattle.lrambiguity.specs.Moves.{moves_of, IsTreeOfStart};
+ghost use Rattle.lrambiguity.specs.Moves.{moves_of, IsTreeOfStart, HasNoTree};
 ghost use Rattle.lrambiguity.specs.StoredMoves.{moves_stored};
 
 use crate::moves::Move;
@@ -30,6 +30,8 @@ pub fn read_moves<T: IndexStorage>(
         leaves (tree_of T.number tree) ≡ text_of T.number text.now)) }
     ensures moves { IfOk result (λ o. IfSome o (λ tree.
         moves_of (tree_of T.number tree) ≡ moves_stored T.number moves.now)) }
+    ensures none { IfOk result (λ o. IfNone o
+        (HasNoTree grm.now (moves_stored T.number moves.now) (text_of T.number text.now))) }
 {
     let mut replay = Replay::new(alloc);
     match replay.make_all(alloc, grm, text, moves) {

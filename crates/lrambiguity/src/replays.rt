@@ -1,15 +1,15 @@
 //! Moves made again, one after the other.
 
-ghost use Rattle.std.specs.Prelude.{◌≡◌, ℕ, ◌≤◌, List, [], ◌∷◌, ◌++◌, map, length, vec_len, drop, IfOk, OnOk, IfSome, IsTrue};
-ghost use Rattle.lrspec.specs.grammars.Grammar.{Grammar};
+ghost use Rattle.std.specs.Prelude.{◌≡◌, ℕ, ◌≤◌, false, List, [], ◌∷◌, ◌++◌, map, length, vec_len, drop, IfOk, OnOk, IfSome, IfNone, IsTrue, ◌↔◌};
+ghost use Rattle.lrspec.specs.grammars.Grammar.{Grammar, IsGrammar, body_of};
 ghost use Rattle.lrspec.specs.merging.Graph.{Leads};
 ghost use Rattle.lrspec.specs.tables.Machine.{next_token};
 ghost use Rattle.lrtable.specs.RunAnswers.{text_of};
 ghost use Rattle.lrtree.specs.StoredTrees.{tree_of};
 ghost use Rattle.lrambiguity.specs.Moves as plain;
-ghost use Rattle.lrambiguity.specs.Moves.{IsTreeBy};
+ghost use Rattle.lrambiguity.specs.Moves.{IsTreeBy, HasNoTree};
 ghost use Rattle.lrambiguity.specs.StoredMoves.{move_of, moves_stored};
-ghost use Rattle.lrambiguity.specs.StoredReplays.{roots_of, AreRoots, HasMade, HasMadeSome, Makes};
+ghost use Rattle.lrambiguity.specs.StoredReplays.{roots_of, AreRoots, HasMade, HasMadeSome, Makes, LeadsNowhere};
 
 use crate::moves::Move;
 use lrgrammar::grammar::YaccGrammar;
@@ -80,8 +80,10 @@ impl<T: IndexStorage> Replay<T> {
 
     /// Makes a leaf of the next token; false where the text is used up.
     fn shift(&mut self, text: &[TIdx<T>]) -> Result<bool, AllocError>
-        ensures { IfOk result (λ made. IsTrue made → (m : Grammar) →
+        ensures made { IfOk result (λ made. IsTrue made → (m : Grammar) →
             Makes T.number m (text_of T.number text.now) (plain.Shift ∷ []) self.old self.new) }
+        ensures nowhere { IfOk result (λ made. made ≡ false → (m : Grammar) → IsGrammar m →
+            LeadsNowhere T.number m (text_of T.number text.now) (plain.Shift ∷ []) self.old) }
     {
         let Some(tidx) = text.get(self.used) else {
             return Ok(false);
@@ -100,8 +102,10 @@ impl<T: IndexStorage> Replay<T> {
         pidx: PIdx<T>,
     ) -> Result<bool, AllocError>
         requires { AreRoots T.number grm.now self.old }
-        ensures { IfOk result (λ made. IsTrue made → (text : List ℕ) →
+        ensures made { IfOk result (λ made. IsTrue made → (text : List ℕ) →
             Makes T.number grm.now text (plain.Reduce (T.number pidx.0) ∷ []) self.old self.new) }
+        ensures nowhere { IfOk result (λ made. made ≡ false → (text : List ℕ) →
+            LeadsNowhere T.number grm.now text (plain.Reduce (T.number pidx.0) ∷ []) self.old) }
     {
         // `prods_len` says of a grammar that the start production comes last
         let _ = grm.prods_len();
@@ -130,9 +134,13 @@ impl<T: IndexStorage> Replay<T> {
         action: Move<T>,
     ) -> Result<bool, AllocError>
         requires { HasMadeSome T.number grm.now (text_of T.number text.now) self.old }
-        ensures { IfOk result (λ made. IsTrue made →
+        ensures made { IfOk result (λ made. IsTrue made →
             Makes T.number grm.now (text_of T.number text.now) (move_of T.number action ∷ []) self.old self.new) }
+        ensures nowhere { IfOk result (λ made. made ≡ false →
+            LeadsNowhere T.number grm.now (text_of T.number text.now) (move_of T.number action ∷ []) self.old) }
     {
+        // `prods_len` says that this is a grammar
+        let _ = grm.prods_len();
         match action {
             Move::Shift => self.shift(text),
             Move::Reduce(pidx) => self.reduce(alloc, grm, pidx),
@@ -148,8 +156,10 @@ impl<T: IndexStorage> Replay<T> {
         moves: &[Move<T>],
     ) -> Result<bool, AllocError>
         requires { HasMadeSome T.number grm.now (text_of T.number text.now) self.old }
-        ensures { IfOk result (λ made. IsTrue made →
+        ensures made { IfOk result (λ made. IsTrue made →
             Makes T.number grm.now (text_of T.number text.now) (moves_stored T.number moves.now) self.old self.new) }
+        ensures nowhere { IfOk result (λ made. made ≡ false →
+            LeadsNowhere T.number grm.now (text_of T.number text.now) (moves_stored T.number moves.now) self.old) }
     {
         for action in moves {
             if !self.make(alloc, grm, text, *action)? {
@@ -159,18 +169,32 @@ impl<T: IndexStorage> Replay<T> {
         Ok(true)
     }
 
-    /// The tree, where there is one alone, for the start rule, of all the text; else the trees are taken apart.
-    pub(crate) fn into_tree(mut self, grm: &YaccGrammar<T>, text: &[TIdx<T>]) -> Option<Tree<T>>
-        ensures { IfSome result (λ tree. (ms : List plain.Move) → HasMade T.number grm.now (text_of T.number text.now) ms self
-            → IsTreeBy grm.now ms (text_of T.number text.now) (tree_of T.number tree)) }
+    /// Whether all the text is used, and the roots are the body of the start production.
+    fn is_whole(&self, grm: &YaccGrammar<T>, text: &[TIdx<T>]) -> bool
+        ensures { IsTrue result ↔ ((length text.now ≤ self.now.used)
+            × (roots_of T.number self.now ≡ body_of grm.now grm.now.start_production)) }
     {
         // `prods_len` says of a grammar that the start production is one of its productions
         let _ = grm.prods_len();
-        if self.used == text.len() && self.roots.as_slice() == grm.prod(grm.start_prod()) {
-            return self.trees.pop();
+        self.used >= text.len() && self.roots.as_slice() == grm.prod(grm.start_prod())
+    }
+
+    /// The tree, where there is one alone, for the start rule, of all the text; else the trees are taken apart.
+    pub(crate) fn into_tree(mut self, grm: &YaccGrammar<T>, text: &[TIdx<T>]) -> Option<Tree<T>>
+        ensures tree { IfSome result (λ tree. (ms : List plain.Move)
+            → HasMade T.number grm.now (text_of T.number text.now) ms self
+            → IsTreeBy grm.now ms (text_of T.number text.now) (tree_of T.number tree)) }
+        ensures none { IfNone result ((ms : List plain.Move)
+            → HasMade T.number grm.now (text_of T.number text.now) ms self
+            → HasNoTree grm.now ms (text_of T.number text.now)) }
+    {
+        // `prods_len` says that this is a grammar
+        let _ = grm.prods_len();
+        if !self.is_whole(grm, text) {
+            self.take_apart();
+            return None;
         }
-        self.take_apart();
-        None
+        self.trees.pop()
     }
 
     /// The next token, or the end token where the text is used up.

@@ -3,7 +3,7 @@ use Rattle.lrambiguity.proofs.ambiguities.check_ambiguity.Goals as goal
 
 pub returns-in-Some-clause-trees : goal.returns-in-Some-clause-trees
 returns-in-Some-clause-trees g c =
-    rw (c.deref.ensures.value, c.deref-2.ensures.value, c.deref-3.ensures.value, c.deref-4.ensures.value) at (rw c.in-Some.is at c.in_ok-one_tree.ensures)
+    rw (c.deref.ensures.value, c.deref-2.ensures.value, c.deref-3.ensures.value, c.deref-4.ensures.value) at (rw c.in-Some.is at c.in_ok-one_tree.ensures.trees)
 
 pub returns-in-Some-clause-one : goal.returns-in-Some-clause-one
 returns-in-Some-clause-one g c = tree_of_text (returns-in-Some-clause-trees g c).first
@@ -22,3 +22,7 @@ returns-in-Some-clause-ambiguous g c =
 
 pub returns-in-Some-clause-conflicts : goal.returns-in-Some-clause-conflicts
 returns-in-Some-clause-conflicts g c = λ is. lists_conflicts c.prods_len.ensures.shape (returns-in-Some-clause-ambiguous g c is)
+
+pub returns-in-None-clause-none : goal.returns-in-None-clause-none
+returns-in-None-clause-none g c =
+    rw (c.deref.ensures.value, c.deref-2.ensures.value, c.deref-3.ensures.value, c.deref-4.ensures.value) at (rw c.in-None.is at c.in_ok-one_tree.ensures.none)

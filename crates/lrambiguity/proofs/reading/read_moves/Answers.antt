@@ -1,7 +1,8 @@
-use Rattle.std.proofs.Common.{[]}
+use Rattle.std.proofs.Common.{[], append-nil}
 use Rattle.std.proofs.lemmas.Option.{IfSome_then}
 use Rattle.lrtable.specs.RunAnswers.{text_of}
 use Rattle.lrambiguity.specs.StoredMoves.{moves_stored}
+use Rattle.lrambiguity.proofs.ReplaySteps.{no_tree_made}
 use Rattle.lrambiguity.proofs.reading.read_moves.Goals as goal
 
 pub make_all-requires : goal.make_all-requires
@@ -11,19 +12,33 @@ pub returns-in-Ok-true-clause-tree : goal.returns-in-Ok-true-clause-tree
 returns-in-Ok-true-clause-tree g c =
     let number = g.T.IndexStorage.number in
     let ms = moves_stored number c.args.moves.now in
-    let made = c.in-Ok-true.ensures c.in-Ok-true.field-0-test [] (c.new-replay.ensures c.args.grm.now (text_of number c.args.text.now)) in
-    IfSome_then c.into_tree.result c.into_tree.ensures (λ tree is. (is ms made).of_start)
+    let made = c.in-Ok-true.ensures.made c.in-Ok-true.field-0-test [] (c.new-replay.ensures c.args.grm.now (text_of number c.args.text.now)) in
+    IfSome_then c.into_tree.result c.into_tree.ensures.tree (λ tree is. (is ms made).of_start)
 
 pub returns-in-Ok-true-clause-text : goal.returns-in-Ok-true-clause-text
 returns-in-Ok-true-clause-text g c =
     let number = g.T.IndexStorage.number in
     let ms = moves_stored number c.args.moves.now in
-    let made = c.in-Ok-true.ensures c.in-Ok-true.field-0-test [] (c.new-replay.ensures c.args.grm.now (text_of number c.args.text.now)) in
-    IfSome_then c.into_tree.result c.into_tree.ensures (λ tree is. (is ms made).leaves_are)
+    let made = c.in-Ok-true.ensures.made c.in-Ok-true.field-0-test [] (c.new-replay.ensures c.args.grm.now (text_of number c.args.text.now)) in
+    IfSome_then c.into_tree.result c.into_tree.ensures.tree (λ tree is. (is ms made).leaves_are)
 
 pub returns-in-Ok-true-clause-moves : goal.returns-in-Ok-true-clause-moves
 returns-in-Ok-true-clause-moves g c =
     let number = g.T.IndexStorage.number in
     let ms = moves_stored number c.args.moves.now in
-    let made = c.in-Ok-true.ensures c.in-Ok-true.field-0-test [] (c.new-replay.ensures c.args.grm.now (text_of number c.args.text.now)) in
-    IfSome_then c.into_tree.result c.into_tree.ensures (λ tree is. (is ms made).moves_are)
+    let made = c.in-Ok-true.ensures.made c.in-Ok-true.field-0-test [] (c.new-replay.ensures c.args.grm.now (text_of number c.args.text.now)) in
+    IfSome_then c.into_tree.result c.into_tree.ensures.tree (λ tree is. (is ms made).moves_are)
+
+pub returns-in-Ok-true-clause-none : goal.returns-in-Ok-true-clause-none
+returns-in-Ok-true-clause-none g c =
+    let number = g.T.IndexStorage.number in
+    let text = text_of number c.args.text.now in
+    let ms = moves_stored number c.args.moves.now in
+    let made = c.in-Ok-true.ensures.made c.in-Ok-true.field-0-test [] (c.new-replay.ensures c.args.grm.now text) in
+    no_tree_made number c.args.grm.now text c.make_all.new.self ms c.into_tree.result made c.into_tree.ensures.none
+
+pub returns-in-Ok-false-clause-none : goal.returns-in-Ok-false-clause-none
+returns-in-Ok-false-clause-none g c = λ t.
+    let number = g.T.IndexStorage.number in
+    let start = c.new-replay.ensures c.args.grm.now (text_of number c.args.text.now) in
+    rw append-nil at (c.in-Ok-false.ensures.nowhere c.in-Ok-false.field-0-test [] [] start t)

@@ -1,7 +1,10 @@
-use Rattle.std.proofs.Common.{◌≡◌, ◌-◌, [], ◌∷◌, ◌++◌, length, take, ap, ◌∙◌, refl, arith}
+use Rattle.std.proofs.lemmas.List.{take-append-drop}
+use Rattle.lrgrammar.specs.Symbols.{symbol_of}
+use Rattle.lrambiguity.proofs.DeadEnds.{body_there}
+use Rattle.std.proofs.Common.{◌≡◌, ◌-◌, [], ◌∷◌, ◌++◌, length, map, take, drop, sym, ap, ◌∙◌, refl, arith}
 use Rattle.lrgrammar.specs.declared.idx.Symbol.TheVariants as code
 use Rattle.lrtree.proofs.FoldedTrees.{tree_of_node}
-use Rattle.lrambiguity.proofs.SymbolTests.{list_ends}
+use Rattle.lrambiguity.proofs.SymbolTests.{list_ends, end_tested}
 use Rattle.lrambiguity.proofs.ReplaySteps.{count_of_roots, reduce_made}
 use Rattle.lrambiguity.proofs.replays.Replay.reduce.Goals as goal
 
@@ -12,8 +15,8 @@ split_off-requires g c =
     let paired = count_of_roots g.T.IndexStorage.number c.args.grm.now roots.items trees.items c.requires in
     omega (arith, paired, c.if-not-ends_with.ensures.bound refl, ap length c.deref.ensures.value, trees.ok.0)
 
-pub returns : goal.returns
-returns g c = λ _ text ms.
+pub returns-clause-made : goal.returns-clause-made
+returns-clause-made g c = λ _ text ms.
     let number = g.T.IndexStorage.number in
     let law = g.met.T.IndexStorage in
     let trees = c.args.self.now.trees.items in
@@ -33,3 +36,25 @@ returns g c = λ _ text ms.
     c.split_off.new.trees.items children.items now.trees.items c.prod-body.ensures.body c.prod_to_rule.ensures.rule split c.in_ok-children.ensures.trees
     (omega (arith, c.in_ok-children.ensures.count, children.ok.0)) (tree_of_node number c.args.pidx children) is.trees
     (is.roots ∙ ap (λ l. l ++ code.Rule c.prod_to_rule.result ∷ []) kept))
+
+pub returns-then-from-clause-nowhere : goal.returns-then-from-clause-nowhere
+returns-then-from-clause-nowhere g c = λ _ text ms rest made t a.
+    let used = c.args.self.now.used in
+    let there =
+    body_there c.prods_len.ensures.shape made text (drop used text) (sym (take-append-drop used text)) (g.T.IndexStorage.number c.args.pidx.0) rest t a in
+    omega (arith, there.0, c.if-from.true, c.from.ensures, c.from-2.ensures, c.start_prod.ensures)
+
+pub returns-then-not-ends_with-clause-nowhere : goal.returns-then-not-ends_with-clause-nowhere
+returns-then-not-ends_with-clause-nowhere g c = λ _ text ms rest made t a.
+    let number = g.T.IndexStorage.number in
+    let law = g.met.T.IndexStorage in
+    let used = c.args.self.now.used in
+    let there = body_there c.prods_len.ensures.shape made text (drop used text) (sym (take-append-drop used text)) (number c.args.pidx.0) rest t a in
+    let front = there.1.0 in
+    let split = ap (map (symbol_of number)) c.deref.ensures.value ∙ there.1.1 ∙ ap (λ l. front ++ l) (sym c.prod-body.ensures.body) in
+    let ends =
+    end_tested number g.T.PartialEq.eq law.same law.injective _
+    (record { rules = λ r s. refl; rule_token = λ r t. refl; token_rule = λ t r. refl; tokens = λ t u. refl }) c.deref.result.now c.prod-body.result.now c.ends_with.result front
+    c.ends_with.ensures.value split in
+    let no = c.if-not-ends_with.true in
+    cc
