@@ -18,6 +18,8 @@ use lrtree::Tree;
 use std::alloc::{AllocError, Global};
 
 /// A text with two trees.
+///
+/// What is derived, letting go of it too, calls itself as deep as the trees are; `take_apart` lets go of any.
 #[derive(Debug, PartialEq, Eq, Drop)]
 pub struct Ambiguity<T> {
     /// The text.
