@@ -2,6 +2,7 @@
 
 mod ambiguities;
 mod commands;
+mod contests;
 mod examples;
 mod fixtures;
 mod grammars;

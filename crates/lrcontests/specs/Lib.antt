@@ -1,0 +1,8 @@
+-- the files of definitions
+pub mod Searches
+pub mod StoredPlaces
+pub mod Rests
+pub mod StoredWays
+pub mod PlaceOrder
+pub mod Trails
+pub mod Contests

@@ -1,0 +1,22 @@
+-- what the symbols behind a rule are to a token
+use Rattle.std.specs.Prelude.{◌≡◌, ℕ, List, ◌∷◌}
+use Rattle.lrspec.specs.grammars.Grammar.{Symbol, Rule, Grammar, rest}
+use Rattle.lrspec.specs.grammars.First as first
+use Rattle.lrcontests.specs.declared.rests.Rest.{Rest}
+use Rattle.lrcontests.specs.declared.rests.Rest.TheVariants.{Begins, Nullable, Neither}
+
+-- they can begin with it; or they cannot, and are nullable; or neither
+abbrev pub IsRest : Grammar → List Symbol → ℕ → Rest → Type 0
+IsRest g y t Begins = first.Begins g y t
+IsRest g y t Nullable = (first.Begins g y t → ⊥) × first.AllNullable g y
+IsRest g y t Neither = (first.Begins g y t → ⊥) × (first.AllNullable g y → ⊥)
+
+-- the item stands before the rule, with these symbols behind it
+abbrev pub HasBehind : Grammar → ℕ → ℕ → ℕ → List Symbol → Type 0
+HasBehind g p d r y = rest g p d ≡ Rule r ∷ y
+
+-- what the symbols behind the rule are, where the item stands before it; neither where it does not
+abbrev pub IsRestBehind : Grammar → ℕ → ℕ → ℕ → ℕ → Rest → Type 0
+IsRestBehind g p d r t Begins = (y : List Symbol) × HasBehind g p d r y × IsRest g y t Begins
+IsRestBehind g p d r t Nullable = (y : List Symbol) × HasBehind g p d r y × IsRest g y t Nullable
+IsRestBehind g p d r t Neither = (y : List Symbol) → HasBehind g p d r y → IsRest g y t Neither

@@ -1,0 +1,127 @@
+//! What a need is closed by, and whether it is met.
+
+ghost use Rattle.std.specs.Prelude.{◌≡◌, ◌≢◌, ◌<◌, length, IsTrue, IfOk, IfNone, IfSome, MatchOption, ◌↔◌};
+ghost use Rattle.lrspec.specs.grammars.Grammar as math;
+ghost use Rattle.lrspec.specs.grammars.ItemSets.{Fits};
+ghost use Rattle.lrgrammar.specs.Firsts.{AreFirstsOf};
+ghost use Rattle.lritems.specs.ItemsOf.{set_of};
+ghost use Rattle.lrcontests.specs.Searches as search;
+ghost use Rattle.lrcontests.specs.Searches.{GoesBack, IsSettled, IsMetAtStart, IsLooking, AreClosesOf};
+ghost use Rattle.lrcontests.specs.StoredPlaces.{need_of, needs_of};
+
+use crate::places::Need;
+use crate::rests::{Rest, rest_behind};
+use lrgrammar::firsts::YaccFirsts;
+use lrgrammar::grammar::YaccGrammar;
+use lrgrammar::idx::{IndexStorage, PIdx, SIdx, TIdx};
+use lritems::itemset::Itemset;
+use std::alloc::AllocError;
+
+/// The production of which an item at dot 0 is needed, but for the start item.
+pub(crate) fn closable<T: IndexStorage>(grm: &YaccGrammar<T>, need: Need<T>) -> Option<PIdx<T>>
+    ensures settled { IfNone result (IsSettled grm.now (need_of T.number need)) }
+    ensures item { IfSome result (λ p. need_of T.number need ≡ search.Look (T.number p.0) 0) }
+    ensures apart { IfSome result (λ p. T.number p.0 ≢ grm.now.start_production) }
+{
+    let Need::Look(pidx, dot) = need else {
+        return None;
+    };
+    if usize::from(dot) > 0 {
+        return None;
+    }
+    if pidx == grm.start_prod() {
+        return None;
+    }
+    Some(pidx)
+}
+
+/// Whether the empty list has what is needed.
+pub(crate) fn is_met_at_start<T: IndexStorage>(
+    grm: &YaccGrammar<T>,
+    need: Need<T>,
+    token: TIdx<T>,
+) -> bool
+    ensures { IsTrue result ↔ IsMetAtStart grm.now (T.number token.0) (need_of T.number need) }
+{
+    match need {
+        Need::Met => true,
+        Need::Look(pidx, dot) => {
+            pidx == grm.start_prod() && usize::from(dot) == 0 && token == grm.eof_token_idx()
+        }
+    }
+}
+
+/// Whether nothing is needed, or of an item that looks at the token in the closed state.
+pub(crate) fn is_looking<T: IndexStorage>(
+    grm: &YaccGrammar<T>,
+    closed: &Itemset<T>,
+    need: Need<T>,
+    token: TIdx<T>,
+) -> bool
+    requires fits { Fits grm.now (set_of T.number closed.now) }
+    requires token { T.number token.0 < math.token_count grm.now }
+    ensures { IsTrue result
+        ↔ IsLooking (set_of T.number closed.now) (T.number token.0) (need_of T.number need) }
+{
+    match need {
+        Need::Met => true,
+        Need::Look(pidx, dot) => match closed.items.get(&(pidx, dot)) {
+            Some(ctx) => ctx.get(usize::from(token)),
+            None => false,
+        },
+    }
+}
+
+/// What is needed with its dot moved back by one; None at dot 0.
+pub(crate) fn moved_back<T: IndexStorage>(need: Need<T>) -> Option<Need<T>>
+    ensures { MatchOption result
+        ((z : search.Need) → GoesBack (need_of T.number need) z → ⊥)
+        (λ z. GoesBack (need_of T.number need) (need_of T.number z)) }
+{
+    match need {
+        Need::Met => Some(Need::Met),
+        Need::Look(pidx, dot) => {
+            let place = dot.0.to_usize();
+            if place == 0 {
+                return None;
+            }
+            Some(Need::Look(pidx, SIdx(T::from_usize(place - 1).unwrap())))
+        }
+    }
+}
+
+/// What closes the need of the production's item at dot 0: nothing more is needed where an item before its rule goes on with
+/// the token; else that such an item looks at the token, where what comes behind the rule is nullable.
+pub(crate) fn closes<T: IndexStorage>(
+    grm: &YaccGrammar<T>,
+    firsts: &YaccFirsts<T>,
+    closed: &Itemset<T>,
+    pidx: PIdx<T>,
+    token: TIdx<T>,
+) -> Result<Vec<Need<T>>, AllocError>
+    requires of { AreFirstsOf grm.now firsts.now }
+    requires fits { Fits grm.now (set_of T.number closed.now) }
+    requires production { T.number pidx.0 < length grm.now.productions }
+    requires token { T.number token.0 < math.token_count grm.now }
+    ensures { IfOk result (λ v. AreClosesOf grm.now (set_of T.number closed.now)
+        (T.number token.0) (T.number pidx.0) (needs_of T.number v.items)) }
+{
+    let rule = grm.prod_to_rule(pidx);
+    let mut needs = Vec::new(grm.allocator());
+    for (key, ctx) in &closed.items {
+        match rest_behind(grm, firsts, *key, rule, token) {
+            Rest::Begins => {
+                needs.clear();
+                needs.push(Need::Met)?;
+                return Ok(needs);
+            }
+            Rest::Nullable => {
+                if ctx.get(usize::from(token)) {
+                    needs.push(Need::Look(key.0, key.1))?;
+                }
+            }
+            Rest::Neither => {}
+        }
+    }
+    Ok(needs)
+}

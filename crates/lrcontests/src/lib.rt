@@ -1,0 +1,12 @@
+//! Lists of symbols after which the conflicts of a graph's table are real by the canonical LR(1) items.
+#![tactic(auto)]
+
+mod closes;
+mod contests;
+mod places;
+mod rests;
+mod search;
+mod steps;
+mod ways;
+
+pub use crate::contests::Contests;

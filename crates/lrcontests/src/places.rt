@@ -1,0 +1,32 @@
+//! Where a search is, and what is needed there.
+
+use lrgrammar::idx::{PIdx, SIdx, StIdx, Symbol};
+
+/// What a candidate still needs of a list of symbols.
+#[derive(Clone, Copy, PartialEq, Eq, PartialOrd, Ord)]
+pub(crate) enum Need<T> {
+    /// Nothing.
+    Met,
+    /// That the item looks at the token after the list.
+    Look(PIdx<T>, SIdx<T>),
+}
+
+/// Where a search is: at a state, with what is needed for each of two candidates of a list that leads there.
+#[derive(Clone, Copy, PartialEq, Eq, PartialOrd, Ord)]
+pub(crate) struct Place<T> {
+    /// The state.
+    pub state: StIdx<T>,
+    /// What is needed for the one candidate.
+    pub first: Need<T>,
+    /// What is needed for the other candidate.
+    pub second: Need<T>,
+}
+
+/// A step of a search.
+#[derive(Clone, Copy)]
+pub(crate) struct Step<T> {
+    /// The symbol of the edge over which it goes back; None where it stays at the state.
+    pub symbol: Option<Symbol<T>>,
+    /// To where it leads.
+    pub place: Place<T>,
+}

@@ -1,0 +1,3 @@
+//! Lists after which conflicts are real.
+
+mod lists;
