@@ -3,7 +3,7 @@
 use lrgrammar::grammar::YaccGrammar;
 use lrgrammar::idx::{IndexStorage, TIdx};
 use lrtable::machine::line_tokens;
-use lrtable::{Minimiser, StateTable, from_yacc};
+use lrtable::{Minimiser, StateGraph, StateTable, from_yacc};
 use std::alloc::{AllocError, Global};
 use std::process::Abort;
 use std::test::Fail;
@@ -190,16 +190,25 @@ pub fn one_long_body(alloc: Global, length: usize) -> Result<String, AllocError>
     Ok(text)
 }
 
+/// The grammar of the text, its graph and its table.
+pub fn grammar_and_graph<T: IndexStorage>(
+    alloc: Global,
+    text: &str,
+) -> Result<(YaccGrammar<T>, StateGraph<T>, StateTable<T>), Fail> {
+    let grm = YaccGrammar::<T>::from_text(alloc, text)?;
+    match from_yacc(alloc, &grm, Minimiser::Pager) {
+        Ok((graph, table)) => Ok((grm, graph, table)),
+        Err(_) => Err(Fail::from("a table")),
+    }
+}
+
 /// The grammar of the text, and its table.
 pub fn grammar_and_table<T: IndexStorage>(
     alloc: Global,
     text: &str,
 ) -> Result<(YaccGrammar<T>, StateTable<T>), Fail> {
-    let grm = YaccGrammar::<T>::from_text(alloc, text)?;
-    match from_yacc(alloc, &grm, Minimiser::Pager) {
-        Ok((_graph, table)) => Ok((grm, table)),
-        Err(_) => Err(Fail::from("a table")),
-    }
+    let (grm, _graph, table) = grammar_and_graph(alloc, text)?;
+    Ok((grm, table))
 }
 
 /// The tokens that the words of the text name.

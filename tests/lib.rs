@@ -5,6 +5,7 @@ mod commands;
 mod contests;
 mod examples;
 mod fixtures;
+mod forms;
 mod grammars;
 mod graphs;
 mod machines;

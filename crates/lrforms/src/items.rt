@@ -1,0 +1,35 @@
+//! Items without lookaheads.
+
+use crate::rules::number_of;
+use lrgrammar::idx::{IndexStorage, PIdx, SIdx};
+
+/// A production with a dot in its body.
+#[derive(Clone, Copy, PartialEq, Eq, PartialOrd, Ord, Hash)]
+pub(crate) struct Item {
+    pub(crate) production: PIdx<u32>,
+    pub(crate) dot: SIdx<u32>,
+}
+
+impl Item {
+    /// The item by its plain numbers.
+    pub(crate) fn of<T: IndexStorage>(production: PIdx<T>, dot: SIdx<T>) -> Item {
+        Item {
+            production: PIdx(number_of(production.0)),
+            dot: SIdx(number_of(dot.0)),
+        }
+    }
+
+    /// How many symbols stand before the dot.
+    pub(crate) fn dot(&self) -> usize {
+        usize::from(self.dot)
+    }
+
+    /// The item with its dot one symbol further back; None where no symbol stands before the dot.
+    pub(crate) fn moved_back(&self) -> Option<Item> {
+        let dot = self.dot().checked_sub(1)?;
+        Some(Item {
+            production: self.production,
+            dot: SIdx(u32::try_from(dot).ok()?),
+        })
+    }
+}

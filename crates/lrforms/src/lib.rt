@@ -1,0 +1,29 @@
+//! Searches, for a conflict of a table, a form that is derived in two ways which part there, and from it a whole text with two
+//! trees. Nothing is proved of what is found: `lrambiguity` checks it.
+#![tactic(auto)]
+
+mod ambiguous;
+mod around;
+mod beginnings;
+mod brackets;
+mod costs;
+mod forms;
+mod graphs;
+mod items;
+mod nodes;
+mod queues;
+mod reading;
+mod rests;
+mod rules;
+mod searching;
+mod sentences;
+mod shared;
+mod states;
+mod statesets;
+mod texts;
+mod typed;
+mod writing;
+
+pub use crate::ambiguous::{Ambiguous, Conflict, Form, Search, Sentence, Ways};
+pub use crate::brackets::bracketed;
+pub use crate::forms::Forms;

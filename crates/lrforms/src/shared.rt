@@ -1,0 +1,60 @@
+//! What all searches in a table share, by plain numbers.
+
+use crate::beginnings::{Beginnings, Firsts};
+use crate::graphs::states_of;
+use crate::rules::Rules;
+use crate::states::States;
+use crate::texts::Texts;
+use lrgrammar::grammar::YaccGrammar;
+use lrgrammar::idx::{IndexStorage, TIdx};
+use lrtable::StateGraph;
+use std::alloc::{AllocError, Global};
+use std::cell::OnceCell;
+
+/// What all searches in a table share.
+#[derive(Drop)]
+pub(crate) struct Shared {
+    pub(crate) rules: Rules,
+    pub(crate) firsts: Firsts,
+    pub(crate) texts: Texts,
+    pub(crate) states: States,
+    /// Least texts that begin with each token, as far as they were asked for.
+    beginnings: Vec<OnceCell<Beginnings>>,
+}
+
+impl Shared {
+    /// Of a grammar and its graph.
+    pub(crate) fn new<T: IndexStorage>(
+        alloc: Global,
+        grm: &YaccGrammar<T>,
+        graph: &StateGraph<T>,
+    ) -> Result<Shared, AllocError> {
+        let rules = Rules::new(alloc, grm)?;
+        let firsts = Firsts::new(alloc, grm)?;
+        let texts = Texts::new(alloc, &rules)?;
+        let states = States::new(alloc, &rules, states_of(alloc, &rules, graph)?.as_slice())?;
+        let mut beginnings = Vec::new(alloc);
+        beginnings.resize_with(usize::from(grm.tokens_len()), || OnceCell::new())?;
+        Ok(Shared {
+            rules,
+            firsts,
+            texts,
+            states,
+            beginnings,
+        })
+    }
+
+    /// Least texts that begin with a token; None where there is no such token.
+    pub(crate) fn beginnings(&self, token: TIdx<u32>) -> Result<Option<&Beginnings>, AllocError> {
+        let Some(cell) = self.beginnings.get(usize::from(token)) else {
+            return Ok(None);
+        };
+        if let Some(beginnings) = cell.get() {
+            return Ok(Some(beginnings));
+        }
+        let alloc = *self.beginnings.allocator();
+        let made = Beginnings::new(alloc, &self.rules, &self.firsts, &self.texts, token)?;
+        let _ = cell.set(made);
+        Ok(cell.get())
+    }
+}

@@ -1,0 +1,268 @@
+//! What is asked of a state graph.
+
+use crate::graphs::State;
+use crate::items::Item;
+use crate::rules::Rules;
+use lrgrammar::idx::{PIdx, RIdx, SIdx, StIdx, Symbol};
+use std::alloc::{AllocError, Global};
+use std::collections::BTreeMap;
+
+/// The start state.
+pub(crate) const START: StIdx<u32> = StIdx(0);
+
+/// An item of a closed state before a rule, by its place among all items before that rule.
+#[derive(Clone, Copy, PartialEq, Eq, PartialOrd, Ord)]
+pub(crate) struct Caller {
+    rule: RIdx<u32>,
+    pub(crate) place: usize,
+}
+
+/// The last edge on a shortest way from the start state.
+#[derive(Clone, Copy)]
+struct Arrival {
+    from: StIdx<u32>,
+    symbol: Symbol<u32>,
+    length: usize,
+}
+
+/// A shortest way from the start state: its states, the start state first, and the symbols between them.
+#[derive(Drop)]
+pub(crate) struct Way {
+    pub(crate) states: Vec<StIdx<u32>>,
+    pub(crate) symbols: Vec<Symbol<u32>>,
+}
+
+/// What is asked of a state graph.
+#[derive(Drop)]
+pub(crate) struct States {
+    /// For each state the states upwards from which an edge leads to it.
+    before: Vec<Vec<StIdx<u32>>>,
+    /// For each rule the items that stand before it, upwards.
+    uses: Vec<Vec<Item>>,
+    /// For each state its items before rules, upwards by rule.
+    callers: Vec<Vec<Caller>>,
+    /// How shortest ways come to the states; none leads to the start state.
+    arrivals: Vec<Option<Arrival>>,
+    /// For each state the number of the states that have the same items in their cores.
+    cores: Vec<usize>,
+    /// By that number, these states.
+    alike: Vec<Vec<StIdx<u32>>>,
+}
+
+impl States {
+    /// Of the states of a graph of the grammar.
+    pub(crate) fn new(alloc: Global, rules: &Rules, graph: &[State]) -> Result<States, AllocError> {
+        let mut states = States {
+            before: Vec::new(alloc),
+            uses: uses_of_rules(alloc, rules)?,
+            callers: Vec::new(alloc),
+            arrivals: Vec::from_elem(alloc, None, graph.len())?,
+            cores: Vec::new(alloc),
+            alike: Vec::new(alloc),
+        };
+        states.before.resize_with(graph.len(), || Vec::new(alloc))?;
+        for (number, state) in graph.iter().enumerate() {
+            if let Ok(number) = u32::try_from(number) {
+                states.add_edges(StIdx(number), state)?;
+            }
+            states.add_callers(rules, state)?;
+        }
+        states.add_cores(alloc, graph)?;
+        states.find_ways(alloc, graph)?;
+        Ok(states)
+    }
+
+    /// Tells the states to which edges of this one lead.
+    fn add_edges(&mut self, from: StIdx<u32>, state: &State) -> Result<(), AllocError> {
+        for edge in &state.edges {
+            if let Some(before) = self.before.get_mut(usize::from(edge.to)) {
+                before.push(from)?;
+            }
+        }
+        Ok(())
+    }
+
+    /// Adds the items before rules of the next state.
+    fn add_callers(&mut self, rules: &Rules, state: &State) -> Result<(), AllocError> {
+        let mut callers = Vec::new(*self.callers.allocator());
+        for item in &state.before_rules {
+            if let Some(Symbol::Rule(rule)) = rules.symbol(*item) {
+                if let Ok(place) = self.uses(rule).binary_search(item) {
+                    callers.push(Caller { rule, place })?;
+                }
+            }
+        }
+        callers.sort_unstable();
+        self.callers.push(callers)?;
+        Ok(())
+    }
+
+    /// Finds out which states are alike.
+    fn add_cores(&mut self, alloc: Global, graph: &[State]) -> Result<(), AllocError> {
+        let mut numbers = BTreeMap::new(alloc);
+        for state in graph {
+            let core = state.core.as_slice();
+            let number = match numbers.get(core) {
+                Some(number) => *number,
+                None => {
+                    let number = numbers.len();
+                    numbers.insert(state.core.clone()?, number)?;
+                    self.alike.push(Vec::new(alloc))?;
+                    number
+                }
+            };
+            self.add_alike(number)?;
+        }
+        Ok(())
+    }
+
+    /// Adds the next state to those with this number.
+    fn add_alike(&mut self, number: usize) -> Result<(), AllocError> {
+        let state = self.cores.len();
+        self.cores.push(number)?;
+        if let (Ok(state), Some(alike)) = (u32::try_from(state), self.alike.get_mut(number)) {
+            alike.push(StIdx(state))?;
+        }
+        Ok(())
+    }
+
+    /// Finds shortest ways to all states.
+    fn find_ways(&mut self, alloc: Global, graph: &[State]) -> Result<(), AllocError> {
+        let mut reached = vec![in alloc; START]?;
+        for place in 0..graph.len() {
+            let Some(from) = reached.get(place).copied() else {
+                break;
+            };
+            if let Some(state) = graph.get(usize::from(from)) {
+                self.go_on(&mut reached, from, state)?;
+            }
+        }
+        Ok(())
+    }
+
+    /// Goes on from a state that is reached to those that are not yet.
+    fn go_on(
+        &mut self,
+        reached: &mut Vec<StIdx<u32>>,
+        from: StIdx<u32>,
+        state: &State,
+    ) -> Result<(), AllocError> {
+        let length = self.length(from).saturating_add(1);
+        for edge in &state.edges {
+            if let Some(arrival) = self.arrivals.get_mut(usize::from(edge.to)) {
+                if arrival.is_none() && edge.to != START {
+                    *arrival = Some(Arrival {
+                        from,
+                        symbol: edge.symbol,
+                        length,
+                    });
+                    reached.push(edge.to)?;
+                }
+            }
+        }
+        Ok(())
+    }
+
+    /// How a shortest way comes to the state.
+    fn arrival(&self, state: StIdx<u32>) -> Option<Arrival> {
+        self.arrivals.get(usize::from(state)).copied().flatten()
+    }
+
+    /// How long a shortest way to the state is.
+    pub(crate) fn length(&self, state: StIdx<u32>) -> usize {
+        match self.arrival(state) {
+            Some(arrival) => arrival.length,
+            None => 0,
+        }
+    }
+
+    /// A shortest way to the state.
+    pub(crate) fn way(&self, alloc: Global, state: StIdx<u32>) -> Result<Way, AllocError> {
+        let mut states = vec![in alloc; state]?;
+        let mut symbols = Vec::new(alloc);
+        let mut last = state;
+        for _ in 0..self.arrivals.len() {
+            let Some(arrival) = self.arrival(last) else {
+                break;
+            };
+            last = arrival.from;
+            states.push(last)?;
+            symbols.push(arrival.symbol)?;
+        }
+        states.as_mut_slice().reverse();
+        symbols.as_mut_slice().reverse();
+        Ok(Way { states, symbols })
+    }
+
+    /// The states upwards from which an edge leads to the state.
+    pub(crate) fn before(&self, state: StIdx<u32>) -> &[StIdx<u32>] {
+        match self.before.get(usize::from(state)) {
+            Some(before) => before.as_slice(),
+            None => &[],
+        }
+    }
+
+    /// All items that stand before the rule, upwards.
+    pub(crate) fn uses(&self, rule: RIdx<u32>) -> &[Item] {
+        match self.uses.get(usize::from(rule)) {
+            Some(items) => items.as_slice(),
+            None => &[],
+        }
+    }
+
+    /// The items of the state that stand before the rule, upwards.
+    pub(crate) fn callers(&self, state: StIdx<u32>, rule: RIdx<u32>) -> &[Caller] {
+        let Some(callers) = self.callers.get(usize::from(state)) else {
+            return &[];
+        };
+        let callers = callers.as_slice();
+        let start = callers.partition_point(|caller| caller.rule < rule);
+        let end = callers.partition_point(|caller| caller.rule <= rule);
+        match callers.get(start..end) {
+            Some(callers) => callers,
+            None => &[],
+        }
+    }
+
+    /// The states upwards whose cores have the same items as that of the state.
+    pub(crate) fn alike(&self, state: StIdx<u32>) -> &[StIdx<u32>] {
+        let Some(number) = self.cores.get(usize::from(state)) else {
+            return &[];
+        };
+        match self.alike.get(*number) {
+            Some(states) => states.as_slice(),
+            None => &[],
+        }
+    }
+}
+
+/// For each rule the items that stand before it, upwards.
+fn uses_of_rules(alloc: Global, rules: &Rules) -> Result<Vec<Vec<Item>>, AllocError> {
+    let mut uses = Vec::new(alloc);
+    uses.resize_with(rules.len(), || Vec::new(alloc))?;
+    for number in 0..rules.productions_len() {
+        if let Ok(number) = u32::try_from(number) {
+            add_uses(&mut uses, rules, PIdx(number))?;
+        }
+    }
+    Ok(uses)
+}
+
+/// Adds the items of a production that stand before rules.
+fn add_uses(
+    uses: &mut Vec<Vec<Item>>,
+    rules: &Rules,
+    production: PIdx<u32>,
+) -> Result<(), AllocError> {
+    for (place, symbol) in rules.body(production).iter().enumerate() {
+        if let (Symbol::Rule(rule), Ok(dot)) = (*symbol, u32::try_from(place)) {
+            if let Some(items) = uses.get_mut(usize::from(rule)) {
+                items.push(Item {
+                    production,
+                    dot: SIdx(dot),
+                })?;
+            }
+        }
+    }
+    Ok(())
+}
