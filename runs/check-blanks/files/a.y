@@ -1,0 +1,7 @@
+%token A,BC/* one /* two */D// three
+%token E /* four
+// */ , F
+%%
+a:	A,B C
+D// five */
+E F;

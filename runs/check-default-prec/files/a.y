@@ -1,0 +1,5 @@
+%left '+'
+%no-default-prec
+%%
+e: e '+' e | 'x';
+%default-prec;

@@ -1,0 +1,5 @@
+%define api.pure
+%error-verbose %error_verbose
+%pure-parser %pure_parser
+%%
+a: 'x';

@@ -1,0 +1,3 @@
+%token E 0 "eof"
+%%
+a: 'x' E | a 'x' "eof";

@@ -1,0 +1,3 @@
+%left E 0 "eof"
+%%
+a: a 'x' | 'x' E;

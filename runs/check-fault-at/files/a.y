@@ -1,0 +1,3 @@
+@REENTRANT@
+%%
+a: 'x';

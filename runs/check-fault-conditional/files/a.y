@@ -1,0 +1,6 @@
+%token A
+%ifdef B
+%token C
+%endif
+%%
+a: A;

@@ -1,0 +1,3 @@
+%token A "one \q"
+%%
+a: A;

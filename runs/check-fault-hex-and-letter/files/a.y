@@ -1,0 +1,3 @@
+%token A 0x4g
+%%
+a: A;

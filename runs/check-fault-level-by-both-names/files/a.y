@@ -1,0 +1,5 @@
+%left A
+%right "a"
+%token A "a"
+%%
+a: A;

@@ -1,0 +1,3 @@
+%token END RUBY_TOKEN(END)
+%%
+a: END;

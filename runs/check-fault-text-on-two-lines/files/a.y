@@ -1,0 +1,4 @@
+%token A "one\
+two"
+%%
+a: A;

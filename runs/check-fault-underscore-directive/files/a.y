@@ -1,0 +1,3 @@
+%glr_parser
+%%
+a: 'x';

@@ -1,0 +1,3 @@
+%token A "one \0"
+%%
+a: A;

@@ -1,0 +1,5 @@
+%%
+a: b "x" | c A | b B | c B;
+b: ;
+c: ;
+%token B A "x";

@@ -1,0 +1,6 @@
+%token A
+%start s t
+%token B
+%%
+s: A t | ;
+t: B s;
