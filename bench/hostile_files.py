@@ -3,19 +3,23 @@
 
     hostile_files.py LRCHECK FILE..
 
-Of each FILE, a grammar file as it stands: beginnings up to lexemes; copies with a few bytes changed; with a brace, a quote or a
-mark of a comment taken away; with a lexeme taken away, and with one doubled. Then odd texts, and large ones, each at one length
-and at half of it. With status 2 each line of the answer is a fault with a place inside the file, or shows a line of it; with
-status 0 or 1 it is one verdict. What `lrcheck` refuses and Bison accepts is listed, and the other way round, by the words of
-both; of the copies a part is shown to Bison. So is where both accept and count other conflicts, though Bison makes the IELR
-automaton. Ends with status 1 where a call did not end well.
+Of each FILE, a grammar file as it stands: every beginning up to a lexeme, and up to drawn bytes within lexemes; each of these
+with a brace, a quote or a mark of a comment taken away; copies with a few bytes changed; with such a mark or a lexeme taken
+away, or a lexeme doubled. Then odd texts, and large ones, each at one length and at half of it. With status 2 each line of the
+answer is a fault with a place inside the file, or shows a line of it; with status 0 or 1 it is one verdict. What `lrcheck`
+refuses and Bison accepts is listed, and the other way round, by the words of both; of the copies a part is shown to Bison. So
+is where both accept and count other conflicts, though Bison makes the IELR automaton. Ends with status 1 where a text was not
+answered well.
 
-Needs Bison 3.8.2; what it writes goes to a temporary folder. Two calls are made at a time. The drawn bytes are the same in each
-run.
+Needs Bison 3.8.2; what it writes goes to a temporary folder. Two calls are made at a time. A call gets several texts, as files,
+in the time that one is allowed; unless all their answers are as they should be, each text gets a call of its own. What is drawn
+is the same in each run.
 """
 
 import argparse
+import bisect
 import collections
+import functools
 import os
 import random
 import re
@@ -31,13 +35,18 @@ PROCESSES = 2
 SECONDS = 2
 SECONDS_OF_LARGE = 10
 SECONDS_AT_MOST = 60  # After so many, whatever else the machine does, a call is ended.
-COPIES = 300  # Of each kind but changed bytes, of each file.
+TEXTS = 40  # In one call.
+DRAWN = 1000  # Places within lexemes up to which a beginning reaches.
+COPIES = 300  # Of each kind but changed bytes and beginnings, of each file.
 CHANGED = 1000
 COMPARED = 50  # Of each kind, of each file, unless another number is asked for.
 LEXEME = re.compile(
     rb"/\*.*?\*/|//[^\n]*|%[\w-]+|[\w.]+|'(?:\\.|[^'\\\n])*'|\"(?:\\.|[^\"\\\n])*\"|\s+|.", re.DOTALL
 )
 MARK = re.compile(rb"%\{|%\}|/\*|\*/|//|[{}'\"<>\[\]]")
+BRACE = re.compile(rb"%\{|%\}|[{}]")
+QUOTE = re.compile(rb"['\"]")
+MARK_OF_COMMENT = re.compile(rb"/\*|\*/|//")
 BYTES = b"%'\":;|/*{}<>[]\\$@#\n\r\t \x00\x7f\x80\xc3\xff" + b"azAZ09._-=,&"
 VERDICT = re.compile(
     r"(unambiguous \(proved\): no text has two trees|no conflicts"
@@ -109,6 +118,31 @@ def faults_of(answer, name):
     return faults, others
 
 
+def parts_of(answer, names):
+    """What an answer says of each of these files, as answers; None where that is not clear. Each has the time of all."""
+    head = re.compile(rb"(\d+\.y):")
+    lines = {name: [] for name in names}
+    name = None
+    for line in answer.text.split(b"\n")[:-1]:
+        found = head.match(line)
+        name = found[1].decode() if found else name
+        if name not in lines:
+            return None
+        lines[name].append(line + b"\n")
+    parts = {name: b"".join(of_file) for name, of_file in lines.items()}
+    statuses = {name: status_of(text, name) for name, text in parts.items()}
+    if answer.status != max(statuses.values()):
+        return None
+    return {name: Answer(statuses[name], text, answer.seconds) for name, text in parts.items()}
+
+
+def status_of(text, name):
+    """The status that a call with this answer to one file should end with."""
+    if re.match(rb"%s:\d+:\d+: error: " % re.escape(name.encode()), text):
+        return 2
+    return 0 if re.search(rb": (unambiguous|no conflicts|as expected: )", text) else 1
+
+
 def trouble(answer, name, text, seconds):
     """What is wrong with an answer; None if nothing is."""
     if answer.status not in (0, 1, 2):
@@ -176,7 +210,7 @@ class Judge:
         self.program = program
         self.folder = Path(folder)
         self.troubles = []
-        self.calls = 0
+        self.texts = 0
         self.compared = 0
         self.differences = collections.defaultdict(list)
         self.numbers = iter(range(sys.maxsize))
@@ -197,7 +231,7 @@ class Judge:
             print(f"WRONG: {title}: {wrong}", flush=True)
         if is_compared:
             self.compare(title, path, answer)
-        self.calls += 1
+        self.texts += 1
         path.unlink()
         return answer.seconds
 
@@ -209,6 +243,21 @@ class Judge:
             if written != path:
                 written.unlink()
         return answer
+
+    def check_together(self, copies):
+        """Checks titled texts, told whether Bison gets them, in one call, and answers the seconds that `lrcheck` took."""
+        texts = {self.file(text): (title, text, is_compared) for title, text, is_compared in copies}
+        names = [path.name for path in texts]
+        answer = called([self.program, "--summary", *names], self.folder)
+        parts = parts_of(answer, names)
+        is_well = parts and not any(trouble(parts[path.name], path.name, text, SECONDS) for path, (_, text, _) in texts.items())
+        seconds = answer.seconds if is_well else max(self.check(*copy) for copy in copies)
+        for path, (title, _, is_compared) in texts.items():
+            if is_well and is_compared:
+                self.compare(title, path, parts[path.name])
+            path.unlink()
+        self.texts += len(texts) if is_well else 0
+        return seconds
 
     def compare(self, title, path, answer):
         """Compares an answer with that of Bison."""
@@ -225,15 +274,17 @@ class Judge:
                 )
 
     def check_all(self, kind, copies, compared):
-        """Checks titled texts, and shows so many of them to Bison."""
+        """Checks titled texts, of which each comes in pieces, and shows so many of them to Bison."""
         copies = list(copies)
         step = max(1, len(copies) // compared)
+
+        def check_from(start):
+            numbered = enumerate(copies[start : start + TEXTS], start)
+            return self.check_together([(title, b"".join(pieces), at % step == 0) for at, (title, pieces) in numbered])
+
         with ThreadPoolExecutor(PROCESSES) as pool:
-            calls = [
-                pool.submit(self.check, title, text, at % step == 0) for at, (title, text) in enumerate(copies)
-            ]
-            slowest = max((call.result() for call in calls), default=0)
-        print(f"{kind}: {len(copies)} texts, the slowest in {slowest:.2f} s", flush=True)
+            slowest = max(pool.map(check_from, range(0, len(copies), TEXTS)), default=0)
+        print(f"{kind}: {len(copies)} texts, the slowest {min(TEXTS, len(copies))} in {slowest:.2f} s", flush=True)
 
 
 def sample(places, most):
@@ -249,9 +300,29 @@ def place(text, at):
     return f"line {line} byte {at}"
 
 
+def ends(name, text):
+    """The places up to which beginnings reach: each at which a lexeme begins, and drawn ones within lexemes."""
+    starts = {found.start() for found in LEXEME.finditer(text)}
+    others = [at for at in range(len(text)) if at not in starts]
+    return sorted(starts.union(random.Random(name).sample(others, min(DRAWN, len(others)))))
+
+
 def beginnings(name, text):
-    for found in sample(LEXEME.finditer(text), COPIES):
-        yield f"{name} up to {place(text, found.start())}", text[: found.start()]
+    view = memoryview(text)
+    for end in ends(name, text):
+        yield f"{name} up to {place(text, end)}", (view[:end],)
+
+
+def beginnings_without(mark, name, text):
+    """Beginnings, from each of which a drawn one of these marks is taken away; those that have none are left out."""
+    view, draw = memoryview(text), random.Random(name)
+    marks = [found.span() for found in mark.finditer(text)]
+    for end in ends(name, text):
+        within = bisect.bisect_right(marks, end, key=lambda span: span[1])
+        if within:
+            at, behind = marks[draw.randrange(within)]
+            title = f"{name} up to {place(text, end)} without {text[at:behind]!r} at {place(text, at)}"
+            yield title, (view[:at], view[behind:end])
 
 
 def changed(name, text):
@@ -262,12 +333,12 @@ def changed(name, text):
             at = draw.randrange(len(text))
             copy[at] = draw.choice(BYTES)
             told.append(f"{place(text, at)} {bytes([copy[at]])!r}")
-        yield f"{name} with {', '.join(told)}", bytes(copy)
+        yield f"{name} with {', '.join(told)}", (bytes(copy),)
 
 
 def without_marks(name, text):
     for found in sample(MARK.finditer(text), COPIES):
-        yield f"{name} without {found[0]!r} at {place(text, found.start())}", text[: found.start()] + text[found.end() :]
+        yield f"{name} without {found[0]!r} at {place(text, found.start())}", (text[: found.start()], text[found.end() :])
 
 
 def lexemes_but_blanks(text):
@@ -277,19 +348,22 @@ def lexemes_but_blanks(text):
 
 def without_lexemes(name, text):
     for found in sample(lexemes_but_blanks(text), COPIES):
-        yield f"{name} without {found[0][:20]!r} at {place(text, found.start())}", text[: found.start()] + text[found.end() :]
+        yield f"{name} without {found[0][:20]!r} at {place(text, found.start())}", (text[: found.start()], text[found.end() :])
 
 
 def with_doubled_lexemes(name, text):
     for found in sample(lexemes_but_blanks(text), COPIES):
         yield (
             f"{name} with {found[0][:20]!r} twice at {place(text, found.start())}",
-            text[: found.end()] + b" " + text[found.start() :],
+            (text[: found.end()], b" ", text[found.start() :]),
         )
 
 
 COPIES_OF_FILES = {
     "beginnings": beginnings,
+    "beginnings without a brace": functools.partial(beginnings_without, BRACE),
+    "beginnings without a quote": functools.partial(beginnings_without, QUOTE),
+    "beginnings without a mark of a comment": functools.partial(beginnings_without, MARK_OF_COMMENT),
     "changed bytes": changed,
     "marks taken away": without_marks,
     "lexemes taken away": without_lexemes,
@@ -915,7 +989,7 @@ def main():
 
 def check_copies(judge, files, compared):
     """Checks odd texts, and copies of files, of which Bison gets so many of each kind."""
-    judge.check_all("odd texts", ((repr(text), text) for text in ODD), len(ODD))
+    judge.check_all("odd texts", ((repr(text), (text,)) for text in ODD), len(ODD))
     for path in files:
         text = path.read_bytes()
         for kind, copies in COPIES_OF_FILES.items():
@@ -935,7 +1009,7 @@ def check_large(judge, word):
 
 def tell(judge):
     """Tells of all calls, and answers the status to end with."""
-    print(f"\n{judge.calls} calls, {len(judge.troubles)} of which did not end well; {judge.compared} were shown to Bison")
+    print(f"\n{judge.texts} texts, {len(judge.troubles)} of which did not end well; {judge.compared} were shown to Bison")
     passed_over = 0
     for (ours, theirs), titles in sorted(judge.differences.items(), key=lambda item: -len(item[1])):
         if ours is None and OF_NO_GRAMMAR.search(theirs):
