@@ -6,3 +6,5 @@ pub mod Sublists
 pub mod ProductionPlaces
 -- what is told of a file
 pub mod Told
+-- precedence lines, and the precedences of tokens
+pub mod Levels

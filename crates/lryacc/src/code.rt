@@ -48,8 +48,8 @@ pub(crate) struct CodeReader {
     escape: Escape,
     /// The byte before, where it may still make a mark of two bytes with the next one.
     before: Option<u8>,
-    /// How many braces are open.
-    depth: usize,
+    /// How many more braces were opened than closed. It is less than none behind a `%>` too many, which ends no code.
+    depth: isize,
     /// Where the quote or comment in hand was opened.
     opened: usize,
 }
@@ -106,16 +106,14 @@ impl CodeReader {
         Step::On
     }
 
-    /// Closes a brace.
-    fn close_brace(&mut self) -> Step {
+    /// Closes a brace by this byte, that of `}` or the last one of `%>`.
+    fn close_brace(&mut self, byte: u8) -> Step {
         self.before = None;
-        match self.depth.checked_sub(1) {
-            Some(depth) => {
-                self.depth = depth;
-                Step::On
-            }
-            None if self.ending == Ending::Brace => Step::Ends,
-            None => Step::On,
+        self.depth = self.depth.saturating_sub(1);
+        if byte == b'}' && self.depth < 0 && self.ending == Ending::Brace {
+            Step::Ends
+        } else {
+            Step::On
         }
     }
 
@@ -136,10 +134,10 @@ impl CodeReader {
                 Step::On
             }
             (Some(b'<'), b'%') => self.open_brace(),
-            (Some(b'%'), b'>') => self.close_brace(),
+            (Some(b'%'), b'>') => self.close_brace(byte),
             (Some(b'%'), b'}') if self.ending == Ending::PrologueMark => Step::Ends,
             (_, b'{') => self.open_brace(),
-            (_, b'}') => self.close_brace(),
+            (_, b'}') => self.close_brace(byte),
             (_, b'\'' | b'"') => self.open(Within::Quotes(byte), at),
             _ => {
                 self.before = Some(byte);

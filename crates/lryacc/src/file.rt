@@ -60,7 +60,8 @@ fn contents(
 
 /// The faults in the order of their places, one at each, with places in the text.
 fn in_order(alloc: Global, text: &[u8], faults: &[Fault]) -> Result<Vec<Fault>, AllocError>
-    ensures inside { IfOk result (λ ordered. All (λ fault. IsInside fault.span text.now) ordered.items) }
+    ensures inside { IfOk result (λ ordered.
+        All (λ fault. IsInside fault.span text.now) ordered.items) }
     ensures some { IfOk result (λ ordered. 0 < length faults.now → 0 < vec_len ordered) }
 {
     let mut by_place = BTreeMap::new(alloc);

@@ -13,7 +13,7 @@ enum Within {
     Gap,
     /// What begins with the `/` at this place.
     Slash(usize),
-    /// A comment up to the end of its line, or a line that begins with `#line`.
+    /// A comment up to the end of its line, or a line that numbers the next one by `#line`.
     Line,
     /// The comment up to `*/` that begins at this place; whether the byte before is `*`.
     Block(usize, bool),
@@ -28,12 +28,70 @@ fn is_blank(byte: u8, dialect: Dialect) -> bool {
     }
 }
 
-/// Whether a line that begins with `#line` begins at the place.
+/// How much of a line was read behind `#line ` with its blank.
+#[derive(Clone, Copy)]
+enum LineNumber {
+    /// Nothing.
+    Begun,
+    /// Digits.
+    Number,
+    /// A number and a blank.
+    Blank,
+    /// A number and a name in quotes, which the last byte does not close.
+    Name,
+    /// A number and a name in quotes.
+    Closed,
+    /// All of it, and a carriage return.
+    Return,
+}
+
+impl LineNumber {
+    /// What was read with the next byte; None where the line is none that numbers the next one.
+    fn and(self, byte: u8) -> Option<LineNumber> {
+        Some(match (self, byte) {
+            (LineNumber::Begun | LineNumber::Number, b'0'..=b'9') => LineNumber::Number,
+            (LineNumber::Number, b' ') => LineNumber::Blank,
+            (LineNumber::Number | LineNumber::Closed, b'\r') => LineNumber::Return,
+            (LineNumber::Name | LineNumber::Closed, b'"') => LineNumber::Closed,
+            (LineNumber::Blank, b'"') => LineNumber::Name,
+            (LineNumber::Name | LineNumber::Closed, _) => LineNumber::Name,
+            _ => return None,
+        })
+    }
+
+    /// Whether the line may end here.
+    fn is_whole(self) -> bool {
+        matches!(
+            self,
+            LineNumber::Number | LineNumber::Closed | LineNumber::Return
+        )
+    }
+}
+
+/// Whether a line goes on behind `#line ` with a number, and maybe a name in quotes, up to its end.
+fn numbers_line(rest: &[u8]) -> bool {
+    let mut read = LineNumber::Begun;
+    for byte in rest {
+        if *byte == b'\n' {
+            return read.is_whole();
+        }
+        match read.and(*byte) {
+            Some(next) => read = next,
+            None => return false,
+        }
+    }
+    false
+}
+
+/// Whether a line that numbers the next one by `#line` begins at the place.
 fn is_line_mark(text: &[u8], at: usize) -> bool
     requires { at ≤ length text.now }
 {
     let begins = at == 0 || text[at - 1] == b'\n';
-    begins && text[at..].starts_with(b"#line ")
+    match text[at..].strip_prefix(b"#line ") {
+        Some(rest) => begins && numbers_line(rest),
+        None => false,
+    }
 }
 
 /// What the byte at a place behind a gap brings; None where a lexeme begins with it.
@@ -52,6 +110,20 @@ fn begun(text: &[u8], at: usize, byte: u8, dialect: Dialect) -> Option<Within>
 fn fault_at(kind: FaultKind, start: usize, end: usize) -> Fault {
     let span = Span::new(start, end);
     Fault { kind, span }
+}
+
+/// The place behind the blanks from `from` on.
+pub(crate) fn blanks_end(text: &[u8], from: usize) -> usize
+    requires { from ≤ length text.now }
+    ensures from { from ≤ result }
+    ensures inside { result ≤ length text.now }
+{
+    for at in from..text.len() {
+        if !matches!(text[at], b' ' | b'\t' | b'\n' | 0x0b | 0x0c | b'\r') {
+            return at;
+        }
+    }
+    text.len()
 }
 
 /// The place from `from` on at which a lexeme begins, or the text's length if none does.

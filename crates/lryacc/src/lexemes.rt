@@ -5,7 +5,7 @@ ghost use Rattle.std.specs.Prelude.{◌+◌, ◌<◌, ◌≤◌, length, IfOk};
 use crate::code::{Ending, code_end};
 use crate::dialects::Dialect;
 use crate::faults::{Fault, FaultKind};
-use crate::gaps::gap_end;
+use crate::gaps::{blanks_end, gap_end};
 use crate::places::Span;
 use crate::quotes::{between_quotes, character};
 
@@ -207,11 +207,12 @@ fn behind_percent(text: &[u8], from: usize) -> Result<(LexemeKind, usize), Fault
         b'%' => Ok((LexemeKind::Separator, from + 2)),
         b'{' => code(text, from, 2, LexemeKind::Prologue, Ending::PrologueMark),
         b'?' => {
-            let brace = gap_end(text, from + 2, Dialect::Bison)?;
+            let brace = blanks_end(text, from + 2);
             if text.get(brace) != Some(&b'{') {
                 return Err(invalid(from));
             }
-            code(text, brace, 1, LexemeKind::Predicate, Ending::Brace)
+            let mark = brace + 1 - from;
+            code(text, from, mark, LexemeKind::Predicate, Ending::Brace)
         }
         b'<' | b'>' | b'0' | b'2' => Ok((LexemeKind::Directive, from + 2)),
         byte if is_name_start(byte) => Ok((LexemeKind::Directive, name_end(text, from + 1))),

@@ -300,7 +300,7 @@ impl<'a> Meaning<'a> {
         if self.class(one) == Class::Rule {
             return self.tell(FaultKind::NameOfRule, text.span);
         }
-        if self.partner(one).is_none() && self.partner(other).is_none() && one != other {
+        if !self.has_text(one) && self.partner(other).is_none() && one != other {
             let class = self.class(one);
             self.set_partner(one, other, class);
             self.set_partner(other, one, class);
@@ -310,6 +310,13 @@ impl<'a> Meaning<'a> {
             return Ok(());
         }
         self.warn(FaultKind::SecondName, text.span)
+    }
+
+    /// Whether a symbol has another name already, as `error` and `YYUNDEF` have for Bison.
+    fn has_text(&self, number: usize) -> bool {
+        let is_error = self.symbols.find_name(b"error") == Some(number);
+        let is_undefined = self.symbols.find_name(b"YYUNDEF") == Some(number);
+        is_error || is_undefined || self.partner(number).is_some()
     }
 
     /// The symbol that is the other name of a symbol.

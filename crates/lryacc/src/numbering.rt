@@ -1,6 +1,7 @@
 //! The parts of the grammar of a file, with their places.
 
-ghost use Rattle.std.specs.Prelude.{◌≡◌, [], ◌∷◌, ◌++◌, map, flat_map, IfOk, OnOk};
+ghost use Rattle.std.specs.Prelude.{◌≡◌, ◌-◌, [], ◌∷◌, ◌++◌, map, flat_map, slice_get, IfOk, OnOk, IfSome, IsSomeAnd};
+ghost use Rattle.lryacc.specs.Levels.{IsOfLine, group_of, line_of};
 ghost use Rattle.lryacc.specs.ProductionPlaces.{Adds, ArePlaced, IsPlaced, action_places, body_places};
 ghost use Rattle.lryacc.specs.ProductionPlaces.{file_places, parts_before_last, start_rules_of};
 
@@ -109,7 +110,9 @@ struct Numbering<'m, 'a> {
 }
 
 /// How tokens of a level group, in a grammar. Those of `%precedence` stand in a level by themselves.
-fn kind_of(kind: LevelKind) -> AssocKind {
+fn kind_of(kind: LevelKind) -> AssocKind
+    ensures { result ≡ group_of kind }
+{
     match kind {
         LevelKind::Left => AssocKind::Left,
         LevelKind::Right => AssocKind::Right,
@@ -166,7 +169,9 @@ impl<'m, 'a> Numbering<'m, 'a> {
     }
 
     /// A symbol of the file.
-    fn known(&self, number: usize) -> Option<Symbol> {
+    fn known(&self, number: usize) -> Option<Symbol>
+        ensures { result ≡ slice_get self.now.meaning.now.symbols.list.items number }
+    {
         self.meaning.symbols.list.get(number).copied()
     }
 
@@ -233,7 +238,9 @@ impl<'m, 'a> Numbering<'m, 'a> {
     }
 
     /// The level of a token, by either of its names.
-    fn level(&self, number: usize) -> Option<usize> {
+    fn level(&self, number: usize) -> Option<usize>
+        ensures { result ≡ line_of self.now.meaning.now.symbols.list.items number }
+    {
         let symbol = self.known(number)?;
         let level = match symbol.level {
             Some(level) => Some(level),
@@ -243,12 +250,19 @@ impl<'m, 'a> Numbering<'m, 'a> {
     }
 
     /// How the tokens of a level group.
-    fn level_kind(&self, level: usize) -> Option<LevelKind> {
+    fn level_kind(&self, level: usize) -> Option<LevelKind>
+        ensures { IfSome result (λ kind.
+            slice_get self.now.meaning.now.levels.items (level - 1) ≡ Some kind) }
+    {
         self.meaning.levels.get(level.checked_sub(1)?).copied()
     }
 
     /// The precedence of a token: levels are twice as many as in the file, so that there is one below each.
-    fn precedence(&self, number: usize) -> Option<Precedence> {
+    fn precedence(&self, number: usize) -> Option<Precedence>
+        ensures { IfSome result (λ precedence.
+            IsSomeAnd (line_of self.now.meaning.now.symbols.list.items number) (λ line.
+            IsOfLine self.now.meaning.now.levels.items line precedence)) }
+    {
         let level = self.level(number)?;
         let kind = self.level_kind(level)?;
         Some(Precedence {
@@ -424,7 +438,8 @@ impl<'m, 'a> Numbering<'m, 'a> {
         productions: &mut Productions,
         alternative: &Alternative,
     ) -> Result<(), AllocError>
-        ensures { OnOk result (Adds productions.old productions.new (action_places (parts_before_last alternative.now))) }
+        ensures { OnOk result (Adds productions.old productions.new
+            (action_places (parts_before_last alternative.now))) }
     {
         let alloc = self.allocator();
         for part in before_last(alternative) {
@@ -523,7 +538,8 @@ impl<'m, 'a> Numbering<'m, 'a> {
         productions: &mut Productions,
         alternatives: &[Alternative],
     ) -> Result<(), AllocError>
-        ensures { OnOk result (Adds productions.old productions.new (flat_map body_places alternatives.now)) }
+        ensures { OnOk result (Adds productions.old productions.new
+            (flat_map body_places alternatives.now)) }
     {
         for alternative in alternatives {
             self.add_alternative(productions, alternative)?;
@@ -558,7 +574,8 @@ impl<'m, 'a> Numbering<'m, 'a> {
 
     /// Adds the productions of `$accept`.
     fn add_starts(&self, productions: &mut Productions, starts: &[Lexeme]) -> Result<(), AllocError>
-        ensures { OnOk result (Adds productions.old productions.new (map (λ start. start.span) starts.now)) }
+        ensures { OnOk result (Adds productions.old productions.new
+            (map (λ start. start.span) starts.now)) }
     {
         for (at, start) in starts.iter().enumerate() {
             self.add_start(productions, *start, self.marks.get(at).copied())?;
@@ -589,7 +606,8 @@ fn start_rules(
     meaning: &Meaning<'_>,
     alternatives: &[Alternative],
 ) -> Result<Vec<Lexeme>, AllocError>
-    ensures { IfOk result (λ rules. rules.items ≡ start_rules_of meaning.now.starts.items alternatives.now) }
+    ensures { IfOk result (λ rules.
+        rules.items ≡ start_rules_of meaning.now.starts.items alternatives.now) }
 {
     let mut starts = Vec::from_slice(alloc, meaning.starts.as_slice())?;
     if starts.is_empty() {

@@ -24,6 +24,19 @@ fn digits(text: &[u8], from: usize, most: usize, radix: u32) -> (u32, usize)
     (value, stop)
 }
 
+/// The number of so many hexadecimal digits from a place on, and the place behind them; None where there are fewer.
+fn whole_number(text: &[u8], from: usize, count: usize) -> Option<(u32, usize)>
+    requires { from ≤ length text.now }
+    ensures from { IfSome result (λ found. from ≤ found.1) }
+    ensures inside { IfSome result (λ found. found.1 ≤ length text.now) }
+{
+    let (number, end) = digits(text, from, count, 16);
+    if end - from < count {
+        return None;
+    }
+    Some((number, end))
+}
+
 /// The byte that a letter behind a backslash stands for by itself.
 fn letter_value(letter: u8) -> Option<u8> {
     Some(match letter {
@@ -53,8 +66,8 @@ fn escape_number(text: &[u8], from: usize) -> Option<(u32, usize)>
     match letter {
         b'0'..=b'7' => Some(digits(text, from + 1, 3, 8)),
         b'x' => Some(digits(text, behind, text.len(), 16)),
-        b'u' => Some(digits(text, behind, 4, 16)),
-        b'U' => Some(digits(text, behind, 8, 16)),
+        b'u' => whole_number(text, behind, 4),
+        b'U' => whole_number(text, behind, 8),
         _ => None,
     }
 }

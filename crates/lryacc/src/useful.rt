@@ -287,9 +287,11 @@ impl Selection {
         useless: &mut Vec<Span>,
     ) -> Result<Productions, AllocError>
         requires { IsPlaced whole.now }
-        ensures sublist { IfOk result (λ kept. IsSublist kept.places.items whole.now.production_places.items) }
+        ensures sublist { IfOk result (λ kept.
+            IsSublist kept.places.items whole.now.production_places.items) }
         ensures placed { IfOk result ArePlaced }
-        ensures all { IfOk result (λ kept. All (λ number. IsSome number) self.now.numbers.items → useless.new.items ≡ []
+        ensures all { IfOk result (λ kept.
+            All (λ number. IsSome number) self.now.numbers.items → useless.new.items ≡ []
             → kept.places.items ≡ whole.now.production_places.items) }
     {
         let mut kept = Productions::new(self.allocator());
@@ -329,7 +331,8 @@ impl Selection {
         whole: &mut FileGrammar,
         useless: &mut Vec<Span>,
     ) -> Result<FileGrammar, AllocError>
-        ensures { OnOk result (useless.new.items ≡ [] → All (λ number. IsSome number) self.now.numbers.items) }
+        ensures { OnOk result (useless.new.items ≡ []
+            → All (λ number. IsSome number) self.now.numbers.items) }
     {
         let alloc = self.allocator();
         let mut rules = FileGrammar::empty(alloc);
@@ -375,7 +378,8 @@ pub(crate) fn without_useless(
     mut whole: FileGrammar,
 ) -> Result<(FileGrammar, Useless), AllocError>
     requires { IsPlaced whole }
-    ensures sublist { IfOk result (λ r. IsSublist r.0.production_places.items whole.production_places.items) }
+    ensures sublist { IfOk result (λ r.
+        IsSublist r.0.production_places.items whole.production_places.items) }
     ensures placed { IfOk result (λ r. IsPlaced r.0) }
     ensures whole { IfOk result (λ r. r.1.rules.items ≡ [] → r.1.productions.items ≡ []
         → r.0.production_places.items ≡ whole.production_places.items) }

@@ -1,0 +1,4 @@
+%token A
+#line 5 A
+%%
+a: A;
