@@ -1,6 +1,7 @@
 //! How places of a file are shown: their lines, with marks under them, as a terminal can show them.
 #![tactic(auto)]
 
+mod columns;
 mod diagnostics;
 mod lines;
 mod sources;

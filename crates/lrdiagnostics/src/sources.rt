@@ -1,21 +1,22 @@
 //! Lines and columns of a file.
 
-ghost use Rattle.std.specs.Prelude.{◌≡◌, ◌+◌, ◌-◌, ◌<◌, ◌≤◌, ℕ, List, ◌++◌, take, length, slice_index, IfOk};
-ghost use Rattle.std.specs.List.{count_by, fold};
-ghost use Rattle.std.specs.Str.{IsUtf8, StartsWithNoChar, chars};
-ghost use Rattle.lrdiagnostics.specs.Positions.{AreFeeds, is_feed, line_of, front_of, column_after, EndsBefore};
+ghost use Rattle.std.specs.Prelude.{◌≡◌, ◌+◌, ◌-◌, ◌<◌, ◌≤◌, ℕ, List, take, drop, length, slice_index, All, IfOk, IfSome};
+ghost use Rattle.std.specs.List.{count_by};
+ghost use Rattle.lrdiagnostics.specs.Positions.{AreFeeds, is_feed, line_of, front_of, EndsBefore};
+ghost use Rattle.lrdiagnostics.specs.KnownColumns.{IsKnown};
 
+use crate::columns::{KnownColumn, column_of, known_columns};
 use std::alloc::{AllocError, Global};
-use std::str;
-use unicode_width::UnicodeWidthChar;
 
-/// A file: its name, its bytes, and where its line feeds stand.
+/// A file: its name, its bytes, where its line feeds stand, and of which places the column is known.
 #[derive(Drop)]
 pub struct Source<'a> {
     pub name: &'a str,
     pub bytes: &'a [u8],
     feeds: Vec<usize>,
+    known: Vec<KnownColumn>,
     ghost placed: { AreFeeds bytes.now (length bytes.now) feeds.items },
+    ghost counted: { All (λ one. IsKnown bytes.now one.at one.column) known.items },
 }
 
 /// A place in a file, as it is told.
@@ -25,55 +26,6 @@ pub struct Position {
     pub line: usize,
     /// From 1. A tab reaches to the next multiple of 8.
     pub column: usize,
-}
-
-/// The column behind a character that begins at a column.
-fn column_after(column: usize, character: char) -> usize
-    ensures { result ≡ column_after column character }
-{
-    match character {
-        '\t' => (column.saturating_sub(1) / 8 * 8).saturating_add(9),
-        _ => column.saturating_add(character.width().unwrap_or(0)),
-    }
-}
-
-/// The column behind a text that begins at a column.
-fn column_behind(column: usize, text: &str) -> usize
-    ensures { result ≡ fold column_after column (chars text.now) }
-{
-    text.chars().fold(column, column_after)
-}
-
-/// The text at the front of bytes, and the bytes behind it, of which none are left or at which no character begins.
-fn split_text(bytes: &[u8]) -> (&str, &[u8])
-    ensures whole { result.0.now ++ result.1.now ≡ bytes.now }
-    ensures utf8 { IsUtf8 result.0.now }
-    ensures stray { StartsWithNoChar result.1.now }
-{
-    match str::from_utf8(bytes) {
-        Ok(text) => (text, &[]),
-        Err(error) => {
-            let (front, others) = bytes.split_at(error.valid_up_to());
-            (str::from_utf8(front).unwrap_or(""), others)
-        }
-    }
-}
-
-/// The column behind the beginning of a line.
-fn column_of(front: &[u8]) -> usize
-    ensures { EndsBefore front.now 1 result }
-{
-    let mut column = 1;
-    let mut rest = front;
-    loop {
-        let (text, others) = split_text(rest);
-        column = column_behind(column, text);
-        let [_, behind @ ..] = others else {
-            return column;
-        };
-        column = column.saturating_add(1);
-        rest = behind;
-    }
 }
 
 /// The places of the line feeds.
@@ -95,7 +47,13 @@ impl<'a> Source<'a> {
         ensures { IfOk result (λ source. source.bytes.now ≡ bytes.now) }
     {
         let feeds = line_feeds(alloc, bytes)?;
-        Ok(Source { name, bytes, feeds })
+        let known = known_columns(alloc, bytes)?;
+        Ok(Source {
+            name,
+            bytes,
+            feeds,
+            known,
+        })
     }
 
     /// How many line feeds stand before a place.
@@ -104,10 +62,12 @@ impl<'a> Source<'a> {
     {
         self.feeds.partition_point(|feed| *feed < at)
     }
+
     /// Where the line of that number begins, from 0.
     fn start_of(&self, line: usize) -> usize
         ensures first { line ≡ 0 → result ≡ 0 }
-        ensures behind { 0 < line → line ≤ length self.now.feeds.items → result ≡ slice_index self.now.feeds.items (line - 1) + 1 }
+        ensures behind { 0 < line → line ≤ length self.now.feeds.items
+            → result ≡ slice_index self.now.feeds.items (line - 1) + 1 }
     {
         match line.checked_sub(1) {
             Some(feed) => match self.feeds.get(feed) {
@@ -118,15 +78,53 @@ impl<'a> Source<'a> {
         }
     }
 
-    /// What stands before a place in its line.
-    fn front(&self, at: usize) -> &'a [u8]
-        ensures { result.now ≡ front_of self.now.bytes.now at }
+    /// The last place from a start up to an end of which the column is known.
+    fn last_known(&self, start: usize, end: usize) -> Option<KnownColumn>
+        ensures known { IfSome result (λ last. IsKnown self.now.bytes.now last.at last.column) }
+        ensures behind { IfSome result (λ last. start ≤ last.at) }
+        ensures before { IfSome result (λ last. last.at ≤ end) }
+    {
+        let count = self.known.partition_point(|known| known.at <= end);
+        if count == 0 {
+            return None;
+        }
+        let last = self.known[count - 1];
+        if start <= last.at && last.at <= end {
+            Some(last)
+        } else {
+            None
+        }
+    }
+
+    /// The last place up to an end of which the column is known in the line of the end.
+    fn known_before(&self, end: usize) -> KnownColumn
+        requires { end ≤ length self.now.bytes.now }
+        ensures within { result.at ≤ end }
+        ensures goes_on { (counted behind : ℕ)
+            → EndsBefore (front_of self.now.bytes.now end) 1 counted
+            → EndsBefore (drop result.at (take end self.now.bytes.now)) result.column behind
+            → counted ≡ behind }
+    {
+        let start = self.start_of(self.feeds_before(end));
+        match self.last_known(start, end) {
+            Some(last) => last,
+            None => KnownColumn {
+                at: start,
+                column: 1,
+            },
+        }
+    }
+
+    /// The column of a place.
+    fn column(&self, at: usize) -> usize
+        ensures { EndsBefore (front_of self.now.bytes.now at) 1 result }
     {
         let bytes = self.bytes;
         let end = at.min(bytes.len());
+        let known = self.known_before(end);
         let (before, _) = bytes.split_at(end);
-        let (_, front) = before.split_at(self.start_of(self.feeds_before(end)));
-        front
+        let (_, rest) = before.split_at(known.at);
+        column_of(rest, known.column)
     }
 
     /// The number of the line of a place, from 1.
@@ -143,7 +141,7 @@ impl<'a> Source<'a> {
     {
         Position {
             line: self.line(at),
-            column: column_of(self.front(at)),
+            column: self.column(at),
         }
     }
 

@@ -65,7 +65,7 @@ pub(crate) fn last_token(prod: &PartProd) -> Option<usize> {
 }
 
 /// The token by which a production has its precedence: the one that it names, or else the last one of its body.
-fn precedence_token(prod: &PartProd) -> Option<usize> {
+pub fn precedence_token(prod: &PartProd) -> Option<usize> {
     match prod.precedence {
         Some(token) => Some(token),
         None => last_token(prod),

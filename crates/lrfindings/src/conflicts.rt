@@ -83,7 +83,8 @@ fn push_shifts<T: IndexStorage>(
     conflicts: &[(TIdx<T>, PIdx<T>, StIdx<T>)],
 ) -> Result<(), AllocError>
     ensures { OnOk result (map told entries.new.items
-        ≡ map told entries.old.items ++ map (λ c. shift_listing (mix_of T.number c)) conflicts.now) }
+        ≡ map told entries.old.items
+        ++ map (λ c. shift_listing (mix_of T.number c)) conflicts.now) }
 {
     for conflict in conflicts {
         entries.push(shift_entry(file, *conflict))?;

@@ -9,7 +9,7 @@ mod names;
 mod texts;
 mod verdicts;
 
-pub use crate::cells::{Settled, Winner};
+pub use crate::cells::{Settled, Winner, precedence_token};
 pub use crate::conflicts::Entry;
 pub use crate::findings::{FindError, Findings, find};
 pub use crate::idle::Idle;

@@ -4,6 +4,7 @@ ghost use Rattle.std.specs.Prelude.{◌≡◌, ◌≢◌, IfOk};
 ghost use Rattle.lrspec.specs.merging.Graph.{IsGraphOf};
 ghost use Rattle.lrspec.specs.tables.Recognition.{IsUnambiguous};
 ghost use Rattle.lrspec.specs.tables.Table.{IsTableOf};
+ghost use Rattle.lrfindings.specs.Verdicts.{status_of};
 ghost use Rattle.lrfindings.specs.declared.verdicts.Verdict.TheVariants.{Unambiguous};
 
 use crate::conflicts::Entry;
@@ -157,7 +158,9 @@ impl Verdict {
     }
 
     /// The exit status: 1 where there are conflicts that are not expected.
-    pub fn status(self) -> u8 {
+    pub fn status(self) -> u8
+        ensures { result ≡ status_of self }
+    {
         match self {
             Verdict::Conflicts(_) | Verdict::Unexpected { .. } => 1,
             _ => 0,

@@ -1,1 +1,2 @@
+-- conflicts that are left open
 mod LeftOpenEntries

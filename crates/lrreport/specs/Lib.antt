@@ -1,2 +1,3 @@
+-- conclusions, and conflicts that are left open
 pub mod Conclusions
 pub mod LeftOpen

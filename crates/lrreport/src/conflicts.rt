@@ -261,7 +261,8 @@ fn is_among(list: &[Entry], entry: &Entry) -> bool
 
 /// The entries in groups, in each of which the same meets in the same state.
 fn meetings(alloc: Global, entries: &[Entry]) -> Result<Vec<&[Entry]>, AllocError>
-    ensures { IfOk result (λ meetings. flat_map (λ meeting. meeting.now) meetings.items ≡ entries.now) }
+    ensures { IfOk result (λ meetings.
+        flat_map (λ meeting. meeting.now) meetings.items ≡ entries.now) }
 {
     entries
         .chunk_by(|one, other| one.meets_like(other))

@@ -197,27 +197,6 @@ impl<'a, T: IndexStorage> Checked<'a, T> {
         })
     }
 
-    /// An item.
-    fn item_object(
-        &self,
-        alloc: Global,
-        production: usize,
-        dot: usize,
-    ) -> Result<ItemObject<'a>, AllocError> {
-        let place = self.place(production);
-        let from = self.source.position(place.start);
-        let to = self.source.position(place.end);
-        Ok(ItemObject {
-            rule: self.rule_name(production),
-            body: self.body(alloc, production)?,
-            line: from.line,
-            column: from.column,
-            end_line: to.line,
-            end_column: to.column,
-            dot,
-        })
-    }
-
     /// The items of a state in which it goes on by the token of one of the entries.
     fn shift_objects(
         &self,
@@ -227,7 +206,10 @@ impl<'a, T: IndexStorage> Checked<'a, T> {
     ) -> Result<Vec<ItemObject<'a>>, AllocError> {
         let mut objects = Vec::new(alloc);
         for (production, dot) in &self.shifting_items(alloc, state, entries)? {
-            objects.push(self.item_object(alloc, *production, *dot)?)?;
+            objects.push(ItemObject {
+                production: self.production_object(alloc, *production)?,
+                dot: *dot,
+            })?;
         }
         Ok(objects)
     }

@@ -17,12 +17,8 @@ pub(crate) struct ProductionObject<'a> {
 /// A production, where its body stands, and how many of its symbols stand before the dot.
 #[derive(Drop, Serialize)]
 pub(crate) struct ItemObject<'a> {
-    pub(crate) rule: &'a str,
-    pub(crate) body: Vec<&'a str>,
-    pub(crate) line: usize,
-    pub(crate) column: usize,
-    pub(crate) end_line: usize,
-    pub(crate) end_column: usize,
+    #[serde(flatten)]
+    pub(crate) production: ProductionObject<'a>,
     pub(crate) dot: usize,
 }
 

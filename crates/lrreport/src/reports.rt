@@ -1,9 +1,11 @@
 //! The report on a file.
 
-ghost use Rattle.std.specs.Prelude.{◌≡◌, IfOk, IfSome, string_bytes};
+ghost use Rattle.std.specs.Prelude.{◌≡◌, ◌≢◌, IfOk, IfSome, IfNone, IsSome, string_bytes};
 ghost use Rattle.lrspec.specs.tables.Recognition.{IsUnambiguous};
 ghost use Rattle.lrgrammar.specs.TextErrors.{IsGrammarOf};
 ghost use Rattle.lrfindings.specs.declared.verdicts.Verdict.TheVariants.{Unambiguous};
+ghost use Rattle.lrfindings.specs.Verdicts.{status_of};
+ghost use Rattle.lrreport.specs.declared.options.Output.TheVariants.{Grammar};
 ghost use Rattle.lrreport.specs.Conclusions.{IsProved};
 
 use crate::conflicts::Checked;
@@ -29,7 +31,8 @@ pub struct Report {
 /// What was concluded of a grammar.
 #[derive(Debug, Drop)]
 pub struct Conclusion {
-    /// The grammar, as the small text that `Output::Grammar` tells.
+    /// The grammar, as a small text: that which `Output::Grammar` tells, but without precedences where there are no conflicts and
+    /// precedences settle nothing.
     pub grammar: String,
     /// The verdict, which the lines tell.
     pub verdict: Verdict,
@@ -38,7 +41,8 @@ pub struct Conclusion {
 impl Report {
     /// That of a file in which nothing was checked.
     fn unread(text: String) -> Report
-        ensures { result.conclusion ≡ None }
+        ensures conclusion { result.conclusion ≡ None }
+        ensures status { result.status ≡ 2 }
     {
         Report {
             text,
@@ -69,7 +73,8 @@ fn report_on_faults(
     faults: &[Fault],
     options: Options,
 ) -> Result<Report, AllocError>
-    ensures { IfOk result (λ r. r.conclusion ≡ None) }
+    ensures conclusion { IfOk result (λ r. r.conclusion ≡ None) }
+    ensures status { IfOk result (λ r. r.status ≡ 2) }
 {
     if options.output == Output::Json {
         let text = json_of_faults(alloc, source, faults, options.tells_grammar)?;
@@ -93,7 +98,8 @@ fn report_on_refusal(
     why: FindError,
     options: Options,
 ) -> Result<Report, AllocError>
-    ensures { IfOk result (λ r. r.conclusion ≡ None) }
+    ensures conclusion { IfOk result (λ r. r.conclusion ≡ None) }
+    ensures status { IfOk result (λ r. r.status ≡ 2) }
 {
     if let FindError::Memory = why {
         return Err(AllocError);
@@ -187,7 +193,9 @@ fn report_on_findings<T: IndexStorage>(
 ) -> Result<Report, AllocError>
     requires grammar { IsGrammarOf T.MAX (string_bytes found.text) found.grm }
     requires unambiguous { found.verdict ≡ Unambiguous → IsUnambiguous found.grm }
-    ensures { IfOk result (λ r. IfSome r.conclusion IsProved) }
+    ensures concluded { IfOk result (λ r. IsSome r.conclusion) }
+    ensures proved { IfOk result (λ r. IfSome r.conclusion IsProved) }
+    ensures status { IfOk result (λ r. IfSome r.conclusion (λ c. r.status ≡ status_of c.verdict)) }
 {
     let verdict = found.verdict.beside(options.beside(read.expected));
     let text = lines_on_findings(alloc, read, &found, verdict, options)?;
@@ -210,7 +218,10 @@ fn is_small(file: &FileGrammar) -> bool {
 
 /// The report on a file that was read as a grammar.
 fn report_on_grammar(alloc: Global, read: Read<'_>, options: Options) -> Result<Report, AllocError>
-    ensures { IfOk result (λ r. IfSome r.conclusion IsProved) }
+    ensures proved { IfOk result (λ r. IfSome r.conclusion IsProved) }
+    ensures status { IfOk result (λ r. IfSome r.conclusion (λ c. r.status ≡ status_of c.verdict)) }
+    ensures unread { IfOk result (λ r.
+        options.output ≢ Grammar → IfNone r.conclusion (r.status ≡ 2)) }
 {
     let has_precedences = !options.ignores_precedences;
     if options.output == Output::Grammar {
@@ -233,14 +244,18 @@ fn report_on_grammar(alloc: Global, read: Read<'_>, options: Options) -> Result<
     }
 }
 
-/// The report on a file of that name, which holds these bytes. The error says that memory was refused.
+/// The report on a file of that name, which holds these bytes. It has a conclusion unless it says that the file can't be read as
+/// a grammar, or tells its grammar alone. The error says that memory was refused.
 pub fn report_on(
     alloc: Global,
     name: &str,
     bytes: &[u8],
     options: Options,
 ) -> Result<Report, AllocError>
-    ensures { IfOk result (λ r. IfSome r.conclusion IsProved) }
+    ensures proved { IfOk result (λ r. IfSome r.conclusion IsProved) }
+    ensures status { IfOk result (λ r. IfSome r.conclusion (λ c. r.status ≡ status_of c.verdict)) }
+    ensures unread { IfOk result (λ r.
+        options.output ≢ Grammar → IfNone r.conclusion (r.status ≡ 2)) }
 {
     let source = Source::new(alloc, name, bytes)?;
     match read_file(alloc, bytes, options.dialect)? {

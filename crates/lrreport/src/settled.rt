@@ -2,8 +2,8 @@
 
 use crate::conflicts::{Checked, DONE, push_more};
 use lrdiagnostics::push_shown;
-use lrfindings::{Entry, Settled, Winner};
-use lrgrammar::grammar::{PartProd, PartSymbol, Precedence};
+use lrfindings::{Entry, Settled, Winner, precedence_token};
+use lrgrammar::grammar::Precedence;
 use lrgrammar::idx::IndexStorage;
 use std::alloc::{AllocError, Global};
 
@@ -60,19 +60,6 @@ impl Settling {
         };
         is_meeting && self.reason == reason
     }
-}
-
-/// The token by which a production has its precedence: the one that it names, or else the last one of its body.
-fn precedence_token(prod: &PartProd) -> Option<usize> {
-    if prod.precedence.is_some() {
-        return prod.precedence;
-    }
-    for symbol in prod.symbols.iter().rev() {
-        if let PartSymbol::Token(token) = symbol {
-            return Some(*token);
-        }
-    }
-    None
 }
 
 impl<'a, T: IndexStorage> Checked<'a, T> {
