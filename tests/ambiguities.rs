@@ -1,9 +1,12 @@
-//! Ambiguities: the dangling else, and moves that tell none.
+//! Ambiguities: the dangling else, and moves that tell none; texts, derivations and items that are checked alone.
 
 use crate::fixtures::{ONE_BODY_TWICE, ROUND_WITHOUT_TOKENS, tokens};
-use lrambiguity::{Ambiguity, Contest, Move, check_ambiguity, parts_at, read_moves};
+use lrambiguity::{
+    Ambiguity, Contest, Move, Written, check_ambiguity, derives, goes_on, nests, parts_at,
+    read_moves, reads_as,
+};
 use lrgrammar::grammar::YaccGrammar;
-use lrgrammar::idx::{IndexStorage, PIdx, StIdx, TIdx};
+use lrgrammar::idx::{IndexStorage, PIdx, SIdx, StIdx, Symbol, TIdx};
 use lrtable::{Minimiser, StateGraph, StateTable, from_yacc};
 use std::alloc::{AllocError, Global};
 use std::test::Fail;
@@ -221,6 +224,207 @@ fn trees_part_at_the_conflict(rt: HostRuntime) -> Result<(), Fail> {
     ] {
         let found = parts_at(rt.alloc(), &grm, &graph, &ambiguity, contest)?;
         assert_eq!(rt; found, parts, "{contest:?}");
+    }
+    Ok(())
+}
+
+/// The symbols that the words name.
+fn symbols_told<T: IndexStorage>(
+    alloc: Global,
+    grm: &YaccGrammar<T>,
+    words: &str,
+) -> Result<Vec<Symbol<T>>, Fail> {
+    let mut symbols = Vec::new(alloc);
+    for word in words.split_ascii_whitespace() {
+        symbols.push(match grm.rule_idx(word) {
+            Some(ridx) => Symbol::Rule(ridx),
+            None => Symbol::Token(grm.token_idx(word).ok_or("a symbol")?),
+        })?;
+    }
+    Ok(symbols)
+}
+
+/// The text of the words, with the moves that are told.
+fn written_told<T: IndexStorage>(
+    alloc: Global,
+    grm: &YaccGrammar<T>,
+    words: &str,
+    moves: &str,
+) -> Result<Written<T>, Fail> {
+    let tokens = tokens(grm, words)?;
+    let moves = moves_told(alloc, moves)?;
+    Ok(Written { tokens, moves })
+}
+
+#[test]
+fn lists_read_as_texts(rt: HostRuntime) -> Result<(), Fail> {
+    let grm = YaccGrammar::<u8>::from_text(rt.alloc(), DANGLING_ELSE)?;
+    for (list, words, moves, reads) in [
+        ("", "", "", true),
+        ("x", "x", "s", true),
+        ("S", "x", "s 2", true),
+        ("if e then S", "if e then x", "s s s s 2", true),
+        ("S else S", "x else if e then x", "s 2 s s s s s 2 0", true),
+        // other roots, and other counts of them
+        ("x", "x", "s 2", false),
+        ("S", "x", "s", false),
+        ("S S", "x", "s 2", false),
+        ("", "x", "s 2", false),
+        ("S", "", "", false),
+        // text that is left, and a shift behind the end
+        ("S", "x x", "s 2", false),
+        ("", "x", "", false),
+        ("S", "x", "s 2 s", false),
+        // a body that isn't there, the start production, and none of the grammar
+        ("S", "x", "s 1", false),
+        ("S", "x", "2", false),
+        ("^", "x", "s 2 3", false),
+        ("S", "x", "s 4", false),
+        ("S", "x", "s 255", false),
+    ] {
+        let list_told = symbols_told(rt.alloc(), &grm, list)?;
+        let text = written_told(rt.alloc(), &grm, words, moves)?;
+        let found = reads_as(rt.alloc(), &grm, &list_told, &text)?;
+        assert_eq!(rt; found, reads, "{list}: {words}: {moves}");
+    }
+    Ok(())
+}
+
+#[test]
+fn texts_go_on(rt: HostRuntime) -> Result<(), Fail> {
+    let grm = YaccGrammar::<u8>::from_text(rt.alloc(), DANGLING_ELSE)?;
+    let two_ifs = ("if e then if e then x", UP_TO_X);
+    let one_if = ("if e then x", "s s s s 2");
+    for (token, action, before, after, goes) in [
+        ("else", "s", two_ifs, ("else x", WITH_SECOND), true),
+        ("else", "0", two_ifs, ("else x", WITH_FIRST), true),
+        ("", "0", one_if, ("", "0"), true),
+        ("if", "s", ("", ""), ("if e then x", "s s s s 2 0"), true),
+        // another token comes next
+        ("x", "s", two_ifs, ("else x", WITH_SECOND), false),
+        ("", "s", two_ifs, ("else x", WITH_SECOND), false),
+        ("else", "0", one_if, ("", "0"), false),
+        // another move is made, or none
+        ("else", "0", two_ifs, ("else x", WITH_SECOND), false),
+        ("else", "s", two_ifs, ("else x", WITH_FIRST), false),
+        ("else", "1", two_ifs, ("else x", WITH_FIRST), false),
+        ("", "0", one_if, ("", ""), false),
+        ("", "0", ("x", "s 2"), ("", ""), false),
+        // no tree
+        ("else", "s", two_ifs, ("else x", "s s 2 1"), false),
+        ("else", "s", two_ifs, ("else x x", WITH_SECOND), false),
+        ("else", "s", one_if, ("else x", WITH_SECOND), false),
+        ("", "0", one_if, ("", "0 3"), false),
+    ] {
+        let token = match tokens(&grm, token)?.first() {
+            Some(tidx) => *tidx,
+            None => grm.eof_token_idx(),
+        };
+        let moves = moves_told(rt.alloc(), action)?;
+        let action = *moves.first().ok_or("a move")?;
+        let (words, moves) = after;
+        let before = written_told(rt.alloc(), &grm, before.0, before.1)?;
+        let after = written_told(rt.alloc(), &grm, words, moves)?;
+        let found = goes_on(rt.alloc(), &grm, token, action, &before, &after)?;
+        assert_eq!(rt; found, goes, "{words}: {moves}");
+    }
+    Ok(())
+}
+
+#[test]
+fn rules_derive(rt: HostRuntime) -> Result<(), Fail> {
+    let grm = YaccGrammar::<u8>::from_text(rt.alloc(), DANGLING_ELSE)?;
+    for (rule, symbols, moves, is_derived) in [
+        ("S", "if e then S", "s s s s 0", true),
+        ("S", "if e then S else S", "s s s s s s 1", true),
+        ("S", "if e then x", "s s s s 2 0", true),
+        ("S", "if e then if e then S", "s s s s s s s 0 0", true),
+        ("^", "S", "s 3", true),
+        // the rule itself
+        ("S", "S", "s", true),
+        // nothing, another rule, a token
+        ("S", "", "", false),
+        ("S", "S", "", false),
+        ("^", "S", "s", false),
+        ("^", "if e then S", "s s s s 0", false),
+        ("S", "x", "s", false),
+        // symbols that are left, on the stack or in the list, and a shift behind the end
+        ("S", "if e then S", "s s s s", false),
+        ("S", "S S", "s s", false),
+        ("S", "S S", "s", false),
+        ("S", "S", "s s", false),
+        ("S", "if e then S", "s s s s 0 s", false),
+        // bodies that aren't there, and productions that aren't
+        ("S", "if e then S", "s s s s 1", false),
+        ("S", "if e then S", "s s s 0 s", false),
+        ("S", "S", "s 2", false),
+        ("S", "S", "s 4", false),
+        ("S", "S", "s 255", false),
+    ] {
+        let ridx = grm.rule_idx(rule).ok_or("a rule")?;
+        let told = symbols_told(rt.alloc(), &grm, symbols)?;
+        let moves_made = moves_told(rt.alloc(), moves)?;
+        let found = derives(rt.alloc(), &grm, ridx, &told, &moves_made)?;
+        assert_eq!(rt; found, is_derived, "{rule}: {symbols}: {moves}");
+    }
+    Ok(())
+}
+
+/// The items that the words tell, each by its production, a point and its dot.
+fn items_told<T: IndexStorage>(
+    alloc: Global,
+    words: &str,
+) -> Result<Vec<(PIdx<T>, SIdx<T>)>, Fail> {
+    let mut items = Vec::new(alloc);
+    for word in words.split_ascii_whitespace() {
+        let (production, dot) = word.split_once('.').ok_or("a point")?;
+        let production = T::from_usize(production.parse()?).ok_or("an index")?;
+        let dot = T::from_usize(dot.parse()?).ok_or("an index")?;
+        items.push((PIdx(production), SIdx(dot)))?;
+    }
+    Ok(items)
+}
+
+#[test]
+fn items_in_one_another(rt: HostRuntime) -> Result<(), Fail> {
+    let grm = YaccGrammar::<u8>::from_text(rt.alloc(), "%% S: S A 'b' | ; A: 'a' S;")?;
+    for (list, items, nested) in [
+        ("", "3.0", true),
+        ("S", "3.1", true),
+        ("", "3.0 0.0", true),
+        ("", "3.0 1.0", true),
+        ("", "3.0 0.0 0.0 0.0", true),
+        ("S A b", "3.0 0.3", true),
+        ("S a", "3.0 0.1 2.1", true),
+        ("S a S a S", "3.0 0.1 2.1 0.1 2.2", true),
+        // no items, and the first of another production
+        ("", "", false),
+        ("", "0.0", false),
+        ("S", "0.1", false),
+        // of another rule than the one behind the dot, of the start production again
+        ("S", "3.0 0.1 0.0", false),
+        ("", "3.0 2.0", false),
+        ("", "3.0 3.0", false),
+        // a token or nothing behind the dot
+        ("S A", "3.0 0.2 2.0", false),
+        ("S", "3.1 0.0", false),
+        ("S A b", "3.0 0.3 0.0", false),
+        // other symbols, too few, too many
+        ("S b", "3.0 0.1 2.1", false),
+        ("S", "3.0 0.1 2.1", false),
+        ("S a a", "3.0 0.1 2.1", false),
+        ("S", "3.0", false),
+        // productions and dots that aren't there
+        ("", "4.0", false),
+        ("", "3.0 255.0", false),
+        ("S", "3.2", false),
+        ("S A b", "3.0 0.4", false),
+        ("", "3.0 1.255", false),
+    ] {
+        let list_told = symbols_told(rt.alloc(), &grm, list)?;
+        let items_given = items_told(rt.alloc(), items)?;
+        let found = nests(&grm, &list_told, &items_given);
+        assert_eq!(rt; found, nested, "{list}: {items}");
     }
     Ok(())
 }

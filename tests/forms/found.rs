@@ -24,19 +24,14 @@ fn forms_of_small_grammars(rt: HostRuntime) -> Result<(), Fail> {
     for (text, wanted) in [
         (
             DANGLING_ELSE,
-            "S('if' 'e' S('if' 'e' S) . 'else' S) / S('if' 'e' S('if' 'e' S . 'else' S)) \
-             / if e if e x . else x\n",
+            " if e if e S . else S / if e if e x . else x\n",
         ),
         (
             MINUS_IN_FRONT,
-            "E(E('-' E) . '+' E) / E('-' E(E . '+' E)) / - n . + n\n\
-             E(E(E '+' E) . '+' E) / E(E '+' E(E . '+' E)) / n + n . + n\n",
+            " - E . + E / - n . + n\n E + E . + E / n + n . + n\n",
         ),
-        (ONE_BODY_TWICE, "S('a') . / S('a') . / a .\n"),
-        (
-            EMPTY_AT_THE_END,
-            "S(A('a' C())) . / S(B('a' D())) . / a .\n",
-        ),
+        (ONE_BODY_TWICE, " a . / a .\n"),
+        (EMPTY_AT_THE_END, " a . / a .\n"),
         (TOLD_APART_LATE, "emptied\n"),
     ] {
         let lines = told::<u8>(&rt, rt.alloc(), text, 1000)?;

@@ -1,6 +1,7 @@
 //! Searches that end.
 
 use crate::fixtures::{SUMS_AND_PRODUCTS, is_told};
+use crate::forms::continued::continued;
 use crate::forms::told::told;
 use std::alloc::{AllocError, Global};
 use std::test::Fail;
@@ -29,9 +30,21 @@ fn steps_run_out(rt: HostRuntime) -> Result<(), Fail> {
 fn long_texts_are_left_out(rt: HostRuntime) -> Result<(), Fail> {
     let text = long_texts(rt.alloc(), 10)?;
     let lines = told::<u32>(&rt, rt.alloc(), text.as_str(), 1000)?;
-    assert!(rt; lines.as_str().starts_with("E(E(E '+' E) . '+' E)"));
+    assert!(rt; lines.as_str().starts_with(" E + E . + E"));
     let text = long_texts(rt.alloc(), 100)?;
     let lines = told::<u32>(&rt, rt.alloc(), text.as_str(), 1000)?;
     assert!(rt; !lines.as_str().contains('/'), "{lines}");
+    Ok(())
+}
+
+/// Nor is there a rest, but the items in which the candidate stands are told.
+#[test]
+fn long_rests_are_left_out(rt: HostRuntime) -> Result<(), Fail> {
+    let text = long_texts(rt.alloc(), 100)?;
+    let told = continued::<u32>(&rt, rt.alloc(), text.as_str())?;
+    let wanted = "after none\n  \
+        ^: . E, E: . E + E, E: E + E ., then none\n  \
+        ^: . E, E: E + . E, E: E . + E, then none\n";
+    is_told(&rt, "long texts", told.as_str(), wanted);
     Ok(())
 }

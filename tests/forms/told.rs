@@ -2,9 +2,9 @@
 
 use crate::fixtures::grammar_and_graph;
 use crate::forms::replays::is_replayed;
-use lrforms::{Ambiguous, Conflict, Forms, Search, bracketed};
+use lrforms::{Ambiguous, Conflict, Forms, Search};
 use lrgrammar::grammar::YaccGrammar;
-use lrgrammar::idx::{IndexStorage, TIdx};
+use lrgrammar::idx::{IndexStorage, Symbol};
 use lrtable::StateTable;
 use std::alloc::{AllocError, Global};
 use std::process::Abort;
@@ -38,43 +38,44 @@ pub fn conflicts_of<T: IndexStorage>(
     Ok(conflicts)
 }
 
-/// The names of the tokens, with the dot.
-fn push_tokens<T: IndexStorage>(
+/// The name of the symbol.
+fn name<T: IndexStorage>(grm: &YaccGrammar<T>, symbol: Symbol<T>) -> &str {
+    match symbol {
+        Symbol::Rule(rule) => grm.rule_name_str(rule),
+        Symbol::Token(token) => grm.token_name(token).unwrap_or(""),
+    }
+}
+
+/// The names of the symbols, with the dot.
+fn push_symbols<T: IndexStorage>(
     text: &mut String,
     grm: &YaccGrammar<T>,
-    tokens: &[TIdx<T>],
+    symbols: impl Iterator<Item = Symbol<T>>,
     dot: usize,
 ) -> Result<(), AllocError> {
-    for (place, token) in tokens.iter().enumerate() {
-        text.push_str(if place == dot { " . " } else { " " })?;
-        text.push_str(grm.token_name(*token).unwrap_or(""))?;
+    let mut places = 0;
+    for symbol in symbols {
+        text.push_str(if places == dot { " . " } else { " " })?;
+        text.push_str(name(grm, symbol))?;
+        places += 1;
     }
-    if dot == tokens.len() {
+    if dot == places {
         text.push_str(" .")?;
     }
     Ok(())
 }
 
-/// Both trees and the sentence.
+/// The form and the sentence.
 fn push_found<T: IndexStorage>(
     text: &mut String,
     grm: &YaccGrammar<T>,
     found: &Ambiguous<T>,
 ) -> Result<(), AllocError> {
-    let alloc = *found.form.symbols.allocator();
-    let ways = &found.form.ways;
-    let first = bracketed(alloc, grm, &found.form, ways.first.as_slice())?;
-    let second = bracketed(alloc, grm, &found.form, ways.second.as_slice())?;
-    text.push_str(first.as_str())?;
-    text.push_str(" / ")?;
-    text.push_str(second.as_str())?;
+    let (form, sentence) = (&found.form, &found.sentence);
+    push_symbols(text, grm, form.symbols.iter().copied(), form.dot)?;
     text.push_str(" /")?;
-    push_tokens(
-        text,
-        grm,
-        found.sentence.tokens.as_slice(),
-        found.sentence.dot,
-    )
+    let tokens = sentence.tokens.iter().map(|token| Symbol::Token(*token));
+    push_symbols(text, grm, tokens, sentence.dot)
 }
 
 /// What is found at each conflict of the grammar, a line each. What is found is replayed.

@@ -9,7 +9,7 @@ use Rattle.lrspec.specs.merging.Cores.{HasCoreAfter}
 use Rattle.lrspec.specs.merging.Graph.{Graph, core_of}
 use Rattle.lrspec.specs.tables.Machine.{next_token}
 use Rattle.lrambiguity.specs.Moves.{Move, candidate_of, IsTreeBy}
-use Rattle.lrambiguity.specs.Partings.{Contend}
+use Rattle.lrambiguity.specs.Partings.{Contend, PartAt}
 use Rattle.lrambiguity.specs.Replays.{Reads}
 use Rattle.lrambiguity.proofs.NextMoves.{next_is_candidate}
 
@@ -19,15 +19,17 @@ module _ {g : Grammar} (shape : IsGrammar g) (before : List Move) (text : List �
   first_is_candidate ms t m rest e a =
       rw next at (next_is_candidate shape (drop used text) t m rest a.of_start (a.leaves_are ∙ sym (take-append-drop used text)) (a.moves_are ∙ ap (λ l. before ++ l) e) reads)
 
-  pub contend :
-      (h : Graph) (s : ℕ) (ms ns : List Move) (t u : Tree) (m k : Move) → HasCoreAfter g w (core_of h s) → IsTreeBy g (before ++ ms) text t → IsTreeBy g (before ++ ns) text u
-      → (rest : List Move) × (ms ≡ m ∷ rest) → (rest : List Move) × (ns ≡ k ∷ rest) → Contend g h s n m k
-  contend h s ms ns t u m k core a b one other = record {
-    roots = w;
-    core = core;
-    is_one = first_is_candidate ms t m one.0 one.1 a;
-    is_other = first_is_candidate ns u k other.0 other.1 b;
-  }
+-- where trees part both moves are candidates
+pub contend :
+    {g : Grammar} → IsGrammar g → (h : Graph) (s : ℕ) {n : ℕ} {m k : Move} {text : List ℕ} {before one other : List Move} (t u : Tree)
+    → PartAt g h s n m k text before one other → IsTreeBy g (before ++ one) text t → IsTreeBy g (before ++ other) text u
+    → Contend g h s n m k
+contend shape h s {n = n} {m = m} {k = k} {text = text} {before = before} {one = one} {other = other} t u p a b = record {
+  roots = p.roots;
+  core = p.core;
+  is_one = first_is_candidate shape before text p.used p.roots p.trees p.reads n p.next one t m p.first.0 p.first.1 a;
+  is_other = first_is_candidate shape before text p.used p.roots p.trees p.reads n p.next other u k p.second.0 p.second.1 b;
+}
 
 -- item sets with the same items have the core after the same lists
 pub same_core : {g : Grammar} {w : List Symbol} {a b : Items} → ((p d : ℕ) → HasItem a p d → HasItem b p d) → ((p d : ℕ) → HasItem b p d → HasItem a p d) → HasCoreAfter g w a → HasCoreAfter g w b

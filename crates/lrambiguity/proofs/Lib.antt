@@ -7,6 +7,8 @@ pub mod ReplaySteps
 pub mod MoveTests
 pub mod ItemKeys
 pub mod Contests
+pub mod FoldSteps
+pub mod NestingSteps
 -- and what that tells
 pub mod TwoTrees
 pub mod ReadOnce

@@ -22,8 +22,9 @@ use Rattle.lrambiguity.specs.declared.moves.Move as stored
 use Rattle.lrambiguity.specs.declared.replays.Replay.{Replay}
 use Rattle.lrambiguity.specs.Moves.{Move, Shift, Reduce, IsTreeBy, HasNoTree}
 use Rattle.lrambiguity.specs.StoredMoves.{move_of, moves_stored}
-use Rattle.lrambiguity.specs.StoredReplays.{HasMade, HasMadeSome, Makes}
+use Rattle.lrambiguity.specs.StoredReplays.{roots_of, HasMade, HasMadeSome, Makes}
 use Rattle.lrambiguity.specs.Replays.{Reads}
+use Rattle.lrambiguity.specs.Inputs.{IsReadAs}
 use Rattle.lrambiguity.proofs.ReadingSteps.{read_shift, read_reduce, read_tree}
 
 -- the same with equal texts, roots and trees
@@ -106,6 +107,15 @@ module _ {T : Type 0} (number : T → ℕ) where
       by_others : (os : List (Tree T)) → trees ≡ os ++ t ∷ [] → IsTreeBy g ms (text_of number text) (tree_of number t)
       by_others [] e = read_tree m.start.0 (tree_of number t) (reads_same a used_all (sym (start ∙ start_body m)) (ap (forest_of number) (sym e))) refl (start_body m)
       by_others (o ∷ os) e = absurd (omega (arith, one_tree g roots trees m start a.roots, ap length e, length-append os (t ∷ [])))
+
+  -- where all the text is used, the roots derive it
+  pub list_read :
+      (g : Grammar) (ms : List Move) (text : List (TIdx T)) (r : Replay T) (w : List plain.Symbol) → length text ≤ r.used → roots_of number r ≡ w
+      → HasMade number g (text_of number text) ms r → IsReadAs g w (text_of number text) ms
+  list_read g ms text r w all roots a =
+      let used_all : text_of number text ≡ take r.used (text_of number text) =
+      sym (take_all r.used (text_of number text) (omega (arith, all, length-map text (λ x. number x.0)))) in
+      (forest_of number r.trees.items, reads_same a used_all (sym roots) refl)
 
   module _ (g : Grammar) (text : List (TIdx T)) (r : Replay T) (m : IsGrammar g) (start : map (symbol_of number) r.roots.items ≡ body_of g g.start_production) where
     -- so is the tree that is taken from the end

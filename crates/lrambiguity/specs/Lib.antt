@@ -1,9 +1,15 @@
 -- moves, and what they read
 pub mod Moves
 pub mod Replays
+pub mod Inputs
+pub mod Derivations
+-- items that stand in one another
+pub mod Nesting
 -- where trees part
 pub mod Partings
 -- how the code stores them
 pub mod StoredMoves
 pub mod StoredReplays
 pub mod StoredAmbiguities
+pub mod StoredFolds
+pub mod StoredItems

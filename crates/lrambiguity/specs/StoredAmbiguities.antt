@@ -11,7 +11,10 @@ use Rattle.lrtree.specs.StoredTrees.{tree_of}
 use Rattle.lrambiguity.specs.declared.moves.Move as stored
 use Rattle.lrambiguity.specs.declared.ambiguities.Ambiguity.{Ambiguity}
 use Rattle.lrambiguity.specs.Moves.{IsTreeBy}
-use Rattle.lrambiguity.specs.StoredMoves.{moves_stored}
+use Rattle.lrspec.specs.merging.Graph.{Graph}
+use Rattle.lrambiguity.specs.declared.partings.Contest.{Contest}
+use Rattle.lrambiguity.specs.Partings.{PartAt}
+use Rattle.lrambiguity.specs.StoredMoves.{move_of, moves_stored}
 
 -- both trees are of the text, by the moves before and one of the two lists behind them, the first moves of which differ
 pub record AreTreesBy {T : Type 0} (number : T → ℕ) (g : Grammar) (text : List (TIdx T)) (before one other : List (stored.Move T)) (one_tree other_tree : Tree T) : Type 0 where
@@ -37,3 +40,9 @@ pub record IsGiven {T : Type 0} (a : Ambiguity T) (text : Vec (TIdx T) Global) (
   pub before_is : a.before ≡ before
   pub one_is : a.one ≡ one
   pub other_is : a.other ≡ other
+
+-- its trees part at the contest
+abbrev pub AmbiguityPartsAt : {T : Type 0} → (T → ℕ) → Grammar → Graph → Ambiguity T → Contest T → Type 0
+AmbiguityPartsAt number g h a c =
+    PartAt g h (number c.state.0) (number c.token.0) (move_of number c.one) (move_of number c.other) (text_of number a.text.items)
+    (moves_stored number a.before.items) (moves_stored number a.one.items) (moves_stored number a.other.items)

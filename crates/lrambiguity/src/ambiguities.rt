@@ -53,7 +53,7 @@ fn differ_at_once<T: IndexStorage>(one: &[Move<T>], other: &[Move<T>]) -> bool
 }
 
 /// The tree of the text that the moves before and those behind them put together.
-fn read_joined<T: IndexStorage>(
+pub(crate) fn read_joined<T: IndexStorage>(
     alloc: Global,
     grm: &YaccGrammar<T>,
     text: &[TIdx<T>],

@@ -2,12 +2,18 @@
 #![tactic(auto)]
 
 mod ambiguities;
+mod derivations;
+mod inputs;
 mod moves;
+mod nesting;
 mod partings;
 mod reading;
 mod replays;
 
 pub use crate::ambiguities::{Ambiguity, check_ambiguity};
-pub use crate::moves::Move;
+pub use crate::derivations::derives;
+pub use crate::inputs::{goes_on, reads_as};
+pub use crate::moves::{Move, Written};
+pub use crate::nesting::nests;
 pub use crate::partings::{Contest, parts_at};
 pub use crate::reading::read_moves;

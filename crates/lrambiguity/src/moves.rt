@@ -1,6 +1,6 @@
-//! Moves.
+//! Moves, and texts with the moves that read them.
 
-use lrgrammar::idx::PIdx;
+use lrgrammar::idx::{PIdx, TIdx};
 
 /// What a parser does with a text.
 #[derive(Clone, Copy, Debug, PartialEq, Eq)]
@@ -9,4 +9,13 @@ pub enum Move<T> {
     Shift,
     /// It puts a node of this production over the last trees.
     Reduce(PIdx<T>),
+}
+
+/// A text, and the moves that read it.
+#[derive(Debug, PartialEq, Eq, Drop)]
+pub struct Written<T> {
+    /// The text.
+    pub tokens: Vec<TIdx<T>>,
+    /// The moves.
+    pub moves: Vec<Move<T>>,
 }

@@ -11,7 +11,7 @@ ghost use Rattle.lrambiguity.specs.Moves as plain;
 ghost use Rattle.lrambiguity.specs.Partings.{Contend};
 ghost use Rattle.lrambiguity.specs.StoredMoves.{move_of, moves_stored};
 ghost use Rattle.lrambiguity.specs.StoredReplays.{roots_of};
-ghost use Rattle.lrambiguity.specs.StoredAmbiguities.{IsAmbiguity};
+ghost use Rattle.lrambiguity.specs.StoredAmbiguities.{IsAmbiguity, AmbiguityPartsAt};
 
 use crate::ambiguities::Ambiguity;
 use crate::moves::Move;
@@ -49,7 +49,7 @@ fn has_items_of<T: IndexStorage>(one: &Itemset<T>, other: &Itemset<T>) -> bool
 }
 
 /// Whether the moves begin with this one.
-fn begins_with<T: IndexStorage>(moves: &[Move<T>], first: Move<T>) -> bool
+pub(crate) fn begins_with<T: IndexStorage>(moves: &[Move<T>], first: Move<T>) -> bool
     ensures { IsTrue result → (rest : List plain.Move)
         × (moves_stored T.number moves.now ≡ move_of T.number first ∷ rest) }
 {
@@ -67,9 +67,11 @@ fn stands_at<T: IndexStorage>(
     requires graph_of { IsGraphOf grm.now graph.now }
     requires state { T.number contest.state.0 < length graph.now }
     ensures core { IsTrue result
-        → HasCoreAfter grm.now (roots_of T.number replay.now) (core_of graph.now (T.number contest.state.0)) }
+        → HasCoreAfter grm.now (roots_of T.number replay.now)
+        (core_of graph.now (T.number contest.state.0)) }
     ensures token { IsTrue result
-        → next_token grm.now (drop replay.now.used (text_of T.number text.now)) ≡ T.number contest.token.0 }
+        → next_token grm.now (drop replay.now.used (text_of T.number text.now))
+        ≡ T.number contest.token.0 }
 {
     // `prods_len` says that this is a grammar
     let _ = grm.prods_len();
@@ -97,7 +99,9 @@ pub fn parts_at<T: IndexStorage>(
     requires graph_of { IsGraphOf grm.now graph.now }
     requires state { T.number contest.state.0 < length graph.now }
     requires ambiguity { IsAmbiguity T.number grm.now ambiguity.now }
-    ensures { IfOk result (λ parts. IsTrue parts → Contend grm.now graph.now
+    ensures parts { IfOk result (λ parts. IsTrue parts
+        → AmbiguityPartsAt T.number grm.now graph.now ambiguity.now contest) }
+    ensures contend { IfOk result (λ parts. IsTrue parts → Contend grm.now graph.now
         (T.number contest.state.0) (T.number contest.token.0)
         (move_of T.number contest.one) (move_of T.number contest.other)) }
 {

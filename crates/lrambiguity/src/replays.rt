@@ -1,6 +1,7 @@
 //! Moves made again, one after the other.
 
 ghost use Rattle.std.specs.Prelude.{◌≡◌, ℕ, ◌≤◌, false, List, [], ◌∷◌, ◌++◌, map, length, vec_len, drop, IfOk, OnOk, IfSome, IfNone, IsTrue, ◌↔◌};
+ghost use Rattle.lrgrammar.specs.Symbols.{symbol_of};
 ghost use Rattle.lrspec.specs.grammars.Grammar.{Grammar, IsGrammar, body_of};
 ghost use Rattle.lrspec.specs.merging.Graph.{Leads};
 ghost use Rattle.lrspec.specs.tables.Machine.{next_token};
@@ -135,9 +136,11 @@ impl<T: IndexStorage> Replay<T> {
     ) -> Result<bool, AllocError>
         requires { HasMadeSome T.number grm.now (text_of T.number text.now) self.old }
         ensures made { IfOk result (λ made. IsTrue made →
-            Makes T.number grm.now (text_of T.number text.now) (move_of T.number action ∷ []) self.old self.new) }
+            Makes T.number grm.now (text_of T.number text.now)
+            (move_of T.number action ∷ []) self.old self.new) }
         ensures nowhere { IfOk result (λ made. made ≡ false →
-            LeadsNowhere T.number grm.now (text_of T.number text.now) (move_of T.number action ∷ []) self.old) }
+            LeadsNowhere T.number grm.now (text_of T.number text.now)
+            (move_of T.number action ∷ []) self.old) }
     {
         // `prods_len` says that this is a grammar
         let _ = grm.prods_len();
@@ -157,9 +160,11 @@ impl<T: IndexStorage> Replay<T> {
     ) -> Result<bool, AllocError>
         requires { HasMadeSome T.number grm.now (text_of T.number text.now) self.old }
         ensures made { IfOk result (λ made. IsTrue made →
-            Makes T.number grm.now (text_of T.number text.now) (moves_stored T.number moves.now) self.old self.new) }
+            Makes T.number grm.now (text_of T.number text.now)
+            (moves_stored T.number moves.now) self.old self.new) }
         ensures nowhere { IfOk result (λ made. made ≡ false →
-            LeadsNowhere T.number grm.now (text_of T.number text.now) (moves_stored T.number moves.now) self.old) }
+            LeadsNowhere T.number grm.now (text_of T.number text.now)
+            (moves_stored T.number moves.now) self.old) }
     {
         for action in moves {
             if !self.make(alloc, grm, text, *action)? {
@@ -177,6 +182,14 @@ impl<T: IndexStorage> Replay<T> {
         // `prods_len` says of a grammar that the start production is one of its productions
         let _ = grm.prods_len();
         self.used >= text.len() && self.roots.as_slice() == grm.prod(grm.start_prod())
+    }
+
+    /// Whether all the text is used, and the roots are the list.
+    pub(crate) fn is_list(&self, list: &[Symbol<T>], text: &[TIdx<T>]) -> bool
+        ensures { IsTrue result → ((length text.now ≤ self.now.used)
+            × (roots_of T.number self.now ≡ map (symbol_of T.number) list.now)) }
+    {
+        self.used >= text.len() && self.roots.as_slice() == list
     }
 
     /// The tree, where there is one alone, for the start rule, of all the text; else the trees are taken apart.
@@ -199,7 +212,8 @@ impl<T: IndexStorage> Replay<T> {
 
     /// The next token, or the end token where the text is used up.
     pub(crate) fn next_token(&self, grm: &YaccGrammar<T>, text: &[TIdx<T>]) -> TIdx<T>
-        ensures { T.number result.0 ≡ next_token grm.now (drop self.now.used (text_of T.number text.now)) }
+        ensures { T.number result.0
+            ≡ next_token grm.now (drop self.now.used (text_of T.number text.now)) }
     {
         match text.get(self.used) {
             Some(token) => *token,

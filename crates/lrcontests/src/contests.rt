@@ -90,7 +90,7 @@ fn start_places<T: IndexStorage>(
             first: given.first,
             second: given.second,
         };
-        if has_same_items(core, graph.core_state(state)) && are_looking(grm, graph, &place, token) {
+        if are_looking(grm, graph, &place, token) && has_same_items(core, graph.core_state(state)) {
             places.push(place)?;
         }
     }

@@ -126,7 +126,8 @@ impl<T: IndexStorage> Search<T> {
     fn begin(&mut self, ways: &Ways<T>, places: &[Place<T>]) -> Result<(), AllocError>
         requires known { AreKnown T.number self.old.seen
             (visits_of T.number self.old.visits.items) }
-        requires states { All (λ a. T.number a.state.0 < length ways.now.distances.items) places.now }
+        requires states { All (λ a.
+            T.number a.state.0 < length ways.now.distances.items) places.now }
         ensures known { OnOk result (AreKnown T.number self.new.seen
             (visits_of T.number self.new.visits.items)) }
         ensures added { OnOk result (AddsAll (visits_of T.number self.old.visits.items)
@@ -221,7 +222,8 @@ pub(crate) fn shortest_list<T: IndexStorage>(
 ) -> Result<Option<Vec<Symbol<T>>>, AllocError>
     requires graph { IsGraphOf grm.now graph.now }
     requires ways { AreWaysOf T.number grm.now graph.now ways.now }
-    requires looking { All (λ a. AreLooking graph.now (T.number token.0) (place_of T.number a)) places.now }
+    requires looking { All (λ a.
+        AreLooking graph.now (T.number token.0) (place_of T.number a)) places.now }
     requires states { All (λ a. T.number a.state.0 < length graph.now) places.now }
     requires token { T.number token.0 < math.token_count grm.now }
     ensures { IfOk result (λ o. IsAnswer grm.now graph.now (T.number token.0)

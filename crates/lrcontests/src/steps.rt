@@ -53,18 +53,16 @@ fn with_firsts<T: IndexStorage>(
 ) -> Result<Vec<Step<T>>, AllocError>
     ensures { IfOk result (λ v. v.items ≡ map (λ z. first_step place.now z) needs.now) }
 {
-    let mut steps = Vec::new(alloc);
-    for need in needs {
-        steps.push(Step {
+    needs
+        .iter()
+        .map(|need| Step {
             symbol: None,
             place: Place {
-                state: place.state,
                 first: *need,
-                second: place.second,
+                ..*place
             },
-        })?;
-    }
-    Ok(steps)
+        })
+        .collect(alloc)
 }
 
 /// The steps to these needs for the second candidate.
@@ -75,18 +73,16 @@ fn with_seconds<T: IndexStorage>(
 ) -> Result<Vec<Step<T>>, AllocError>
     ensures { IfOk result (λ v. v.items ≡ map (λ z. second_step place.now z) needs.now) }
 {
-    let mut steps = Vec::new(alloc);
-    for need in needs {
-        steps.push(Step {
+    needs
+        .iter()
+        .map(|need| Step {
             symbol: None,
             place: Place {
-                state: place.state,
-                first: place.first,
                 second: *need,
+                ..*place
             },
-        })?;
-    }
-    Ok(steps)
+        })
+        .collect(alloc)
 }
 
 /// The steps back over the edges that lead into the state of the place.

@@ -1,10 +1,12 @@
-//! What stands around a rule in a whole text.
+//! What stands around a rule or an item in a whole text.
 
+use crate::behind::Behind;
 use crate::costs::Cost;
 use crate::items::Item;
+use crate::layers::Layer;
 use crate::shared::Shared;
 use crate::states::Way;
-use lrgrammar::idx::RIdx;
+use lrgrammar::idx::{RIdx, TIdx};
 use std::alloc::{AllocError, Global};
 use std::collections::{BTreeSet, HashSet};
 
@@ -12,31 +14,121 @@ use std::collections::{BTreeSet, HashSet};
 const MOST_STEPS: usize = 1_000_000;
 
 /// A rule whose text begins at a place of the way.
-#[derive(Clone, Copy)]
-struct Open {
+#[derive(Clone, Copy, PartialEq, Eq, Hash)]
+struct Opening {
     place: usize,
     rule: RIdx<u32>,
-    cost: Cost,
-    /// The item below which the rule before it stands, and the number of that one; None for the first rule.
-    below: Option<(Item, usize)>,
+    /// Whether the token that has to come next has come.
+    has_met: bool,
+}
+
+/// What it costs to come to a rule: first the tokens behind the dots of the items, then the items, and then the reductions
+/// behind the dots.
+#[derive(Clone, Copy, Default, PartialEq, Eq, PartialOrd, Ord)]
+struct Spent {
+    tokens: usize,
+    items: usize,
+    reductions: usize,
+}
+
+impl Spent {
+    /// With an item more, behind whose dot comes what costs this.
+    fn and(self, behind: Cost) -> Spent {
+        Spent {
+            tokens: self.tokens.saturating_add(behind.tokens),
+            items: self.items.saturating_add(1),
+            reductions: self.reductions.saturating_add(behind.reductions),
+        }
+    }
+}
+
+/// How a rule was come to.
+#[derive(Clone, Copy)]
+struct Open {
+    opening: Opening,
+    spent: Spent,
+    /// By which item, if not by none.
+    layer: Option<Layer>,
+    /// The number of the rule that stands behind the dot of that item; None for an item with which the search begins.
+    inner: Option<usize>,
 }
 
 /// Rules that were come to, outwards, by what is least behind them.
 #[derive(Drop)]
-struct Around<'a> {
+pub(crate) struct Around<'a> {
     shared: &'a Shared,
     way: &'a Way,
+    token: TIdx<u32>,
+    behind: Behind<'a>,
     opened: Vec<Open>,
     /// What is to be looked at next: costs and numbers.
-    queue: BTreeSet<(Cost, usize)>,
-    seen: HashSet<(usize, RIdx<u32>)>,
+    queue: BTreeSet<(Spent, usize)>,
+    seen: HashSet<Opening>,
 }
 
 impl<'a> Around<'a> {
+    /// Nothing is come to yet. Behind the way this token has to come.
+    pub(crate) fn new(
+        alloc: Global,
+        shared: &'a Shared,
+        way: &'a Way,
+        token: TIdx<u32>,
+    ) -> Result<Around<'a>, AllocError> {
+        let behind = Behind::new(shared, token)?;
+        Ok(Around {
+            shared,
+            way,
+            token,
+            behind,
+            opened: Vec::new(alloc),
+            queue: BTreeSet::new(alloc),
+            seen: HashSet::new(alloc),
+        })
+    }
+
+    /// Begins with a rule behind the way, with which the token comes.
+    pub(crate) fn add_rule(&mut self, rule: RIdx<u32>) -> Result<(), AllocError> {
+        self.open(Open {
+            opening: Opening {
+                place: self.way.symbols.len(),
+                rule,
+                has_met: true,
+            },
+            spent: Spent::default(),
+            layer: None,
+            inner: None,
+        })
+    }
+
+    /// Begins with an item whose dot is behind the way. Whether the token comes with the symbol behind the dot.
+    pub(crate) fn add_item(&mut self, item: Item, has_met: bool) -> Result<(), AllocError> {
+        let place = self.way.symbols.len();
+        let Some(opening) = self.opening(item, place, has_met) else {
+            return Ok(());
+        };
+        let rest = self.shared.rules.rest(item);
+        let behind = self.behind.cost(rest);
+        self.open(Open {
+            opening,
+            spent: Spent::default().and(behind),
+            layer: Some(Layer { item, begun: None }),
+            inner: None,
+        })
+    }
+
+    /// The rule of an item whose dot is at the place.
+    fn opening(&self, item: Item, place: usize, has_met: bool) -> Option<Opening> {
+        Some(Opening {
+            place: place.checked_sub(item.dot())?,
+            rule: self.shared.rules.rule(item.production)?,
+            has_met,
+        })
+    }
+
     /// Adds a rule.
     fn open(&mut self, open: Open) -> Result<(), AllocError> {
         let number = self.opened.len();
-        self.queue.insert((open.cost, number))?;
+        self.queue.insert((open.spent, number))?;
         self.opened.push(open)?;
         Ok(())
     }
@@ -49,102 +141,112 @@ impl<'a> Around<'a> {
 
     /// Adds the rules in whose bodies a rule may stand.
     fn go_on(&mut self, number: usize, open: Open) -> Result<(), AllocError> {
-        let Some(state) = self.way.states.get(open.place) else {
+        let Some(state) = self.way.states.get(open.opening.place) else {
             return Ok(());
         };
         let states = &self.shared.states;
-        for caller in states.callers(*state, open.rule) {
-            if let Some(item) = states.uses(open.rule).get(caller.place) {
-                self.put_below(number, open, *item)?;
+        let rule = open.opening.rule;
+        for caller in states.callers(*state, rule) {
+            if let Some(item) = states.uses(rule).get(caller.place) {
+                self.cross(number, open, *item)?;
             }
         }
         Ok(())
     }
 
-    /// Adds the rule of an item before a rule.
-    fn put_below(&mut self, number: usize, open: Open, item: Item) -> Result<(), AllocError> {
-        let rules = &self.shared.rules;
-        let Some(place) = open.place.checked_sub(item.dot()) else {
+    /// Adds the rule of an item before a rule, if the token that has to come can come behind that, or further out.
+    fn cross(&mut self, number: usize, open: Open, item: Item) -> Result<(), AllocError> {
+        let rest = self.shared.rules.rest(item);
+        if open.opening.has_met || self.behind.are_nullable(rest) {
+            let behind = self.behind.cost(rest);
+            self.put(number, open, Layer { item, begun: None }, behind)?;
+        }
+        if open.opening.has_met {
             return Ok(());
-        };
-        let Some(rule) = rules.rule(item.production) else {
-            return Ok(());
-        };
-        let Some(cost) = self.shared.texts.cost_of(rules.rest(item)) else {
+        }
+        match self.behind.begun(rest) {
+            Some(begun) => {
+                let place = Some(begun.place);
+                self.put(number, open, Layer { item, begun: place }, begun.cost)
+            }
+            None => Ok(()),
+        }
+    }
+
+    /// Adds the rule of a layer around a rule, behind which comes what costs this.
+    fn put(
+        &mut self,
+        number: usize,
+        open: Open,
+        layer: Layer,
+        behind: Cost,
+    ) -> Result<(), AllocError> {
+        let has_met = open.opening.has_met || layer.begun.is_some();
+        let Some(opening) = self.opening(layer.item, open.opening.place, has_met) else {
             return Ok(());
         };
         self.open(Open {
-            place,
-            rule,
-            cost: open.cost.and(cost).and(Cost::NODE),
-            below: Some((item, number)),
+            opening,
+            spent: open.spent.and(behind),
+            layer: Some(layer),
+            inner: Some(number),
         })
     }
 
-    /// Goes outwards until the start production is come to, whose rule this is; the number of that.
-    fn run(&mut self, start: RIdx<u32>) -> Result<Option<usize>, AllocError> {
+    /// Whether the rule is that of the start production, and nothing has to come behind it.
+    fn is_goal(&self, opening: Opening) -> bool {
+        let rules = &self.shared.rules;
+        rules.rule(rules.start) == Some(opening.rule)
+            && (opening.has_met || self.token == rules.end)
+    }
+
+    /// Goes outwards until the start production is come to; the number of its rule.
+    fn run(&mut self) -> Result<Option<usize>, AllocError> {
         for _ in 0..MOST_STEPS {
             let Some(number) = self.next() else {
                 break;
             };
-            let Some(open) = self.opened.get(number).copied() else {
+            let Some(open) = self.at(Some(number)) else {
                 break;
             };
-            if open.rule == start {
+            if self.is_goal(open.opening) {
                 return Ok(Some(number));
             }
-            if self.seen.insert((open.place, open.rule))? {
+            if self.seen.insert(open.opening)? {
                 self.go_on(number, open)?;
             }
         }
         Ok(None)
     }
 
-    /// The items below which rules stand, from the first rule outwards, up to that with this number.
-    fn items(&self, alloc: Global, number: usize) -> Result<Vec<Item>, AllocError> {
-        let mut items = Vec::new(alloc);
-        let mut last = number;
-        for _ in 0..self.opened.len() {
-            let Some(open) = self.opened.get(last) else {
-                break;
-            };
-            let Some((item, below)) = open.below else {
-                break;
-            };
-            items.push(item)?;
-            last = below;
-        }
-        items.as_mut_slice().reverse();
-        Ok(items)
+    /// How the rule with this number was come to.
+    fn at(&self, number: Option<usize>) -> Option<Open> {
+        self.opened.get(number?).copied()
     }
-}
 
-/// Around a rule that stands at the end of the way: the items below which it stands, from it outwards to the start production,
-/// with least texts behind the dots.
-pub(crate) fn items_around<'a>(
-    alloc: Global,
-    shared: &'a Shared,
-    way: &'a Way,
-    rule: RIdx<u32>,
-) -> Result<Option<Vec<Item>>, AllocError> {
-    let mut around = Around {
-        shared,
-        way,
-        opened: Vec::new(alloc),
-        queue: BTreeSet::new(alloc),
-        seen: HashSet::new(alloc),
-    };
-    around.open(Open {
-        place: way.symbols.len(),
-        rule,
-        cost: Cost::default(),
-        below: None,
-    })?;
-    let Some(start) = shared.rules.rule(shared.rules.start) else {
-        return Ok(None);
-    };
-    match around.run(start)? {
-        Some(number) => Ok(Some(around.items(alloc, number)?)),
-        None => Ok(None),
+    /// The layers by which the rule with this number was come to, the outermost one first.
+    fn layers(&self, alloc: Global, number: usize) -> Result<Vec<Layer>, AllocError> {
+        let mut layers = Vec::new(alloc);
+        let mut last = Some(number);
+        for _ in 0..self.opened.len() {
+            let Some(open) = self.at(last) else {
+                break;
+            };
+            let Some(layer) = open.layer else {
+                break;
+            };
+            layers.push(layer)?;
+            last = open.inner;
+        }
+        Ok(layers)
+    }
+
+    /// Goes outwards from what was added: the layers around it, that of the start production first, with the fewest tokens
+    /// behind the dots, and of such ones the fewest. None where there are none.
+    pub(crate) fn find(&mut self, alloc: Global) -> Result<Option<Vec<Layer>>, AllocError> {
+        match self.run()? {
+            Some(number) => Ok(Some(self.layers(alloc, number)?)),
+            None => Ok(None),
+        }
     }
 }

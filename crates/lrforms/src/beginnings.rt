@@ -8,10 +8,11 @@ use lrgrammar::idx::{IndexStorage, PIdx, RIdx, Symbol, TIdx};
 use lrgrammar::vob::Vob;
 use std::alloc::{AllocError, Global};
 
-/// For each rule the tokens that begin its bodies.
+/// For each rule the tokens that begin its bodies, and whether it derives nothing.
 #[derive(Drop)]
 pub(crate) struct Firsts {
     rows: Vec<Vob>,
+    nullable: Vec<bool>,
 }
 
 impl Firsts {
@@ -22,12 +23,26 @@ impl Firsts {
     ) -> Result<Firsts, AllocError> {
         let firsts = grm.firsts()?;
         let mut rows = Vec::new(alloc);
+        let mut nullable = Vec::new(alloc);
         for number in 0..usize::from(grm.rules_len()) {
             if let Some(number) = T::from_usize(number) {
                 rows.push(firsts.firsts(RIdx(number)).clone()?)?;
+                nullable.push(firsts.is_epsilon_set(RIdx(number)))?;
             }
         }
-        Ok(Firsts { rows })
+        Ok(Firsts { rows, nullable })
+    }
+
+    /// Whether the symbol derives nothing, be it by a tree of any size.
+    pub(crate) fn is_nullable(&self, symbol: Symbol<u32>) -> bool {
+        match symbol {
+            Symbol::Token(_) => false,
+            Symbol::Rule(rule) => self
+                .nullable
+                .get(usize::from(rule))
+                .copied()
+                .unwrap_or(false),
+        }
     }
 
     /// Whether the token begins the symbol.
@@ -190,7 +205,7 @@ impl Beginnings {
     }
 
     /// What a least text of the symbol costs that begins with the token.
-    fn cost(&self, symbol: Symbol<u32>) -> Option<Cost> {
+    pub(crate) fn cost(&self, symbol: Symbol<u32>) -> Option<Cost> {
         match symbol {
             Symbol::Token(first) if first == self.token => Some(Cost::TOKEN),
             Symbol::Token(_) => None,

@@ -2,14 +2,24 @@
 
 use crate::ambiguous::{Conflict, Search};
 use crate::items::Item;
-use crate::rules::number_of;
+use crate::outlooks::{Outlook, outlook_of, text_of};
+use crate::rules::{number_of, plain_move, plain_symbol};
 use crate::searching::Searching;
 use crate::shared::Shared;
-use crate::typed::typed;
+use crate::states::{START, Way};
+use crate::typed::{typed, typed_outlook, typed_written};
+use lrambiguity::{Move, Written};
 use lrgrammar::grammar::YaccGrammar;
 use lrgrammar::idx::{IndexStorage, PIdx, StIdx, Symbol, TIdx};
 use lrtable::StateGraph;
 use std::alloc::{AllocError, Global};
+
+/// A way along a list, and the state to which it leads.
+#[derive(Drop)]
+struct Along<T: IndexStorage> {
+    way: Way,
+    end: StIdx<T>,
+}
 
 /// What all searches in the table of a grammar share.
 #[derive(Drop)]
@@ -34,10 +44,11 @@ impl<'a, T: IndexStorage> Forms<'a, T> {
     /// be checked; that nothing is found says nothing. The error says that memory was refused.
     pub fn search(&self, conflict: Conflict<T>, steps: usize) -> Result<Search<T>, AllocError> {
         let alloc = self.grm.allocator();
-        let items = self.shifting(alloc, &conflict)?;
+        let token = TIdx(number_of(conflict.token.0));
+        let items = self.candidates(alloc, conflict.state, token, Move::Shift)?;
         let plain = Conflict {
             state: StIdx(number_of(conflict.state.0)),
-            token: TIdx(number_of(conflict.token.0)),
+            token,
             production: PIdx(number_of(conflict.production.0)),
             other: conflict.other.map(|other| PIdx(number_of(other.0))),
         };
@@ -52,16 +63,74 @@ impl<'a, T: IndexStorage> Forms<'a, T> {
         }
     }
 
-    /// The items of the conflict's state that stand before its token.
-    fn shifting(&self, alloc: Global, conflict: &Conflict<T>) -> Result<Vec<Item>, AllocError> {
+    /// A least text of the symbols, one after another, as moves read it; None where one of them has no text or it gets too
+    /// long. The error says that memory was refused.
+    pub fn text_of(&self, symbols: &[Symbol<T>]) -> Result<Option<Written<T>>, AllocError> {
+        let alloc = self.grm.allocator();
+        let mut plain = Vec::new(alloc);
+        for symbol in symbols {
+            plain.push(plain_symbol(*symbol))?;
+        }
+        match text_of(alloc, &self.shared, plain.as_slice())? {
+            Some(written) => typed_written(alloc, &written),
+            None => Ok(None),
+        }
+    }
+
+    /// How a parse goes on by the candidate after the list, where the token comes next: of all ways one with a shortest rest,
+    /// ties by the number of items. None where there is none. The error says that memory was refused.
+    pub fn outlook(
+        &self,
+        list: &[Symbol<T>],
+        token: TIdx<T>,
+        candidate: Move<T>,
+    ) -> Result<Option<Outlook<T>>, AllocError> {
+        let alloc = self.grm.allocator();
+        let Some(along) = self.along(alloc, list)? else {
+            return Ok(None);
+        };
+        let token = TIdx(number_of(token.0));
+        let candidate = plain_move(candidate);
+        let items = self.candidates(alloc, along.end, token, candidate)?;
+        let items = items.as_slice();
+        match outlook_of(alloc, &self.shared, &along.way, token, candidate, items)? {
+            Some(outlook) => typed_outlook(alloc, &outlook),
+            None => Ok(None),
+        }
+    }
+
+    /// The way along the list; None where there is none.
+    fn along(&self, alloc: Global, list: &[Symbol<T>]) -> Result<Option<Along<T>>, AllocError> {
+        let mut end = self.graph.start_state();
+        let mut states = vec![in alloc; START]?;
+        let mut symbols = Vec::new(alloc);
+        for symbol in list {
+            let Some(next) = self.graph.edge(end, *symbol) else {
+                return Ok(None);
+            };
+            end = next;
+            states.push(StIdx(number_of(next.0)))?;
+            symbols.push(plain_symbol(*symbol))?;
+        }
+        let way = Way { states, symbols };
+        Ok(Some(Along { way, end }))
+    }
+
+    /// The items of the state for which the candidate stands, where the token comes next.
+    fn candidates(
+        &self,
+        alloc: Global,
+        state: StIdx<T>,
+        token: TIdx<u32>,
+        candidate: Move<u32>,
+    ) -> Result<Vec<Item>, AllocError> {
         let mut items = Vec::new(alloc);
-        if usize::from(conflict.state) >= usize::from(self.graph.all_states_len()) {
+        if usize::from(state) >= usize::from(self.graph.all_states_len()) {
             return Ok(items);
         }
-        let token = Symbol::Token(TIdx(number_of(conflict.token.0)));
-        for key in self.graph.closed_state(conflict.state).items.keys() {
+        for key in self.graph.closed_state(state).items.keys() {
             let item = Item::of(key.0, key.1);
-            if self.shared.rules.symbol(item) == Some(token) {
+            if self.shared.rules.allows(item, token, candidate) {
                 items.push(item)?;
             }
         }

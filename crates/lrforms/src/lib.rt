@@ -1,16 +1,18 @@
 //! Searches, for a conflict of a table, a form that is derived in two ways which part there, and from it a whole text with two
-//! trees. Nothing is proved of what is found: `lrambiguity` checks it.
+//! trees; and for each candidate at a conflict a rest of the text. Nothing is proved of what is found: `lrambiguity` checks it.
 #![tactic(auto)]
 
 mod ambiguous;
 mod around;
 mod beginnings;
-mod brackets;
+mod behind;
 mod costs;
 mod forms;
 mod graphs;
 mod items;
+mod layers;
 mod nodes;
+mod outlooks;
 mod queues;
 mod reading;
 mod rests;
@@ -25,5 +27,5 @@ mod typed;
 mod writing;
 
 pub use crate::ambiguous::{Ambiguous, Conflict, Form, Search, Sentence, Ways};
-pub use crate::brackets::bracketed;
 pub use crate::forms::Forms;
+pub use crate::outlooks::Outlook;

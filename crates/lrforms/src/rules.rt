@@ -1,6 +1,7 @@
 //! The rules of a grammar by plain numbers.
 
 use crate::items::Item;
+use lrambiguity::Move;
 use lrgrammar::grammar::YaccGrammar;
 use lrgrammar::idx::{IndexStorage, PIdx, RIdx, Symbol, TIdx};
 use std::alloc::{AllocError, Global};
@@ -33,6 +34,14 @@ pub(crate) fn plain_symbol<T: IndexStorage>(symbol: Symbol<T>) -> Symbol<u32> {
     match symbol {
         Symbol::Rule(rule) => Symbol::Rule(RIdx(number_of(rule.0))),
         Symbol::Token(token) => Symbol::Token(TIdx(number_of(token.0))),
+    }
+}
+
+/// The move by its plain numbers.
+pub(crate) fn plain_move<T: IndexStorage>(step: Move<T>) -> Move<u32> {
+    match step {
+        Move::Shift => Move::Shift,
+        Move::Reduce(production) => Move::Reduce(PIdx(number_of(production.0))),
     }
 }
 
@@ -114,6 +123,16 @@ impl Rules {
     /// The symbol behind the dot of an item.
     pub(crate) fn symbol(&self, item: Item) -> Option<Symbol<u32>> {
         self.body(item.production).get(item.dot()).copied()
+    }
+
+    /// Whether the move can be the next one where an item stands and the token comes next.
+    pub(crate) fn allows(&self, item: Item, token: TIdx<u32>, candidate: Move<u32>) -> bool {
+        match candidate {
+            Move::Shift => self.symbol(item) == Some(Symbol::Token(token)),
+            Move::Reduce(production) => {
+                item.production == production && self.symbol(item).is_none()
+            }
+        }
     }
 
     /// The symbols behind the one behind the dot.

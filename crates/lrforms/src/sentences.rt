@@ -1,13 +1,13 @@
 //! A whole text around a form.
 
 use crate::ambiguous::{Ambiguous, Form, Sentence, Ways};
-use crate::around::items_around;
-use crate::items::Item;
+use crate::around::Around;
+use crate::layers::{Layer, write_behind};
 use crate::shared::Shared;
 use crate::states::Way;
 use crate::writing::Writer;
 use lrambiguity::Move;
-use lrgrammar::idx::{StIdx, Symbol, TIdx};
+use lrgrammar::idx::{RIdx, StIdx, Symbol, TIdx};
 use std::alloc::{AllocError, Global};
 
 /// The state to which the shortest way leads.
@@ -64,29 +64,14 @@ fn write_symbol(
     }
 }
 
-/// Writes what stands behind the form.
-fn write_behind(
-    writer: &mut Writer<'_>,
-    shared: &Shared,
-    around: &[Item],
-) -> Result<(), AllocError> {
-    for item in around {
-        writer.push_all(shared.rules.rest(*item))?;
-        if item.production != shared.rules.start {
-            writer.push_reduction(item.production)?;
-        }
-    }
-    Ok(())
-}
-
-/// The text around a form that stands behind the way, below these items. None where it gets too long.
+/// The text around a form that stands behind the way, in these layers. None where it gets too long.
 fn write_text(
     alloc: Global,
     shared: &Shared,
     token: TIdx<u32>,
     form: &Form<u32>,
     way: &Way,
-    around: &[Item],
+    layers: &[Layer],
 ) -> Result<Option<Sentence<u32>>, AllocError> {
     let beginnings = shared.beginnings(token)?;
     let mut before = Writer::new(alloc, shared, beginnings);
@@ -95,8 +80,8 @@ fn write_text(
     write_before(&mut before, way, form)?;
     write_form(&mut first, form, form.ways.first.as_slice())?;
     write_form(&mut second, form, form.ways.second.as_slice())?;
-    write_behind(&mut first, shared, around)?;
-    write_behind(&mut second, shared, around)?;
+    write_behind(&mut first, &shared.rules, layers)?;
+    write_behind(&mut second, &shared.rules, layers)?;
     if before.has_failed || first.has_failed || second.has_failed {
         return Ok(None);
     }
@@ -109,6 +94,19 @@ fn write_text(
         second: second.moves,
     };
     Ok(Some(Sentence { tokens, dot, ways }))
+}
+
+/// The layers around a rule behind the way.
+fn layers_around(
+    alloc: Global,
+    shared: &Shared,
+    way: &Way,
+    token: TIdx<u32>,
+    rule: RIdx<u32>,
+) -> Result<Option<Vec<Layer>>, AllocError> {
+    let mut around = Around::new(alloc, shared, way, token)?;
+    around.add_rule(rule)?;
+    around.find(alloc)
 }
 
 /// What shows that the grammar is ambiguous: the form in a whole text, where it may stand behind each of the states. None where
@@ -124,10 +122,10 @@ pub(crate) fn sentence_of(
         return Ok(None);
     };
     let way = shared.states.way(alloc, state)?;
-    let Some(around) = items_around(alloc, shared, &way, form.rule)? else {
+    let Some(layers) = layers_around(alloc, shared, &way, token, form.rule)? else {
         return Ok(None);
     };
-    match write_text(alloc, shared, token, &form, &way, around.as_slice())? {
+    match write_text(alloc, shared, token, &form, &way, layers.as_slice())? {
         Some(sentence) => Ok(Some(Ambiguous { form, sentence })),
         None => Ok(None),
     }

@@ -1,8 +1,9 @@
 //! What was found, by a caller's index type.
 
 use crate::ambiguous::{Ambiguous, Form, Sentence, Ways};
-use lrambiguity::Move;
-use lrgrammar::idx::{IndexStorage, PIdx, RIdx, Symbol, TIdx};
+use crate::outlooks::Outlook;
+use lrambiguity::{Move, Written};
+use lrgrammar::idx::{IndexStorage, PIdx, RIdx, SIdx, Symbol, TIdx};
 use std::alloc::{AllocError, Global};
 
 /// The value of a number.
@@ -117,6 +118,49 @@ fn typed_sentence<T: IndexStorage>(
         })),
         _ => Ok(None),
     }
+}
+
+/// The text and its moves; None where the type has not all numbers.
+pub(crate) fn typed_written<T: IndexStorage>(
+    alloc: Global,
+    written: &Written<u32>,
+) -> Result<Option<Written<T>>, AllocError> {
+    let tokens = typed_tokens(alloc, written.tokens.as_slice())?;
+    let moves = typed_moves(alloc, written.moves.as_slice())?;
+    match (tokens, moves) {
+        (Some(tokens), Some(moves)) => Ok(Some(Written { tokens, moves })),
+        _ => Ok(None),
+    }
+}
+
+/// The items; None where the type has not all numbers.
+fn typed_items<T: IndexStorage>(
+    alloc: Global,
+    items: &[(PIdx<u32>, SIdx<u32>)],
+) -> Result<Option<Vec<(PIdx<T>, SIdx<T>)>>, AllocError> {
+    let mut typed = Vec::new(alloc);
+    for (production, dot) in items {
+        match (value_of(production.0), value_of(dot.0)) {
+            (Some(production), Some(dot)) => typed.push((PIdx(production), SIdx(dot)))?,
+            _ => return Ok(None),
+        }
+    }
+    Ok(Some(typed))
+}
+
+/// How a parse goes on; None where the type has not all numbers.
+pub(crate) fn typed_outlook<T: IndexStorage>(
+    alloc: Global,
+    outlook: &Outlook<u32>,
+) -> Result<Option<Outlook<T>>, AllocError> {
+    let Some(items) = typed_items(alloc, outlook.items.as_slice())? else {
+        return Ok(None);
+    };
+    let rest = match &outlook.rest {
+        Some(rest) => typed_written(alloc, rest)?,
+        None => None,
+    };
+    Ok(Some(Outlook { items, rest }))
 }
 
 /// What was found; None where the type has not all numbers.

@@ -3,7 +3,7 @@
 use crate::beginnings::Beginnings;
 use crate::shared::Shared;
 use crate::texts::MOST_MOVES;
-use lrambiguity::Move;
+use lrambiguity::{Move, Written};
 use lrgrammar::idx::{PIdx, RIdx, Symbol, TIdx};
 use std::alloc::{AllocError, Global};
 
@@ -73,10 +73,31 @@ impl<'a> Writer<'a> {
         self.write()
     }
 
+    /// Writes least texts of the symbols, of which the one at the place begins with the token, and those before it are empty.
+    pub(crate) fn push_begun(
+        &mut self,
+        symbols: &[Symbol<u32>],
+        place: usize,
+    ) -> Result<(), AllocError> {
+        self.write_begun(symbols, place)?;
+        self.write()
+    }
+
     /// Writes the reduction by the production.
     pub(crate) fn push_reduction(&mut self, production: PIdx<u32>) -> Result<(), AllocError> {
         self.moves.push(Move::Reduce(production))?;
         Ok(())
+    }
+
+    /// What was written; None where that failed.
+    pub(crate) fn written(self) -> Option<Written<u32>> {
+        if self.has_failed {
+            return None;
+        }
+        Some(Written {
+            tokens: self.tokens,
+            moves: self.moves,
+        })
     }
 
     /// Does the work.

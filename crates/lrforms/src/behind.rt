@@ -1,0 +1,88 @@
+//! What comes behind a symbol at least.
+
+use crate::beginnings::Beginnings;
+use crate::costs::Cost;
+use crate::shared::Shared;
+use lrgrammar::idx::{Symbol, TIdx};
+use std::alloc::AllocError;
+
+/// That of a symbol that has no text: more than of any that has one.
+const NO_TEXT: Cost = Cost {
+    tokens: 1 << 32,
+    reductions: 0,
+};
+
+/// A text of symbols that begins with the token.
+#[derive(Clone, Copy)]
+pub(crate) struct Begun {
+    pub(crate) cost: Cost,
+    /// The place of the symbol with which the token comes. Those before it derive nothing.
+    pub(crate) place: usize,
+}
+
+/// Least texts of what comes behind a symbol, where a token has to come next.
+#[derive(Drop)]
+pub(crate) struct Behind<'a> {
+    shared: &'a Shared,
+    token: TIdx<u32>,
+    beginnings: Option<&'a Beginnings>,
+}
+
+impl<'a> Behind<'a> {
+    /// Where this token has to come.
+    pub(crate) fn new(shared: &'a Shared, token: TIdx<u32>) -> Result<Behind<'a>, AllocError> {
+        let beginnings = shared.beginnings(token)?;
+        Ok(Behind {
+            shared,
+            token,
+            beginnings,
+        })
+    }
+
+    /// Whether all of the symbols derive nothing.
+    pub(crate) fn are_nullable(&self, symbols: &[Symbol<u32>]) -> bool {
+        let firsts = &self.shared.firsts;
+        symbols.iter().all(|symbol| firsts.is_nullable(*symbol))
+    }
+
+    /// What a least text of the symbols costs, one after another.
+    pub(crate) fn cost(&self, symbols: &[Symbol<u32>]) -> Cost {
+        let texts = &self.shared.texts;
+        let mut cost = Cost::default();
+        for symbol in symbols {
+            cost = cost.and(texts.cost(*symbol).unwrap_or(NO_TEXT));
+        }
+        cost
+    }
+
+    /// A least text of the symbols that begins with the token; None where there is none.
+    pub(crate) fn begun(&self, symbols: &[Symbol<u32>]) -> Option<Begun> {
+        let mut least: Option<Begun> = None;
+        for (place, symbol) in symbols.iter().enumerate() {
+            if self.shared.firsts.begins(*symbol, self.token) {
+                let begun = self.begun_at(symbols, place, *symbol);
+                if least.is_none_or(|least| begun.cost < least.cost) {
+                    least = Some(begun);
+                }
+            }
+            if !self.shared.firsts.is_nullable(*symbol) {
+                break;
+            }
+        }
+        least
+    }
+
+    /// A least text of the symbols in which the token comes with the one at the place.
+    fn begun_at(&self, symbols: &[Symbol<u32>], place: usize, symbol: Symbol<u32>) -> Begun {
+        let before = symbols.get(..place).unwrap_or(&[]);
+        let behind = symbols.get(place.saturating_add(1)..).unwrap_or(&[]);
+        let begun = self
+            .beginnings
+            .and_then(|beginnings| beginnings.cost(symbol))
+            .unwrap_or(NO_TEXT);
+        Begun {
+            cost: self.cost(before).and(begun).and(self.cost(behind)),
+            place,
+        }
+    }
+}
