@@ -76,7 +76,7 @@ def outcome(folder):
 
 
 def main(names):
-    os.environ.update(TOP=str(TOP), LRT=str(TOP / "lrt"), LRCHECK=str(TOP / "lrcheck"))
+    os.environ.update(TOP=str(TOP), LRT=str(TOP / "lrt"), LRCHECK=str(TOP / "lrcheck"), LREXPLAIN=str(TOP / "out/lrexplain"))
     names = names or sorted(it.name for it in RUNS.iterdir() if it.is_dir() and it.name != "__pycache__")
     outcomes = [outcome(RUNS / name) for name in names]
     print(f"{outcomes.count('passed')} passed, {outcomes.count('failed')} failed")

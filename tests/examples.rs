@@ -1,10 +1,11 @@
 //! What the callers of `lrexamples` answer.
 
 use crate::fixtures::{
-    ASSIGNMENTS, CONTESTED_ON_X_ALONE, NONASSOC, SUMS_AND_PRODUCTS_WITH_LEVELS, TERMS_AND_FACTORS,
-    grammar_and_table, tokens,
+    ASSIGNMENTS, CONTESTED_ON_X_ALONE, NONASSOC, SUMS_AND_PRODUCTS, SUMS_AND_PRODUCTS_WITH_LEVELS,
+    TERMS_AND_FACTORS, TOLD_APART_LATE, grammar_and_table, tokens,
 };
 use lrexamples::depths::text_depth;
+use lrexamples::explanations::explain;
 use lrexamples::sentences::is_sentence;
 use lrexamples::start_states::start_state;
 use lrgrammar::grammar::YaccGrammar;
@@ -69,5 +70,27 @@ fn items_of_start(alloc: Global, text: &str) -> Result<usize, Fail> {
 #[test]
 fn start_state_of_assignments(rt: HostRuntime) -> Result<(), Fail> {
     assert!(rt; items_of_start(rt.alloc(), ASSIGNMENTS)? == 6);
+    Ok(())
+}
+
+/// Whether there is a text of why the grammar has conflicts, and whether that shows it to be ambiguous.
+fn explained(alloc: Global, grammar: &str) -> Result<(bool, bool), Fail> {
+    let grm = YaccGrammar::<u32>::from_text(alloc, grammar)?;
+    match explain(alloc, &grm) {
+        Ok((text, is_ambiguous)) => Ok((!text.is_empty(), is_ambiguous)),
+        Err(_) => Err(Fail::from("a table")),
+    }
+}
+
+#[test]
+fn conflicts_are_explained(rt: HostRuntime) -> Result<(), Fail> {
+    for (grammar, wanted) in [
+        (SUMS_AND_PRODUCTS, (true, true)),
+        (TOLD_APART_LATE, (true, false)),
+        (TERMS_AND_FACTORS, (false, false)),
+    ] {
+        let found = explained(rt.alloc(), grammar)?;
+        assert_eq!(rt; found, wanted, "{grammar}");
+    }
     Ok(())
 }

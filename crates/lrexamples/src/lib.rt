@@ -2,5 +2,6 @@
 #![tactic(auto)]
 
 pub mod depths;
+pub mod explanations;
 pub mod sentences;
 pub mod start_states;

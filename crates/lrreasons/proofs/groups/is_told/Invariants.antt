@@ -1,0 +1,7 @@
+use Rattle.std.proofs.Common.{◌≡◌, false, take}
+use Rattle.std.specs.List.{list_any}
+use Rattle.lrreasons.specs.StoredTexts.{are_alike}
+use Rattle.lrreasons.proofs.groups.is_told.Given as goal
+
+abbrev pub invariant-loop-other : goal.invariant-loop-other
+invariant-loop-other g l = list_any (are_alike g.T.IndexStorage.number l.reason) (take l.other-index l.reasons) ≡ false

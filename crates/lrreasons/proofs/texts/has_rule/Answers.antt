@@ -1,0 +1,17 @@
+use Rattle.std.proofs.Common.{◌≡◌, true, map, get_or, refl, sym, ap, ◌∙◌}
+use Rattle.std.proofs.lemmas.List.{get_or-map, length-map}
+use Rattle.std.proofs.lemmas.List.Folds.{list_any_at}
+use Rattle.lrgrammar.specs.Symbols.{symbol_of}
+use Rattle.lrreasons.specs.Texts.{is_rule}
+use Rattle.lrreasons.proofs.texts.has_rule.Goals as goal
+
+pub returns-in-Rule : goal.returns-in-Rule
+returns-in-Rule g c =
+    let f = symbol_of g.T.IndexStorage.number in
+    let xs = c.args.symbols.now in
+    let i = c.loop-symbol.symbol-index in
+    let x = c.symbol-item.result in
+    let l = c.loop-symbol-test.true in
+    let is : is_rule (f x) ≡ true = rw c.in-Rule.is refl in
+    let at : get_or (map f xs) i (f x) ≡ f x = get_or-map f xs i x (f x) l ∙ ap f (sym c.symbol-item.is) in
+    sym (list_any_at is_rule (map f xs) i (f x) (rw (length-map xs f) l) (rw at is))

@@ -1,0 +1,12 @@
+-- the files of definitions
+pub mod Entries
+pub mod Examples
+pub mod Ambiguities
+pub mod Reasons
+pub mod Precedences
+pub mod Words
+pub mod Lines
+pub mod Brackets
+pub mod StoredForms
+pub mod Texts
+pub mod StoredTexts

@@ -1,0 +1,189 @@
+//! Ambiguities of conflicts: what a search finds, checked.
+
+ghost use Rattle.std.specs.Prelude.{◌≡◌, ◌<◌, ◌++◌, length, IsTrue, IfOk, IfSome, map};
+ghost use Rattle.lrspec.specs.merging.Graph.{IsGraphOf};
+ghost use Rattle.lrambiguity.specs.StoredAmbiguities.{IsAmbiguity, AmbiguityPartsAt};
+ghost use Rattle.lrreasons.specs.Ambiguities.{IsWayOf, IsAmbiguousForm, IsProofOf};
+
+use crate::candidates::{Pair, pairs};
+use lrambiguity::{Ambiguity, Contest, Move, check_ambiguity, derives, parts_at};
+use lrforms::{Ambiguous, Conflict, Form, Forms, Search, Sentence};
+use lrgrammar::grammar::YaccGrammar;
+use lrgrammar::idx::IndexStorage;
+use lrtable::StateGraph;
+use std::alloc::{AllocError, Global};
+
+/// That a grammar is ambiguous, at a conflict.
+///
+/// What is derived, letting go of it too, calls itself as deep as the trees are; `take_apart` lets go of any.
+#[derive(Debug, Drop)]
+pub struct ProvedAmbiguity<T: IndexStorage> {
+    /// Where both trees part: the conflict's own candidates, or, in a cell with more, two others.
+    pub contest: Contest<T>,
+    /// The rule that derives a form in two ways, and both of them.
+    pub form: Form<T>,
+    /// A text in which it stands, with its two trees.
+    pub ambiguity: Ambiguity<T>,
+}
+
+impl<T: IndexStorage> ProvedAmbiguity<T> {
+    /// Takes both trees apart, however deep they are, by a loop that takes no memory.
+    pub fn take_apart(self) {
+        self.ambiguity.take_apart();
+    }
+}
+
+/// Whether the form is derived by the moves before and those behind them.
+fn derives_by<T: IndexStorage>(
+    alloc: Global,
+    grm: &YaccGrammar<T>,
+    form: &Form<T>,
+    after: &[Move<T>],
+) -> Result<bool, AllocError>
+    ensures { IfOk result (λ derives. IsTrue derives
+        → IsWayOf T.number grm.now form.now after.now) }
+{
+    let mut moves = Vec::from_slice(alloc, form.ways.before.as_slice())?;
+    moves.extend_from_slice(after)?;
+    derives(
+        alloc,
+        grm,
+        form.rule,
+        form.symbols.as_slice(),
+        moves.as_slice(),
+    )
+}
+
+/// Whether the form is derived in both ways, and these part at the dot.
+fn derives_twice<T: IndexStorage>(
+    alloc: Global,
+    grm: &YaccGrammar<T>,
+    form: &Form<T>,
+) -> Result<bool, AllocError>
+    ensures { IfOk result (λ derives. IsTrue derives → IsAmbiguousForm T.number grm.now form.now) }
+{
+    let (first, second) = (form.ways.first.as_slice(), form.ways.second.as_slice());
+    Ok(
+        first.first().copied() != second.first().copied()
+            && derives_by(alloc, grm, form, first)?
+            && derives_by(alloc, grm, form, second)?,
+    )
+}
+
+/// The ambiguity, where its trees part at the contest; else they are taken apart.
+fn parting<T: IndexStorage>(
+    alloc: Global,
+    grm: &YaccGrammar<T>,
+    graph: &StateGraph<T>,
+    contest: Contest<T>,
+    ambiguity: Ambiguity<T>,
+) -> Result<Option<Ambiguity<T>>, AllocError>
+    requires graph { IsGraphOf grm.now graph.now }
+    requires state { T.number contest.state.0 < length graph.now }
+    requires ambiguity { IsAmbiguity T.number grm.now ambiguity }
+    ensures given { IfOk result (λ o. IfSome o (λ a. a ≡ ambiguity)) }
+    ensures parts { IfOk result (λ o. IfSome o (λ a.
+        AmbiguityPartsAt T.number grm.now graph.now a contest)) }
+{
+    match parts_at(alloc, grm, graph, &ambiguity, contest) {
+        Ok(true) => Ok(Some(ambiguity)),
+        Ok(false) => {
+            ambiguity.take_apart();
+            Ok(None)
+        }
+        Err(refused) => {
+            ambiguity.take_apart();
+            Err(refused)
+        }
+    }
+}
+
+/// What was found, where it is so.
+fn checked<T: IndexStorage>(
+    alloc: Global,
+    grm: &YaccGrammar<T>,
+    graph: &StateGraph<T>,
+    contest: Contest<T>,
+    found: Ambiguous<T>,
+) -> Result<Option<ProvedAmbiguity<T>>, AllocError>
+    requires graph { IsGraphOf grm.now graph.now }
+    requires state { T.number contest.state.0 < length graph.now }
+    ensures contest { IfOk result (λ o. IfSome o (λ a. a.contest ≡ contest)) }
+    ensures form { IfOk result (λ o. IfSome o (λ a. IsAmbiguousForm T.number grm.now a.form)) }
+    ensures trees { IfOk result (λ o. IfSome o (λ a. IsAmbiguity T.number grm.now a.ambiguity)) }
+    ensures parts { IfOk result (λ o. IfSome o (λ a.
+        AmbiguityPartsAt T.number grm.now graph.now a.ambiguity contest)) }
+{
+    let Ambiguous { form, sentence } = found;
+    if !derives_twice(alloc, grm, &form)? {
+        return Ok(None);
+    }
+    let Sentence { tokens, ways, .. } = sentence;
+    let checked = check_ambiguity(alloc, grm, tokens, ways.before, ways.first, ways.second)?;
+    let Some(ambiguity) = checked else {
+        return Ok(None);
+    };
+    match parting(alloc, grm, graph, contest, ambiguity)? {
+        Some(ambiguity) => Ok(Some(ProvedAmbiguity {
+            contest,
+            form,
+            ambiguity,
+        })),
+        None => Ok(None),
+    }
+}
+
+/// Searches where these two candidates of the conflict's cell contend.
+fn prove_pair<T: IndexStorage>(
+    forms: &Forms<'_, T>,
+    grm: &YaccGrammar<T>,
+    graph: &StateGraph<T>,
+    conflict: &Conflict<T>,
+    pair: Pair<T>,
+    steps: usize,
+) -> Result<Option<ProvedAmbiguity<T>>, AllocError>
+    requires graph { IsGraphOf grm.now graph.now }
+    requires state { T.number conflict.now.state.0 < length graph.now }
+    ensures { IfOk result (λ o. IfSome o (IsProofOf T.number grm.now graph.now conflict.now)) }
+{
+    let (production, other) = pair;
+    let searched = Conflict {
+        state: conflict.state,
+        token: conflict.token,
+        production,
+        other,
+    };
+    let contest = Contest {
+        state: conflict.state,
+        token: conflict.token,
+        one: Move::Reduce(production),
+        other: match other {
+            Some(other) => Move::Reduce(other),
+            None => Move::Shift,
+        },
+    };
+    match forms.search(searched, steps)? {
+        Search::Found(found) => checked(grm.allocator(), grm, graph, contest, found),
+        Search::OutOfSteps | Search::Emptied => Ok(None),
+    }
+}
+
+/// Searches where any two candidates of the conflict's cell contend, its own first, with so many steps for each pair.
+pub(crate) fn prove<T: IndexStorage>(
+    forms: &Forms<'_, T>,
+    grm: &YaccGrammar<T>,
+    graph: &StateGraph<T>,
+    conflict: &Conflict<T>,
+    steps: usize,
+) -> Result<Option<ProvedAmbiguity<T>>, AllocError>
+    requires graph { IsGraphOf grm.now graph.now }
+    requires state { T.number conflict.now.state.0 < length graph.now }
+    ensures { IfOk result (λ o. IfSome o (IsProofOf T.number grm.now graph.now conflict.now)) }
+{
+    for pair in pairs(grm.allocator(), grm, graph, conflict)? {
+        if let Some(proved) = prove_pair(forms, grm, graph, conflict, pair, steps)? {
+            return Ok(Some(proved));
+        }
+    }
+    Ok(None)
+}

@@ -1,0 +1,106 @@
+//! The candidates of a cell, two by two.
+
+ghost use Rattle.std.specs.Prelude.{◌<◌, length};
+
+use lrforms::Conflict;
+use lrgrammar::grammar::YaccGrammar;
+use lrgrammar::idx::{IndexStorage, PIdx, SIdx, Symbol, TIdx};
+use lrtable::StateGraph;
+use lrtable::itemset::{Ctx, Itemset};
+use std::alloc::{AllocError, Global};
+
+/// Two candidates of a cell: a reduction, and another one, or to shift.
+pub(crate) type Pair<T> = (PIdx<T>, Option<PIdx<T>>);
+
+/// Whether the item stands before the token.
+fn is_before<T: IndexStorage>(
+    grm: &YaccGrammar<T>,
+    item: (PIdx<T>, SIdx<T>),
+    token: TIdx<T>,
+) -> bool {
+    let (production, dot) = item;
+    usize::from(production) < usize::from(grm.prods_len())
+        && grm.prod(production).get(usize::from(dot)).copied() == Some(Symbol::Token(token))
+}
+
+/// Whether one of the items stands before the token.
+fn can_shift<T: IndexStorage>(grm: &YaccGrammar<T>, closed: &Itemset<T>, token: TIdx<T>) -> bool {
+    for key in closed.items.keys() {
+        if is_before(grm, *key, token) {
+            return true;
+        }
+    }
+    false
+}
+
+/// Whether the item is complete, of another production than the start production, and looks at the token.
+fn reduces<T: IndexStorage>(
+    grm: &YaccGrammar<T>,
+    item: (PIdx<T>, SIdx<T>),
+    ctx: &Ctx,
+    token: TIdx<T>,
+) -> bool {
+    let (production, dot) = item;
+    usize::from(production) < usize::from(grm.prods_len())
+        && production != grm.start_prod()
+        && dot == grm.prod_len(production)
+        && usize::from(token) < ctx.len()
+        && ctx.get(usize::from(token))
+}
+
+/// The productions by which a closed state can reduce on the token.
+fn reductions<T: IndexStorage>(
+    grm: &YaccGrammar<T>,
+    closed: &Itemset<T>,
+    token: TIdx<T>,
+) -> Result<Vec<PIdx<T>>, AllocError> {
+    let mut reductions = Vec::new(grm.allocator());
+    for (key, ctx) in &closed.items {
+        if reduces(grm, *key, ctx, token) {
+            reductions.push(key.0)?;
+        }
+    }
+    Ok(reductions)
+}
+
+/// Adds the pairs of a reduction with those behind it, and with the shift where there is one.
+fn add_pairs<T: IndexStorage>(
+    pairs: &mut Vec<Pair<T>>,
+    own: Pair<T>,
+    reduction: PIdx<T>,
+    behind: &[PIdx<T>],
+    shifts: bool,
+) -> Result<(), AllocError> {
+    if shifts && own != (reduction, None) {
+        pairs.push((reduction, None))?;
+    }
+    for other in behind {
+        if own != (reduction, Some(*other)) {
+            pairs.push((reduction, Some(*other)))?;
+        }
+    }
+    Ok(())
+}
+
+/// All pairs of candidates of the conflict's cell, its own first. The state is one of the graph.
+pub(crate) fn pairs<T: IndexStorage>(
+    alloc: Global,
+    grm: &YaccGrammar<T>,
+    graph: &StateGraph<T>,
+    conflict: &Conflict<T>,
+) -> Result<Vec<Pair<T>>, AllocError>
+    requires { T.number conflict.now.state.0 < length graph.now }
+{
+    let own = (conflict.production, conflict.other);
+    let mut pairs = Vec::new(alloc);
+    pairs.push(own)?;
+    let closed = graph.closed_state(conflict.state);
+    let shifts = can_shift(grm, closed, conflict.token);
+    let reductions = reductions(grm, closed, conflict.token)?;
+    for (place, reduction) in reductions.iter().enumerate() {
+        if let Some((_, behind)) = reductions.get(place..).and_then(|rest| rest.split_first()) {
+            add_pairs(&mut pairs, own, *reduction, behind, shifts)?;
+        }
+    }
+    Ok(pairs)
+}

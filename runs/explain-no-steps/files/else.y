@@ -1,0 +1,1 @@
+%% S: 'if' 'e' 'then' S | 'if' 'e' 'then' S 'else' S | 'x';

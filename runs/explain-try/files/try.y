@@ -1,0 +1,1 @@
+%% TopLevel: 'module' Exp ';'; Exp: 'try' Exp | Exp '=' Exp | Exp '|' Exp | '.';
