@@ -14,12 +14,13 @@ echo "rt $1"
 if grep -q bad src/*; then exit 1; fi
 [ "$1" = run ] || exit 0
 mkdir -p out
-echo 'echo half a program' >out/lrt
-chmod +x out/lrt
+made=out/${PWD##*/}
+echo 'echo half a program' >$made
+chmod +x $made
 if grep -q slow src/*; then exec sleep 20; fi
-echo "echo '$(cat src/main.rt)' \"\$@\"; cat" >>out/lrt
-sed -i 1d out/lrt
-touch out/lrt.stamp
+echo "echo '$(cat src/main.rt)' \"\$@\"; cat" >>$made
+sed -i 1d $made
+touch $made.stamp
 END
 chmod +x bin/rt
 PATH=$PWD/bin:$PATH

@@ -1,17 +1,22 @@
 # For runs of ./look, which read this file: over what building.sh makes, the stand-in for rt is now a whole kit. Its rt
 # try compiles and links in the kit itself, and then removes the program; at a source that says `slow` it waits before
-# that. The program tells the source and how it was compiled. `look` calls the script; `left` lists what it leaves.
+# that. It proves as before. The program tells the source and how it was compiled. `look` calls the script; `left` lists
+# what it leaves.
 
 . "$TOP/runs/building.sh"
 cp "$TOP/look" top/look
-cp "$TOP/crates/lrt/kit.sh" top/crates/lrt/
+cp "$TOP/crates/lrt/kit.sh" "$TOP/crates/lrt/unproved.sh" top/crates/lrt/
 mkdir -p c toolchain/bin top/out tmp
 export TMPDIR="$PWD/tmp"
 touch bin/rtlib.py
+mv bin/rt bin/prove
 cat >bin/rt <<'END'
 #!/bin/sh
 kit=${0%/*}/..
-if [ "$1" = doc ]; then exec echo "$kit/START.md"; fi
+case $1 in
+doc) exec echo "$kit/START.md" ;;
+lib | run) exec "$kit/bin/prove" "$@" ;;
+esac
 echo "rt $*"
 if grep -q bad src/*; then exit 1; fi
 cp src/main.rt "$kit/source" && cd "$kit" || exit
@@ -27,7 +32,7 @@ cat >toolchain/bin/ld.lld <<'END'
 #!/bin/sh
 cp module program && chmod +x program
 END
-chmod +x toolchain/bin/*
+chmod +x bin/rt toolchain/bin/*
 
 look() {
     top/look "$@" 2>said
