@@ -7,5 +7,6 @@ pub mod ClosesInTurn
 pub mod StepsOfPlaces
 pub mod RowsInTurn
 pub mod TrailsInTurn
+pub mod FingerprintsInTurn
 pub mod ReasonsOfPlaces
 pub mod TurnsOfSearch

@@ -2,6 +2,7 @@
 pub mod Searches
 pub mod StoredPlaces
 pub mod Rests
+pub mod Fingerprints
 pub mod StoredWays
 pub mod PlaceOrder
 pub mod Trails

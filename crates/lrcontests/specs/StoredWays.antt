@@ -9,6 +9,7 @@ use Rattle.lrgrammar.specs.declared.idx.StIdx.{StIdx}
 use Rattle.lrgrammar.specs.declared.idx.Symbol.{Symbol}
 use Rattle.lrgrammar.specs.Symbols.{symbol_of}
 use Rattle.lrgrammar.specs.Firsts.{AreFirstsOf}
+use Rattle.lrcontests.specs.Fingerprints.{AreFingerprints}
 use Rattle.lrcontests.specs.declared.ways.Ways.{Ways}
 
 -- edges that lead into a state: the symbol of each, and from where it leads
@@ -49,3 +50,4 @@ pub record AreWaysOf {T : Type 0} (number : T → ℕ) (g : Grammar) (h : Graph)
   pub firsts : AreFirstsOf g ways.firsts
   pub incoming : AreIncoming number h ways.incoming.items
   pub distances : length ways.distances.items ≡ length h
+  pub fingerprints : AreFingerprints h ways.fingerprints.items

@@ -3,13 +3,14 @@
 ghost use Rattle.std.specs.Prelude.{◌≡◌, ◌<◌, ℕ, Contains, length, map, option_map, IsTrue, IfOk, ◌↔◌, ◌⊎◌};
 ghost use Rattle.lrspec.specs.grammars.Grammar as math;
 ghost use Rattle.lrspec.specs.grammars.ItemSets.{HasItem};
-ghost use Rattle.lrspec.specs.merging.Graph.{IsGraphOf};
+ghost use Rattle.lrspec.specs.merging.Graph.{IsGraphOf, core_of};
 ghost use Rattle.lrspec.specs.merging.WeakCompatibility.{SameItems};
 ghost use Rattle.lrspec.specs.tables.Table.{shift_reduce_of, reduce_reduce_of};
 ghost use Rattle.lrspec.specs.tables.Conflicts.{AreReductionsContested};
 ghost use Rattle.lrgrammar.specs.Symbols.{symbol_of};
 ghost use Rattle.lritems.specs.ItemsOf.{set_of};
 ghost use Rattle.lrcontests.specs.Searches as search;
+ghost use Rattle.lrcontests.specs.Searches.{AreLooking};
 ghost use Rattle.lrcontests.specs.StoredPlaces.{need_of, place_of};
 ghost use Rattle.lrcontests.specs.StoredWays.{AreWaysOf};
 ghost use Rattle.lrcontests.specs.Contests.{IsShiftContest, IsReductionContest, HasNoReductionContest, IsReasonIfAny, AreStartsBelow};
@@ -35,7 +36,7 @@ pub struct Contests<'a, T: IndexStorage> {
 
 impl<'a, T: IndexStorage> Model for Contests<'a, T> {
     ghost use Rattle.std.specs.Prelude.{◌≡◌};
-    ghost use Rattle.lrspec.specs.merging.Graph.{IsGraphOf};
+    ghost use Rattle.lrspec.specs.merging.Graph.{IsGraphOf, core_of};
     ghost use Rattle.lrcontests.specs.Contests.{Contested};
     ghost use Rattle.lrcontests.specs.StoredWays.{AreWaysOf};
 
@@ -67,31 +68,52 @@ fn has_same_items<T: IndexStorage>(one: &Itemset<T>, other: &Itemset<T>) -> bool
     is_within(one, other) && is_within(other, one)
 }
 
+/// Whether a search begins at the place: the core of its state has these items, and what is needed looks at the token there.
+fn is_start<T: IndexStorage>(
+    grm: &YaccGrammar<T>,
+    graph: &StateGraph<T>,
+    core: &Itemset<T>,
+    place: &Place<T>,
+    token: TIdx<T>,
+) -> bool
+    requires graph { IsGraphOf grm.now graph.now }
+    requires state { T.number place.now.state.0 < length graph.now }
+    requires token { T.number token.0 < math.token_count grm.now }
+    ensures { IsTrue result ↔ (AreLooking graph.now (T.number token.0) (place_of T.number place.now)
+        × SameItems (set_of T.number core.now) (core_of graph.now (T.number place.now.state.0))) }
+{
+    are_looking(grm, graph, place, token) && has_same_items(core, graph.core_state(place.state))
+}
+
 /// The places with these needs at the states whose core has the items of that of the given state, but for those at which an
 /// item does not look at the token.
 fn start_places<T: IndexStorage>(
     grm: &YaccGrammar<T>,
     graph: &StateGraph<T>,
+    ways: &Ways<T>,
     given: &Place<T>,
     token: TIdx<T>,
 ) -> Result<Vec<Place<T>>, AllocError>
     requires graph { IsGraphOf grm.now graph.now }
+    requires ways { AreWaysOf T.number grm.now graph.now ways.now }
     requires state { T.number given.now.state.0 < length graph.now }
     requires token { T.number token.0 < math.token_count grm.now }
     ensures { IfOk result (λ v. AreStartsBelow graph.now (T.number token.0)
         (place_of T.number given.now) (length graph.now) (map (place_of T.number) v.items)) }
 {
     let core = graph.core_state(given.state);
+    let fingerprint = ways.fingerprints[usize::from(given.state)];
     let mut places = Vec::new(grm.allocator());
     for number in 0..graph.all_states_len().0.to_usize() {
-        let state = StIdx(T::from_usize(number).unwrap());
-        let place = Place {
-            state,
-            first: given.first,
-            second: given.second,
-        };
-        if are_looking(grm, graph, &place, token) && has_same_items(core, graph.core_state(state)) {
-            places.push(place)?;
+        if ways.fingerprints[number] == fingerprint {
+            let place = Place {
+                state: StIdx(T::from_usize(number).unwrap()),
+                first: given.first,
+                second: given.second,
+            };
+            if is_start(grm, graph, core, &place, token) {
+                places.push(place)?;
+            }
         }
     }
     Ok(places)
@@ -115,7 +137,7 @@ fn shortest_reason<T: IndexStorage>(
         (place_of T.number place.now)
         (option_map (λ list. map (symbol_of T.number) list.items) o)) }
 {
-    let places = start_places(grm, graph, place, token)?;
+    let places = start_places(grm, graph, ways, place, token)?;
     shortest_list(grm, graph, ways, places.as_slice(), token)
 }
 

@@ -3,6 +3,7 @@
 
 mod closes;
 mod contests;
+mod fingerprints;
 mod places;
 mod rests;
 mod search;

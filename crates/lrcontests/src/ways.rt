@@ -7,6 +7,7 @@ ghost use Rattle.lrgrammar.specs.SymbolLaws.{symbol_cmp};
 ghost use Rattle.lrgraphs.specs.GraphOf.{edges_of};
 ghost use Rattle.lrcontests.specs.StoredWays.{AreIncoming, AreWaysOf, HasOneMore, KeepsOthers, AddsEdgesOf};
 
+use crate::fingerprints::fingerprints;
 use lrgrammar::firsts::YaccFirsts;
 use lrgrammar::grammar::YaccGrammar;
 use lrgrammar::idx::{IndexStorage, StIdx, Symbol};
@@ -14,8 +15,8 @@ use lrgraphs::stategraph::StateGraph;
 use std::alloc::{AllocError, Global};
 use std::collections::BTreeMap;
 
-/// What is made once of a grammar and its graph: its FIRST sets, the edges into each state, and how far each state is from the
-/// start state.
+/// What is made once of a grammar and its graph: its FIRST sets, the edges into each state, how far each state is from the start
+/// state, and what tells cores apart.
 #[derive(Drop)]
 pub(crate) struct Ways<T: IndexStorage> {
     /// The FIRST sets.
@@ -24,6 +25,8 @@ pub(crate) struct Ways<T: IndexStorage> {
     pub incoming: Vec<Vec<(Symbol<T>, StIdx<T>)>>,
     /// For each state the length of a shortest list that leads there.
     pub distances: Vec<Option<usize>>,
+    /// For each state a number of the items of its core: the same for cores with the same items.
+    pub fingerprints: Vec<usize>,
 }
 
 impl<T: IndexStorage> Ways<T> {
@@ -36,6 +39,7 @@ impl<T: IndexStorage> Ways<T> {
             firsts: grm.firsts()?,
             incoming: incoming(grm, graph)?,
             distances: distances(grm, graph)?,
+            fingerprints: fingerprints(grm, graph)?,
         })
     }
 }

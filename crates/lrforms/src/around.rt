@@ -4,22 +4,33 @@ use crate::behind::Behind;
 use crate::costs::Cost;
 use crate::items::Item;
 use crate::layers::Layer;
+use crate::numbers::{Hash, Numbers};
 use crate::shared::Shared;
 use crate::states::Way;
 use lrgrammar::idx::{RIdx, TIdx};
 use std::alloc::{AllocError, Global};
-use std::collections::{BTreeSet, HashSet};
+use std::cmp::Reverse;
+use std::collections::BinaryHeap;
 
 /// After how many steps a search is given up.
 const MOST_STEPS: usize = 1_000_000;
 
 /// A rule whose text begins at a place of the way.
-#[derive(Clone, Copy, PartialEq, Eq, Hash)]
+#[derive(Clone, Copy, PartialEq, Eq)]
 struct Opening {
     place: usize,
     rule: RIdx<u32>,
     /// Whether the token that has to come next has come.
     has_met: bool,
+}
+
+impl Opening {
+    /// The hash of the opening.
+    fn hash(self) -> Hash {
+        let place = u32::try_from(self.place).unwrap_or(u32::MAX);
+        let hash = Hash::EMPTY.with(place).with(self.rule.0);
+        hash.with(u32::from(self.has_met))
+    }
 }
 
 /// What it costs to come to a rule: first the tokens behind the dots of the items, then the items, and then the reductions
@@ -46,6 +57,8 @@ impl Spent {
 #[derive(Clone, Copy)]
 struct Open {
     opening: Opening,
+    /// The place of the opening in `least`.
+    place: usize,
     spent: Spent,
     /// By which item, if not by none.
     layer: Option<Layer>,
@@ -61,9 +74,12 @@ pub(crate) struct Around<'a> {
     token: TIdx<u32>,
     behind: Behind<'a>,
     opened: Vec<Open>,
-    /// What is to be looked at next: costs and numbers.
-    queue: BTreeSet<(Spent, usize)>,
-    seen: HashSet<Opening>,
+    /// For each opening that was come to the number of the least way to it so far.
+    least: Vec<usize>,
+    /// The places in `least` by the hashes of the openings.
+    places: Numbers,
+    /// What is to be looked at next, the least first, and of equals the first one first.
+    queue: BinaryHeap<Reverse<(Spent, usize)>>,
 }
 
 impl<'a> Around<'a> {
@@ -81,23 +97,20 @@ impl<'a> Around<'a> {
             token,
             behind,
             opened: Vec::new(alloc),
-            queue: BTreeSet::new(alloc),
-            seen: HashSet::new(alloc),
+            least: Vec::new(alloc),
+            places: Numbers::new(alloc),
+            queue: BinaryHeap::new(alloc),
         })
     }
 
     /// Begins with a rule behind the way, with which the token comes.
     pub(crate) fn add_rule(&mut self, rule: RIdx<u32>) -> Result<(), AllocError> {
-        self.open(Open {
-            opening: Opening {
-                place: self.way.symbols.len(),
-                rule,
-                has_met: true,
-            },
-            spent: Spent::default(),
-            layer: None,
-            inner: None,
-        })
+        let opening = Opening {
+            place: self.way.symbols.len(),
+            rule,
+            has_met: true,
+        };
+        self.open(opening, Spent::default(), None, None)
     }
 
     /// Begins with an item whose dot is behind the way. Whether the token comes with the symbol behind the dot.
@@ -106,14 +119,9 @@ impl<'a> Around<'a> {
         let Some(opening) = self.opening(item, place, has_met) else {
             return Ok(());
         };
-        let rest = self.shared.rules.rest(item);
-        let behind = self.behind.cost(rest);
-        self.open(Open {
-            opening,
-            spent: Spent::default().and(behind),
-            layer: Some(Layer { item, begun: None }),
-            inner: None,
-        })
+        let spent = Spent::default().and(self.shared.body_costs.behind(item));
+        let layer = Layer { item, begun: None };
+        self.open(opening, spent, Some(layer), None)
     }
 
     /// The rule of an item whose dot is at the place.
@@ -125,17 +133,62 @@ impl<'a> Around<'a> {
         })
     }
 
-    /// Adds a rule.
-    fn open(&mut self, open: Open) -> Result<(), AllocError> {
+    /// The place in `least` of an opening that was come to and has that hash.
+    fn known(&self, hash: Hash, opening: Opening) -> Option<usize> {
+        let mut probe = self.places.probe(hash);
+        for _ in 0..self.least.len() {
+            let place = self.places.next(&mut probe)? as usize;
+            let open = self.at(self.least.get(place).copied())?;
+            if open.opening == opening {
+                return Some(place);
+            }
+        }
+        None
+    }
+
+    /// Comes to a rule, unless it was come to with as little.
+    fn open(
+        &mut self,
+        opening: Opening,
+        spent: Spent,
+        layer: Option<Layer>,
+        inner: Option<usize>,
+    ) -> Result<(), AllocError> {
         let number = self.opened.len();
-        self.queue.insert((open.spent, number))?;
-        self.opened.push(open)?;
+        let hash = opening.hash();
+        let known = self.known(hash, opening);
+        let least = known.and_then(|place| self.at(self.least.get(place).copied()));
+        if least.is_some_and(|least| least.spent <= spent) {
+            return Ok(());
+        }
+        let place = known.unwrap_or(self.least.len());
+        match self.least.get_mut(place) {
+            Some(least) => *least = number,
+            None => self.add_opening(hash, number)?,
+        }
+        self.queue.push(Reverse((spent, number)))?;
+        self.opened.push(Open {
+            opening,
+            place,
+            spent,
+            layer,
+            inner,
+        })?;
+        Ok(())
+    }
+
+    /// Adds an opening with that hash, to which the way with that number leads.
+    fn add_opening(&mut self, hash: Hash, number: usize) -> Result<(), AllocError> {
+        if let Ok(place) = u32::try_from(self.least.len()) {
+            self.places.add(hash, place)?;
+        }
+        self.least.push(number)?;
         Ok(())
     }
 
     /// The number of the rule that is looked at next.
     fn next(&mut self) -> Option<usize> {
-        let (_, number) = self.queue.pop_first()?;
+        let Reverse((_, number)) = self.queue.pop()?;
         Some(number)
     }
 
@@ -158,7 +211,7 @@ impl<'a> Around<'a> {
     fn cross(&mut self, number: usize, open: Open, item: Item) -> Result<(), AllocError> {
         let rest = self.shared.rules.rest(item);
         if open.opening.has_met || self.behind.are_nullable(rest) {
-            let behind = self.behind.cost(rest);
+            let behind = self.shared.body_costs.behind(item);
             self.put(number, open, Layer { item, begun: None }, behind)?;
         }
         if open.opening.has_met {
@@ -185,12 +238,7 @@ impl<'a> Around<'a> {
         let Some(opening) = self.opening(layer.item, open.opening.place, has_met) else {
             return Ok(());
         };
-        self.open(Open {
-            opening,
-            spent: open.spent.and(behind),
-            layer: Some(layer),
-            inner: Some(number),
-        })
+        self.open(opening, open.spent.and(behind), Some(layer), Some(number))
     }
 
     /// Whether the rule is that of the start production, and nothing has to come behind it.
@@ -212,7 +260,7 @@ impl<'a> Around<'a> {
             if self.is_goal(open.opening) {
                 return Ok(Some(number));
             }
-            if self.seen.insert(open.opening)? {
+            if self.least.get(open.place).copied() == Some(number) {
                 self.go_on(number, open)?;
             }
         }

@@ -2,15 +2,70 @@
 
 use crate::beginnings::Beginnings;
 use crate::costs::Cost;
+use crate::items::Item;
+use crate::rules::Rules;
 use crate::shared::Shared;
-use lrgrammar::idx::{Symbol, TIdx};
-use std::alloc::AllocError;
+use crate::texts::Texts;
+use lrgrammar::idx::{PIdx, Symbol, TIdx};
+use std::alloc::{AllocError, Global};
 
 /// That of a symbol that has no text: more than of any that has one.
 const NO_TEXT: Cost = Cost {
     tokens: 1 << 32,
     reductions: 0,
 };
+
+/// What least texts of the ends of bodies cost.
+#[derive(Drop)]
+pub(crate) struct BodyCosts {
+    /// For each production what its body costs from each place on, the last place first.
+    of_productions: Vec<Vec<Cost>>,
+}
+
+impl BodyCosts {
+    /// Those of the productions of a grammar.
+    pub(crate) fn new(
+        alloc: Global,
+        rules: &Rules,
+        texts: &Texts,
+    ) -> Result<BodyCosts, AllocError> {
+        let mut of_productions = Vec::new(alloc);
+        for number in 0..rules.productions_len() {
+            if let Ok(number) = u32::try_from(number) {
+                let body = rules.body(PIdx(number));
+                of_productions.push(costs_of_ends(alloc, texts, body)?)?;
+            }
+        }
+        Ok(BodyCosts { of_productions })
+    }
+
+    /// What a least text of the symbols behind the one behind the dot costs.
+    pub(crate) fn behind(&self, item: Item) -> Cost {
+        let Some(costs) = self.of_productions.get(usize::from(item.production)) else {
+            return Cost::default();
+        };
+        let left = costs.len().saturating_sub(item.dot()).saturating_sub(1);
+        match left.checked_sub(1) {
+            Some(place) => costs.get(place).copied().unwrap_or_default(),
+            None => Cost::default(),
+        }
+    }
+}
+
+/// What least texts of the ends of a body cost, the shortest end first.
+fn costs_of_ends(
+    alloc: Global,
+    texts: &Texts,
+    body: &[Symbol<u32>],
+) -> Result<Vec<Cost>, AllocError> {
+    let mut costs = Vec::new(alloc);
+    let mut cost = Cost::default();
+    for symbol in body.iter().rev() {
+        cost = cost.and(texts.cost(*symbol).unwrap_or(NO_TEXT));
+        costs.push(cost)?;
+    }
+    Ok(costs)
+}
 
 /// A text of symbols that begins with the token.
 #[derive(Clone, Copy)]
@@ -46,7 +101,7 @@ impl<'a> Behind<'a> {
     }
 
     /// What a least text of the symbols costs, one after another.
-    pub(crate) fn cost(&self, symbols: &[Symbol<u32>]) -> Cost {
+    fn cost(&self, symbols: &[Symbol<u32>]) -> Cost {
         let texts = &self.shared.texts;
         let mut cost = Cost::default();
         for symbol in symbols {

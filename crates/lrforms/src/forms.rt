@@ -4,6 +4,7 @@ use crate::ambiguous::{Conflict, Search};
 use crate::items::Item;
 use crate::outlooks::{Outlook, outlook_of, text_of};
 use crate::rules::{number_of, plain_move, plain_symbol};
+use crate::scratch::Scratch;
 use crate::searching::Searching;
 use crate::shared::Shared;
 use crate::states::{START, Way};
@@ -13,6 +14,7 @@ use lrgrammar::grammar::YaccGrammar;
 use lrgrammar::idx::{IndexStorage, PIdx, StIdx, Symbol, TIdx};
 use lrtable::StateGraph;
 use std::alloc::{AllocError, Global};
+use std::cell::Cell;
 
 /// A way along a list, and the state to which it leads.
 #[derive(Drop)]
@@ -27,6 +29,8 @@ pub struct Forms<'a, T: IndexStorage> {
     grm: &'a YaccGrammar<T>,
     graph: &'a StateGraph<T>,
     shared: Shared,
+    /// What a search leaves for the next one.
+    scratch: Cell<Option<Scratch>>,
 }
 
 impl<'a, T: IndexStorage> Forms<'a, T> {
@@ -37,12 +41,20 @@ impl<'a, T: IndexStorage> Forms<'a, T> {
         graph: &'a StateGraph<T>,
     ) -> Result<Forms<'a, T>, AllocError> {
         let shared = Shared::new(alloc, grm, graph)?;
-        Ok(Forms { grm, graph, shared })
+        Ok(Forms {
+            grm,
+            graph,
+            shared,
+            scratch: Cell::new(None),
+        })
     }
 
     /// Searches for a form at a conflict, and for a whole text around it, and makes at most so many nodes. What is found is to
     /// be checked; that nothing is found says nothing. The error says that memory was refused.
     pub fn search(&self, conflict: Conflict<T>, steps: usize) -> Result<Search<T>, AllocError> {
+        if steps == 0 {
+            return Ok(Search::OutOfSteps);
+        }
         let alloc = self.grm.allocator();
         let token = TIdx(number_of(conflict.token.0));
         let items = self.candidates(alloc, conflict.state, token, Move::Shift)?;
@@ -52,8 +64,7 @@ impl<'a, T: IndexStorage> Forms<'a, T> {
             production: PIdx(number_of(conflict.production.0)),
             other: conflict.other.map(|other| PIdx(number_of(other.0))),
         };
-        let mut searching = Searching::new(alloc, &self.shared, plain, steps);
-        match searching.run(alloc, items.as_slice())? {
+        match self.run(alloc, plain, items.as_slice(), steps)? {
             Search::Found(found) => match typed(alloc, &found)? {
                 Some(found) => Ok(Search::Found(found)),
                 None => Ok(Search::OutOfSteps),
@@ -61,6 +72,27 @@ impl<'a, T: IndexStorage> Forms<'a, T> {
             Search::OutOfSteps => Ok(Search::OutOfSteps),
             Search::Emptied => Ok(Search::Emptied),
         }
+    }
+
+    /// Searches, with what earlier searches left. These are the items of the conflict's state before the token.
+    fn run(
+        &self,
+        alloc: Global,
+        conflict: Conflict<u32>,
+        shifting: &[Item],
+        steps: usize,
+    ) -> Result<Search<u32>, AllocError> {
+        let mut scratch = match self.scratch.take() {
+            Some(scratch) => scratch,
+            None => Scratch::new(alloc),
+        };
+        let mut searching = Searching::new(&self.shared, conflict, &mut scratch, steps);
+        let found = searching.run(alloc, shifting)?;
+        scratch.clear();
+        if !scratch.is_full() {
+            self.scratch.set(Some(scratch));
+        }
+        Ok(found)
     }
 
     /// A least text of the symbols, one after another, as moves read it; None where one of them has no text or it gets too

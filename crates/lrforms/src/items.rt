@@ -1,10 +1,11 @@
 //! Items without lookaheads.
 
+use crate::numbers::Hash;
 use crate::rules::number_of;
 use lrgrammar::idx::{IndexStorage, PIdx, SIdx};
 
 /// A production with a dot in its body.
-#[derive(Clone, Copy, PartialEq, Eq, PartialOrd, Ord, Hash)]
+#[derive(Clone, Copy, PartialEq, Eq, PartialOrd, Ord)]
 pub(crate) struct Item {
     pub(crate) production: PIdx<u32>,
     pub(crate) dot: SIdx<u32>,
@@ -31,5 +32,10 @@ impl Item {
             production: self.production,
             dot: SIdx(u32::try_from(dot).ok()?),
         })
+    }
+
+    /// The hash with the item.
+    pub(crate) fn hashed(self, hash: Hash) -> Hash {
+        hash.with(self.production.0).with(self.dot.0)
     }
 }

@@ -1,6 +1,7 @@
 //! Places in a search.
 
 use crate::items::Item;
+use crate::numbers::Hash;
 use crate::rests::Rest;
 use crate::statesets::StateSet;
 use lrgrammar::idx::PIdx;
@@ -14,14 +15,14 @@ pub(crate) enum Side {
 
 /// What is known of one of the trees: its innermost open node, and which symbols it has still to yield behind the dot that the
 /// other one hasn't met yet.
-#[derive(Clone, Copy, PartialEq, Eq, Hash)]
+#[derive(Clone, Copy, PartialEq, Eq)]
 pub(crate) struct Branch {
     pub(crate) item: Item,
     pub(crate) rest: Rest,
 }
 
 /// A place in a search.
-#[derive(Clone, Copy, PartialEq, Eq, Hash)]
+#[derive(Clone, Copy, PartialEq, Eq)]
 pub(crate) struct Place {
     /// Where one may stand before the symbols that stand left of the dot so far.
     pub(crate) states: StateSet,
@@ -31,7 +32,23 @@ pub(crate) struct Place {
     pub(crate) has_begun: bool,
 }
 
+impl Branch {
+    /// The hash with the branch.
+    fn hashed(self, hash: Hash) -> Hash {
+        self.rest.hashed(self.item.hashed(hash))
+    }
+}
+
 impl Place {
+    /// The hash of the place.
+    pub(crate) fn hash(&self) -> Hash {
+        let hash = self
+            .states
+            .hashed(Hash::EMPTY)
+            .with(u32::from(self.has_begun));
+        self.second.hashed(self.first.hashed(hash))
+    }
+
     /// What is known of one of the trees.
     pub(crate) fn branch(&self, side: Side) -> Branch {
         match side {

@@ -38,6 +38,14 @@ impl Queue {
         Ok(())
     }
 
+    /// Lets go of all nodes.
+    pub(crate) fn clear(&mut self) {
+        for bucket in &mut self.buckets {
+            bucket.clear();
+        }
+        self.least = 0;
+    }
+
     /// Takes out a node that costs least.
     pub(crate) fn pop(&mut self) -> Option<u32> {
         for cost in self.least..self.buckets.len() {

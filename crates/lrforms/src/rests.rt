@@ -1,21 +1,26 @@
 //! Lists of symbols, each kept once and known by its number.
 
 use crate::beginnings::Firsts;
+use crate::numbers::{Hash, Numbers};
 use crate::texts::Texts;
 use lrgrammar::idx::Symbol;
 use std::alloc::{AllocError, Global};
-use std::collections::HashMap;
 
 /// A list that is longer is not kept.
 const LONGEST: usize = 60;
 
 /// A list of symbols, by its number; 0 is the empty one.
-#[derive(Clone, Copy, PartialEq, Eq, Hash)]
+#[derive(Clone, Copy, PartialEq, Eq)]
 pub(crate) struct Rest(u32);
 
 impl Rest {
     /// The empty list.
     pub(crate) const EMPTY: Rest = Rest(0);
+
+    /// The hash with the list's number.
+    pub(crate) fn hashed(self, hash: Hash) -> Hash {
+        hash.with(self.0)
+    }
 }
 
 /// A list that isn't empty.
@@ -24,26 +29,43 @@ struct Cell {
     head: Symbol<u32>,
     tail: Rest,
     length: u32,
+    /// Whether the first symbol derives nothing, and whether all do.
+    is_head_nullable: bool,
     is_nullable: bool,
 }
 
 /// The lists that there are.
 #[derive(Drop)]
-pub(crate) struct Rests<'a> {
-    texts: &'a Texts,
+pub(crate) struct Rests {
     /// List 1, and so on.
     cells: Vec<Cell>,
-    numbers: HashMap<(Symbol<u32>, Rest), Rest>,
+    numbers: Numbers,
+    /// The symbols of the list that is put before another one.
+    front: Vec<Symbol<u32>>,
 }
 
-impl<'a> Rests<'a> {
+/// The hash of the list with a symbol before another list.
+fn hash_of(head: Symbol<u32>, tail: Rest) -> Hash {
+    let hash = tail.hashed(Hash::EMPTY);
+    match head {
+        Symbol::Token(token) => hash.with(0).with(token.0),
+        Symbol::Rule(rule) => hash.with(1).with(rule.0),
+    }
+}
+
+impl Rests {
     /// The empty list alone.
-    pub(crate) fn new(alloc: Global, texts: &'a Texts) -> Rests<'a> {
+    pub(crate) fn new(alloc: Global) -> Rests {
         Rests {
-            texts,
             cells: Vec::new(alloc),
-            numbers: HashMap::new(alloc),
+            numbers: Numbers::new(alloc),
+            front: Vec::new(alloc),
         }
+    }
+
+    /// How many lists there are that aren't empty.
+    pub(crate) fn len(&self) -> usize {
+        self.cells.len()
     }
 
     /// The list that isn't empty.
@@ -72,42 +94,60 @@ impl<'a> Rests<'a> {
         self.cell(rest).is_none_or(|cell| cell.is_nullable)
     }
 
+    /// The list with that hash that has the symbol before the other list, if it is there.
+    fn known(&self, hash: Hash, head: Symbol<u32>, tail: Rest) -> Option<Rest> {
+        let mut probe = self.numbers.probe(hash);
+        for _ in 0..self.cells.len() {
+            let rest = Rest(self.numbers.next(&mut probe)?);
+            let cell = self.cell(rest)?;
+            if cell.tail == tail && cell.head == head {
+                return Some(rest);
+            }
+        }
+        None
+    }
+
     /// The list with a symbol before it. None where it gets too long, or the symbol has no text.
     pub(crate) fn with_head(
         &mut self,
+        texts: &Texts,
         head: Symbol<u32>,
         tail: Rest,
     ) -> Result<Option<Rest>, AllocError> {
-        if let Some(rest) = self.numbers.get(&(head, tail)) {
-            return Ok(Some(*rest));
+        let hash = hash_of(head, tail);
+        if let Some(rest) = self.known(hash, head, tail) {
+            return Ok(Some(rest));
         }
         let length = self.length(tail).saturating_add(1);
-        if length > LONGEST || self.texts.cost(head).is_none() {
+        if length > LONGEST || texts.cost(head).is_none() {
             return Ok(None);
         }
+        let is_head_nullable = texts.is_nullable(head);
         let cell = Cell {
             head,
             tail,
             length: length as u32,
-            is_nullable: self.is_nullable(tail) && self.texts.is_nullable(head),
+            is_head_nullable,
+            is_nullable: self.is_nullable(tail) && is_head_nullable,
         };
         let Ok(number) = u32::try_from(self.cells.len().saturating_add(1)) else {
             return Ok(None);
         };
         self.cells.push(cell)?;
-        self.numbers.insert((head, tail), Rest(number))?;
+        self.numbers.add(hash, number)?;
         Ok(Some(Rest(number)))
     }
 
     /// The list with these symbols before it. None where it gets too long, or one of them has no text.
     pub(crate) fn with_front(
         &mut self,
+        texts: &Texts,
         front: &[Symbol<u32>],
         rest: Rest,
     ) -> Result<Option<Rest>, AllocError> {
         let mut list = rest;
         for symbol in front.iter().rev() {
-            match self.with_head(*symbol, list)? {
+            match self.with_head(texts, *symbol, list)? {
                 Some(longer) => list = longer,
                 None => return Ok(None),
             }
@@ -115,17 +155,28 @@ impl<'a> Rests<'a> {
         Ok(Some(list))
     }
 
-    /// The list with these symbols behind it. None where it gets too long, or one of them has no text.
+    /// The list with another one behind it. None where it gets too long.
     pub(crate) fn with_back(
         &mut self,
+        texts: &Texts,
         rest: Rest,
-        back: &[Symbol<u32>],
+        back: Rest,
     ) -> Result<Option<Rest>, AllocError> {
-        let Some(list) = self.with_front(back, Rest::EMPTY)? else {
-            return Ok(None);
-        };
-        let front = self.symbols(rest)?;
-        self.with_front(front.as_slice(), list)
+        if back == Rest::EMPTY {
+            return Ok(Some(rest));
+        }
+        self.read(rest)?;
+        let mut list = back;
+        for _ in 0..LONGEST {
+            let Some(symbol) = self.front.pop() else {
+                break;
+            };
+            match self.with_head(texts, symbol, list)? {
+                Some(longer) => list = longer,
+                None => return Ok(None),
+            }
+        }
+        Ok(Some(list))
     }
 
     /// Whether texts of the list and of the symbol may begin with the same token.
@@ -138,7 +189,7 @@ impl<'a> Rests<'a> {
             if firsts.meet(cell.head, symbol) {
                 return true;
             }
-            if !self.texts.is_nullable(cell.head) {
+            if !cell.is_head_nullable {
                 break;
             }
             list = cell.tail;
@@ -156,7 +207,7 @@ impl<'a> Rests<'a> {
             if self.begins(firsts, second, cell.head) {
                 return true;
             }
-            if !self.texts.is_nullable(cell.head) {
+            if !cell.is_head_nullable {
                 break;
             }
             list = cell.tail;
@@ -164,17 +215,17 @@ impl<'a> Rests<'a> {
         false
     }
 
-    /// The symbols of a list.
-    fn symbols(&self, rest: Rest) -> Result<Vec<Symbol<u32>>, AllocError> {
-        let mut symbols = Vec::new(*self.cells.allocator());
+    /// Makes `front` the symbols of a list.
+    fn read(&mut self, rest: Rest) -> Result<(), AllocError> {
+        self.front.clear();
         let mut list = rest;
         for _ in 0..LONGEST {
             let Some(cell) = self.cell(list) else {
                 break;
             };
-            symbols.push(cell.head)?;
+            self.front.push(cell.head)?;
             list = cell.tail;
         }
-        Ok(symbols)
+        Ok(())
     }
 }

@@ -6,16 +6,16 @@
 use crate::ambiguous::{Ambiguous, Conflict, Search};
 use crate::items::Item;
 use crate::nodes::{Branch, Node, Place, Side, Step};
-use crate::queues::Queue;
+use crate::numbers::Hash;
 use crate::reading::form_of;
-use crate::rests::{Rest, Rests};
+use crate::rests::Rest;
+use crate::scratch::Scratch;
 use crate::sentences::sentence_of;
 use crate::shared::Shared;
 use crate::states::START;
-use crate::statesets::{Closing, StateSet, StateSets};
+use crate::statesets::{Closing, StateSet};
 use lrgrammar::idx::{PIdx, RIdx, SIdx, Symbol};
 use std::alloc::{AllocError, Global};
-use std::collections::HashSet;
 
 /// What a step costs that makes a body of a rule where both trees have that rule next.
 const NEEDLESS: u32 = 3;
@@ -28,11 +28,7 @@ const MOST_TRIES: usize = 50;
 pub(crate) struct Searching<'a> {
     shared: &'a Shared,
     conflict: Conflict<u32>,
-    sets: StateSets<'a>,
-    rests: Rests<'a>,
-    nodes: Vec<Node>,
-    seen: HashSet<Place>,
-    queue: Queue,
+    scratch: &'a mut Scratch,
     /// How many nodes may be made.
     steps: usize,
     /// How many more may be tried.
@@ -44,21 +40,17 @@ pub(crate) struct Searching<'a> {
 }
 
 impl<'a> Searching<'a> {
-    /// Before the first step.
+    /// Before the first step. There are no nodes yet.
     pub(crate) fn new(
-        alloc: Global,
         shared: &'a Shared,
         conflict: Conflict<u32>,
+        scratch: &'a mut Scratch,
         steps: usize,
     ) -> Searching<'a> {
         Searching {
             shared,
             conflict,
-            sets: StateSets::new(alloc, &shared.states),
-            rests: Rests::new(alloc, &shared.texts),
-            nodes: Vec::new(alloc),
-            seen: HashSet::new(alloc),
-            queue: Queue::new(alloc),
+            scratch,
             steps,
             tries: steps.saturating_mul(MOST_TRIES),
             is_out: false,
@@ -82,7 +74,7 @@ impl<'a> Searching<'a> {
             if self.is_out {
                 break;
             }
-            let Some(number) = self.queue.pop() else {
+            let Some(number) = self.scratch.queue.pop() else {
                 return Ok(Search::Emptied);
             };
             self.look_at(number)?;
@@ -97,18 +89,24 @@ impl<'a> Searching<'a> {
         number: u32,
         rule: RIdx<u32>,
     ) -> Result<Option<Ambiguous<u32>>, AllocError> {
-        let Some(node) = self.nodes.get(number as usize) else {
+        let Some(node) = self.scratch.nodes.get(number as usize) else {
             return Ok(None);
         };
-        let form = form_of(alloc, self.shared, self.nodes.as_slice(), rule, number)?;
-        let states = self.sets.states(node.place.states);
+        let form = form_of(
+            alloc,
+            self.shared,
+            self.scratch.nodes.as_slice(),
+            rule,
+            number,
+        )?;
+        let states = self.scratch.sets.states(node.place.states);
         sentence_of(alloc, self.shared, self.conflict.token, states, form)
     }
 
     /// Makes the first nodes.
     fn start(&mut self, alloc: Global, shifting: &[Item]) -> Result<(), AllocError> {
         let alike = self.shared.states.alike(self.conflict.state);
-        let Some(states) = self.sets.number(Vec::from_slice(alloc, alike)?)? else {
+        let Some(states) = self.scratch.sets.number(Vec::from_slice(alloc, alike)?)? else {
             return Ok(());
         };
         match self.conflict.other {
@@ -134,7 +132,11 @@ impl<'a> Searching<'a> {
     fn start_shifts(&mut self, states: StateSet, shifting: &[Item]) -> Result<(), AllocError> {
         for item in shifting {
             let back = self.shared.rules.behind(*item);
-            if let Some(rest) = self.rests.with_front(back, Rest::EMPTY)? {
+            if let Some(rest) = self
+                .scratch
+                .rests
+                .with_front(&self.shared.texts, back, Rest::EMPTY)?
+            {
                 self.start_at(states, *item, rest)?;
             }
         }
@@ -160,11 +162,11 @@ impl<'a> Searching<'a> {
 
     /// Makes the nodes that come of a node.
     fn look_at(&mut self, number: u32) -> Result<(), AllocError> {
-        let Some(node) = self.nodes.get(number as usize).copied() else {
+        let Some(node) = self.scratch.nodes.get(number as usize).copied() else {
             return Ok(());
         };
-        let first = self.rests.head(node.place.first.rest);
-        let second = self.rests.head(node.place.second.rest);
+        let first = self.scratch.rests.head(node.place.first.rest);
+        let second = self.scratch.rests.head(node.place.second.rest);
         if let (Some(first), Some(second)) = (first, second) {
             return self.go_on(number, &node, first, second);
         }
@@ -203,11 +205,11 @@ impl<'a> Searching<'a> {
             states: place.states,
             first: Branch {
                 item: place.first.item,
-                rest: self.rests.tail(place.first.rest),
+                rest: self.scratch.rests.tail(place.first.rest),
             },
             second: Branch {
                 item: place.second.item,
-                rest: self.rests.tail(place.second.rest),
+                rest: self.scratch.rests.tail(place.second.rest),
             },
             has_begun: true,
         };
@@ -242,9 +244,13 @@ impl<'a> Searching<'a> {
         spent: u32,
     ) -> Result<(), AllocError> {
         let branch = node.place.branch(side);
-        let tail = self.rests.tail(branch.rest);
+        let tail = self.scratch.rests.tail(branch.rest);
         let body = self.shared.rules.body(production);
-        let Some(rest) = self.rests.with_front(body, tail)? else {
+        let Some(rest) = self
+            .scratch
+            .rests
+            .with_front(&self.shared.texts, body, tail)?
+        else {
             return Ok(());
         };
         let expanded = Branch {
@@ -258,7 +264,7 @@ impl<'a> Searching<'a> {
     /// Both dots go back over one symbol.
     fn go_back(&mut self, number: u32, node: &Node) -> Result<(), AllocError> {
         let place = node.place;
-        let Some(states) = self.sets.before(place.states)? else {
+        let Some(states) = self.scratch.sets.before(&self.shared.states, place.states)? else {
             return Ok(());
         };
         let (Some(first), Some(second)) = (
@@ -291,8 +297,9 @@ impl<'a> Searching<'a> {
         let Some(rule) = self.shared.rules.rule(item.production) else {
             return Ok(());
         };
-        for place in self.sets.closings(node.place.states, rule)? {
-            if let Some(closing) = self.sets.closing(place) {
+        let Scratch { sets, rests, .. } = &mut *self.scratch;
+        for place in sets.closings(self.shared, rests, node.place.states, rule)? {
+            if let Some(closing) = self.scratch.sets.closing(place) {
                 self.close_by(number, node, side, closing)?;
             }
         }
@@ -307,13 +314,13 @@ impl<'a> Searching<'a> {
         side: Side,
         closing: Closing,
     ) -> Result<(), AllocError> {
-        // the start rule needs nothing around it
-        if closing.item.production == self.shared.rules.start {
-            return Ok(());
-        }
+        let texts = &self.shared.texts;
         let branch = node.place.branch(side);
-        let back = self.shared.rules.rest(closing.item);
-        let Some(rest) = self.rests.with_back(branch.rest, back)? else {
+        let Some(rest) = self
+            .scratch
+            .rests
+            .with_back(texts, branch.rest, closing.back)?
+        else {
             return Ok(());
         };
         let closed = Branch {
@@ -328,7 +335,8 @@ impl<'a> Searching<'a> {
     fn add(&mut self, place: Place, step: Step, from: u32, spent: u32) -> Result<(), AllocError> {
         self.is_out = self.is_out || self.tries == 0;
         self.tries = self.tries.saturating_sub(1);
-        if self.is_out || !self.is_open(&place) || !self.seen.insert(place)? {
+        let hash = place.hash();
+        if self.is_out || self.scratch.is_seen(hash, &place) || !self.is_open(&place) {
             return Ok(());
         }
         let node = Node {
@@ -337,8 +345,8 @@ impl<'a> Searching<'a> {
             from,
             spent,
         };
-        match u32::try_from(self.nodes.len()) {
-            Ok(number) if self.nodes.len() < self.steps => self.make(node, number),
+        match u32::try_from(self.scratch.nodes.len()) {
+            Ok(number) if self.scratch.nodes.len() < self.steps => self.make(hash, node, number),
             _ => {
                 self.is_out = true;
                 Ok(())
@@ -346,23 +354,23 @@ impl<'a> Searching<'a> {
         }
     }
 
-    /// Makes a node, which has this number.
-    fn make(&mut self, node: Node, number: u32) -> Result<(), AllocError> {
-        self.nodes.push(node)?;
+    /// Makes a node, whose place has that hash, and which has this number.
+    fn make(&mut self, hash: Hash, node: Node, number: u32) -> Result<(), AllocError> {
+        self.scratch.push(hash, node, number)?;
         if self.goal.is_none() {
             if let Some(rule) = self.whole(&node.place) {
                 self.goal = Some((number, rule));
             }
         }
         let cost = self.cost(&node.place, node.spent);
-        self.queue.push(cost, number)
+        self.scratch.queue.push(cost, number)
     }
 
     /// What the steps to a place cost, and what those from it cost at least, or so.
     fn cost(&self, place: &Place, spent: u32) -> usize {
         let dot = place.first.item.dot().max(place.second.item.dot());
-        let first = self.rests.length(place.first.rest);
-        let second = self.rests.length(place.second.rest);
+        let first = self.scratch.rests.length(place.first.rest);
+        let second = self.scratch.rests.length(place.second.rest);
         let length = first.max(second).saturating_mul(2);
         dot.saturating_add(length).saturating_add(spent as usize)
     }
@@ -371,8 +379,8 @@ impl<'a> Searching<'a> {
     fn is_open(&self, place: &Place) -> bool {
         let (first, second) = (place.first.rest, place.second.rest);
         if let (Some(Symbol::Token(first)), Some(Symbol::Token(second))) = (
-            self.rests.head(first),
-            self.rests.head(second),
+            self.scratch.rests.head(first),
+            self.scratch.rests.head(second),
         ) {
             if first != second {
                 return false;
@@ -381,15 +389,16 @@ impl<'a> Searching<'a> {
         if !place.has_begun && !(self.can_begin(first) && self.can_begin(second)) {
             return false;
         }
-        self.rests.is_nullable(first)
-            || self.rests.is_nullable(second)
-            || self.rests.meet(&self.shared.firsts, first, second)
+        self.scratch.rests.is_nullable(first)
+            || self.scratch.rests.is_nullable(second)
+            || self.scratch.rests.meet(&self.shared.firsts, first, second)
     }
 
     /// Whether a text of the rest may begin with the conflict's token, or be empty.
     fn can_begin(&self, rest: Rest) -> bool {
         let token = Symbol::Token(self.conflict.token);
-        self.rests.is_nullable(rest) || self.rests.begins(&self.shared.firsts, rest, token)
+        self.scratch.rests.is_nullable(rest)
+            || self.scratch.rests.begins(&self.shared.firsts, rest, token)
     }
 
     /// The rule that both trees derive, where both are whole.
@@ -399,7 +408,9 @@ impl<'a> Searching<'a> {
         if first.item.dot() > 0 || second.item.dot() > 0 {
             return None;
         }
-        if !self.rests.is_nullable(first.rest) || !self.rests.is_nullable(second.rest) {
+        if !self.scratch.rests.is_nullable(first.rest)
+            || !self.scratch.rests.is_nullable(second.rest)
+        {
             return None;
         }
         let rule = rules.rule(first.item.production)?;
@@ -418,6 +429,6 @@ impl<'a> Searching<'a> {
         let rules = &self.shared.rules;
         self.conflict.token == rules.end
             && rules.body(rules.start).first().copied() == Some(Symbol::Rule(rule))
-            && self.sets.states(states).first().copied() == Some(START)
+            && self.scratch.sets.states(states).first().copied() == Some(START)
     }
 }

@@ -1,6 +1,7 @@
 //! What all searches in a table share, by plain numbers.
 
 use crate::beginnings::{Beginnings, Firsts};
+use crate::behind::BodyCosts;
 use crate::graphs::states_of;
 use crate::rules::Rules;
 use crate::states::States;
@@ -17,6 +18,7 @@ pub(crate) struct Shared {
     pub(crate) rules: Rules,
     pub(crate) firsts: Firsts,
     pub(crate) texts: Texts,
+    pub(crate) body_costs: BodyCosts,
     pub(crate) states: States,
     /// Least texts that begin with each token, as far as they were asked for.
     beginnings: Vec<OnceCell<Beginnings>>,
@@ -32,6 +34,7 @@ impl Shared {
         let rules = Rules::new(alloc, grm)?;
         let firsts = Firsts::new(alloc, grm)?;
         let texts = Texts::new(alloc, &rules)?;
+        let body_costs = BodyCosts::new(alloc, &rules, &texts)?;
         let states = States::new(alloc, &rules, states_of(alloc, &rules, graph)?.as_slice())?;
         let mut beginnings = Vec::new(alloc);
         beginnings.resize_with(usize::from(grm.tokens_len()), || OnceCell::new())?;
@@ -39,6 +42,7 @@ impl Shared {
             rules,
             firsts,
             texts,
+            body_costs,
             states,
             beginnings,
         })

@@ -9,6 +9,9 @@ use lrtable::StateGraph;
 use lrtable::itemset::{Ctx, Itemset};
 use std::alloc::{AllocError, Global};
 
+/// How many pairs of candidates of a cell there are at the most: all those of six candidates.
+const MOST_PAIRS: usize = 15;
+
 /// Two candidates of a cell: a reduction, and another one, or to shift.
 pub(crate) type Pair<T> = (PIdx<T>, Option<PIdx<T>>);
 
@@ -63,7 +66,7 @@ fn reductions<T: IndexStorage>(
     Ok(reductions)
 }
 
-/// Adds the pairs of a reduction with those behind it, and with the shift where there is one.
+/// Adds the pairs of a reduction with those behind it, and with the shift where there is one, as long as there are few.
 fn add_pairs<T: IndexStorage>(
     pairs: &mut Vec<Pair<T>>,
     own: Pair<T>,
@@ -71,10 +74,11 @@ fn add_pairs<T: IndexStorage>(
     behind: &[PIdx<T>],
     shifts: bool,
 ) -> Result<(), AllocError> {
-    if shifts && own != (reduction, None) {
+    if shifts && pairs.len() < MOST_PAIRS && own != (reduction, None) {
         pairs.push((reduction, None))?;
     }
-    for other in behind {
+    let more = MOST_PAIRS.saturating_sub(pairs.len());
+    for other in behind.iter().take(more) {
         if own != (reduction, Some(*other)) {
             pairs.push((reduction, Some(*other)))?;
         }
@@ -82,7 +86,7 @@ fn add_pairs<T: IndexStorage>(
     Ok(())
 }
 
-/// All pairs of candidates of the conflict's cell, its own first. The state is one of the graph.
+/// The pairs of candidates of the conflict's cell, its own first: all of them, where there are few. The state is one of the graph.
 pub(crate) fn pairs<T: IndexStorage>(
     alloc: Global,
     grm: &YaccGrammar<T>,
@@ -97,7 +101,7 @@ pub(crate) fn pairs<T: IndexStorage>(
     let closed = graph.closed_state(conflict.state);
     let shifts = can_shift(grm, closed, conflict.token);
     let reductions = reductions(grm, closed, conflict.token)?;
-    for (place, reduction) in reductions.iter().enumerate() {
+    for (place, reduction) in reductions.iter().enumerate().take(MOST_PAIRS) {
         if let Some((_, behind)) = reductions.get(place..).and_then(|rest| rest.split_first()) {
             add_pairs(&mut pairs, own, *reduction, behind, shifts)?;
         }

@@ -143,8 +143,9 @@ impl<'a, T: IndexStorage> Reasons<'a, T> {
     }
 
     /// A text with two trees which part at the conflict, or at two others of the candidates of its cell. None where none is
-    /// found in so many steps for each two candidates: that says nothing. It need not be a conflict that a table lists: it may
-    /// be one that precedences settled. The error says that memory was refused.
+    /// found in so many steps for each two candidates (of more than six, for the first fifteen pairs): that says nothing. It
+    /// need not be a conflict that a table lists: it may be one that precedences settled. The error says that memory was
+    /// refused.
     pub fn ambiguity(
         &self,
         conflict: Conflict<T>,

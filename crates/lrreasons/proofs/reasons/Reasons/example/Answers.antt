@@ -1,0 +1,10 @@
+use Rattle.std.specs.Option.{option_map}
+use Rattle.lrreasons.proofs.EntryTokens.{one_is}
+use Rattle.lrreasons.proofs.reasons.Reasons.example.Goals as goal
+
+pub returns-clause-one : goal.returns-clause-one
+returns-clause-one g c =
+    let number = g.T.IndexStorage.number in
+    let k = c.args.conflict in
+    rw (one_is (number k.token.0) (number k.production.0) (number k.state.0) (option_map (λ q. number q.0) k.other), ← c.self.view_is)
+    (rw (c.as_slice-2.ensures.value, c.as_ref-read.ensures.value) at c.in_ok-one.ensures)
