@@ -7,7 +7,7 @@ _arguments -S \
     '--json[Tells what was found as JSON]' \
     '--grammar[Prints the grammar alone, as lrt reads it, or adds it to --json]' \
     '--page=[Writes a page for a browser, of one file]:page:_files -g "*.html(-.)"' \
-    '--all[Shows each conflict, and not the first 20 alone]' \
+    '--all[Shows each conflict by itself, and not the first 20 alone]' \
     '--settled[Shows also what precedences settle]' \
     '--trees[Draws both trees of each text]' \
     '--steps=[Looks for a text with two trees for N steps a conflict; 0 for no search]:number: ' \

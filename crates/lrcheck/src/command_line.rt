@@ -7,13 +7,16 @@ use std::alloc::{AllocError, Global};
 /// What the help ends with.
 const AFTER_HELP: &str = "Example:
   $ lrcheck --summary a.y b.y
-  a.y: 1 shift/reduce conflict
+  a.y: ambiguous (proved): 1 shift/reduce conflict, a text with two trees for it
   b.y: unambiguous (proved): no text has two trees
 
 Exit status, the greatest over the files:
   0  no conflicts, or just those that are expected
   1  conflicts, or others than are expected
   2  a file is no grammar or can't be read; memory or output fails; wrong usage";
+
+/// How many steps a search takes where nothing else is said.
+const STEPS: usize = 10_000;
 
 /// An option without a value.
 fn flag<'a>(alloc: Global, name: &'a str, help: &'a str) -> Arg<'a> {
@@ -49,11 +52,13 @@ fn add_settings<'a>(alloc: Global, command: Command<'a>) -> Result<Command<'a>, 
     let all = detail(
         alloc,
         "all",
-        "Shows each conflict, and not the first 20 alone",
+        "Shows each conflict by itself, and not the first 20 alone",
     )?;
     let command = command.arg(all)?;
     let settled = detail(alloc, "settled", "Shows also what precedences settle")?;
     let command = command.arg(settled)?;
+    let trees = detail(alloc, "trees", "Draws both trees of each text")?;
+    let command = command.arg(trees.conflicts_with("json")?)?;
     let without_precedences = flag(
         alloc,
         "without-precedences",
@@ -73,6 +78,15 @@ fn expect<'a>(alloc: Global) -> Arg<'a> {
         .value_name("N")
         .value_parser(value_parser!(u64))
         .help("Expects N shift/reduce conflicts, whatever the file says")
+}
+
+/// How many steps searches may take.
+fn steps<'a>(alloc: Global) -> Arg<'a> {
+    Arg::new(alloc, "steps")
+        .long("steps")
+        .value_name("N")
+        .value_parser(value_parser!(usize))
+        .help("Looks for a text with two trees for N steps a conflict; 0 for no search")
 }
 
 /// The files, one at least.
@@ -95,7 +109,7 @@ pub(crate) fn command_line<'a>(alloc: Global) -> Result<Command<'a>, AllocError>
         .after_help(AFTER_HELP)
         .arg(files(alloc))?;
     let command = add_settings(alloc, add_outputs(alloc, command)?)?;
-    command.arg(expect(alloc))
+    command.arg(expect(alloc))?.arg(steps(alloc))
 }
 
 /// What is told of each file.
@@ -119,6 +133,8 @@ pub(crate) fn options_of(matches: &ArgMatches<'_>) -> Options {
         output: output_of(matches),
         tells_all: matches.get_flag("all"),
         tells_settled: matches.get_flag("settled"),
+        steps: matches.get_one::<usize>("steps").unwrap_or(STEPS),
+        draws_trees: matches.get_flag("trees"),
         ignores_precedences: matches.get_flag("without-precedences"),
         is_plain: matches.get_flag("plain"),
         has_colours: false,

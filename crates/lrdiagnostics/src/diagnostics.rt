@@ -215,18 +215,37 @@ impl Teller<'_> {
         self.push_marks(text, marks)
     }
 
-    /// Adds a note behind places of such marks.
+    /// How many blanks stand before notes under places of such marks.
+    pub fn indent(self, marks: &[Mark]) -> usize {
+        self.width_of(marks).saturating_add(2)
+    }
+
+    /// Adds lines of notes under places of such marks.
+    pub fn push_notes(
+        self,
+        text: &mut String,
+        marks: &[Mark],
+        lines: &str,
+    ) -> Result<(), AllocError> {
+        if lines.is_empty() {
+            return Ok(());
+        }
+        push_blanks(text, self.indent(marks))?;
+        text.push_str("|\n")?;
+        text.push_str(lines)
+    }
+
+    /// Adds a note under places of such marks.
     pub fn push_note(
         self,
         text: &mut String,
         marks: &[Mark],
         note: &str,
     ) -> Result<(), AllocError> {
-        let width = self.width_of(marks).saturating_add(2);
-        push_blanks(text, width)?;
-        text.push_str("|\n")?;
-        push_blanks(text, width)?;
-        write!(text, "= {note}\n")
+        let mut lines = String::new(*text.allocator());
+        push_blanks(&mut lines, self.indent(marks))?;
+        write!(lines, "= {note}\n")?;
+        self.push_notes(text, marks, lines.as_str())
     }
 
     /// Adds what is told of places: its words, and the first of the places, so many at the most.

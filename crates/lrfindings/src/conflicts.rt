@@ -1,6 +1,6 @@
 //! The conflicts of a table, in the order of a file.
 
-ghost use Rattle.std.specs.Prelude.{◌≡◌, ◌++◌, map, IfOk, OnOk};
+ghost use Rattle.std.specs.Prelude.{◌≡◌, ◌++◌, map, Contains, IsTrue, IfOk, OnOk};
 ghost use Rattle.std.specs.List.Sorted.{IsPermutation};
 ghost use Rattle.lrspec.specs.tables.Table.{lists_of};
 ghost use Rattle.lrfindings.specs.Listed.{told, listed, shift_listing, reduction_listing};
@@ -34,6 +34,16 @@ impl Entry {
         self.state == entry.state
             && self.production == entry.production
             && self.other == entry.other
+    }
+}
+
+/// Whether an entry is one of a list, which is in order.
+pub fn is_among(list: &[Entry], entry: &Entry) -> bool
+    ensures { IsTrue result → Contains list.now entry.now }
+{
+    match list.binary_search(entry) {
+        Ok(at) => list[at] == *entry,
+        Err(_) => false,
     }
 }
 

@@ -4,6 +4,7 @@ ghost use Rattle.std.specs.Prelude.{◌≡◌, map, IfOk};
 ghost use Rattle.std.specs.List.Sorted.{IsPermutation};
 ghost use Rattle.std.specs.String.{string_bytes};
 ghost use Rattle.lrspec.specs.merging.Graph.{IsGraphOf};
+ghost use Rattle.lrspec.specs.tables.Conflicts.{AreReductionsContested};
 ghost use Rattle.lrspec.specs.tables.Recognition.{IsUnambiguous};
 ghost use Rattle.lrspec.specs.tables.Table.{IsTableOf, lists_of};
 ghost use Rattle.lrgrammar.specs.TextErrors.{IsGrammarOf};
@@ -108,6 +109,7 @@ fn find_with<T: IndexStorage>(
     ensures grammar { IfOk result (λ f. IsGrammarOf T.MAX (string_bytes f.text) f.grm) }
     ensures graph { IfOk result (λ f. IsGraphOf f.grm f.graph) }
     ensures table { IfOk result (λ f. IsTableOf f.grm f.graph f.table) }
+    ensures contested { IfOk result (λ f. AreReductionsContested f.grm f.graph) }
     ensures conflicts { IfOk result (λ f.
         IsPermutation (listed (lists_of f.table)) (map told f.conflicts.items)) }
     ensures unambiguous { IfOk result (λ f. f.verdict ≡ Unambiguous → IsUnambiguous f.grm) }
@@ -148,6 +150,7 @@ pub fn find<T: IndexStorage>(
     ensures grammar { IfOk result (λ f. IsGrammarOf T.MAX (string_bytes f.text) f.grm) }
     ensures graph { IfOk result (λ f. IsGraphOf f.grm f.graph) }
     ensures table { IfOk result (λ f. IsTableOf f.grm f.graph f.table) }
+    ensures contested { IfOk result (λ f. AreReductionsContested f.grm f.graph) }
     ensures conflicts { IfOk result (λ f.
         IsPermutation (listed (lists_of f.table)) (map told f.conflicts.items)) }
     ensures unambiguous { IfOk result (λ f. f.verdict ≡ Unambiguous → IsUnambiguous f.grm) }

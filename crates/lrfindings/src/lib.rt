@@ -10,7 +10,7 @@ mod texts;
 mod verdicts;
 
 pub use crate::cells::{Settled, Winner, precedence_token};
-pub use crate::conflicts::Entry;
+pub use crate::conflicts::{Entry, is_among};
 pub use crate::findings::{FindError, Findings, find};
 pub use crate::idle::Idle;
 pub use crate::texts::small_text;

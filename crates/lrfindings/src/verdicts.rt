@@ -2,6 +2,7 @@
 
 ghost use Rattle.std.specs.Prelude.{◌≡◌, ◌≢◌, IfOk};
 ghost use Rattle.lrspec.specs.merging.Graph.{IsGraphOf};
+ghost use Rattle.lrspec.specs.tables.Conflicts.{AreReductionsContested};
 ghost use Rattle.lrspec.specs.tables.Recognition.{IsUnambiguous};
 ghost use Rattle.lrspec.specs.tables.Table.{IsTableOf};
 ghost use Rattle.lrfindings.specs.Verdicts.{status_of};
@@ -85,6 +86,7 @@ pub(crate) fn checked<T: IndexStorage>(
 ) -> Result<(StateGraph<T>, StateTable<T>, Verdict), BuildError<T>>
     ensures graph { IfOk result (λ r. IsGraphOf grm.now r.0) }
     ensures table { IfOk result (λ r. IsTableOf grm.now r.0 r.1) }
+    ensures contested { IfOk result (λ r. AreReductionsContested grm.now r.0) }
     ensures unambiguous { IfOk result (λ r. r.2 ≡ Unambiguous → IsUnambiguous grm.now) }
 {
     let (graph, table) = from_yacc(grm.allocator(), grm, Minimiser::Pager)?;

@@ -1,8 +1,8 @@
 //! What the table does in a state.
 
-use crate::names::{rule_name, symbol_name, symbols_of};
 use crate::states::Listing;
 use lrdiagnostics::{comma_words, push_blanks, push_shown, width_of};
+use lrevidence::{body_of, rule_name, symbol_name};
 use lrfindings::Entry;
 use lrgrammar::idx::{IndexStorage, StIdx, TIdx};
 use lrtable::Action;
@@ -102,7 +102,7 @@ impl<'a, T: IndexStorage> Listing<'a, T> {
         let rule = self.checked.rule_name(production);
         let mut words = Vec::new(alloc);
         words.push(format!(in alloc; "{front}reduce by {rule}:")?)?;
-        for symbol in symbols_of(self.checked.file, production) {
+        for symbol in body_of(self.checked.file, production) {
             let name = symbol_name(self.checked.file, *symbol);
             words.push(String::from_str(alloc, name)?)?;
         }

@@ -1,12 +1,13 @@
 //! Conflicts, each with the places of the productions that meet in it.
 
-ghost use Rattle.std.specs.Prelude.{◌≡◌, IfOk, IsTrue, Contains};
+ghost use Rattle.std.specs.Prelude.{◌≡◌, IfOk};
 ghost use Rattle.std.specs.List.{flat_map};
 ghost use Rattle.lrreport.specs.LeftOpen.{AreLeftOpen};
 
 use crate::options::Options;
 use lrdiagnostics::{Layout, Mark, Source, Style, Teller, comma_words};
-use lrfindings::{Entry, Findings};
+use lrevidence::{Evidence, name_of_rule, token_name};
+use lrfindings::{Entry, Findings, is_among};
 use lrgrammar::grammar::PartSymbol;
 use lrgrammar::idx::{IndexStorage, StIdx};
 use lryacc::{FileGrammar, Span};
@@ -24,6 +25,10 @@ pub(crate) struct Checked<'a, T: IndexStorage> {
     pub(crate) source: &'a Source<'a>,
     pub(crate) file: &'a FileGrammar,
     pub(crate) found: &'a Findings<T>,
+    /// What is known of the conflicts that are left open.
+    pub(crate) evidence: &'a [Evidence],
+    /// What is known of what precedences settle, where that is asked for; else nothing.
+    pub(crate) settled: &'a [Evidence],
     pub(crate) options: Options,
 }
 
@@ -44,22 +49,12 @@ impl<'a, T: IndexStorage> Checked<'a, T> {
 
     /// The name of a token.
     pub(crate) fn token_name(&self, token: usize) -> &'a str {
-        match self.file.parts.tokens.get(token) {
-            Some(token) => token.name.as_str(),
-            None => "$end",
-        }
+        token_name(self.file, token)
     }
 
     /// The name of the rule of a production.
     pub(crate) fn rule_name(&self, production: usize) -> &'a str {
-        let file = self.file;
-        let Some(prod) = file.parts.prods.get(production) else {
-            return "";
-        };
-        match file.parts.rules.get(prod.rule) {
-            Some(name) => name.as_str(),
-            None => "",
-        }
+        name_of_rule(self.file, production)
     }
 
     /// Whether the symbol behind the dot of an item is the token of one of the entries.
@@ -139,24 +134,27 @@ impl<'a, T: IndexStorage> Checked<'a, T> {
         Ok(list)
     }
 
-    /// Adds a conflict: entries at which the same meets in the same state.
-    fn push_meeting(&self, text: &mut String, entries: &[Entry]) -> Result<(), AllocError> {
+    /// The places of what meets.
+    fn marks(&self, alloc: Global, entries: &[Entry]) -> Result<Vec<Mark>, AllocError> {
         let Some(first) = entries.first() else {
-            return Ok(());
+            return Ok(Vec::new(alloc));
         };
-        self.push_heading(text, "conflict", entries)?;
+        if let Some(other) = first.other {
+            return self.marks_of_reductions(alloc, first.production, other);
+        }
+        let mut marks = vec![in alloc; self.mark_of_reduction(alloc, first.production, "")?]?;
+        self.push_marks_of_shifts(&mut marks, entries, DONE)?;
+        Ok(marks)
+    }
+
+    /// Adds a conflict: entries at which the same meets in the same state, and what is known of them.
+    fn push_meeting(&self, text: &mut String, meeting: &[Evidence]) -> Result<(), AllocError> {
         let alloc = *text.allocator();
-        let marks = match first.other {
-            Some(other) => self.marks_of_reductions(alloc, first.production, other)?,
-            None => {
-                let mut marks = vec![in alloc;
-                    self.mark_of_reduction(alloc, first.production, "")?,
-                ]?;
-                self.push_marks_of_shifts(&mut marks, entries, DONE)?;
-                marks
-            }
-        };
+        let entries = entries_of(alloc, meeting)?;
+        self.push_heading(text, "conflict", entries.as_slice())?;
+        let marks = self.marks(alloc, entries.as_slice())?;
         self.teller().push_placed(text, marks.as_slice())?;
+        self.push_notes(text, marks.as_slice(), meeting)?;
         text.push('\n')
     }
 
@@ -223,50 +221,55 @@ impl<'a, T: IndexStorage> Checked<'a, T> {
 
     /// Adds the conflicts: the first ones, so many at the most, and how many there are besides.
     pub(crate) fn push_conflicts(&self, text: &mut String, most: usize) -> Result<(), AllocError> {
-        let entries = self.left_open(*text.allocator())?;
-        let meetings = meetings(*text.allocator(), entries.as_slice())?;
+        let tells_all = self.options.tells_all;
+        let meetings = meetings(*text.allocator(), self.evidence, tells_all)?;
         for meeting in meetings.iter().take(most) {
             self.push_meeting(text, meeting)?;
         }
         push_more(text, meetings.len().saturating_sub(most))
     }
+}
 
-    /// The conflicts that are left open, in the order of the file.
-    pub(crate) fn left_open(&self, alloc: Global) -> Result<Vec<Entry>, AllocError>
-        ensures { IfOk result (λ entries.
-            AreLeftOpen self.now.found.now.conflicts.items self.now.found.now.closed.items
-            self.now.found.now.opened.items entries.items) }
-    {
-        let found = self.found;
-        let mut entries = Vec::from_slice(alloc, found.opened.as_slice())?;
-        for entry in &found.conflicts {
-            if !is_among(found.closed.as_slice(), entry) {
-                entries.push(*entry)?;
-            }
+/// The conflicts that are left open, in the order of the file.
+pub(crate) fn left_open<T: IndexStorage>(
+    alloc: Global,
+    found: &Findings<T>,
+) -> Result<Vec<Entry>, AllocError>
+    ensures { IfOk result (λ entries. AreLeftOpen found.now.conflicts.items
+        found.now.closed.items found.now.opened.items entries.items) }
+{
+    let mut entries = Vec::from_slice(alloc, found.opened.as_slice())?;
+    for entry in &found.conflicts {
+        if !is_among(found.closed.as_slice(), entry) {
+            entries.push(*entry)?;
         }
-        entries.sort_unstable();
-        Ok(entries)
     }
+    entries.sort_unstable();
+    Ok(entries)
 }
 
-/// Whether an entry is one of a list, which is in order.
-fn is_among(list: &[Entry], entry: &Entry) -> bool
-    ensures { IsTrue result → Contains list.now entry.now }
-{
-    match list.binary_search(entry) {
-        Ok(at) => list[at] == *entry,
-        Err(_) => false,
-    }
-}
-
-/// The entries in groups, in each of which the same meets in the same state.
-fn meetings(alloc: Global, entries: &[Entry]) -> Result<Vec<&[Entry]>, AllocError>
+/// What is known of entries, in groups, in each of which the same meets in the same state; each entry by itself where all are
+/// told.
+fn meetings(
+    alloc: Global,
+    evidence: &[Evidence],
+    tells_all: bool,
+) -> Result<Vec<&[Evidence]>, AllocError>
     ensures { IfOk result (λ meetings.
-        flat_map (λ meeting. meeting.now) meetings.items ≡ entries.now) }
+        flat_map (λ meeting. meeting.now) meetings.items ≡ evidence.now) }
 {
-    entries
-        .chunk_by(|one, other| one.meets_like(other))
+    evidence
+        .chunk_by(|one, other| !tells_all && one.entry.meets_like(&other.entry))
         .collect(alloc)
+}
+
+/// The entries of which something is known.
+pub(crate) fn entries_of(alloc: Global, evidence: &[Evidence]) -> Result<Vec<Entry>, AllocError> {
+    let mut entries = Vec::new(alloc);
+    for it in evidence {
+        entries.push(it.entry)?;
+    }
+    Ok(entries)
 }
 
 /// Adds how many are not told.

@@ -1,7 +1,7 @@
 //! The grammar of a file, as it is told.
 
-use crate::names::{is_of_file, names_of, rule_name, token_name};
 use crate::objects::{GrammarObject, RuleObject, TokenObject};
+use lrevidence::{names_of, rule_name, token_name};
 use lrgrammar::grammar::{AssocKind, PartProd, PartToken};
 use lryacc::FileGrammar;
 use std::alloc::{AllocError, Global};
@@ -20,6 +20,17 @@ pub(crate) fn productions_of_file(file: &FileGrammar) -> usize {
         }
     }
     count
+}
+
+/// Whether a token is one of the file, and not one that stands below those of a `%precedence` line.
+fn is_of_file(file: &FileGrammar, token: usize) -> bool {
+    match file.parts.tokens.get(token) {
+        Some(token) => match token.precedence {
+            Some(precedence) => precedence.level % 2 == 0,
+            None => true,
+        },
+        None => false,
+    }
 }
 
 /// How many tokens the file has.

@@ -5,24 +5,26 @@ ghost use Rattle.std.specs.String.{string_bytes};
 ghost use Rattle.json.specs.Lex.{tokens};
 ghost use Rattle.json.specs.Print.{print};
 
-use crate::conflicts::Checked;
+use crate::conflicts::{Checked, entries_of};
 use crate::grammars::{grammar_object, productions_of_file, rules_of_file, tokens_of_file};
-use crate::names::{names_of, symbols_of};
 use crate::objects::{
     ConflictObject, FaultObject, FileObject, ItemObject, ProductionObject, SettledObject,
 };
+use crate::trees::alternatives;
 use lrdiagnostics::Source;
+use lrevidence::{Evidence, body_of, names_of};
 use lrfindings::{Entry, Settled, Verdict, Winner};
 use lrgrammar::idx::{IndexStorage, StIdx, TIdx};
 use lrtable::Action;
 use lryacc::{Expected, Fault, FileGrammar};
 use std::alloc::{AllocError, Global};
 
-/// A verdict as one of few words.
-fn word_of(verdict: Verdict) -> &'static str {
+/// A verdict as one of few words, where the grammar is shown to be ambiguous or not.
+fn word_of(verdict: Verdict, is_ambiguous: bool) -> &'static str {
     match verdict {
         Verdict::Unambiguous => "unambiguous",
         Verdict::NoConflicts => "no conflicts",
+        Verdict::Conflicts(_) if is_ambiguous => "ambiguous",
         Verdict::Conflicts(_) => "conflicts",
         Verdict::Expected(_) => "as expected",
         Verdict::Unexpected { .. } => "unexpected",
@@ -159,14 +161,16 @@ pub(crate) fn json_of_findings<T: IndexStorage>(
     let tells_grammar = checked.options.tells_grammar;
     let counts = verdict.counts();
     let mut object = object_of_file(alloc, checked.source, checked.file, warnings, tells_grammar)?;
-    object.verdict = word_of(verdict);
-    object.proved = verdict == Verdict::Unambiguous;
+    let is_ambiguous = checked.evidence.iter().any(|it| it.ambiguity.is_some());
+    object.verdict = word_of(verdict, is_ambiguous);
+    object.proved = is_ambiguous || verdict == Verdict::Unambiguous;
     object.shift_reduce = Some(counts.shift_reduce);
     object.reduce_reduce = Some(counts.reduce_reduce);
     object.expected = numbers_of(expected);
     object.states = Some(usize::from(checked.found.graph.all_states_len()));
-    object.conflicts = checked.conflict_objects(alloc)?;
-    object.settled = checked.settled_objects(alloc)?;
+    let alternatives = alternatives(alloc, checked.file)?;
+    object.conflicts = checked.conflict_objects(alloc, alternatives.as_slice())?;
+    object.settled = checked.settled_objects(alloc, alternatives.as_slice())?;
     object.unused_precedences = checked.precedence_objects(alloc)?;
     object.unused_tokens = checked.unused_objects(alloc)?;
     line_of(alloc, &object)
@@ -175,11 +179,11 @@ pub(crate) fn json_of_findings<T: IndexStorage>(
 impl<'a, T: IndexStorage> Checked<'a, T> {
     /// The names of the symbols of a production.
     fn body(&self, alloc: Global, production: usize) -> Result<Vec<&'a str>, AllocError> {
-        names_of(alloc, self.file, symbols_of(self.file, production))
+        names_of(alloc, self.file, body_of(self.file, production))
     }
 
     /// A production.
-    fn production_object(
+    pub(crate) fn production_object(
         &self,
         alloc: Global,
         production: usize,
@@ -245,47 +249,59 @@ impl<'a, T: IndexStorage> Checked<'a, T> {
     fn conflict_object(
         &self,
         alloc: Global,
-        first: &Entry,
-        entries: &[Entry],
+        first: &Evidence,
+        meeting: &[Evidence],
+        alternatives: &[usize],
     ) -> Result<ConflictObject<'a>, AllocError> {
+        let entry = first.entry;
+        let entries = entries_of(alloc, meeting)?;
         Ok(ConflictObject {
-            kind: match first.other {
+            kind: match entry.other {
                 Some(_) => "reduce/reduce",
                 None => "shift/reduce",
             },
-            state: first.state,
-            tokens: self.names_of_tokens(alloc, entries)?,
-            reduce: self.production_object(alloc, first.production)?,
-            shift: match first.other {
+            state: entry.state,
+            tokens: self.names_of_tokens(alloc, entries.as_slice())?,
+            reduce: self.production_object(alloc, entry.production)?,
+            shift: match entry.other {
                 Some(_) => None,
-                None => Some(self.shift_objects(alloc, first.state, entries)?),
+                None => Some(self.shift_objects(alloc, entry.state, entries.as_slice())?),
             },
-            other: match first.other {
+            other: match entry.other {
                 Some(other) => Some(self.production_object(alloc, other)?),
                 None => None,
             },
-            chosen: self.chosen(first),
-            ambiguity: None,
-            after: None,
+            chosen: self.chosen(&entry),
+            ambiguity: self.first_ambiguity_object(alloc, meeting, alternatives)?,
+            after: self.after_object(alloc, first)?,
         })
     }
 
-    /// The conflicts, in the order of the file.
-    fn conflict_objects(&self, alloc: Global) -> Result<Vec<ConflictObject<'a>>, AllocError> {
-        let entries = self.left_open(alloc)?;
+    /// The conflicts, in the order of the file: each entry by itself where all are told.
+    fn conflict_objects(
+        &self,
+        alloc: Global,
+        alternatives: &[usize],
+    ) -> Result<Vec<ConflictObject<'a>>, AllocError> {
         let mut objects = Vec::new(alloc);
-        for meeting in entries.as_slice().chunk_by(|one, other| {
-            one.meets_like(other) && self.chosen(one) == self.chosen(other)
+        for meeting in self.evidence.chunk_by(|one, other| {
+            !self.options.tells_all
+                && one.entry.meets_like(&other.entry)
+                && self.chosen(&one.entry) == self.chosen(&other.entry)
         }) {
             if let Some(first) = meeting.first() {
-                objects.push(self.conflict_object(alloc, first, meeting)?)?;
+                objects.push(self.conflict_object(alloc, first, meeting, alternatives)?)?;
             }
         }
         Ok(objects)
     }
 
     /// What precedences settle, in the order of the file.
-    fn settled_objects(&self, alloc: Global) -> Result<Vec<SettledObject<'a>>, AllocError> {
+    fn settled_objects(
+        &self,
+        alloc: Global,
+        alternatives: &[usize],
+    ) -> Result<Vec<SettledObject<'a>>, AllocError> {
         let mut objects = Vec::new(alloc);
         for meeting in self
             .found
@@ -296,7 +312,12 @@ impl<'a, T: IndexStorage> Checked<'a, T> {
             for winner in [Winner::Shift, Winner::Reduce, Winner::Neither] {
                 let entries = won_by(alloc, meeting, winner)?;
                 if let Some(first) = entries.first() {
-                    objects.push(self.settled_object(alloc, first, entries.as_slice(), winner)?)?;
+                    let mut object = self.settled_object(alloc, first, entries.as_slice(), winner)?;
+                    if let Some(ambiguity) = self.decided(entries.as_slice()) {
+                        let told = self.ambiguity_object(alloc, ambiguity, alternatives)?;
+                        object.ambiguity = Some(told);
+                    }
+                    objects.push(object)?;
                 }
             }
         }
@@ -318,6 +339,7 @@ impl<'a, T: IndexStorage> Checked<'a, T> {
             reduce: self.production_object(alloc, first.production)?,
             shift: self.shift_objects(alloc, first.state, entries)?,
             winner: word_of_winner(winner),
+            ambiguity: None,
         })
     }
 }

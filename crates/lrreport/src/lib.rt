@@ -3,14 +3,20 @@
 
 mod actions;
 mod conflicts;
+mod drawings;
 mod grammars;
+mod helps;
 mod json_lines;
-mod names;
+mod json_reasons;
+mod notes;
 mod objects;
 mod options;
 mod reports;
 mod settled;
 mod states;
+mod texts;
+mod trees;
+mod verdicts;
 mod warnings;
 
 pub use crate::options::{Options, Output};

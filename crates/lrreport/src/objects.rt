@@ -1,6 +1,7 @@
 //! What is told of a file as JSON. Keys are written in the order of the fields.
 
 use serde::Serialize;
+use serde_json::Value;
 use std::alloc::Global;
 
 /// A production, and where its body stands.
@@ -34,10 +35,36 @@ pub(crate) struct ConflictObject<'a> {
     #[serde(skip_serializing_if = "Option::is_none")]
     pub(crate) other: Option<ProductionObject<'a>>,
     pub(crate) chosen: &'static str,
-    /// Nothing is told of it yet.
-    pub(crate) ambiguity: Option<()>,
-    /// Nothing is told of it yet.
-    pub(crate) after: Option<()>,
+    pub(crate) ambiguity: Option<AmbiguityObject<'a>>,
+    pub(crate) after: Option<AfterObject<'a>>,
+}
+
+/// A text with two trees: the rule whose two ways they are, the tokens, how many stand before the dot, and the trees, that by the
+/// reduction first.
+#[derive(Drop, Serialize)]
+pub(crate) struct AmbiguityObject<'a> {
+    pub(crate) rule: &'a str,
+    pub(crate) text: Vec<&'a str>,
+    pub(crate) dot: usize,
+    pub(crate) trees: (Value, Value),
+}
+
+/// How a text goes on: the items that stand in one another, and the tokens.
+#[derive(Drop, Serialize)]
+pub(crate) struct OutlookObject<'a> {
+    pub(crate) derivation: Vec<ItemObject<'a>>,
+    pub(crate) rest: Option<Vec<&'a str>>,
+}
+
+/// After which symbols a conflict is real, on which token, a text of them, and how it goes on by the reduction, and by the shift
+/// or the other reduction.
+#[derive(Drop, Serialize)]
+pub(crate) struct AfterObject<'a> {
+    pub(crate) list: Vec<&'a str>,
+    pub(crate) token: &'a str,
+    pub(crate) input: Option<Vec<&'a str>>,
+    pub(crate) reduce: Option<OutlookObject<'a>>,
+    pub(crate) other: Option<OutlookObject<'a>>,
 }
 
 /// A shift and a reduction between which precedences decide.
@@ -49,6 +76,7 @@ pub(crate) struct SettledObject<'a> {
     pub(crate) reduce: ProductionObject<'a>,
     pub(crate) shift: Vec<ItemObject<'a>>,
     pub(crate) winner: &'static str,
+    pub(crate) ambiguity: Option<AmbiguityObject<'a>>,
 }
 
 /// A fault, or a warning. One that has no place in the file has no numbers.

@@ -23,10 +23,15 @@ pub enum Output {
 pub struct Options {
     /// What is told.
     pub output: Output,
-    /// Whether all conflicts are told one by one, and not the first ones alone.
+    /// Whether each conflict is told by itself, and not the first ones alone.
     pub tells_all: bool,
     /// Whether what precedences settle is told too.
     pub tells_settled: bool,
+    /// How many steps a search for a text with two trees may take for each conflict; no search is made where that is 0, and
+    /// nothing is told of after what a conflict is real.
+    pub steps: usize,
+    /// Whether both trees of each text are drawn.
+    pub draws_trees: bool,
     /// Whether precedences are left out of the grammar.
     pub ignores_precedences: bool,
     /// Whether lines are as long as they come, and not folded at 80 columns.

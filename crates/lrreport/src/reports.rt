@@ -1,18 +1,28 @@
 //! The report on a file.
 
-ghost use Rattle.std.specs.Prelude.{◌≡◌, ◌≢◌, IfOk, IfSome, IfNone, IsSome, string_bytes};
+ghost use Rattle.std.specs.Prelude.{◌≡◌, ◌≢◌, All, map, IfOk, IfSome, IfNone, IsSome, string_bytes};
+ghost use Rattle.std.specs.List.Sorted.{IsPermutation};
+ghost use Rattle.lrspec.specs.merging.Graph.{IsGraphOf};
+ghost use Rattle.lrspec.specs.tables.Conflicts.{AreReductionsContested};
 ghost use Rattle.lrspec.specs.tables.Recognition.{IsUnambiguous};
+ghost use Rattle.lrspec.specs.tables.Table.{IsTableOf, lists_of};
 ghost use Rattle.lrgrammar.specs.TextErrors.{IsGrammarOf};
 ghost use Rattle.lrfindings.specs.declared.verdicts.Verdict.TheVariants.{Unambiguous};
+ghost use Rattle.lrfindings.specs.Listed.{told, listed};
 ghost use Rattle.lrfindings.specs.Verdicts.{status_of};
+ghost use Rattle.lrevidence.specs.Ambiguities.{IsProved};
+ghost use Rattle.lrevidence.specs.Entries.{AreListedIn};
 ghost use Rattle.lrreport.specs.declared.options.Output.TheVariants.{Grammar};
-ghost use Rattle.lrreport.specs.Conclusions.{IsProved};
+ghost use Rattle.lrreport.specs.LeftOpen.{AreLeftOpen};
+ghost use Rattle.lrreport.specs.Conclusions.{IsConcluded};
 
-use crate::conflicts::Checked;
+use crate::conflicts::{Checked, left_open};
 use crate::json_lines::{json_of_faults, json_of_findings, json_of_refusal};
 use crate::options::{Options, Output};
+use crate::verdicts::{Told, verdict_line};
 use lrdiagnostics::{Layout, Source, TOLD, Teller, Weight, messages_of};
-use lrfindings::{FindError, Findings, Verdict, find, small_text};
+use lrevidence::{Ambiguity, Effort, Evidence, evidence_for, first_text};
+use lrfindings::{Entry, FindError, Findings, Settled, Verdict, find, small_text};
 use lrgrammar::idx::IndexStorage;
 use lryacc::{Expected, Fault, FileGrammar, FileRead, read_file};
 use std::alloc::{AllocError, Global};
@@ -36,6 +46,8 @@ pub struct Conclusion {
     pub grammar: String,
     /// The verdict, which the lines tell.
     pub verdict: Verdict,
+    /// The conflicts, in the order of the file, and what is known of each.
+    pub evidence: Vec<Evidence>,
 }
 
 impl Report {
@@ -122,24 +134,73 @@ fn report_on_refusal(
     Ok(Report::unread(text))
 }
 
-/// The line of a file's verdict: with how many conflicts precedences settle, and how they are shown where they could be.
-fn verdict_line(
-    alloc: Global,
-    name: &str,
-    verdict: Verdict,
-    settled: usize,
-    options: Options,
-) -> Result<String, AllocError> {
-    let mut line = format!(in alloc; "{name}: {verdict}")?;
-    if settled > 0 {
-        let counts = verdict.counts();
-        let more = if counts.is_zero() { "" } else { " more" };
-        write!(line, "; precedences settle {settled}{more}")?;
-        if options.output == Output::Report && !options.tells_settled {
-            line.push_str(" (--settled)")?;
-        }
+/// What is known of a grammar beside what was found in it.
+#[derive(Drop)]
+struct Known {
+    /// Of the conflicts that are left open.
+    evidence: Vec<Evidence>,
+    /// Of what precedences settle, where that is asked for.
+    settled: Vec<Evidence>,
+    /// A text with two trees, where precedences settle all conflicts.
+    decided: Option<Ambiguity>,
+}
+
+/// What is looked for of the conflicts.
+fn effort_of(options: Options) -> Effort {
+    let examples = match options.output {
+        _ if options.steps == 0 => 0,
+        Output::Report => most_told(options),
+        Output::Json => usize::MAX,
+        Output::Summary | Output::Grammar | Output::States => 0,
+    };
+    Effort {
+        steps: options.steps,
+        examples,
+        counts_each: options.tells_all || options.output == Output::Json,
     }
-    Ok(line)
+}
+
+/// The entries that precedences settle.
+fn settled_entries(alloc: Global, settled: &[Settled]) -> Result<Vec<Entry>, AllocError> {
+    let mut entries = Vec::new(alloc);
+    for it in settled {
+        entries.push(it.entry)?;
+    }
+    Ok(entries)
+}
+
+/// What is known of a grammar beside what was found in it.
+fn known_of<T: IndexStorage>(
+    alloc: Global,
+    file: &FileGrammar,
+    found: &Findings<T>,
+    options: Options,
+) -> Result<Known, AllocError>
+    requires graph { IsGraphOf found.now.grm found.now.graph }
+    requires listed { AreListedIn found.now.grm found.now.graph found.now.conflicts.items }
+    requires contested { AreReductionsContested found.now.grm found.now.graph }
+    ensures left { IfOk result (λ k. AreLeftOpen found.now.conflicts.items found.now.closed.items
+        found.now.opened.items (map (λ e. e.entry) k.evidence.items)) }
+    ensures proved { IfOk result (λ k. All (IsProved found.now.grm) k.evidence.items) }
+{
+    let (entries, effort) = (left_open(alloc, found)?, effort_of(options));
+    let evidence = evidence_for(alloc, file, found, entries.as_slice(), effort)?;
+    let settled = settled_entries(alloc, found.settled.as_slice())?;
+    let decided = if entries.is_empty() && !settled.is_empty() {
+        first_text(alloc, found, settled.as_slice(), options.steps)?
+    } else {
+        None
+    };
+    let settled = if options.tells_settled {
+        evidence_for(alloc, file, found, settled.as_slice(), effort)?
+    } else {
+        Vec::new(alloc)
+    };
+    Ok(Known {
+        evidence,
+        settled,
+        decided,
+    })
 }
 
 /// The lines on what was found in the grammar of a file, with that verdict.
@@ -147,17 +208,23 @@ fn lines_on_findings<T: IndexStorage>(
     alloc: Global,
     read: Read<'_>,
     found: &Findings<T>,
+    known: &Known,
     verdict: Verdict,
     options: Options,
 ) -> Result<String, AllocError> {
+    let expected = options.beside(read.expected);
     let checked = Checked {
         source: read.source,
         file: read.file,
         found,
-        options,
+        evidence: known.evidence.as_slice(),
+        settled: known.settled.as_slice(),
+        options: Options {
+            expected: expected.shift_reduce,
+            ..options
+        },
     };
     if options.output == Output::Json {
-        let expected = options.beside(read.expected);
         return json_of_findings(alloc, checked, read.warnings, expected, verdict);
     }
     let mut text = String::new(alloc);
@@ -172,13 +239,12 @@ fn lines_on_findings<T: IndexStorage>(
             checked.push_settled(&mut text, most)?;
         }
     }
-    let line = verdict_line(
-        alloc,
-        read.source.name,
-        verdict,
-        found.settled.len(),
-        options,
-    )?;
+    let told = Told {
+        evidence: checked.evidence,
+        settled: found.settled.len(),
+        is_ambiguous_without: known.decided.is_some(),
+    };
+    let line = verdict_line(alloc, read.source.name, verdict, told, options)?;
     let layout = Layout::new(options.is_plain || options.output == Output::Summary);
     layout.push_line(&mut text, line.as_str(), 4)?;
     Ok(text)
@@ -192,19 +258,26 @@ fn report_on_findings<T: IndexStorage>(
     options: Options,
 ) -> Result<Report, AllocError>
     requires grammar { IsGrammarOf T.MAX (string_bytes found.text) found.grm }
+    requires graph { IsGraphOf found.grm found.graph }
+    requires table { IsTableOf found.grm found.graph found.table }
+    requires contested { AreReductionsContested found.grm found.graph }
+    requires conflicts { IsPermutation (listed (lists_of found.table))
+        (map told found.conflicts.items) }
     requires unambiguous { found.verdict ≡ Unambiguous → IsUnambiguous found.grm }
     ensures concluded { IfOk result (λ r. IsSome r.conclusion) }
-    ensures proved { IfOk result (λ r. IfSome r.conclusion IsProved) }
+    ensures proved { IfOk result (λ r. IfSome r.conclusion IsConcluded) }
     ensures status { IfOk result (λ r. IfSome r.conclusion (λ c. r.status ≡ status_of c.verdict)) }
 {
     let verdict = found.verdict.beside(options.beside(read.expected));
-    let text = lines_on_findings(alloc, read, &found, verdict, options)?;
+    let known = known_of(alloc, read.file, &found, options)?;
+    let text = lines_on_findings(alloc, read, &found, &known, verdict, options)?;
     Ok(Report {
         text,
         status: verdict.status(),
         conclusion: Some(Conclusion {
             grammar: found.text,
             verdict,
+            evidence: known.evidence,
         }),
     })
 }
@@ -218,7 +291,7 @@ fn is_small(file: &FileGrammar) -> bool {
 
 /// The report on a file that was read as a grammar.
 fn report_on_grammar(alloc: Global, read: Read<'_>, options: Options) -> Result<Report, AllocError>
-    ensures proved { IfOk result (λ r. IfSome r.conclusion IsProved) }
+    ensures proved { IfOk result (λ r. IfSome r.conclusion IsConcluded) }
     ensures status { IfOk result (λ r. IfSome r.conclusion (λ c. r.status ≡ status_of c.verdict)) }
     ensures unread { IfOk result (λ r.
         options.output ≢ Grammar → IfNone r.conclusion (r.status ≡ 2)) }
@@ -252,7 +325,7 @@ pub fn report_on(
     bytes: &[u8],
     options: Options,
 ) -> Result<Report, AllocError>
-    ensures proved { IfOk result (λ r. IfSome r.conclusion IsProved) }
+    ensures proved { IfOk result (λ r. IfSome r.conclusion IsConcluded) }
     ensures status { IfOk result (λ r. IfSome r.conclusion (λ c. r.status ≡ status_of c.verdict)) }
     ensures unread { IfOk result (λ r.
         options.output ≢ Grammar → IfNone r.conclusion (r.status ≡ 2)) }

@@ -2,6 +2,7 @@
 
 use crate::conflicts::{Checked, DONE, push_more};
 use lrdiagnostics::push_shown;
+use lrevidence::Ambiguity;
 use lrfindings::{Entry, Settled, Winner, precedence_token};
 use lrgrammar::grammar::Precedence;
 use lrgrammar::idx::IndexStorage;
@@ -40,6 +41,15 @@ impl Reason {
             Reason::Token | Reason::Right => ("", DONE),
             Reason::Production | Reason::Left => (DONE, ""),
             Reason::Nonassoc => ("", ""),
+        }
+    }
+
+    /// Which of two trees is kept.
+    fn kept(self) -> &'static str {
+        match self {
+            Reason::Token | Reason::Right => "that of the shift is kept",
+            Reason::Production | Reason::Left => "that of the reduction is kept",
+            Reason::Nonassoc => "none is kept",
         }
     }
 }
@@ -118,6 +128,18 @@ impl<'a, T: IndexStorage> Checked<'a, T> {
         Ok(list)
     }
 
+    /// A text with two trees that part at one of the entries, where one is found.
+    pub(crate) fn decided(&self, entries: &[Entry]) -> Option<&'a Ambiguity> {
+        for entry in entries {
+            if let Ok(at) = self.settled.binary_search_by_key(entry, |it| it.entry) {
+                if let Some(ambiguity) = &self.settled[at].ambiguity {
+                    return Some(ambiguity);
+                }
+            }
+        }
+        None
+    }
+
     /// Why the same wins at all the entries.
     fn push_reason(&self, text: &mut String, settling: &Settling) -> Result<(), AllocError> {
         text.push_str(match settling.reason {
@@ -153,8 +175,13 @@ impl<'a, T: IndexStorage> Checked<'a, T> {
         self.teller().push_placed(text, marks.as_slice())?;
         let mut reason = String::new(alloc);
         self.push_reason(&mut reason, settling)?;
-        self.teller()
-            .push_note(text, marks.as_slice(), reason.as_str())?;
+        self.push_decided(
+            text,
+            marks.as_slice(),
+            reason.as_str(),
+            settling.reason.kept(),
+            self.decided(entries),
+        )?;
         text.push('\n')
     }
 

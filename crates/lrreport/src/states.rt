@@ -5,8 +5,8 @@
 
 use crate::actions::push_targets;
 use crate::conflicts::Checked;
-use crate::names::{symbol_name, symbols_of};
 use lrdiagnostics::{Layout, push_blanks};
+use lrevidence::{body_of, symbol_name};
 use lrfindings::{Counts, Entry, Winner};
 use lrgrammar::idx::{IndexStorage, PIdx, RIdx, StIdx};
 use std::alloc::{AllocError, Global};
@@ -90,9 +90,8 @@ impl<'a, T: IndexStorage> Listing<'a, T> {
 
     /// Adds the conflicts.
     fn add_conflicts(&mut self, alloc: Global) -> Result<(), AllocError> {
-        let entries = self.checked.left_open(alloc)?;
-        for entry in &entries {
-            add_entry(alloc, &mut self.conflicts, *entry)?;
+        for evidence in self.checked.evidence {
+            add_entry(alloc, &mut self.conflicts, evidence.entry)?;
         }
         Ok(())
     }
@@ -127,7 +126,7 @@ impl<'a, T: IndexStorage> Listing<'a, T> {
         dot: usize,
     ) -> Result<Vec<String>, AllocError> {
         let rule = self.checked.rule_name(production);
-        let symbols = symbols_of(self.checked.file, production);
+        let symbols = body_of(self.checked.file, production);
         let mut words = vec![in alloc; format!(in alloc; "{rule}:")?]?;
         for at in 0..symbols.len() {
             if at == dot {

@@ -1,4 +1,20 @@
 use Rattle.lrreport.proofs.reports.report_on_findings.Goals as goal
 
+pub known_of-requires-clause-listed : goal.known_of-requires-clause-listed
+known_of-requires-clause-listed g c = rw (← c.requires.table.reduce_reduce, ← c.requires.table.shift_reduce) c.requires.conflicts
+
 pub returns-clause-proved : goal.returns-clause-proved
-returns-clause-proved g c = λ told. (g.T.IndexStorage.MAX, c.args.found.grm, c.requires.grammar, c.requires.unambiguous (c.beside-verdict.ensures told))
+returns-clause-proved g c = record {
+  max = g.T.IndexStorage.MAX;
+  grammar = c.args.found.grm;
+  graph = c.args.found.graph;
+  listed = c.args.found.conflicts.items;
+  closed = c.args.found.closed.items;
+  opened = c.args.found.opened.items;
+  of_text = c.requires.grammar;
+  unambiguous = λ told. c.requires.unambiguous (c.beside-verdict.ensures told);
+  texts = c.in_ok-known.ensures.proved;
+  of_grammar = c.requires.graph;
+  lists = rw (← c.requires.table.reduce_reduce, ← c.requires.table.shift_reduce) c.requires.conflicts;
+  left = c.in_ok-known.ensures.left;
+}

@@ -1,6 +1,6 @@
 use Rattle.std.proofs.Common.{take}
 use Rattle.lrreport.specs.LeftOpen.{AreLeftOpen}
-use Rattle.lrreport.proofs.conflicts.Checked.left_open.Given as goal
+use Rattle.lrreport.proofs.conflicts.left_open.Given as goal
 
 abbrev pub invariant-loop-entry : goal.invariant-loop-entry
 invariant-loop-entry g l =

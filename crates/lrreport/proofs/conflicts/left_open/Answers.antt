@@ -1,10 +1,10 @@
 use Rattle.lrreport.proofs.LeftOpenEntries.{next_kept, next_dropped, in_order}
-use Rattle.lrreport.proofs.conflicts.Checked.left_open.Goals as goal
-use Rattle.lrreport.proofs.conflicts.Checked.left_open.Goals.{then-not-is_among+in_ok-push, else-not-is_among}
+use Rattle.lrreport.proofs.conflicts.left_open.Goals as goal
+use Rattle.lrreport.proofs.conflicts.left_open.Goals.{then-not-is_among+in_ok-push, else-not-is_among}
 
 pub loop-entry-preserved : goal.loop-entry-preserved
 loop-entry-preserved g c =
-    let found = c.args.self.now.found.now in
+    let found = c.args.found.now in
     let all = c.deref-entry-items.ensures.value in
     let inside = rw all at c.loop-entry-test.true in
     elim c.if-not-is_among.branch [
@@ -20,6 +20,6 @@ loop-entry-preserved g c =
 
 pub returns : goal.returns
 returns g c =
-    let found = c.args.self.now.found.now in
+    let found = c.args.found.now in
     in_order found.closed.items found.opened.items found.conflicts.items c.loop-entry.entries.items c.loop-entry.entry-index c.loop-entry.invariant
     c.sort_unstable.new.self.items (rw c.deref-entry-items.ensures.value at c.loop-entry-test.false) c.sort_unstable.ensures.permutation

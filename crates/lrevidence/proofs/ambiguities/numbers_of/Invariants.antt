@@ -1,0 +1,7 @@
+-- those so far
+use Rattle.std.proofs.Common.{◌≡◌, take}
+use Rattle.lrtable.specs.RunAnswers.{text_of}
+use Rattle.lrevidence.proofs.ambiguities.numbers_of.Given as goal
+
+abbrev pub invariant-loop-token : goal.invariant-loop-token
+invariant-loop-token g l = l.numbers.items ≡ text_of g.T.IndexStorage.number (take l.token-index l.tokens)

@@ -1,0 +1,15 @@
+use Rattle.std.proofs.Common.{map}
+use Rattle.lrreasons.proofs.ReasonsInTurn.{all_more}
+use Rattle.lrevidence.specs.Ambiguities.{IsProved}
+use Rattle.lrevidence.proofs.EvidenceInTurn.{one_more}
+use Rattle.lrevidence.proofs.evidence.push_evidence.Goals as goal
+
+pub loop-entry-preserved : goal.loop-entry-preserved
+loop-entry-preserved g c =
+    let known = c.in_ok-evidence_of.field-0 in
+    let old = c.loop-entry.list.items in
+    let new = c.push.new.self.items in (
+      one_more (λ e. e.entry) (map (λ e. e.entry) c.args.list.now.items) old new known c.args.entries.now c.loop-entry.entry-index _
+          c.loop-entry-test.true c.loop-entry.invariant.0 c.in_ok-push.ensures.items c.in_ok-evidence_of.ensures.entry,
+      all_more (IsProved c.args.reasons.now.grammar) old new known c.loop-entry.invariant.1 c.in_ok-push.ensures.items c.in_ok-evidence_of.ensures.proved,
+    )

@@ -1,0 +1,10 @@
+-- those so far
+use Rattle.std.proofs.Common.{◌≡◌, ◌++◌, map, take}
+use Rattle.std.specs.Prelude.{All}
+use Rattle.lrevidence.specs.Ambiguities.{IsProved}
+use Rattle.lrevidence.proofs.evidence.push_evidence.Given as goal
+
+abbrev pub invariant-loop-entry : goal.invariant-loop-entry
+invariant-loop-entry g l =
+    (map (λ e. e.entry) l.list.items ≡ map (λ e. e.entry) l.initial.list.items ++ take l.entry-index l.entries)
+    × All (IsProved l.reasons.grammar) l.list.items

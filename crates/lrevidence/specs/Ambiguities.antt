@@ -1,0 +1,20 @@
+-- texts with two trees
+use Rattle.std.specs.Prelude.{◌≢◌, List, ◌++◌, IfSome}
+use Rattle.lrspec.specs.grammars.Grammar.{Grammar}
+use Rattle.lrspec.specs.grammars.Trees.{Tree}
+use Rattle.lrambiguity.specs.Moves.{IsTreeBy}
+use Rattle.lrevidence.specs.declared.ambiguities.Ambiguity.{Ambiguity}
+use Rattle.lrevidence.specs.declared.evidence.Evidence.{Evidence}
+use Rattle.lrevidence.specs.Steps.{moves_by}
+
+-- by its steps the text has two trees, which differ
+pub record HasTwoTrees (g : Grammar) (a : Ambiguity) : Type 0 where
+  pub one : Tree
+  pub other : Tree
+  pub first : IsTreeBy g (moves_by a.trees.before.items ++ moves_by a.trees.one.items) a.tokens.items one
+  pub second : IsTreeBy g (moves_by a.trees.before.items ++ moves_by a.trees.other.items) a.tokens.items other
+  pub differ : one ≢ other
+
+-- a text that is told of an entry has two trees
+abbrev pub IsProved : Grammar → Evidence → Type 0
+IsProved g e = IfSome e.ambiguity (HasTwoTrees g)

@@ -1,0 +1,106 @@
+//! Texts with two trees.
+
+ghost use Rattle.std.specs.Prelude.{◌≡◌, map, IfOk, IfSome};
+ghost use Rattle.lrtable.specs.RunAnswers.{text_of};
+ghost use Rattle.lrambiguity.specs.StoredMoves.{moves_stored};
+ghost use Rattle.lrambiguity.specs.StoredAmbiguities.{IsAmbiguity};
+ghost use Rattle.lrevidence.specs.Steps.{moves_by};
+ghost use Rattle.lrevidence.specs.Ambiguities.{HasTwoTrees};
+
+use crate::steps::{TwoTrees, steps_of};
+use lrgrammar::idx::{IndexStorage, TIdx};
+use lrreasons::{Conflict, Form, ProvedAmbiguity, Reasons};
+use std::alloc::{AllocError, Global};
+
+/// A text with two trees, which part at a conflict.
+#[derive(Debug, Drop)]
+pub struct Ambiguity {
+    /// The tokens, with the one behind all of the file's.
+    pub tokens: Vec<usize>,
+    /// Both its trees.
+    pub trees: TwoTrees,
+    /// Both trees of that part of it which has two, over symbols that need not be tokens.
+    pub form: TwoTrees,
+}
+
+/// The numbers of tokens.
+pub(crate) fn numbers_of<T: IndexStorage>(
+    alloc: Global,
+    tokens: &[TIdx<T>],
+) -> Result<Vec<usize>, AllocError>
+    ensures { IfOk result (λ v. v.items ≡ text_of T.number tokens.now) }
+{
+    let mut numbers = Vec::new(alloc);
+    for token in tokens {
+        numbers.push(usize::from(*token))?;
+    }
+    Ok(numbers)
+}
+
+/// Both trees of a form.
+fn trees_of_form<T: IndexStorage>(alloc: Global, form: &Form<T>) -> Result<TwoTrees, AllocError> {
+    Ok(TwoTrees {
+        before: steps_of(alloc, form.ways.before.as_slice())?,
+        one: steps_of(alloc, form.ways.first.as_slice())?,
+        other: steps_of(alloc, form.ways.second.as_slice())?,
+    })
+}
+
+/// Both trees of a text.
+fn trees_of_text<T: IndexStorage>(
+    alloc: Global,
+    ambiguity: &lrambiguity::Ambiguity<T>,
+) -> Result<TwoTrees, AllocError>
+    ensures before { IfOk result (λ t.
+        moves_by t.before.items ≡ moves_stored T.number ambiguity.now.before.items) }
+    ensures one { IfOk result (λ t.
+        moves_by t.one.items ≡ moves_stored T.number ambiguity.now.one.items) }
+    ensures other { IfOk result (λ t.
+        moves_by t.other.items ≡ moves_stored T.number ambiguity.now.other.items) }
+{
+    Ok(TwoTrees {
+        before: steps_of(alloc, ambiguity.before.as_slice())?,
+        one: steps_of(alloc, ambiguity.one.as_slice())?,
+        other: steps_of(alloc, ambiguity.other.as_slice())?,
+    })
+}
+
+/// An ambiguity by the numbers of the file.
+fn numbered<T: IndexStorage>(
+    alloc: Global,
+    proved: &ProvedAmbiguity<T>,
+) -> Result<Ambiguity, AllocError>
+    ensures tokens { IfOk result (λ a.
+        a.tokens.items ≡ text_of T.number proved.now.ambiguity.text.items) }
+    ensures before { IfOk result (λ a.
+        moves_by a.trees.before.items ≡ moves_stored T.number proved.now.ambiguity.before.items) }
+    ensures one { IfOk result (λ a.
+        moves_by a.trees.one.items ≡ moves_stored T.number proved.now.ambiguity.one.items) }
+    ensures other { IfOk result (λ a.
+        moves_by a.trees.other.items ≡ moves_stored T.number proved.now.ambiguity.other.items) }
+{
+    Ok(Ambiguity {
+        tokens: numbers_of(alloc, proved.ambiguity.text.as_slice())?,
+        trees: trees_of_text(alloc, &proved.ambiguity)?,
+        form: trees_of_form(alloc, &proved.form)?,
+    })
+}
+
+/// A text with two trees, which part at the conflict, where one is found in so many steps.
+pub(crate) fn ambiguity_at<T: IndexStorage>(
+    alloc: Global,
+    reasons: &Reasons<'_, T>,
+    conflict: Conflict<T>,
+    steps: usize,
+) -> Result<Option<Ambiguity>, AllocError>
+    ensures { IfOk result (λ o. IfSome o (HasTwoTrees reasons.now.grammar)) }
+{
+    match reasons.ambiguity(conflict, steps)? {
+        Some(proved) => {
+            let ambiguity = numbered(alloc, &proved);
+            proved.take_apart();
+            Ok(Some(ambiguity?))
+        }
+        None => Ok(None),
+    }
+}

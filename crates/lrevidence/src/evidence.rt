@@ -1,0 +1,188 @@
+//! Why there are conflicts.
+
+ghost use Rattle.std.specs.Prelude.{◌≡◌, ◌∷◌, [], ◌++◌, map, All, IfOk, IfSome, OnOk};
+ghost use Rattle.lrspec.specs.merging.Graph.{IsGraphOf};
+ghost use Rattle.lrspec.specs.tables.Conflicts.{AreReductionsContested};
+ghost use Rattle.lrreasons.specs.Entries.{entry_of, IsListed};
+ghost use Rattle.lrevidence.specs.Ambiguities.{HasTwoTrees, IsProved};
+ghost use Rattle.lrevidence.specs.Entries.{AreListedIn};
+
+use crate::ambiguities::{Ambiguity, ambiguity_at};
+use crate::conflicts::conflict_of;
+use crate::examples::{Example, Numbering};
+use lrfindings::{Entry, Findings, is_among};
+use lrgrammar::idx::IndexStorage;
+use lrreasons::{Conflict, Reasons};
+use lryacc::FileGrammar;
+use std::alloc::{AllocError, Global};
+
+/// What is known of an entry.
+#[derive(Debug, Drop)]
+pub struct Evidence {
+    /// The entry.
+    pub entry: Entry,
+    /// A text with two trees, which part at it, where one is found.
+    pub ambiguity: Option<Ambiguity>,
+    /// Where none is, after what it is real, where that is looked for; None for an entry that the table doesn't list.
+    pub example: Option<Example>,
+}
+
+/// After what a conflict that the table lists is real.
+fn example_of<T: IndexStorage>(
+    alloc: Global,
+    reasons: &Reasons<'_, T>,
+    numbering: Numbering<'_, T>,
+    conflict: Conflict<T>,
+) -> Result<Example, AllocError>
+    requires listed { IsListed reasons.now.grammar reasons.now.graph (entry_of T.number conflict) }
+    requires contested { AreReductionsContested reasons.now.grammar reasons.now.graph }
+{
+    let example = reasons.example(conflict)?;
+    numbering.example(alloc, &example)
+}
+
+/// What is looked for.
+#[derive(Clone, Copy, Debug, PartialEq, Eq)]
+pub struct Effort {
+    /// How many steps a search for a text with two trees takes at the most, for each entry; for 0 there is none.
+    pub steps: usize,
+    /// For how many entries it is told at the most after what they are real: for the first ones.
+    pub examples: usize,
+    /// Whether each entry counts, and not only the first of those that stand together, because the same meets at them in the same
+    /// state.
+    pub counts_each: bool,
+}
+
+impl Effort {
+    /// Whether an entry counts behind the last of those before it.
+    fn counts(self, before: &[Evidence], entry: &Entry) -> bool {
+        match before.last() {
+            Some(last) => self.counts_each || !last.entry.meets_like(entry),
+            None => true,
+        }
+    }
+}
+
+/// What is known of an entry, where a search for a text with two trees takes so many steps, with an example or without.
+fn evidence_of<T: IndexStorage>(
+    alloc: Global,
+    reasons: &Reasons<'_, T>,
+    numbering: Numbering<'_, T>,
+    listed: &[Entry],
+    entry: Entry,
+    steps: usize,
+    has_example: bool,
+) -> Result<Evidence, AllocError>
+    requires listed { AreListedIn reasons.now.grammar reasons.now.graph listed.now }
+    requires contested { AreReductionsContested reasons.now.grammar reasons.now.graph }
+    ensures entry { IfOk result (λ e. e.entry ≡ entry) }
+    ensures proved { IfOk result (IsProved reasons.now.grammar) }
+{
+    let mut evidence = Evidence {
+        entry,
+        ambiguity: None,
+        example: None,
+    };
+    let Some(conflict) = conflict_of(entry) else {
+        return Ok(evidence);
+    };
+    if steps > 0 {
+        evidence.ambiguity = ambiguity_at(alloc, reasons, conflict, steps)?;
+    }
+    if has_example && evidence.ambiguity.is_none() && is_among(listed, &entry) {
+        evidence.example = Some(example_of(alloc, reasons, numbering, conflict)?);
+    }
+    Ok(evidence)
+}
+
+/// Adds what is known of entries.
+fn push_evidence<T: IndexStorage>(
+    list: &mut Vec<Evidence>,
+    reasons: &Reasons<'_, T>,
+    numbering: Numbering<'_, T>,
+    listed: &[Entry],
+    entries: &[Entry],
+    effort: Effort,
+) -> Result<(), AllocError>
+    requires listed { AreListedIn reasons.now.grammar reasons.now.graph listed.now }
+    requires contested { AreReductionsContested reasons.now.grammar reasons.now.graph }
+    requires proved { All (IsProved reasons.now.grammar) list.now.items }
+    ensures entries { OnOk result (map (λ e. e.entry) list.new.items
+        ≡ map (λ e. e.entry) list.old.items ++ entries.now) }
+    ensures proved { OnOk result (All (IsProved reasons.now.grammar) list.new.items) }
+{
+    let (alloc, steps) = (*list.allocator(), effort.steps);
+    let mut count: usize = 0;
+    for entry in entries {
+        let counts = effort.counts(list.as_slice(), entry);
+        let is_told = counts && count < effort.examples;
+        list.push(evidence_of(alloc, reasons, numbering, listed, *entry, steps, is_told)?)?;
+        if counts {
+            count = count.saturating_add(1);
+        }
+    }
+    Ok(())
+}
+
+/// What is known of entries of the findings in a file's grammar, in their order. The error says that memory was refused.
+pub fn evidence_for<T: IndexStorage>(
+    alloc: Global,
+    file: &FileGrammar,
+    found: &Findings<T>,
+    entries: &[Entry],
+    effort: Effort,
+) -> Result<Vec<Evidence>, AllocError>
+    requires graph { IsGraphOf found.now.grm found.now.graph }
+    requires listed { AreListedIn found.now.grm found.now.graph found.now.conflicts.items }
+    requires contested { AreReductionsContested found.now.grm found.now.graph }
+    ensures entries { IfOk result (λ v. map (λ e. e.entry) v.items ≡ entries.now) }
+    ensures proved { IfOk result (λ v. All (IsProved found.now.grm) v.items) }
+{
+    let mut list = Vec::new(alloc);
+    if entries.is_empty() {
+        return Ok(list);
+    }
+    let grm = &found.grm;
+    let reasons = Reasons::new(grm, &found.graph)?;
+    let (numbering, listed) = (Numbering { grm, file }, found.conflicts.as_slice());
+    push_evidence(&mut list, &reasons, numbering, listed, entries, effort)?;
+    Ok(list)
+}
+
+/// A text with two trees, which part at one of the entries: that of the first entry for which one is found.
+fn first_ambiguity<T: IndexStorage>(
+    alloc: Global,
+    reasons: &Reasons<'_, T>,
+    entries: &[Entry],
+    steps: usize,
+) -> Result<Option<Ambiguity>, AllocError>
+    ensures { IfOk result (λ o. IfSome o (HasTwoTrees reasons.now.grammar)) }
+{
+    for entry in entries {
+        if let Some(conflict) = conflict_of(*entry) {
+            let ambiguity = ambiguity_at(alloc, reasons, conflict, steps)?;
+            if ambiguity.is_some() {
+                return Ok(ambiguity);
+            }
+        }
+    }
+    Ok(None)
+}
+
+/// A text with two trees, which part at one of the entries, where one is found: that of the first entry that has one. For each the
+/// search takes so many steps at the most. The error says that memory was refused.
+pub fn first_text<T: IndexStorage>(
+    alloc: Global,
+    found: &Findings<T>,
+    entries: &[Entry],
+    steps: usize,
+) -> Result<Option<Ambiguity>, AllocError>
+    requires graph { IsGraphOf found.now.grm found.now.graph }
+    ensures { IfOk result (λ o. IfSome o (HasTwoTrees found.now.grm)) }
+{
+    if steps == 0 {
+        return Ok(None);
+    }
+    let reasons = Reasons::new(&found.grm, &found.graph)?;
+    first_ambiguity(alloc, &reasons, entries, steps)
+}

@@ -1,0 +1,108 @@
+//! After what conflicts are real, by the numbers of a file.
+
+use crate::ambiguities::numbers_of;
+use lrgrammar::grammar::{PartSymbol, YaccGrammar};
+use lrgrammar::idx::{IndexStorage, RIdx, Symbol};
+use lryacc::FileGrammar;
+use std::alloc::{AllocError, Global};
+
+/// How a text goes on by one of the candidates.
+#[derive(Debug, Drop)]
+pub struct Outlook {
+    /// The items that stand in one another, from that of `$accept` on, each as its production and how many symbols stand before the
+    /// dot.
+    pub items: Vec<(usize, usize)>,
+    /// A text behind the input, from the conflict's token on; None where none is known.
+    pub rest: Option<Vec<usize>>,
+}
+
+/// After what a conflict is real.
+#[derive(Debug, Drop)]
+pub struct Example {
+    /// A list of symbols after which both candidates are real.
+    pub list: Vec<PartSymbol>,
+    /// The token on which they are: the conflict's own, or else the least one.
+    pub token: usize,
+    /// A text that the list derives; None where none is known.
+    pub input: Option<Vec<usize>>,
+    /// How the text goes on by the reduction.
+    pub one: Option<Outlook>,
+    /// How it goes on by the shift, or by the other reduction.
+    pub other: Option<Outlook>,
+}
+
+/// A grammar, and the file whose grammar it is.
+#[derive(Clone, Copy)]
+pub(crate) struct Numbering<'a, T: IndexStorage> {
+    pub(crate) grm: &'a YaccGrammar<T>,
+    pub(crate) file: &'a FileGrammar,
+}
+
+impl<T: IndexStorage> Numbering<'_, T> {
+    /// The number of a rule in the file. Productions have one number in both.
+    fn rule(self, rule: RIdx<T>) -> usize {
+        if usize::from(rule) >= usize::from(self.grm.rules_len()) {
+            return 0;
+        }
+        let Some(production) = self.grm.rule_to_prods(rule).first() else {
+            return 0;
+        };
+        match self.file.parts.prods.get(usize::from(*production)) {
+            Some(prod) => prod.rule,
+            None => 0,
+        }
+    }
+
+    /// Symbols by their numbers in the file.
+    fn symbols(self, alloc: Global, symbols: &[Symbol<T>]) -> Result<Vec<PartSymbol>, AllocError> {
+        let mut list = Vec::new(alloc);
+        for symbol in symbols {
+            list.push(match *symbol {
+                Symbol::Rule(rule) => PartSymbol::Rule(self.rule(rule)),
+                Symbol::Token(token) => PartSymbol::Token(usize::from(token)),
+            })?;
+        }
+        Ok(list)
+    }
+
+    /// How a text goes on, by the numbers of the file.
+    fn outlook(
+        self,
+        alloc: Global,
+        outlook: Option<&lrreasons::Outlook<T>>,
+    ) -> Result<Option<Outlook>, AllocError> {
+        let Some(outlook) = outlook else {
+            return Ok(None);
+        };
+        let mut items = Vec::new(alloc);
+        for (production, dot) in &outlook.items {
+            // the outermost one is of no production of the file
+            if usize::from(*production) < self.file.parts.prods.len() {
+                items.push((usize::from(*production), usize::from(*dot)))?;
+            }
+        }
+        let rest = match &outlook.rest {
+            Some(rest) => Some(numbers_of(alloc, rest.tokens.as_slice())?),
+            None => None,
+        };
+        Ok(Some(Outlook { items, rest }))
+    }
+
+    /// After what a conflict is real, by the numbers of the file.
+    pub(crate) fn example(
+        self,
+        alloc: Global,
+        example: &lrreasons::Example<T>,
+    ) -> Result<Example, AllocError> {
+        Ok(Example {
+            list: self.symbols(alloc, example.list.as_slice())?,
+            token: usize::from(example.token),
+            input: match &example.input {
+                Some(input) => Some(numbers_of(alloc, input.tokens.as_slice())?),
+                None => None,
+            },
+            one: self.outlook(alloc, example.one.as_ref())?,
+            other: self.outlook(alloc, example.other.as_ref())?,
+        })
+    }
+}

@@ -1,0 +1,20 @@
+//! Why there are the conflicts of a grammar file: texts with two trees, and after what a conflict is real, by the numbers that
+//! tokens, rules and productions have in the file.
+#![tactic(auto)]
+
+mod ambiguities;
+mod conflicts;
+mod evidence;
+mod examples;
+mod names;
+mod steps;
+mod trees;
+
+pub use crate::ambiguities::Ambiguity;
+pub use crate::evidence::{Effort, Evidence, evidence_for, first_text};
+pub use crate::examples::{Example, Outlook};
+pub use crate::names::{
+    body_of, name_of_rule, names_of, names_of_tokens, rule_name, symbol_name, text_of, token_name,
+};
+pub use crate::steps::{Step, TwoTrees};
+pub use crate::trees::{Node, Tree, Visit};

@@ -1,0 +1,191 @@
+//! Words of texts and of trees.
+
+use lrevidence::{
+    Node, Step, Tree, Visit, name_of_rule, names_of, symbol_name, text_of, token_name,
+};
+use lrgrammar::grammar::PartSymbol;
+use lryacc::FileGrammar;
+use std::alloc::{AllocError, Global};
+use std::mem;
+
+/// How many words of a text or a tree are told on either side of the dot.
+const SIDE: usize = 40;
+
+/// Words with a dot among them; but those that stand far from it are left out.
+fn words_with_dot(alloc: Global, names: &[&str], dot: usize) -> Result<Vec<String>, AllocError> {
+    let (first, last) = (dot.saturating_sub(SIDE), dot.saturating_add(SIDE));
+    let mut words = Vec::new(alloc);
+    if first > 0 {
+        words.push(String::from_str(alloc, "...")?)?;
+    }
+    for (place, name) in names.iter().enumerate() {
+        if place == dot {
+            words.push(String::from_str(alloc, ".")?)?;
+        }
+        if first <= place && place < last {
+            words.push(String::from_str(alloc, name)?)?;
+        }
+    }
+    if names.len() <= dot {
+        words.push(String::from_str(alloc, ".")?)?;
+    }
+    if last < names.len() {
+        words.push(String::from_str(alloc, "...")?)?;
+    }
+    Ok(words)
+}
+
+/// The first words of many, and that there are more.
+pub(crate) fn shortened(alloc: Global, names: &[&str]) -> Result<Vec<String>, AllocError> {
+    let mut words = Vec::new(alloc);
+    for name in names.iter().take(SIDE) {
+        words.push(String::from_str(alloc, name)?)?;
+    }
+    if names.len() > SIDE {
+        words.push(String::from_str(alloc, "...")?)?;
+    }
+    Ok(words)
+}
+
+/// The words of a text that stands in the file's language, with a dot behind so many of its tokens.
+pub(crate) fn text_words(
+    alloc: Global,
+    file: &FileGrammar,
+    tokens: &[usize],
+    dot: usize,
+) -> Result<Vec<String>, AllocError> {
+    let mut names = Vec::new(alloc);
+    for token in text_of(tokens) {
+        names.push(token_name(file, *token))?;
+    }
+    words_with_dot(alloc, names.as_slice(), dot)
+}
+
+/// The words of a list of symbols with a dot behind it, and then a token.
+pub(crate) fn list_words(
+    alloc: Global,
+    file: &FileGrammar,
+    list: &[PartSymbol],
+    token: usize,
+) -> Result<Vec<String>, AllocError> {
+    let mut names = names_of(alloc, file, list)?;
+    let dot = names.len();
+    if token > 0 {
+        names.push(token_name(file, token))?;
+    }
+    words_with_dot(alloc, names.as_slice(), dot)
+}
+
+/// Words of a tree in brackets, in the making.
+#[derive(Drop)]
+struct Brackets {
+    words: Vec<String>,
+    /// What stands before the next leaf.
+    front: String,
+    /// How many leaves there are so far.
+    leaves: usize,
+}
+
+impl Brackets {
+    /// Adds what one comes to, going through the tree, and the dot before that leaf.
+    fn push(
+        &mut self,
+        file: &FileGrammar,
+        tree: &Tree,
+        visit: Visit,
+        dot: usize,
+    ) -> Result<(), AllocError> {
+        let alloc = *self.words.allocator();
+        match visit {
+            Visit::Enter(number) => {
+                if let Some(Node::Inner(production)) = tree.nodes.get(number) {
+                    self.front.push_str(name_of_rule(file, *production))?;
+                }
+                self.front.push('(')?;
+            }
+            Visit::Leaf(number) => {
+                if let Some(Node::Leaf(symbol)) = tree.nodes.get(number) {
+                    self.front.push_str(symbol_name(file, *symbol))?;
+                }
+                self.push_leaf(alloc, dot)?;
+            }
+            Visit::Leave(_) if self.front.is_empty() => {
+                if let Some(last) = self.words.last_mut() {
+                    last.push(')')?;
+                }
+            }
+            Visit::Leave(_) => {
+                let front = mem::replace(&mut self.front, String::new(alloc));
+                self.words.push(front)?;
+                if let Some(last) = self.words.last_mut() {
+                    last.push(')')?;
+                }
+            }
+        }
+        Ok(())
+    }
+
+    /// Adds a leaf, which stands behind all that is entered before it.
+    fn push_leaf(&mut self, alloc: Global, dot: usize) -> Result<(), AllocError> {
+        if self.leaves == dot {
+            self.words.push(String::from_str(alloc, ".")?)?;
+        }
+        let front = mem::replace(&mut self.front, String::new(alloc));
+        self.words.push(front)?;
+        self.leaves = self.leaves.saturating_add(1);
+        Ok(())
+    }
+}
+
+/// The words of a tree in brackets, as `E(E(E '+' E) . '+' E)`, with a dot before that leaf.
+pub(crate) fn tree_words(
+    alloc: Global,
+    file: &FileGrammar,
+    tree: &Tree,
+    dot: usize,
+) -> Result<Vec<String>, AllocError> {
+    let mut brackets = Brackets {
+        words: Vec::new(alloc),
+        front: String::new(alloc),
+        leaves: 0,
+    };
+    for visit in &tree.visits(alloc)? {
+        brackets.push(file, tree, *visit, dot)?;
+    }
+    if brackets.leaves <= dot {
+        brackets.words.push(String::from_str(alloc, ".")?)?;
+    }
+    Ok(brackets.words)
+}
+
+/// How what two candidates come to is told apart: by what they do, or, where both reduce, by their rules.
+pub(crate) fn labels(
+    alloc: Global,
+    file: &FileGrammar,
+    one: Step,
+    other: Step,
+) -> Result<(String, String), AllocError> {
+    let (Step::Reduce(one), Step::Reduce(other)) = (one, other) else {
+        let is_reduction = one != Step::Shift;
+        let (one, other) = if is_reduction {
+            ("reduce", "shift")
+        } else {
+            ("shift", "reduce")
+        };
+        return Ok((
+            String::from_str(alloc, one)?,
+            String::from_str(alloc, other)?,
+        ));
+    };
+    let (one, other) = (name_of_rule(file, one), name_of_rule(file, other));
+    if one == other {
+        return Ok((
+            String::from_str(alloc, "first")?,
+            String::from_str(alloc, "second")?,
+        ));
+    }
+    Ok((
+        format!(in alloc; "as {one}")?,
+        format!(in alloc; "as {other}")?,
+    ))
+}
