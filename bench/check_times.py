@@ -22,18 +22,16 @@ import sys
 import tempfile
 from pathlib import Path
 
+sys.dont_write_bytecode = True
+from processes import called, grammar_files, ratio
+
 RUNS = 5
-ENDINGS = {".y", ".yy", ".ypp"}
 SLOWEST = 5  # Seconds, past which a call is made once.
 
 
 def seconds_of(words, folder, output=None):
-    """The status of a call and its seconds of processor time; what it prints goes to a file, if one is named."""
-    with open(output or folder / "printed", "wb") as printed:
-        child = subprocess.Popen(words, cwd=folder, stdin=subprocess.DEVNULL, stdout=printed, stderr=subprocess.DEVNULL)
-        _, status, usage = os.wait4(child.pid, 0)
-    child.returncode = os.waitstatus_to_exitcode(status)
-    return child.returncode, usage.ru_utime + usage.ru_stime
+    """The status of a call in a folder and its seconds of processor time; what it prints goes to a file, if one is named."""
+    return called(words, output or folder / "printed", cwd=folder, stderr=subprocess.DEVNULL)
 
 
 def least(calls, folder):
@@ -89,10 +87,6 @@ def told(seconds):
     return "?" if seconds is None else f"{1000 * seconds:.1f}"
 
 
-def ratio(one, other):
-    return "?" if not one or not other else f"{one / other:.2f}"
-
-
 def row(name, times):
     """A row of times and ratios."""
     check = times["check"]
@@ -100,15 +94,6 @@ def row(name, times):
     others = [cell for kind in kinds for cell in (told(times.get(kind)), ratio(check, times.get(kind)))]
     read = times.get("read")
     return f"| {' | '.join([name, told(check), *others, told(read), ratio(read, check)])} |"
-
-
-def grammar_files(names):
-    """The grammar files that are named or in the folders."""
-    for name in names:
-        if name.is_dir():
-            yield from sorted(path for path in name.rglob("*") if path.suffix in ENDINGS and path.is_file())
-        else:
-            yield name
 
 
 def main():

@@ -5,8 +5,10 @@
 
 Of each FILE, a grammar file as it stands: every beginning up to a lexeme, and up to drawn bytes within lexemes; each of these
 with a brace, a quote or a mark of a comment taken away; copies with a few bytes changed; with such a mark or a lexeme taken
-away, or a lexeme doubled. Then odd texts, and large ones, each at one length and at half of it. With status 2 each line of the
-answer is a fault with a place inside the file, or shows a line of it; with status 0 or 1 it is one verdict. What `lrcheck`
+away, or a lexeme doubled. Then odd texts, and large ones, each at one length and at half of it; those of large grammars with
+conflicts, odd texts and what Bison is shown are asked for in all WAYS, and the others for the verdict alone. With status 2 each
+line of the answer is a fault with a place inside the file, or shows a line of it; with status 0 or 1 it is one verdict, or ends
+with that. What `lrcheck`
 refuses and Bison accepts is listed, and the other way round, by the words of both; of the copies a part is shown to Bison. So
 is where both accept and count other conflicts, though Bison makes the IELR automaton. Ends with status 1 where a text was not
 answered well.
@@ -20,6 +22,7 @@ import argparse
 import bisect
 import collections
 import functools
+import json
 import os
 import random
 import re
@@ -31,10 +34,19 @@ import unicodedata
 from concurrent.futures import ThreadPoolExecutor
 from pathlib import Path
 
+sys.dont_write_bytecode = True
+from hostile_conflicts import CONFLICTS
+
 PROCESSES = 2
 SECONDS = 2
 SECONDS_OF_LARGE = 10
 SECONDS_AT_MOST = 60  # After so many, whatever else the machine does, a call is ended.
+SUMMARY, REPORT, JSON = "the verdict", "the report", "JSON"
+WAYS = {
+    SUMMARY: ["--summary"],
+    REPORT: ["--plain", "--all", "--settled", "--trees"],
+    JSON: ["--json", "--all", "--settled"],
+}
 TEXTS = 40  # In one call.
 DRAWN = 1000  # Places within lexemes up to which a beginning reaches.
 COPIES = 300  # Of each kind but changed bytes and beginnings, of each file.
@@ -48,9 +60,12 @@ BRACE = re.compile(rb"%\{|%\}|[{}]")
 QUOTE = re.compile(rb"['\"]")
 MARK_OF_COMMENT = re.compile(rb"/\*|\*/|//")
 BYTES = b"%'\":;|/*{}<>[]\\$@#\n\r\t \x00\x7f\x80\xc3\xff" + b"azAZ09._-=,&"
+TEXT = r"a text with two trees for (it|each|\d+ of them)"
 VERDICT = re.compile(
     r"(unambiguous \(proved\): no text has two trees|no conflicts"
-    r"|(as expected: )?(\d+ (shift|reduce)/reduce conflicts?(, )?)+(; \d+ .+ expected)?)(; precedences settle \d+( more)?)?"
+    r"|(as expected: |ambiguous \(proved\): )?\d+ (shift|reduce)/reduce conflicts?(, \d+ reduce/reduce conflicts?)?"
+    rf"(, {TEXT}|(; \d+ .+ expected)?(; ambiguous \(proved\): {TEXT}|, (not|none) known to be ambiguous)?))"
+    r"(; precedences settle \d+( more)?)?(; without them ambiguous \(proved\))?"
 )
 
 
@@ -143,16 +158,26 @@ def status_of(text, name):
     return 0 if re.search(rb": (unambiguous|no conflicts|as expected: )", text) else 1
 
 
-def trouble(answer, name, text, seconds):
+def has_verdict(answer, name, way):
+    """Whether an answer with status 0 or 1 is a verdict, or ends with one."""
+    if way == JSON:
+        return json.loads(answer.text)["shift_reduce"] is not None
+    lines = answer.text.decode("utf-8", "replace").split("\n")
+    is_alone = len(lines) == 2 or way == REPORT
+    return is_alone and lines[-2].startswith(name + ": ") and VERDICT.fullmatch(lines[-2][len(name) + 2 :]) is not None
+
+
+def trouble(answer, name, text, seconds, way=SUMMARY):
     """What is wrong with an answer; None if nothing is."""
     if answer.status not in (0, 1, 2):
         return f"status {answer.status} after {answer.seconds:.1f} s"
     if answer.seconds > seconds:
         return f"{answer.seconds:.1f} s"
     if answer.status < 2:
-        lines = answer.text.decode("utf-8", "replace").split("\n")
-        is_well = len(lines) == 2 and lines[0].startswith(name + ": ") and VERDICT.fullmatch(lines[0][len(name) + 2 :])
-        return None if is_well else f"status {answer.status}, and no verdict: {answer.text[:200]!r}"
+        is_well = has_verdict(answer, name, way)
+        return None if is_well else f"status {answer.status}, and no verdict: {answer.text[-200:]!r}"
+    if way == JSON:
+        return None if json.loads(answer.text)["errors"] else "status 2, and no fault"
     faults, others = faults_of(answer, name)
     if others or not faults:
         return f"{len(faults)} faults, and {others[:1]!r}"
@@ -221,19 +246,32 @@ class Judge:
         path.write_bytes(text)
         return path
 
+    def ask(self, title, path, text, way, seconds=SECONDS):
+        """The answer about a text in one of the ways, which is looked at."""
+        answer = called([self.program, *WAYS[way], path.name], self.folder)
+        wrong = trouble(answer, path.name, text, seconds, way)
+        if wrong:
+            self.troubles.append((title, wrong))
+            print(f"WRONG: {title}, {way}: {wrong}", flush=True)
+        return answer
+
     def check(self, title, text, is_compared, seconds=SECONDS):
         """Checks a text, and answers the seconds that `lrcheck` took."""
         path = self.file(text)
-        answer = called([self.program, "--summary", path.name], self.folder)
-        wrong = trouble(answer, path.name, text, seconds)
-        if wrong:
-            self.troubles.append((title, wrong))
-            print(f"WRONG: {title}: {wrong}", flush=True)
+        answer = self.ask(title, path, text, SUMMARY, seconds)
         if is_compared:
-            self.compare(title, path, answer)
+            self.compare(title, path, text, answer)
         self.texts += 1
         path.unlink()
         return answer.seconds
+
+    def check_in_all_ways(self, title, text, seconds):
+        """Checks a text, and answers the seconds that `lrcheck` took for each of the ways."""
+        path = self.file(text)
+        times = [self.ask(title, path, text, way, seconds).seconds for way in WAYS]
+        self.texts += 1
+        path.unlink()
+        return times
 
     def bison(self, path, *options):
         """The answer of Bison, whose files are removed."""
@@ -252,15 +290,17 @@ class Judge:
         parts = parts_of(answer, names)
         is_well = parts and not any(trouble(parts[path.name], path.name, text, SECONDS) for path, (_, text, _) in texts.items())
         seconds = answer.seconds if is_well else max(self.check(*copy) for copy in copies)
-        for path, (title, _, is_compared) in texts.items():
+        for path, (title, text, is_compared) in texts.items():
             if is_well and is_compared:
-                self.compare(title, path, parts[path.name])
+                self.compare(title, path, text, parts[path.name])
             path.unlink()
         self.texts += len(texts) if is_well else 0
         return seconds
 
-    def compare(self, title, path, answer):
-        """Compares an answer with that of Bison."""
+    def compare(self, title, path, text, answer):
+        """Compares an answer with that of Bison, and asks in the other ways."""
+        for way in (REPORT, JSON):
+            self.ask(title, path, text, way)
         bison = self.bison(path)
         ours, theirs = words_of_lrcheck(answer, path.name), words_of_bison(bison)
         self.compared += 1
@@ -977,13 +1017,17 @@ def main():
     parser.add_argument("--compared", type=int, default=COMPARED, help="how many copies of a kind and file Bison gets")
     parser.add_argument("--copies", action="store_true", help="copies and odd texts alone")
     parser.add_argument("--large", nargs="?", const="", metavar="WORD", help="large texts alone, of a name that has the word")
+    parser.add_argument("--conflicts", nargs="?", const="", metavar="WORD", help="grammars with conflicts alone, likewise")
     arguments = parser.parse_args()
+    is_all = not arguments.copies and arguments.large is None and arguments.conflicts is None
     with tempfile.TemporaryDirectory() as folder:
         judge = Judge(os.path.abspath(arguments.program), folder)
-        if arguments.large is None:
+        if is_all or arguments.copies:
             check_copies(judge, arguments.files, arguments.compared)
-        if not arguments.copies:
+        if is_all or arguments.large is not None:
             check_large(judge, arguments.large or "")
+        if is_all or arguments.conflicts is not None:
+            check_conflicts(judge, arguments.conflicts or "")
         sys.exit(tell(judge))
 
 
@@ -996,6 +1040,11 @@ def check_copies(judge, files, compared):
             judge.check_all(f"{path}, {kind}", copies(path.name, text), compared)
 
 
+def note(half, whole):
+    """What is said of seconds for a length and for half of it."""
+    return "" if whole <= 3 * half + 0.05 else " grows faster than the length"
+
+
 def check_large(judge, word):
     """Checks large texts of a name that has the word, each at half its length and at its length."""
     print("\n| Large text | Number | Half of it, s | All, s |\n|---|---|---|---|")
@@ -1003,8 +1052,19 @@ def check_large(judge, word):
         if word not in name:
             continue
         times = [judge.check(f"{n} {name}", text(n), False, SECONDS_OF_LARGE) for n in (number // 2, number)]
-        note = "" if times[1] <= 3 * times[0] + 0.05 else " grows faster than the length"
-        print(f"| {name} | {number} | {times[0]:.2f} | {times[1]:.2f}{note} |", flush=True)
+        print(f"| {name} | {number} | {times[0]:.2f} | {times[1]:.2f}{note(*times)} |", flush=True)
+
+
+def check_conflicts(judge, word):
+    """Checks large grammars with conflicts of a name that has the word, each at half its length and at its length."""
+    heads = [f"{way}, s" for way in WAYS]
+    print(f"\n| Large grammar with conflicts | Number | {' | '.join(heads)} |\n|{'---|' * (2 + len(heads))}")
+    for name, (number, text) in CONFLICTS.items():
+        if word not in name:
+            continue
+        halves, wholes = (judge.check_in_all_ways(f"{n} {name}", text(n), SECONDS_OF_LARGE) for n in (number // 2, number))
+        cells = [f"{whole:.2f}{note(half, whole)}" for half, whole in zip(halves, wholes)]
+        print(f"| {name} | {number} | {' | '.join(cells)} |", flush=True)
 
 
 def tell(judge):

@@ -29,6 +29,7 @@ from pathlib import Path
 sys.dont_write_bytecode = True
 sys.path.insert(0, str(Path(__file__).resolve().parent.parent / "runs"))
 import definitions
+from processes import called, counterexamples, ratio
 
 STEPS = 10_000
 RUNS = 3
@@ -39,7 +40,6 @@ HEADS = (
     "| Grammar | Entries | Ambiguous | `lrt`, s | Lists, s | to `lrt` | Sentences, s | to the aim | MB | to `lrt` "
     "| Bison: with a sentence | of reports | s |"
 )
-REPORT = re.compile(r"(?:shift|reduce)/reduce conflict on token")
 
 
 @dataclass
@@ -72,19 +72,6 @@ class Row:
         cells += [ratio(sentences, aim), f"{most / 1024:.1f}", ratio(most, memory), shown, reports]
         cells += [f"{'more than ' * self.is_ended}{seconds:.1f}"]
         return f"| {' | '.join(map(str, cells))} |"
-
-
-def ratio(one, other):
-    return f"{one / other:.2f}" if other else "?"
-
-
-def called(words, told, **more):
-    """The status of a call and its seconds of processor time; what it prints goes to that file."""
-    with open(told, "wb") as printed:
-        child = subprocess.Popen(words, stdin=subprocess.DEVNULL, stdout=printed, stderr=printed, **more)
-        _, status, usage = os.wait4(child.pid, 0)
-    child.returncode = os.waitstatus_to_exitcode(status)
-    return child.returncode, usage.ru_utime + usage.ru_stime
 
 
 def seconds_of(words):
@@ -131,14 +118,10 @@ def bison_numbers(path):
     with tempfile.TemporaryDirectory() as name:
         folder = Path(name)
         (folder / "grammar.y").write_text(bison_text(path))
-        words = ["timeout", str(MOST), "bison", "-Wnone", "-Wcounterexamples", "-o", "made.c", "grammar.y"]
-        status, seconds = called(words, folder / "told", cwd=folder, env={**os.environ, "LC_ALL": "C"})
-        lines = (folder / "told").read_text(errors="replace").splitlines()
-    if status not in (0, 124):
-        sys.exit(f"Bison fails at {path}: {lines[:5]}")
-    shown = sum(line.startswith("  Example: ") for line in lines)
-    reports = sum(REPORT.search(line) is not None for line in lines)
-    return [shown, reports, seconds], status == 124
+        *numbers, is_ended, fault = counterexamples("grammar.y", MOST, folder)
+    if fault:
+        sys.exit(f"Bison fails at {path}: {fault}")
+    return numbers, is_ended
 
 
 def with_bison(rows, paths):

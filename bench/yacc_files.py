@@ -25,8 +25,10 @@ from concurrent.futures import ThreadPoolExecutor
 from dataclasses import dataclass, field
 from pathlib import Path
 
+sys.dont_write_bytecode = True
+from processes import grammar_files
+
 PROCESSES = 2
-ENDINGS = {".y", ".yy", ".ypp"}
 ACTION = re.compile(r"\$?@\d+")
 FIRST_TOKENS = {"$end", "error", "$undefined", "YYEOF", "YYerror", "YYUNDEF"}
 
@@ -371,15 +373,6 @@ def compared(program, path):
             cells.append(made)
             lines += differing
         return cells, lines
-
-
-def grammar_files(names):
-    """The grammar files that are named or in the folders."""
-    for name in names:
-        if name.is_dir():
-            yield from sorted(path for path in name.rglob("*") if path.suffix in ENDINGS and path.is_file())
-        else:
-            yield name
 
 
 def main():
