@@ -18,15 +18,24 @@ class CheckCase(namedtuple("CheckCase", FIELDS, defaults=(b"%% other: 'other';",
         return [[*options, name] for name in self.names]
 
 
-# Grammars: no conflict; three of them, of both kinds; one, which a precedence settles; none, and precedences and tokens without
-# use; a file that is none.
+# Grammars: no conflict; three of them, of both kinds; one, which a precedence settles; one, without a text that has two trees;
+# none, and precedences and tokens without use; a file that is none.
 UNAMBIGUOUS = b"%% s: 'a' | ;"
 AMBIGUOUS = b"%% s: 'a' | s s | t; t: 'a';"
 SETTLED = b"%left 'a' %% s: s 'a' s | 'b';"
+NOT_AMBIGUOUS = b"%% s: x 'c' | y 'c' 'd'; x: 'a'; y: 'a';"
 IDLE = b"%token t u\n%left 'a' t\n%% s: 'b' %prec u | 'a';"
 FAULTY = b"%token a a\n%%\ns: t 'x;\n"
 
-FILES = {"none.y": None, "a.y": AMBIGUOUS, "f.y": FAULTY, "i.y": IDLE, "p.y": SETTLED, "u.y": UNAMBIGUOUS}
+FILES = {
+    "none.y": None,
+    "a.y": AMBIGUOUS,
+    "f.y": FAULTY,
+    "i.y": IDLE,
+    "n.y": NOT_AMBIGUOUS,
+    "p.y": SETTLED,
+    "u.y": UNAMBIGUOUS,
+}
 
 
 def case(name, options, names, **more):
@@ -37,6 +46,9 @@ def case(name, options, names, **more):
 def cases():
     yield case("conflicts", [], ["a.y"], status=1)
     yield case("all-settled", ["--all", "--settled"], ["p.y"])
+    yield case("no-text", [], ["n.y"], status=1)
+    yield case("no-text-json", ["--json"], ["n.y"], status=1)
+    yield case("trees", ["--trees"], ["a.y"], status=1)
     yield case("without-precedences", ["--without-precedences", "--expect", "1"], ["p.y"])
     yield case("warnings", [], ["i.y"])
     yield case("faults", [], ["f.y"], status=2)

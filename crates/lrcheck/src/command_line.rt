@@ -89,6 +89,15 @@ fn steps<'a>(alloc: Global) -> Arg<'a> {
         .help("Looks for a text with two trees for N steps a conflict; 0 for no search")
 }
 
+/// Where a page is written.
+fn page<'a>(alloc: Global) -> Result<Arg<'a>, AllocError> {
+    Arg::new(alloc, "page")
+        .long("page")
+        .value_name("OUT.html")
+        .help("Writes a page for a browser, of one file")
+        .conflicts_with("grammar")
+}
+
 /// The files, one at least.
 fn files<'a>(alloc: Global) -> Arg<'a> {
     Arg::new(alloc, "FILE")
@@ -109,7 +118,10 @@ pub(crate) fn command_line<'a>(alloc: Global) -> Result<Command<'a>, AllocError>
         .after_help(AFTER_HELP)
         .arg(files(alloc))?;
     let command = add_settings(alloc, add_outputs(alloc, command)?)?;
-    command.arg(expect(alloc))?.arg(steps(alloc))
+    command
+        .arg(expect(alloc))?
+        .arg(steps(alloc))?
+        .arg(page(alloc)?)
 }
 
 /// What is told of each file.
@@ -140,6 +152,7 @@ pub(crate) fn options_of(matches: &ArgMatches<'_>) -> Options {
         has_colours: false,
         tells_grammar: matches.get_flag("grammar"),
         expected: matches.get_one::<u64>("expect"),
+        makes_page: matches.get_str("page").is_some(),
         dialect: if matches.get_flag("grmtools") {
             Dialect::Grmtools
         } else {

@@ -90,11 +90,29 @@ fn tell(rt: &HostRuntime, name: &str, outcome: &Outcome) -> Result<u8, Stop> {
     }
 }
 
-/// Checks the files in turn, and answers the greatest exit status.
+/// Writes the page of what came of a file to a path, where there is one, and answers the exit status.
+fn write_page(rt: &HostRuntime, outcome: &Outcome, path: &str) -> u8 {
+    let Outcome::Checked(report) = outcome else {
+        return 0;
+    };
+    let Some(page) = &report.page else {
+        return 0;
+    };
+    match fs::write(rt, path, page.as_str()) {
+        Ok(()) => 0,
+        Err(error) => {
+            let _ = eprintln!(rt; "lrcheck: cannot write {path}: {error}");
+            2
+        }
+    }
+}
+
+/// Checks the files in turn, and answers the greatest exit status. The page of a file is written to that path.
 pub(crate) fn check_all(
     rt: &HostRuntime,
     names: &[&str],
     options: Options,
+    page: Option<&str>,
     mut progress: Progress,
 ) -> Result<u8, Stop> {
     let mut status = 0;
@@ -102,7 +120,11 @@ pub(crate) fn check_all(
         progress.show(rt, k + 1, names.len(), names[k]);
         let outcome = check(rt, names[k], options);
         progress.clear(rt);
-        status = tell(rt, names[k], &outcome?)?.max(status);
+        let outcome = outcome?;
+        status = tell(rt, names[k], &outcome)?.max(status);
+        if let Some(path) = page {
+            status = write_page(rt, &outcome, path).max(status);
+        }
     }
     Ok(status)
 }

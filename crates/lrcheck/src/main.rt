@@ -38,6 +38,21 @@ fn tell_usage(rt: &HostRuntime, error: &clap::Error) -> Result<u8, Stop> {
     }
 }
 
+/// Why files of these names can't be checked in one call; None where they can.
+fn refusal(names: &[&str], page: Option<&str>) -> Option<&'static str> {
+    if names.iter().filter(|name| **name == INPUT).count() > 1 {
+        return Some("standard input, -, can be read once only");
+    }
+    let page = page?;
+    if names.len() > 1 {
+        return Some("a page, --page, can be of one file only");
+    }
+    if names.iter().any(|name| *name == page) {
+        return Some("a page, --page, can't be written over the file itself");
+    }
+    None
+}
+
 /// Does what the options and names say, and answers the exit status.
 fn check_named(
     rt: &HostRuntime,
@@ -46,8 +61,8 @@ fn check_named(
     progress: Progress,
 ) -> Result<u8, Stop> {
     let names: &[&str] = matches.get_strs("FILE").unwrap_or(&[]);
-    if names.iter().filter(|name| **name == INPUT).count() > 1 {
-        let message = "standard input, -, can be read once only";
+    let page = matches.get_str("page");
+    if let Some(message) = refusal(names, page) {
         let error = command.error(ErrorKind::TooManyValues, message)?;
         return tell_usage(rt, &error);
     }
@@ -57,7 +72,7 @@ fn check_named(
         has_colours,
         ..options
     };
-    check_all(rt, names, options, progress)
+    check_all(rt, names, options, page, progress)
 }
 
 /// Does what the words say, and answers the exit status.

@@ -9,7 +9,7 @@ mod styles;
 mod words;
 
 pub use crate::diagnostics::{Mark, Message, TOLD, Teller, Weight, messages_of};
-pub use crate::lines::push_shown;
+pub use crate::lines::{ShownLine, push_shown};
 pub use crate::sources::{Position, Source};
 pub use crate::styles::Style;
 pub use crate::words::{Layout, comma_words, push_blanks, width_of};

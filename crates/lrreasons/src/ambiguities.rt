@@ -168,7 +168,8 @@ fn prove_pair<T: IndexStorage>(
     }
 }
 
-/// Searches where any two candidates of the conflict's cell contend, its own first, with so many steps for each pair.
+/// Searches where any two candidates of the conflict's cell contend: with so many steps for its own, and as many for all others
+/// together.
 pub(crate) fn prove<T: IndexStorage>(
     forms: &Forms<'_, T>,
     grm: &YaccGrammar<T>,
@@ -180,10 +181,13 @@ pub(crate) fn prove<T: IndexStorage>(
     requires state { T.number conflict.now.state.0 < length graph.now }
     ensures { IfOk result (λ o. IfSome o (IsProofOf T.number grm.now graph.now conflict.now)) }
 {
-    for pair in pairs(grm.allocator(), grm, graph, conflict)? {
-        if let Some(proved) = prove_pair(forms, grm, graph, conflict, pair, steps)? {
+    let pairs = pairs(grm.allocator(), grm, graph, conflict)?;
+    let mut allowed = steps;
+    for pair in &pairs {
+        if let Some(proved) = prove_pair(forms, grm, graph, conflict, *pair, allowed)? {
             return Ok(Some(proved));
         }
+        allowed = steps / pairs.len().max(1);
     }
     Ok(None)
 }

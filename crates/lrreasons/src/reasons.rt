@@ -143,9 +143,9 @@ impl<'a, T: IndexStorage> Reasons<'a, T> {
     }
 
     /// A text with two trees which part at the conflict, or at two others of the candidates of its cell. None where none is
-    /// found in so many steps for each two candidates (of more than six, for the first fifteen pairs): that says nothing. It
-    /// need not be a conflict that a table lists: it may be one that precedences settled. The error says that memory was
-    /// refused.
+    /// found in so many steps for the conflict's own candidates, and as many for all other pairs of the cell together, of which
+    /// fifteen are tried at the most: that says nothing. It need not be a conflict that a table lists: it may be one that
+    /// precedences settled. The error says that memory was refused.
     pub fn ambiguity(
         &self,
         conflict: Conflict<T>,
@@ -239,8 +239,8 @@ impl<'a, T: IndexStorage> Reasons<'a, T> {
         })
     }
 
-    /// Why there is the conflict, which the table lists: an ambiguity, where one is found in so many steps for each two
-    /// candidates; and after what it is real, as the last argument says. The error says that memory was refused.
+    /// Why there is the conflict, which the table lists: an ambiguity, where one is found in so many steps, as `ambiguity` takes
+    /// them; and after what it is real, as the last argument says. The error says that memory was refused.
     pub fn reason(
         &self,
         conflict: Conflict<T>,

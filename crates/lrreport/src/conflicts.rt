@@ -135,7 +135,7 @@ impl<'a, T: IndexStorage> Checked<'a, T> {
     }
 
     /// The places of what meets.
-    fn marks(&self, alloc: Global, entries: &[Entry]) -> Result<Vec<Mark>, AllocError> {
+    pub(crate) fn marks(&self, alloc: Global, entries: &[Entry]) -> Result<Vec<Mark>, AllocError> {
         let Some(first) = entries.first() else {
             return Ok(Vec::new(alloc));
         };
@@ -250,7 +250,7 @@ pub(crate) fn left_open<T: IndexStorage>(
 
 /// What is known of entries, in groups, in each of which the same meets in the same state; each entry by itself where all are
 /// told.
-fn meetings(
+pub(crate) fn meetings(
     alloc: Global,
     evidence: &[Evidence],
     tells_all: bool,

@@ -11,6 +11,7 @@ mod json_reasons;
 mod notes;
 mod objects;
 mod options;
+mod pages;
 mod reports;
 mod settled;
 mod states;

@@ -42,6 +42,8 @@ pub struct Options {
     pub tells_grammar: bool,
     /// How many shift/reduce conflicts are expected, whatever the file says.
     pub expected: Option<u64>,
+    /// Whether a page is made that shows what was found.
+    pub makes_page: bool,
     /// What the file is taken for.
     pub dialect: Dialect,
 }

@@ -34,6 +34,8 @@ pub struct Report {
     pub text: String,
     /// The exit status: 0 without conflicts, 1 with conflicts, 2 where the file can't be read as a grammar.
     pub status: u8,
+    /// A page that shows what was found; None where none is to be made, or nothing was checked.
+    pub page: Option<String>,
     /// What was concluded; None where nothing was checked.
     pub conclusion: Option<Conclusion>,
 }
@@ -59,6 +61,7 @@ impl Report {
         Report {
             text,
             status: 2,
+            page: None,
             conclusion: None,
         }
     }
@@ -149,6 +152,7 @@ struct Known {
 fn effort_of(options: Options) -> Effort {
     let examples = match options.output {
         _ if options.steps == 0 => 0,
+        _ if options.makes_page => usize::MAX,
         Output::Report => most_told(options),
         Output::Json => usize::MAX,
         Output::Summary | Output::Grammar | Output::States => 0,
@@ -156,7 +160,7 @@ fn effort_of(options: Options) -> Effort {
     Effort {
         steps: options.steps,
         examples,
-        counts_each: options.tells_all || options.output == Output::Json,
+        counts_each: options.tells_all || options.makes_page || options.output == Output::Json,
     }
 }
 
@@ -250,6 +254,42 @@ fn lines_on_findings<T: IndexStorage>(
     Ok(text)
 }
 
+/// The page on what was found in the grammar of a file, with that verdict, where one is made.
+fn page_on_findings<T: IndexStorage>(
+    alloc: Global,
+    read: Read<'_>,
+    found: &Findings<T>,
+    known: &Known,
+    verdict: Verdict,
+    options: Options,
+) -> Result<Option<String>, AllocError> {
+    if !options.makes_page {
+        return Ok(None);
+    }
+    let checked = Checked {
+        source: read.source,
+        file: read.file,
+        found,
+        evidence: known.evidence.as_slice(),
+        settled: known.settled.as_slice(),
+        options: Options {
+            expected: options.beside(read.expected).shift_reduce,
+            ..options
+        },
+    };
+    let told = Told {
+        evidence: checked.evidence,
+        settled: found.settled.len(),
+        is_ambiguous_without: known.decided.is_some(),
+    };
+    let summary = Options {
+        output: Output::Summary,
+        ..options
+    };
+    let line = verdict_line(alloc, read.source.name, verdict, told, summary)?;
+    Ok(Some(checked.page(alloc, verdict, line.as_str())?))
+}
+
 /// The report on what was found in the grammar of a file.
 fn report_on_findings<T: IndexStorage>(
     alloc: Global,
@@ -271,9 +311,11 @@ fn report_on_findings<T: IndexStorage>(
     let verdict = found.verdict.beside(options.beside(read.expected));
     let known = known_of(alloc, read.file, &found, options)?;
     let text = lines_on_findings(alloc, read, &found, &known, verdict, options)?;
+    let page = page_on_findings(alloc, read, &found, &known, verdict, options)?;
     Ok(Report {
         text,
         status: verdict.status(),
+        page,
         conclusion: Some(Conclusion {
             grammar: found.text,
             verdict,
@@ -301,6 +343,7 @@ fn report_on_grammar(alloc: Global, read: Read<'_>, options: Options) -> Result<
         return Ok(Report {
             text: small_text(alloc, read.file, has_precedences)?,
             status: 0,
+            page: None,
             conclusion: None,
         });
     }

@@ -1,0 +1,2 @@
+-- escaped text
+pub mod Escapes

@@ -1,0 +1,146 @@
+//! The page, from its head to its end.
+
+use crate::escapes::push_name;
+use crate::grammars::is_of_file;
+use crate::script::SCRIPT;
+use crate::style::STYLE;
+use lrdiagnostics::{Mark, Source};
+use lrevidence::Evidence;
+use lrfindings::Findings;
+use lrgrammar::idx::IndexStorage;
+use lryacc::FileGrammar;
+use std::alloc::{AllocError, Global};
+
+/// What begins each page. Nothing is fetched from elsewhere.
+const HEAD: &str = "<!DOCTYPE html>
+<html lang=\"en\">
+<head>
+<meta charset=\"utf-8\">
+<meta name=\"viewport\" content=\"width=device-width, initial-scale=1\">
+<meta http-equiv=\"Content-Security-Policy\"
+ content=\"default-src 'none'; style-src 'unsafe-inline'; script-src 'unsafe-inline'\">
+<title>";
+
+/// What stands before what it tells of conflicts.
+const BAR: &str = "<nav><div>
+<a href=\"#conflicts\">Conflicts</a> <a href=\"#grammar\">Grammar</a> <a href=\"#states\">States</a>
+<input id=\"filter\" type=\"search\" placeholder=\"Filter conflicts, rules and states\"
+ aria-label=\"Filter conflicts, rules and states\">
+<span id=\"told\" class=\"soft\" role=\"status\"></span>
+</div></nav>
+<noscript><p>Trees, edges and the filter need scripts.</p></noscript>
+";
+
+/// What is said of conflicts.
+const REAL: &str =
+    "Each conflict is one of the LR(1) automaton: none is an artefact of merging states.";
+
+/// Adds how many there are of something.
+pub(crate) fn push_count(page: &mut String, count: usize, word: &str) -> Result<(), AllocError> {
+    let ending = if count == 1 { "" } else { "s" };
+    write!(page, "{count} {word}{ending}")
+}
+
+/// A conflict as it is shown: entries at which the same meets in the same state.
+#[derive(Drop)]
+pub struct Card<'a> {
+    /// What is known of the entries.
+    pub meeting: &'a [Evidence],
+    /// The places of what meets.
+    pub marks: Vec<Mark>,
+    /// How it can be settled; empty where that is not told.
+    pub help: String,
+}
+
+/// What a page is made of.
+#[derive(Clone, Copy)]
+pub struct Page<'a, T: IndexStorage> {
+    /// The file.
+    pub source: &'a Source<'a>,
+    /// Its grammar.
+    pub file: &'a FileGrammar,
+    /// What was found in that.
+    pub found: &'a Findings<T>,
+    /// The line of the verdict, which begins with the name of the file.
+    pub verdict: &'a str,
+    /// Whether there are no conflicts but such as are expected.
+    pub is_good: bool,
+    /// The conflicts.
+    pub cards: &'a [Card<'a>],
+    /// How many steps a search for a text with two trees could take; with 0 nothing is told of texts.
+    pub steps: usize,
+}
+
+impl<T: IndexStorage> Page<'_, T> {
+    /// Adds all that stands before what is shown.
+    fn push_head(&self, page: &mut String) -> Result<(), AllocError> {
+        page.push_str(HEAD)?;
+        push_name(page, self.source.name)?;
+        page.push_str(" - lrcheck</title>\n<style>\n")?;
+        page.push_str(STYLE)?;
+        page.push_str("</style>\n</head>\n<body>\n")
+    }
+
+    /// Adds how much there is.
+    fn push_counts(&self, page: &mut String) -> Result<(), AllocError> {
+        let parts = &self.file.parts;
+        let rules = parts.rules.len().saturating_sub(1);
+        let tokens = parts
+            .tokens
+            .iter()
+            .filter(|token| is_of_file(token))
+            .count();
+        let productions = parts.prods.iter().filter(|prod| prod.rule > 0).count();
+        let states = usize::from(self.found.graph.all_states_len());
+        push_count(page, rules, "rule")?;
+        page.push_str(", ")?;
+        push_count(page, productions, "production")?;
+        page.push_str(", ")?;
+        push_count(page, tokens, "token")?;
+        page.push_str(", ")?;
+        push_count(page, states, "state")?;
+        page.push_str(". ")
+    }
+
+    /// The line of the verdict without the name of the file.
+    fn verdict(&self) -> &str {
+        let rest = self.verdict.strip_prefix(self.source.name);
+        match rest.and_then(|rest| rest.strip_prefix(": ")) {
+            Some(rest) => rest,
+            None => self.verdict,
+        }
+    }
+
+    /// Adds the verdict, how much there is, and the bar.
+    fn push_header(&self, page: &mut String) -> Result<(), AllocError> {
+        page.push_str("<header>\n<h1>")?;
+        push_name(page, self.source.name)?;
+        let class = if self.is_good {
+            "verdict good"
+        } else {
+            "verdict"
+        };
+        write!(page, "</h1>\n<p class=\"{class}\">")?;
+        push_name(page, self.verdict())?;
+        page.push_str("</p>\n<p class=\"soft\">")?;
+        self.push_counts(page)?;
+        page.push_str(REAL)?;
+        page.push_str("</p>\n</header>\n")?;
+        page.push_str(BAR)
+    }
+
+    /// The page. The error says that memory was refused.
+    pub fn text(&self, alloc: Global) -> Result<String, AllocError> {
+        let mut page = String::new(alloc);
+        self.push_head(&mut page)?;
+        self.push_header(&mut page)?;
+        page.push_str("<main>\n")?;
+        self.push_cards(&mut page)?;
+        self.push_grammar(&mut page)?;
+        self.push_states(&mut page)?;
+        page.push_str("</main>\n<script>\n")?;
+        page.push_str(SCRIPT)?;
+        page.push_str("</script>\n</body>\n</html>\n")?;
+        Ok(page)
+    }
+}

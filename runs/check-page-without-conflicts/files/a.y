@@ -1,0 +1,6 @@
+%token NUM
+%left '+'
+%precedence NEG
+%%
+e: NUM | e '+' e | '-' e %prec NEG | '(' list ')' ;
+list: %empty | list { new(); } e ;
