@@ -71,10 +71,12 @@ def try_requests(window, name):
     first = max(1, calls["memory"] + 1 - LAST) if name == DEEP else 1
     wrong = [] if is_right(whole, [ANSWERED]) else [wrong_at(name, 0, whole)]
     for number in itertools.count(first):
-        found, _ = window.call(ONE, number)
+        found, counts = window.call(ONE, number)
         is_met = any(found.faults)
         if not is_right(found, [ANSWERED, REFUSED] if is_met else [ANSWERED]):
             wrong.append(wrong_at(name, number, found))
+        if found.out == REFUSED and counts["held"]:
+            wrong.append(f"{counts['held']} blocks more are held behind the call; {wrong_at(name, number, found)}")
         if found.status is None or not is_met:
             break
     if not wrong and number - 1 != calls["memory"]:

@@ -39,6 +39,7 @@ struct report {
     uint64_t calls[CALLS];
     uint64_t faults[PLACES];
     uint64_t bytes_of_input; /* how many bytes were read from descriptor 0 */
+    int64_t held;            /* blocks of memory that were given while calls were counted, less those that came back */
 };
 
 static struct report unnamed_report;
@@ -97,6 +98,7 @@ void *__libc_malloc(size_t size);
 void *__libc_calloc(size_t count, size_t size);
 void *__libc_realloc(void *block, size_t size);
 void *__libc_memalign(size_t alignment, size_t size);
+void __libc_free(void *block);
 
 static int is_refused(void)
 {
@@ -106,34 +108,49 @@ static int is_refused(void)
     return 1;
 }
 
+/* Counts a block that is given. */
+static void *given(void *block)
+{
+    report->held += is_counting && block;
+    return block;
+}
+
 void *malloc(size_t size)
 {
-    return is_refused() ? NULL : __libc_malloc(size);
+    return is_refused() ? NULL : given(__libc_malloc(size));
 }
 
 void *calloc(size_t count, size_t size)
 {
-    return is_refused() ? NULL : __libc_calloc(count, size);
+    return is_refused() ? NULL : given(__libc_calloc(count, size));
 }
 
 void *realloc(void *block, size_t size)
 {
-    return is_refused() ? NULL : __libc_realloc(block, size);
+    if (is_refused())
+        return NULL;
+    return block ? __libc_realloc(block, size) : given(__libc_malloc(size));
 }
 
 void *memalign(size_t alignment, size_t size)
 {
-    return is_refused() ? NULL : __libc_memalign(alignment, size);
+    return is_refused() ? NULL : given(__libc_memalign(alignment, size));
 }
 
 void *aligned_alloc(size_t alignment, size_t size)
 {
-    return is_refused() ? NULL : __libc_memalign(alignment, size);
+    return is_refused() ? NULL : given(__libc_memalign(alignment, size));
+}
+
+void free(void *block)
+{
+    report->held -= is_counting && block;
+    __libc_free(block);
 }
 
 int posix_memalign(void **block, size_t alignment, size_t size)
 {
-    void *found = is_refused() ? NULL : __libc_memalign(alignment, size);
+    void *found = is_refused() ? NULL : given(__libc_memalign(alignment, size));
     if (!found)
         return ENOMEM;
     *block = found;

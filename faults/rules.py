@@ -92,18 +92,21 @@ def interrupted_reading(case, whole, found):
     return (is_same if takes_up else reading)(case, whole, found)
 
 
-def writing(case, whole, found):
-    """On standard output a beginning of the answer stands, and the fault is told. On standard error a beginning of the line
-    stands, and nothing else comes of the fault."""
-    if not tries_once(found):
-        return False
+def is_cut(whole, found, fault):
+    """Whether on standard output a beginning of the answer stands, and the fault is told, which is a status and a line. Where
+    a write of standard error failed, a beginning of the line stands there, and nothing else comes of it."""
     if found.faults[OUTPUT]:
-        ends = found.status == 1 and is_beginning(found.out, whole.out)
-        told = b"lrt: " + CANNOT_WRITE + b"\n"
+        status, told = fault
+        ends = found.status == status and is_beginning(found.out, whole.out)
     else:
-        ends = found.status == whole.status and found.out == whole.out
         told = whole.err
+        ends = found.status == whole.status and found.out == whole.out
     return ends and (is_beginning(found.err, told) if found.faults[ERRORS] else found.err == told)
+
+
+def writing(case, whole, found):
+    """The output is cut, and the fault is told."""
+    return tries_once(found) and is_cut(whole, found, (1, b"lrt: " + CANNOT_WRITE + b"\n"))
 
 
 def interrupted_writing(case, whole, found):

@@ -1,6 +1,7 @@
 #!/usr/bin/env python3
-"""Has each request of lrt and of lrcheck for memory refused in turn, and each open, read, write and close fail in turn, in all
-cases or in those that the arguments name. README.md says how the answers are judged. The last line is 'N passed, M failed'.
+"""Has each request of lrt, lrcheck and lrexplain for memory refused in turn, and each open, read, write and close fail in turn,
+in all cases or in those that the arguments name. README.md says how the answers are judged. The last line is
+'N passed, M failed'.
 
     run.py [CASE..]
     run.py CASE FAULT NUMBER    makes this one fault, and prints what is answered"""
@@ -24,12 +25,14 @@ sys.dont_write_bytecode = True
 import cases
 import check_cases
 import check_rules
+import explain_cases
+import explain_rules
 import rules
 from rules import Answer
 
 HERE = Path(__file__).resolve().parent
-CASES = {**cases.CASES, **check_cases.CASES}
-RULES = {"lrt": rules, "lrcheck": check_rules}
+CASES = {**cases.CASES, **check_cases.CASES, **explain_cases.CASES}
+RULES = {"lrt": rules, "lrcheck": check_rules, "lrexplain": explain_rules}
 
 
 def path_of(program):
@@ -40,15 +43,18 @@ PROGRAMS = {program: path_of(program) for program in RULES}
 SECONDS = 60
 SHOWN = 3
 
-# The report of faults.c: counts of calls, counts of faults by descriptor, and the bytes that were read of standard input.
+# The report of faults.c: counts of calls, counts of faults by descriptor, the bytes that were read of standard input, and the
+# blocks of memory that are held.
 CALLS = ("memory", "open", "read", "write", "close")
-REPORT = struct.Struct(f"={len(CALLS)}Q4QQ")
+REPORT = struct.Struct(f"={len(CALLS)}Q4QQq")
 
 # What the program may take from the C library: that which faults.c stands in for, and that which neither asks for memory nor
 # reaches a device.
-STOOD_IN_FOR = "malloc calloc realloc memalign aligned_alloc posix_memalign open read write __write close __libc_start_main"
+STOOD_IN_FOR = (
+    "malloc calloc realloc memalign aligned_alloc posix_memalign free open read write __write close __libc_start_main"
+)
 HARMLESS = (
-    "free memcpy memmove memset memcmp bcmp strlen __errno_location __xpg_strerror_r __sysv_signal __x86_get_cpuid_feature_leaf "
+    "memcpy memmove memset memcmp bcmp strlen __errno_location __xpg_strerror_r __sysv_signal __x86_get_cpuid_feature_leaf "
     "clock_gettime environ getenv isatty"
 )
 
@@ -73,17 +79,18 @@ class Room:
         return self.folder / name
 
     def call(self, fault=None, number=0, words=None):
-        """What is answered where the call of that number meets the fault, and how many calls there were of each name. The
-        arguments are those of the case, or others."""
+        """What is answered where the call of that number meets the fault, and how many calls there were of each name, with how
+        many blocks are `held`. The arguments are those of the case, or others."""
         command = [PROGRAMS[self.case.program], *(self.case.words if words is None else words)]
         told = {"LD_PRELOAD": self.library, "FAULT_REPORT": self.file("report"), **self.more, **settings(fault, number)}
         self.report[:] = bytes(REPORT.size)
         with open(self.file("given"), "rb") as given, open(self.file("out"), "wb") as out, open(self.file("err"), "wb") as err:
             streams = {"stdin": given, "stdout": out, "stderr": err}
             status = ended(subprocess.Popen(command, cwd=self.folder, env=told, **streams))
-        counts = REPORT.unpack(self.report)
+        *counts, held = REPORT.unpack(self.report)
         written = self.file("out").read_bytes(), self.file("err").read_bytes()
-        return Answer(status, *written, counts[len(CALLS) : -1], counts[-1]), dict(zip(CALLS, counts))
+        answer = Answer(status, *written, tuple(counts[len(CALLS) : -1]), counts[-1])
+        return answer, {**dict(zip(CALLS, counts)), "held": held}
 
     def whole(self):
         """What is answered without a fault, with its parts, and how many calls there were of each name."""

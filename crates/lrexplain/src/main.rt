@@ -110,13 +110,9 @@ fn print_reasons(
 
 /// Prints what is asked for of the grammar of the text.
 fn explain(rt: &HostRuntime, request: Request, text: &str, steps: usize) -> Result<(), Problem> {
-    let Ok(grm) = YaccGrammar::<u32>::from_text(rt.alloc(), text) else {
-        return Err(Problem::NoTable);
-    };
+    let grm = YaccGrammar::<u32>::from_text(rt.alloc(), text)?;
     let begin = Instant::now(rt)?;
-    let Ok((graph, table)) = from_yacc(rt.alloc(), &grm, Minimiser::Pager) else {
-        return Err(Problem::NoTable);
-    };
+    let (graph, table) = from_yacc(rt.alloc(), &grm, Minimiser::Pager)?;
     if let Request::Times = request {
         print!(rt; "table {} us ", begin.elapsed(rt)?.as_micros())?;
     }

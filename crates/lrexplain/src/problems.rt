@@ -1,5 +1,7 @@
 //! Why nothing is explained.
 
+use lrgrammar::grammar::TextError;
+use lrtable::BuildError;
 use std::alloc::{AllocError, AllocFailed};
 use std::{fmt, io};
 
@@ -40,7 +42,28 @@ impl<X: Drop> From<AllocFailed<X>> for Problem {
 }
 
 impl From<io::Error> for Problem {
-    fn from(_e: io::Error) -> Problem {
-        Problem::Device
+    fn from(error: io::Error) -> Problem {
+        match error.kind() {
+            io::ErrorKind::OutOfMemory => Problem::Memory,
+            _ => Problem::Device,
+        }
+    }
+}
+
+impl From<TextError> for Problem {
+    fn from(error: TextError) -> Problem {
+        match error {
+            TextError::Memory => Problem::Memory,
+            _ => Problem::NoTable,
+        }
+    }
+}
+
+impl From<BuildError<u32>> for Problem {
+    fn from(error: BuildError<u32>) -> Problem {
+        match error {
+            BuildError::Memory => Problem::Memory,
+            _ => Problem::NoTable,
+        }
     }
 }
