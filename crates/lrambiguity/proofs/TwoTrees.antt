@@ -7,7 +7,7 @@ use Rattle.lrspec.specs.grammars.Grammar.{Grammar, IsGrammar}
 use Rattle.lrspec.specs.grammars.Trees as math
 use Rattle.lrspec.specs.tables.Table.{Table, IsTableFor}
 use Rattle.lrspec.specs.tables.Recognition.{IsUnambiguous}
-use Rattle.lrspec.specs.tables.Exactness.{HasNoPrecedences, ListsNothing}
+use Rattle.lrspec.specs.tables.LrTables.{HasNoPrecedences, ListsNothing}
 use Rattle.lrspec.proofs.tables.ExactWithoutPrecedences.{recognises_without_precedences}
 use Rattle.lrtree.specs.declared.trees.Tree.{Tree}
 use Rattle.lrtree.specs.StoredTrees.{tree_of}

@@ -3,7 +3,7 @@
 ghost use Rattle.std.specs.Prelude.{◌≡◌, ◌≢◌, false, ◌++◌, IfOk, IfSome, IfNone, IsSome, IsTrue, slice_get};
 ghost use Rattle.lrspec.specs.tables.Recognition.{IsUnambiguous};
 ghost use Rattle.lrspec.specs.tables.Table.{Table, IsTableFor};
-ghost use Rattle.lrspec.specs.tables.Exactness.{HasNoPrecedences, ListsNothing};
+ghost use Rattle.lrspec.specs.tables.LrTables.{HasNoPrecedences, ListsNothing};
 ghost use Rattle.lrtable.specs.RunAnswers.{text_of};
 ghost use Rattle.lrtree.specs.StoredTrees.{tree_of};
 ghost use Rattle.lrambiguity.specs.Moves.{HasNoTree, IsTreeBy, IsTreeOfText};

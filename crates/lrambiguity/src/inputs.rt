@@ -57,7 +57,8 @@ fn read_whole<T: IndexStorage>(
     after: &Written<T>,
 ) -> Result<Option<Tree<T>>, AllocError>
     ensures { IfOk result (λ o. IfSome o (λ tree. IsTreeBy grm.now
-        (moves_stored T.number before.now.moves.items ++ moves_stored T.number after.now.moves.items)
+        (moves_stored T.number before.now.moves.items
+        ++ moves_stored T.number after.now.moves.items)
         (text_of T.number before.now.tokens.items ++ text_of T.number after.now.tokens.items)
         (tree_of T.number tree))) }
 {

@@ -137,7 +137,8 @@ impl Subject<'_> {
     /// The state of that number.
     pub fn state(&self) -> Result<State<'_>, Problem>
         ensures core { IfOk result (λ s. Fits self.entry.now.grm.now (set_of (λ n. n) s.core.now)) }
-        ensures closed { IfOk result (λ s. Fits self.entry.now.grm.now (set_of (λ n. n) s.closed.now)) }
+        ensures closed { IfOk result (λ s.
+            Fits self.entry.now.grm.now (set_of (λ n. n) s.closed.now)) }
     {
         let stidx = match u32::from_usize(self.place) {
             Some(state) if self.place < usize::from(self.graph.all_states_len()) => StIdx(state),

@@ -9,7 +9,7 @@ use Rattle.lrgrammar.specs.declared.idx.PIdx.{PIdx}
 use Rattle.lrspec.specs.tables.Table.{Action, Shift, Reduce, Accept, Error, Table, Lists, action_of}
 use Rattle.lrspec.specs.tables.Rows.{AreActingTokens, AreShiftedTokens, AreReducedBy, ReducesOnly}
 use Rattle.lrsparse.specs.Matrix.{Matrix, value_at}
-use Rattle.lrrows.specs.StoredLists.{numbers_of}
+use Rattle.lrgrammar.specs.StoredGrammar.{numbers_of}
 use Rattle.lrcells.specs.StoredTable.{table_of, AreKeptOfRows}
 use Rattle.lrcells.specs.TakenTokens.{takes, takes_cell, tokens_taken}
 use Rattle.lrcells.proofs.StoredTables.{action_read, action_none, action_past}

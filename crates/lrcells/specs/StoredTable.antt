@@ -7,7 +7,7 @@ use Rattle.lrgrammar.specs.declared.idx.PIdx.{PIdx}
 use Rattle.lrspec.specs.tables.Table.{Table, Lists}
 use Rattle.lrspec.specs.tables.Rows.{AreReducedBy, ReducesOnly}
 use Rattle.lrsparse.specs.Matrix.{Matrix}
-use Rattle.lrrows.specs.StoredLists.{numbers_of}
+use Rattle.lrgrammar.specs.StoredGrammar.{numbers_of}
 use Rattle.lrrows.specs.StoredActions.{action_numbered, goto_numbered, IsIndexed}
 
 -- the first `n` rows of a matrix, where `f` tells what each number says

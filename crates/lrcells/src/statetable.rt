@@ -5,7 +5,7 @@ ghost use Rattle.lrspec.specs.merging.Graph.{IsGraphOf};
 ghost use Rattle.lrspec.specs.tables.Table as math;
 ghost use Rattle.lrspec.specs.tables.Table.{IsTableOf, lists_of, goto_of};
 ghost use Rattle.lrspec.specs.tables.Conflicts.{AreEntriesOf};
-ghost use Rattle.lrspec.specs.tables.Exactness.{ListsNothing};
+ghost use Rattle.lrspec.specs.tables.LrTables.{ListsNothing};
 ghost use Rattle.lrspec.specs.tables.Rows.{AreActingTokens, AreShiftedTokens, AreReducedBy, ReducesOnly, ReducesApart};
 ghost use Rattle.lrrows.specs.StoredActions.{action_of};
 ghost use Rattle.lrcells.specs.Refusals.{IsTableRefusal};

@@ -2,4 +2,3 @@
 mod AnsweredLines
 mod AskingArguments
 mod PrintedTexts
-mod StartItems

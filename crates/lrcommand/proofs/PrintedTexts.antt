@@ -5,7 +5,7 @@ use Rattle.lrspec.specs.grammars.Grammar.{Grammar}
 use Rattle.lrspec.specs.grammars.ItemSets.{Items}
 use Rattle.lrspec.specs.merging.Graph.{Graph}
 use Rattle.lrspec.specs.tables.Table.{Lists, Table, lists_of}
-use Rattle.lrspec.specs.tables.Exactness.{ListsNothing}
+use Rattle.lrspec.specs.tables.LrTables.{ListsNothing}
 use Rattle.lrspec.specs.texts.PrintedTexts.{items_text, core_text, closed_text, conflicts_text}
 use Rattle.lrcommand.specs.declared.requests.Listing.TheVariants.{Start, Core, Closed, Conflicts}
 use Rattle.lrcommand.specs.Answers.{Prints, IsStartState, IsMergedGraph, IsMergedTable, AcceptsAlone}

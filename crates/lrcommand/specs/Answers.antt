@@ -7,10 +7,12 @@ use Rattle.std.specs.Str.{IsUtf8}
 use Rattle.lrspec.specs.grammars.Grammar.{Grammar}
 use Rattle.lrspec.specs.grammars.ItemSets.{Items, Fits, AreUpwards}
 use Rattle.lrspec.specs.grammars.StartState.{IsCanonicalStart}
-use Rattle.lrspec.specs.merging.Graph.{Graph, IsGraphOf, AreShared, CoresCross, IsInOrder}
-use Rattle.lrspec.specs.tables.Table.{Table, IsTableOf, lists_of}
-use Rattle.lrspec.specs.tables.Conflicts.{AreReductionsContested, AreShiftsContested, IsAcceptContested}
-use Rattle.lrspec.specs.tables.Exactness.{IsExactTable, ListsNothing}
+use Rattle.lrspec.specs.merging.Graph.{Graph, IsInOrder}
+use Rattle.lrspec.specs.merging.Merged.{IsMerged}
+use Rattle.lrspec.specs.tables.Table.{Table, lists_of}
+use Rattle.lrspec.specs.tables.Built.{IsBuilt}
+use Rattle.lrspec.specs.tables.Conflicts.{IsAcceptContested}
+use Rattle.lrspec.specs.tables.LrTables.{ListsNothing, IsExactAnswer}
 use Rattle.lrspec.specs.texts.PrintedTexts.{items_text, core_text, closed_text, conflicts_text}
 use Rattle.lrgrammar.specs.TextErrors.{IsGrammarOf, IsTextError}
 use Rattle.lrtable.specs.Refusals.{IsBuildRefusal}
@@ -30,29 +32,21 @@ pub record IsStartState (g : Grammar) (c : Items) : Type 0 where
   pub canonical : IsCanonicalStart g c
   pub upwards : AreUpwards c
 
--- the graph is the grammar's, its cores are shared, those with the same items cross, and it lists
--- items upwards and no symbol twice in a state
+-- the graph is the grammar's, made by merging, and it lists items upwards and no symbol twice in a
+-- state
 pub record IsMergedGraph (g : Grammar) (h : Graph) : Type 0 where
-  pub graph : IsGraphOf g h
-  pub shared : AreShared g h
-  pub crossing : CoresCross h
+  pub merged : IsMerged g h
   pub order : All IsInOrder h
 
 -- no production contends with accepting
 abbrev pub AcceptsAlone : Grammar → Type 0
 AcceptsAlone g = (p : ℕ) → ¬ (IsAcceptContested g p)
 
--- the table is that of a graph of the grammar with shared cores; each conflict that it lists is
--- contested, and without precedences it lists none exactly where the grammar is uncontested
+-- the table is that of a graph of the grammar, made by merging, and the headline holds of it
 pub record IsMergedTable (g : Grammar) (b : Table) : Type 0 where
   pub graph : Graph
-  pub graph_of : IsGraphOf g graph
-  pub shared : AreShared g graph
-  pub crossing : CoresCross graph
-  pub table_of : IsTableOf g graph b
-  pub reductions : AreReductionsContested g graph
-  pub shifts : AreShiftsContested g graph
-  pub exact : IsExactTable g b
+  pub built : IsBuilt g graph b
+  pub headline : IsExactAnswer g (Some b)
 
 -- the text that is printed of a grammar
 pub data Prints (g : Grammar) : Listing → List ℕ → Type 0 where

@@ -1,5 +1,6 @@
 -- what the arguments ask for
-use Rattle.std.specs.Prelude.{◌≡◌, ℕ, ◌<◌, ◌^◌, List, [], ◌∷◌, Option, None, Some, codes}
+use denote.Ref.{Bor}
+use Rattle.std.specs.Prelude.{◌≡◌, ℕ, ◌<◌, ◌^◌, List, [], ◌∷◌, Option, None, Some, codes, option_map}
 use Rattle.std.specs.Str.Parse.{IsNumeral, digits_value}
 use Rattle.lrcommand.specs.declared.requests.Listing.{Listing}
 use Rattle.lrcommand.specs.declared.requests.Listing.TheVariants.{Start, Core, Closed, Conflicts}
@@ -14,6 +15,10 @@ use Rattle.lrcommand.specs.declared.requests.Source.TheVariants.{File, StandardI
 abbrev pub name_of : Source → Option (List ℕ)
 name_of (File name) = Some name.now
 name_of StandardInput = None
+
+-- the bytes of the source, which are none where they could not be read
+abbrev pub bytes_of : Option (Bor (List ℕ)) → Option (List ℕ)
+bytes_of file = option_map (λ bytes. bytes.now) file
 
 -- how a source is named in a fault line
 abbrev pub source_text : Source → List ℕ

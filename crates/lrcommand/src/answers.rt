@@ -1,23 +1,18 @@
 //! The answers to requests, as text.
 
-ghost use Rattle.std.specs.Prelude.{◌≡◌, ◌++◌, Some, IfOk, IfErr, codes, option_map};
+ghost use Rattle.std.specs.Prelude.{◌≡◌, ◌++◌, Some, IfOk, IfErr, codes};
 ghost use Rattle.std.specs.Option.{IsSomeAnd};
 ghost use Rattle.std.specs.String.{string_bytes};
-ghost use Rattle.lrspec.specs.grammars.ItemSets.{Fits};
-ghost use Rattle.lrspec.specs.grammars.StartState.{IsStartCore};
-ghost use Rattle.lrtable.specs.ItemSets.{set_of};
 ghost use Rattle.lrtable.specs.Refusals.{IsBuildRefusal};
 ghost use Rattle.lrcommand.specs.declared.requests.Listing.TheVariants.{Start, Core, Closed, Conflicts};
-ghost use Rattle.lrcommand.specs.Requests.{name_of};
+ghost use Rattle.lrcommand.specs.Requests.{bytes_of, name_of};
 ghost use Rattle.lrcommand.specs.Answers.{max_index, MeansGrammar, Prints, IsAnswer};
 ghost use Rattle.lrcommand.specs.Answers.{IsUnread, IsUnprinted, IsTextFault, IsFault};
 
 use crate::faults::Fault;
 use crate::requests::{Listing, Source};
 use lrgrammar::grammar::YaccGrammar;
-use lrgrammar::idx::SIdx;
-use lrgrammar::vob::Vob;
-use lrtable::itemset::Itemset;
+use lritems::cores;
 use lrtable::{BuildError, Minimiser, from_yacc};
 use std::alloc::{AllocError, Global};
 
@@ -29,9 +24,9 @@ pub fn answer<'a>(
     source: Source<'a>,
     file: Option<&[u8]>,
 ) -> Result<String, Fault<'a>>
-    ensures text { IfOk result (λ text. IsSomeAnd (option_map (λ bytes. bytes.now) file.entry)
+    ensures text { IfOk result (λ text. IsSomeAnd (bytes_of file.entry)
         (λ bytes. IsAnswer bytes listing (string_bytes text))) }
-    ensures fault { IfErr result (IsFault (option_map (λ bytes. bytes.now) file.entry)
+    ensures fault { IfErr result (IsFault (bytes_of file.entry)
         listing (name_of source.entry)) }
 {
     let grm = grammar_of(alloc, source, file)?;
@@ -45,8 +40,8 @@ pub fn grammar_of<'a>(
     file: Option<&[u8]>,
 ) -> Result<YaccGrammar<u32>, Fault<'a>>
     ensures grammar { IfOk result (λ grm.
-        IsSomeAnd (option_map (λ bytes. bytes.now) file.entry) (λ bytes. MeansGrammar bytes grm)) }
-    ensures fault { IfErr result (IsTextFault (option_map (λ bytes. bytes.now) file.entry)
+        IsSomeAnd (bytes_of file.entry) (λ bytes. MeansGrammar bytes grm)) }
+    ensures fault { IfErr result (IsTextFault (bytes_of file.entry)
         (name_of source.entry)) }
 {
     let text = decoded(source, file)?;
@@ -56,9 +51,9 @@ pub fn grammar_of<'a>(
 /// The bytes of the source as text.
 fn decoded<'a, 'b>(source: Source<'a>, file: Option<&'b [u8]>) -> Result<&'b str, Fault<'a>>
     ensures text { IfOk result (λ text.
-        option_map (λ bytes. bytes.now) file.entry ≡ Some text.now) }
+        bytes_of file.entry ≡ Some text.now) }
     ensures fault { IfErr result
-        (IsUnread (option_map (λ bytes. bytes.now) file.entry) (name_of source.entry)) }
+        (IsUnread (bytes_of file.entry) (name_of source.entry)) }
 {
     let Some(bytes) = file else {
         return Err(Fault::CannotRead(source));
@@ -90,25 +85,13 @@ fn ended(mut text: String) -> Result<String, AllocError>
     Ok(text)
 }
 
-/// The core of the start state: the start production at dot 0, looking at the end token.
-fn start_core(grm: &YaccGrammar<u32>) -> Result<Itemset<u32>, AllocError>
-    ensures core { IfOk result (λ s. IsStartCore grm.now (set_of (λ n. n) s)) }
-    ensures fits { IfOk result (λ s. Fits grm.now (set_of (λ n. n) s)) }
-{
-    let alloc = grm.allocator();
-    let mut ctx = Vob::from_elem(alloc, false, usize::from(grm.tokens_len()))?;
-    ctx.set(usize::from(grm.eof_token_idx()), true);
-    let mut core = Itemset::new(alloc, grm);
-    core.add(grm.start_prod(), SIdx(0), &ctx)?;
-    Ok(core)
-}
-
 /// The text of the closed start state, an item a line.
 fn start_text(grm: &YaccGrammar<u32>) -> Result<String, AllocError>
     ensures { IfOk result (λ s. Prints grm.now Start (string_bytes s)) }
 {
     let firsts = grm.firsts()?;
-    let closed = start_core(grm)?.close(grm, &firsts)?;
+    let core = cores::Core::of_start(grm)?.into_itemset(grm.allocator())?;
+    let closed = core.close(grm, &firsts)?;
     ended(closed.pp(grm)?)
 }
 

@@ -1,11 +1,11 @@
 //! One command, from its arguments to its exit status.
 
 ghost use Rattle.std.specs.Prelude.{◌≡◌, ◌≢◌, ◌≤◌, ◌↔◌, ◌++◌, ◌⊎◌};
-ghost use Rattle.std.specs.Prelude.{OnOk, OnErr, IfErr, IfSome, codes, map, option_map};
+ghost use Rattle.std.specs.Prelude.{OnOk, OnErr, IfErr, IfSome, codes, map};
 ghost use Rattle.std.specs.Io.KnownBytes.{Appends};
 ghost use Rattle.std.specs.String.{string_bytes};
 ghost use Rattle.lrcommand.specs.declared.faults.Fault.TheVariants as fault;
-ghost use Rattle.lrcommand.specs.Requests.{name_of, AsksSome, AsksNothing, IfPrint, IfAnswer};
+ghost use Rattle.lrcommand.specs.Requests.{bytes_of, name_of, AsksSome, AsksNothing, IfPrint, IfAnswer};
 ghost use Rattle.lrcommand.specs.Answers.{HasAnswer, AppendsAnswer, IsPrintFault, fault_text};
 ghost use Rattle.lrcommand.specs.Runs.{HasMachine, AnswersAll, AnswersBeginning};
 
@@ -34,21 +34,21 @@ pub fn command<R: Read + Drop, W: Write, F: Write>(
     ensures status { result.0 ≤ 2 }
     ensures printed { result.0 ≡ 0 → AsksSome (map string_bytes args.now) (λ command.
         IfPrint command (λ listing. AppendsAnswer (W.contents out) (W.contents result.1)
-        (option_map (λ bytes. bytes.now) file.entry) listing)) }
+        (bytes_of file.entry) listing)) }
     // The reader is read to its end, and `out` grows by the answers to its lines.
     ensures ran { result.0 ≡ 0 → AsksSome (map string_bytes args.now) (λ command.
         IfAnswer command (λ reply steps.
-        HasMachine (option_map (λ bytes. bytes.now) file.entry) reply steps (λ answer.
+        HasMachine (bytes_of file.entry) reply steps (λ answer.
         AnswersAll answer (R.remaining reader) (W.contents out) (W.contents result.1)))) }
     ensures silent { result.0 ≡ 0 → result.2 ≡ faults }
     // Only an answer that could not be written whole changes what `out` holds.
     ensures fault { result.0 ≡ 1 → AsksSome (map string_bytes args.now) (λ command.
         IfPrint command (λ listing.
-        (result.1 ≡ out) ⊎ HasAnswer (option_map (λ bytes. bytes.now) file.entry) listing)) }
+        (result.1 ≡ out) ⊎ HasAnswer (bytes_of file.entry) listing)) }
     // Answering that has begun leaves a beginning of the answers.
     ensures run_fault { result.0 ≡ 1 → AsksSome (map string_bytes args.now) (λ command.
         IfAnswer command (λ reply steps. (result.1 ≡ out)
-        ⊎ HasMachine (option_map (λ bytes. bytes.now) file.entry) reply steps (λ answer.
+        ⊎ HasMachine (bytes_of file.entry) reply steps (λ answer.
         AnswersBeginning answer (R.remaining reader) (W.contents out) (W.contents result.1)))) }
     ensures usage { (result.0 ≡ 2) ↔ AsksNothing (map string_bytes args.now) }
     ensures untouched { result.0 ≡ 2 → result.1 ≡ out }
@@ -77,14 +77,15 @@ fn carry_out<'a, R: Read + Drop, W: Write>(
 ) -> (Result<(), Fault<'a>>, W)
     ensures printed { OnOk result.0 (IfPrint request.now.command (λ listing.
         AppendsAnswer (W.contents out) (W.contents result.1)
-        (option_map (λ bytes. bytes.now) file.entry) listing)) }
+        (bytes_of file.entry) listing)) }
     ensures ran { OnOk result.0 (IfAnswer request.now.command (λ reply steps.
-        HasMachine (option_map (λ bytes. bytes.now) file.entry) reply steps (λ answer.
+        HasMachine (bytes_of file.entry) reply steps (λ answer.
         AnswersAll answer (R.remaining reader) (W.contents out) (W.contents result.1)))) }
     ensures print_fault { OnErr result.0 (IfPrint request.now.command (λ listing.
-        (result.1 ≡ out) ⊎ HasAnswer (option_map (λ bytes. bytes.now) file.entry) listing)) }
-    ensures run_fault { OnErr result.0 (IfAnswer request.now.command (λ reply steps. (result.1 ≡ out)
-        ⊎ HasMachine (option_map (λ bytes. bytes.now) file.entry) reply steps (λ answer.
+        (result.1 ≡ out) ⊎ HasAnswer (bytes_of file.entry) listing)) }
+    ensures run_fault { OnErr result.0 (IfAnswer request.now.command (λ reply steps.
+        (result.1 ≡ out)
+        ⊎ HasMachine (bytes_of file.entry) reply steps (λ answer.
         AnswersBeginning answer (R.remaining reader) (W.contents out) (W.contents result.1)))) }
 {
     match request.command {
@@ -107,8 +108,8 @@ fn print<'a, W: Write>(
     out: &mut W,
 ) -> Result<(), Fault<'a>>
     ensures printed { OnOk result (AppendsAnswer (W.contents out.old) (W.contents out.new)
-        (option_map (λ bytes. bytes.now) file.entry) listing) }
-    ensures fault { IfErr result (IsPrintFault (option_map (λ bytes. bytes.now) file.entry)
+        (bytes_of file.entry) listing) }
+    ensures fault { IfErr result (IsPrintFault (bytes_of file.entry)
         listing (name_of source.entry)) }
     ensures untouched { IfErr result (λ e. e ≢ fault.CannotWrite → out.new ≡ out.old) }
 {

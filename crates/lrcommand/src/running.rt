@@ -1,9 +1,9 @@
 //! Lines that the machine of a grammar answers.
 
-ghost use Rattle.std.specs.Prelude.{◌≡◌, ◌⊎◌, IfOk, IfErr, OnOk, OnErr, option_map};
+ghost use Rattle.std.specs.Prelude.{◌≡◌, ◌⊎◌, IfOk, IfErr, OnOk, OnErr};
 ghost use Rattle.std.specs.Option.{IsSomeAnd};
 ghost use Rattle.lrspec.specs.tables.Table.{IsTableFor};
-ghost use Rattle.lrcommand.specs.Requests.{name_of};
+ghost use Rattle.lrcommand.specs.Requests.{bytes_of, name_of};
 ghost use Rattle.lrcommand.specs.Runs.{HasTable, HasMachine, AnswersAll, AnswersBeginning};
 ghost use Rattle.lrcommand.specs.Runs.{reply_text, IsTableFault, IsRunFault};
 
@@ -30,12 +30,12 @@ pub fn run<'a, R: Read + Drop, W: Write>(
     out: W,
 ) -> (Result<(), Fault<'a>>, W)
     ensures all { OnOk result.0 (
-        HasMachine (option_map (λ bytes. bytes.now) file.entry) reply steps (λ answer.
+        HasMachine (bytes_of file.entry) reply steps (λ answer.
         AnswersAll answer (R.remaining reader) (W.contents out) (W.contents result.1))) }
-    ensures fault { IfErr result.0 (IsRunFault (option_map (λ bytes. bytes.now) file.entry)
+    ensures fault { IfErr result.0 (IsRunFault (bytes_of file.entry)
         (name_of source.entry)) }
     ensures beginning { OnErr result.0 ((result.1 ≡ out)
-        ⊎ HasMachine (option_map (λ bytes. bytes.now) file.entry) reply steps (λ answer.
+        ⊎ HasMachine (bytes_of file.entry) reply steps (λ answer.
         AnswersBeginning answer (R.remaining reader) (W.contents out) (W.contents result.1))) }
 {
     let (grm, table) = match machine_of(alloc, source, file) {
@@ -52,10 +52,10 @@ fn machine_of<'a>(
     source: Source<'a>,
     file: Option<&[u8]>,
 ) -> Result<(YaccGrammar<u32>, StateTable<u32>), Fault<'a>>
-    ensures machine { IfOk result (λ m. IsSomeAnd (option_map (λ bytes. bytes.now) file.entry)
+    ensures machine { IfOk result (λ m. IsSomeAnd (bytes_of file.entry)
         (λ bytes. HasTable bytes m.0 m.1)) }
     ensures table { IfOk result (λ m. IsTableFor m.0 m.1) }
-    ensures fault { IfErr result (IsTableFault (option_map (λ bytes. bytes.now) file.entry)
+    ensures fault { IfErr result (IsTableFault (bytes_of file.entry)
         (name_of source.entry)) }
 {
     let grm = grammar_of(alloc, source, file)?;

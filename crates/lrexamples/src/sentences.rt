@@ -3,7 +3,7 @@
 ghost use Rattle.std.specs.Prelude.{◌+◌, ◌≤◌, length, IsTrue, IfOk};
 ghost use Rattle.lrspec.specs.grammars.Trees.{IsSentence, nodes};
 ghost use Rattle.lrspec.specs.grammars.Candidates.{IsUncontested};
-ghost use Rattle.lrspec.specs.tables.Exactness.{HasNoPrecedences};
+ghost use Rattle.lrspec.specs.tables.LrTables.{HasNoPrecedences};
 ghost use Rattle.lrspec.specs.tables.Recognition.{AreNamed, IsUnambiguous};
 ghost use Rattle.lrtable.specs.RunAnswers.{text_of};
 
@@ -23,7 +23,8 @@ pub fn is_sentence<T: IndexStorage>(
 ) -> Result<bool, BuildError<T>>
     requires { AreNamed grm.now (text_of T.number text.now) }
     ensures unambiguous { IfOk result (λ b. IsTrue b → IsUnambiguous grm.now) }
-    ensures sentence { IfOk result (λ b. IsTrue b → IsSentence grm.now (text_of T.number text.now)) }
+    ensures sentence { IfOk result (λ b.
+        IsTrue b → IsSentence grm.now (text_of T.number text.now)) }
     ensures seen { let w = text_of T.number text.now in
         IfOk result (λ b. HasNoPrecedences grm.now → IsUncontested grm.now →
         (s : IsSentence grm.now w) → length w + nodes s.tree + 1 ≤ steps → IsTrue b) }

@@ -20,6 +20,7 @@ pub mod ItemsAscending
 pub mod GotoItems
 pub mod SameKeys
 pub mod ItemsByPlace
+pub mod StartItems
 -- printing
 pub mod PrintedNames
 pub mod JoinedTexts

@@ -1,13 +1,16 @@
 //! Cores of states under construction: items in one list.
 
 ghost use Rattle.std.specs.Prelude.{◌≡◌, IfOk};
-ghost use Rattle.lrspec.specs.grammars.ItemSets.{AreUpwards};
+ghost use Rattle.lrspec.specs.grammars.ItemSets.{AreUpwards, Fits};
+ghost use Rattle.lrspec.specs.grammars.StartState.{IsStartCore};
 ghost use Rattle.lritems.specs.ItemsOf.{items_of, set_of};
 ghost use Rattle.lritems.specs.Gotos.{goto_of};
 
 use crate::gotos::Goto;
 use crate::itemset::{Ctx, Itemset};
+use lrgrammar::grammar::YaccGrammar;
 use lrgrammar::idx::{IndexStorage, PIdx, SIdx};
+use lrgrammar::vob::Vob;
 use std::alloc::{AllocError, Global};
 use std::collections::BTreeMap;
 use std::marker::Model;
@@ -31,14 +34,17 @@ impl<T: IndexStorage> Model for Core<T> {
 }
 
 impl<T: IndexStorage> Core<T> {
-    /// The items of an item set. The error says that memory was refused.
-    pub fn from_itemset(alloc: Global, set: &Itemset<T>) -> Result<Core<T>, AllocError>
-        ensures { IfOk result (λ c. c ≡ set_of T.number set.now) }
+    /// The core of the start state: the start production at dot 0, looking at the end token. The error says that memory was
+    /// refused.
+    pub fn of_start(grm: &YaccGrammar<T>) -> Result<Core<T>, AllocError>
+        ensures core { IfOk result (IsStartCore grm.now) }
+        ensures fits { IfOk result (Fits grm.now) }
     {
-        let mut items = Vec::with_capacity(alloc, set.items.len())?;
-        for (key, ctx) in &set.items {
-            items.push((*key, ctx.clone()?))?;
-        }
+        let alloc = grm.allocator();
+        let mut looks = Vob::from_elem(alloc, false, usize::from(grm.tokens_len()))?;
+        looks.set(usize::from(grm.eof_token_idx()), true);
+        let mut items = Vec::with_capacity(alloc, 1)?;
+        items.push(((grm.start_prod(), SIdx(T::from_usize(0).unwrap())), looks))?;
         Ok(Core { items })
     }
 

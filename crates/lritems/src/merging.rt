@@ -81,8 +81,9 @@ fn passes_with_later<T: IndexStorage>(a: &Core<T>, b: &Goto<T>, place: usize) ->
     true
 }
 
-/// Whether the goto may be merged into the core: they have the same items, and of every two items no token of the
-/// one in `a` is one of the other in `b`, or they share a token in `a`, or in `b`.
+/// Whether the goto may be merged into the core, by Pager's weak compatibility: they have the same items, and of every two
+/// items no token of the one in `a` is one of the other in `b`, or they share a token in `a`, or in `b`. So two items meet in
+/// the union only where they met already, and merging brings no conflict that the grammar hasn't.
 pub fn weakly_compatible<T: IndexStorage>(a: &Core<T>, b: &Goto<T>) -> bool
     requires bits { HaveEquallyManyBits a.now (goto_of T.number b.now) }
     requires upwards { AreUpwards (goto_of T.number b.now) }

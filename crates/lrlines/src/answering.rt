@@ -1,10 +1,11 @@
 //! Reads lines, has each answered, and writes the answers.
 
-ghost use Rattle.lrspec.specs.texts.Devices.{ConsumesSome, AppendsBeginning, AppendsFirstAnswers, HasFailed, GaveTooMuch};
+ghost use Rattle.lrspec.specs.texts.Devices.{AppendsBeginning, AppendsFirstAnswers, HasFailed};
 ghost use Rattle.lrspec.specs.texts.Lines.{whole_lines, rest_of, lines, HasNoLineFeed, nonempty, answers_to, answer_text};
-ghost use Rattle.std.specs.Io.KnownBytes.{Appends, Keeps, IsAtEnd};
+ghost use Rattle.std.specs.Io.KnownBytes.{Appends, Keeps};
+ghost use Rattle.lrlines.specs.Answered.{AreAnswered, AreFaultsTold};
 ghost use Rattle.std.specs.Str.Lines.{strip_carriage_return};
-ghost use Rattle.std.specs.Prelude.{◌≡◌, ◌≢◌, ℕ, ◌<◌, ◌≤◌, ◌⊎◌, List, [], ◌∷◌, ◌++◌, length, take, OnOk, IfOk, IfSome, OnErr, MatchOption, MatchResult};
+ghost use Rattle.std.specs.Prelude.{◌≡◌, ◌≢◌, ℕ, ◌<◌, ◌≤◌, List, [], ◌∷◌, ◌++◌, length, take, OnOk, IfOk, IfSome, OnErr, MatchOption, MatchResult};
 
 use crate::devices::{DeviceFault, LineRead, LineWrite};
 use crate::errors::LineError;
@@ -56,22 +57,11 @@ pub fn answer_lines<R: LineRead, W: LineWrite, A: LineAnswers>(
     answers: &A,
 ) -> Result<(), LineError>
     requires { A.can_answer answers.now }
-    ensures end { OnOk result (IsAtEnd (R.left reader.new)) }
-    ensures ok { OnOk result (ConsumesSome (R.left reader.old) (R.left reader.new) (λ read.
-        Appends (W.written writer.old) (W.written writer.new) (answer_text (A.answer answers.now) read))) }
-    ensures read { result ≡ Err LineError.Read → ConsumesSome (R.left reader.old) (R.left reader.new) (λ read.
-        Appends (W.written writer.old) (W.written writer.new) (answers_to (A.answer answers.now) (whole_lines read))) }
-    ensures write { result ≡ Err LineError.Write → ConsumesSome (R.left reader.old) (R.left reader.new) (λ read.
-        AppendsBeginning (W.written writer.old) (W.written writer.new) (answer_text (A.answer answers.now) read)) }
-    ensures memory { result ≡ Err LineError.Memory → ConsumesSome (R.left reader.old) (R.left reader.new) (λ read.
-        AppendsFirstAnswers (W.written writer.old) (W.written writer.new) (A.answer answers.now) (lines read)) }
-
-    // When each error comes, and that no fault of a device is kept back.
-    ensures read_fault { result ≡ Err LineError.Read → HasFailed (R.failures reader.old) (R.failures reader.new)
-        ⊎ GaveTooMuch (R.left reader.old) (R.left reader.new) }
-    ensures write_fault { result ≡ Err LineError.Write → HasFailed (W.failures writer.old) (W.failures writer.new) }
-    ensures reader_counts { result ≢ Err LineError.Read → R.failures reader.new ≡ R.failures reader.old }
-    ensures writer_counts { result ≢ Err LineError.Write → W.failures writer.new ≡ W.failures writer.old }
+    ensures answered { AreAnswered (A.answer answers.now) result
+        (R.left reader.old) (R.left reader.new) (W.written writer.old) (W.written writer.new) }
+    ensures faults { AreFaultsTold result (R.left reader.old) (R.left reader.new)
+        (R.failures reader.old) (R.failures reader.new)
+        (W.failures writer.old) (W.failures writer.new) }
 {
     let mut buf = [0u8; 4096];
     let mut line = Vec::new(alloc);
@@ -114,13 +104,17 @@ fn answer_bytes<W: LineWrite, A: LineAnswers>(
     ensures prepared { IfSome prepared.new (A.is_prepared answers.now) }
     ensures ok { OnOk result (Appends (W.written writer.old) (W.written writer.new)
         (answers_to (A.answer answers.now) (whole_lines (line.old.items ++ bytes.now)))) }
-    ensures write { result ≡ Err LineError.Write → AppendsBeginning (W.written writer.old) (W.written writer.new)
+    ensures write { result ≡ Err LineError.Write →
+        AppendsBeginning (W.written writer.old) (W.written writer.new)
         (answer_text (A.answer answers.now) (line.old.items ++ bytes.now)) }
-    ensures memory { result ≡ Err LineError.Memory → AppendsFirstAnswers (W.written writer.old) (W.written writer.new)
+    ensures memory { result ≡ Err LineError.Memory →
+        AppendsFirstAnswers (W.written writer.old) (W.written writer.new)
         (A.answer answers.now) (lines (line.old.items ++ bytes.now)) }
     ensures no_read { result ≢ Err LineError.Read }
-    ensures write_fault { result ≡ Err LineError.Write → HasFailed (W.failures writer.old) (W.failures writer.new) }
-    ensures writer_counts { result ≢ Err LineError.Write → W.failures writer.new ≡ W.failures writer.old }
+    ensures write_fault { result ≡ Err LineError.Write →
+        HasFailed (W.failures writer.old) (W.failures writer.new) }
+    ensures writer_counts { result ≢ Err LineError.Write →
+        W.failures writer.new ≡ W.failures writer.old }
 {
     let mut behind = bytes;
     while let Some((piece, more)) = cut(behind) {
@@ -171,13 +165,17 @@ fn answer_rest<W: LineWrite, A: LineAnswers>(
     requires prepared { IfSome prepared.old (A.is_prepared answers.now) }
     ensures ok { OnOk result (Appends (W.written writer.old) (W.written writer.new)
         (answers_to (A.answer answers.now) (nonempty (line.now ∷ [])))) }
-    ensures write { result ≡ Err LineError.Write → AppendsBeginning (W.written writer.old) (W.written writer.new)
+    ensures write { result ≡ Err LineError.Write →
+        AppendsBeginning (W.written writer.old) (W.written writer.new)
         (answers_to (A.answer answers.now) (nonempty (line.now ∷ []))) }
-    ensures memory { result ≡ Err LineError.Memory → (Keeps (W.written writer.old) (W.written writer.new))
+    ensures memory { result ≡ Err LineError.Memory →
+        (Keeps (W.written writer.old) (W.written writer.new))
         × (0 < length line.now) }
     ensures no_read { result ≢ Err LineError.Read }
-    ensures write_fault { result ≡ Err LineError.Write → HasFailed (W.failures writer.old) (W.failures writer.new) }
-    ensures writer_counts { result ≢ Err LineError.Write → W.failures writer.new ≡ W.failures writer.old }
+    ensures write_fault { result ≡ Err LineError.Write →
+        HasFailed (W.failures writer.old) (W.failures writer.new) }
+    ensures writer_counts { result ≢ Err LineError.Write →
+        W.failures writer.new ≡ W.failures writer.old }
 {
     if line.is_empty() {
         return Ok(());
@@ -198,12 +196,16 @@ fn answer_line<W: LineWrite, A: LineAnswers>(
     ensures prepared { IfSome prepared.new (A.is_prepared answers.now) }
     ensures ok { OnOk result (Appends (W.written writer.old) (W.written writer.new)
         (A.answer answers.now line.now ++ 10 ∷ [])) }
-    ensures write { result ≡ Err LineError.Write → AppendsBeginning (W.written writer.old) (W.written writer.new)
+    ensures write { result ≡ Err LineError.Write →
+        AppendsBeginning (W.written writer.old) (W.written writer.new)
         (A.answer answers.now line.now ++ 10 ∷ []) }
-    ensures memory { result ≡ Err LineError.Memory → Keeps (W.written writer.old) (W.written writer.new) }
+    ensures memory { result ≡ Err LineError.Memory →
+        Keeps (W.written writer.old) (W.written writer.new) }
     ensures no_read { result ≢ Err LineError.Read }
-    ensures write_fault { result ≡ Err LineError.Write → HasFailed (W.failures writer.old) (W.failures writer.new) }
-    ensures writer_counts { result ≢ Err LineError.Write → W.failures writer.new ≡ W.failures writer.old }
+    ensures write_fault { result ≡ Err LineError.Write →
+        HasFailed (W.failures writer.old) (W.failures writer.new) }
+    ensures writer_counts { result ≢ Err LineError.Write →
+        W.failures writer.new ≡ W.failures writer.old }
 {
     out.clear();
     if prepared.is_none() {
@@ -217,7 +219,8 @@ fn answer_line<W: LineWrite, A: LineAnswers>(
 /// Writes all of a part.
 fn write_all<W: LineWrite>(writer: &mut W, part: &[u8]) -> Result<(), DeviceFault>
     ensures ok { OnOk result (Appends (W.written writer.old) (W.written writer.new) part.now) }
-    ensures err { OnErr result (AppendsBeginning (W.written writer.old) (W.written writer.new) part.now) }
+    ensures err { OnErr result
+        (AppendsBeginning (W.written writer.old) (W.written writer.new) part.now) }
     ensures failed { OnErr result (HasFailed (W.failures writer.old) (W.failures writer.new)) }
     ensures counts { OnOk result (W.failures writer.new ≡ W.failures writer.old) }
 {

@@ -44,7 +44,8 @@ impl<'a> Iterator for Words<'a> {
 
 /// The first word and what stands behind it; None if there is no word.
 fn first_word(line: &[u8]) -> Option<(&[u8], &[u8])>
-    ensures { MatchOption result (words line.now ≡ []) (λ p. words line.now ≡ p.0.now ∷ words p.1.now) }
+    ensures { MatchOption result (words line.now ≡ [])
+        (λ p. words line.now ≡ p.0.now ∷ words p.1.now) }
 {
     let (_, from_word) = line.split_at(word_start(line)?);
     Some(from_word.split_at(blank_start(from_word).unwrap_or(from_word.len())))

@@ -8,7 +8,6 @@ pub mod CollectedStates
 pub mod CollectedGraph
 pub mod ClosingFacts
 pub mod Beginnings
-pub mod StartItems
 pub mod EdgeWalk
 pub mod CollectedBelow
 pub mod MarksAdded

@@ -3,4 +3,3 @@ pub mod Closing
 pub mod Choices
 pub mod Collecting
 pub mod Refusals
-pub mod Chains

@@ -1,10 +1,12 @@
 //! Pager's construction of the state graph of a grammar: states are closed one after another, and each goto of a closed
 //! state is placed at an equal state, at one that takes it in, or at a new one.
+//!
+//! The rule by which states are merged is David Pager's (A practical general method for constructing LR(k) parsers, Acta
+//! Informatica 7, 1977), in the form of Xin Chen's thesis (Measuring and extending LR(1) parser generation, University of
+//! Hawaii, 2009).
 
-ghost use Rattle.std.specs.Prelude.{◌≡◌, ℕ, ◌+◌, ◌*◌, ◌^◌, ◌<◌, ◌≤◌, false, length, IfOk, IfErr, OnOk, MatchOption};
+ghost use Rattle.std.specs.Prelude.{◌≡◌, ℕ, ◌+◌, ◌*◌, ◌<◌, ◌≤◌, false, length, IfOk, IfErr, OnOk, MatchOption};
 ghost use Rattle.lrspec.specs.grammars.Grammar.{item_count, token_count};
-ghost use Rattle.lrspec.specs.grammars.ItemSets.{Fits};
-ghost use Rattle.lrspec.specs.grammars.StartState.{IsStartCore};
 ghost use Rattle.lrgrammar.specs.Firsts.{AreFirstsOf};
 ghost use Rattle.lrgrammar.specs.GrammarSizes.{IsWithin};
 ghost use Rattle.lrplacing.specs.Construction.{core_at, closed_at};
@@ -13,8 +15,8 @@ ghost use Rattle.lrplacing.specs.Counts.{unclosed, weight};
 ghost use Rattle.lrplacing.specs.Invariant.{Holds, HasGotos, AreClosed};
 ghost use Rattle.lrplacing.specs.CandidatesOf.{AreCandidates};
 ghost use Rattle.lrpager.specs.Closing.{IsTurn, StartsWith, AreToolsFor};
-ghost use Rattle.lrspec.specs.merging.Graph.{IsGraphOf, AreShared, InventsNoConflict, CoresCross};
-ghost use Rattle.lrplacing.specs.Chains.{HasChainOf, HasChainOfExactly};
+ghost use Rattle.lrspec.specs.merging.Merged.{IsMerged, AreCounts};
+ghost use Rattle.lrspec.specs.merging.Chains.{HasChainOf};
 ghost use Rattle.lrplacing.specs.Refusals.{IsLargeOnly};
 
 mod collecting;
@@ -24,12 +26,10 @@ use lrclosing::closer::Closer;
 use lrclosing::listing::closed_items;
 use lrgrammar::firsts::YaccFirsts;
 use lrgrammar::grammar::YaccGrammar;
-use lrgrammar::idx::{IndexStorage, SIdx};
-use lrgrammar::vob::Vob;
+use lrgrammar::idx::IndexStorage;
 use lrgraphs::{BuildError, StateGraph};
 use lritems::cores::Core;
 use lritems::gotos::{Places, gotos};
-use lritems::itemset::Itemset;
 use lritems::merging::first_item;
 use lrplacing::candidates::Candidates;
 use lrplacing::draft::Draft;
@@ -61,19 +61,6 @@ impl Tools {
     }
 }
 
-/// The core of the start state: the start production at dot 0, looking at the end token.
-fn start_core<T: IndexStorage>(grm: &YaccGrammar<T>) -> Result<Core<T>, AllocError>
-    ensures core { IfOk result (IsStartCore grm.now) }
-    ensures fits { IfOk result (Fits grm.now) }
-{
-    let alloc = grm.allocator();
-    let mut ctx = Vob::from_elem(alloc, false, usize::from(grm.tokens_len()))?;
-    ctx.set(usize::from(grm.eof_token_idx()), true);
-    let mut start = Itemset::new(alloc, grm);
-    start.add(grm.start_prod(), SIdx(T::from_usize(0).unwrap()), &ctx)?;
-    Core::from_itemset(alloc, &start)
-}
-
 /// The first unclosed state from `from` on.
 fn first_unclosed<T: IndexStorage>(drafts: &[Draft<T>], from: usize) -> Option<usize>
     ensures { MatchOption result (NoneUnclosedFrom drafts.now from)
@@ -87,7 +74,9 @@ fn first_unclosed<T: IndexStorage>(drafts: &[Draft<T>], from: usize) -> Option<u
     None
 }
 
-/// The next state to close: the first unclosed one from `from` on, or else the first unclosed one.
+/// The next state to close: the first unclosed one from `from` on, or else the first unclosed one. So states are closed in
+/// rounds, in the order in which they were made, and one that grows several times in a round is closed once more and not as
+/// often. The states' numbers come from this order, which is that of the Rust crate.
 fn next_unclosed<T: IndexStorage>(drafts: &[Draft<T>], from: usize) -> Option<usize>
     ensures { MatchOption result (AreClosed drafts.now) (IsNextUnclosed drafts.now from) }
 {
@@ -179,7 +168,7 @@ fn begin<T: IndexStorage>(
     ensures candidates { IfOk result (λ b. AreCandidates b.0.items b.1) }
 {
     let alloc = grm.allocator();
-    let core = start_core(grm)?;
+    let core = Core::of_start(grm)?;
     let mut candidates = Candidates::new(alloc);
     candidates.add(first_item(&core).unwrap(), 0)?;
     let mut drafts = Vec::new(alloc);
@@ -202,19 +191,10 @@ pub struct BuildCounts {
 pub fn build<T: IndexStorage>(
     grm: &YaccGrammar<T>,
 ) -> Result<(StateGraph<T>, BuildCounts), BuildError<T>>
-    ensures graph { IfOk result (λ b. IsGraphOf grm.now b.0) }
-    ensures shared { IfOk result (λ b. AreShared grm.now b.0) }
-    ensures conflicts { IfOk result (λ b. InventsNoConflict grm.now b.0) }
-    ensures crossing { IfOk result (λ b. CoresCross b.0) }
+    ensures merged { IfOk result (λ b. IsMerged grm.now b.0) }
     ensures below { IfOk result (λ b. length b.0 < T.MAX) }
-    ensures states { IfOk result (λ b. length b.0 ≤ b.1.made) }
-    ensures made { IfOk result (λ b. b.1.made ≤ T.MAX) }
-    ensures closed { IfOk result (λ b. b.1.made ≤ b.1.closings) }
-    ensures closings { IfOk result (λ b. b.1.closings
-        ≤ b.1.made * (1 + item_count grm.now * token_count grm.now)) }
-    ensures fits { IfOk result (λ _.
-        T.MAX * (1 + item_count grm.now * token_count grm.now) < 2 ^ 128) }
-    ensures chain { IfOk result (λ b. HasChainOfExactly grm.now b.1.made) }
+    ensures counts { IfOk result (λ b.
+        AreCounts grm.now T.MAX (length b.0) b.1.made b.1.closings) }
     ensures refused { IfErr result (IsLargeOnly (HasChainOf grm.now T.MAX)) }
 {
     let _sizes = grm.tokens_len();

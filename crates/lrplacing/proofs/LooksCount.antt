@@ -12,7 +12,8 @@ use Rattle.lrspec.specs.grammars.ItemSets.{Items, item_at, LooksIn, Fits}
 use Rattle.lrspec.proofs.grammars.ListMembers.{Among}
 use Rattle.lrspec.proofs.grammars.ListMembers.{among_flat_map, among_below}
 use Rattle.lrplacing.specs.Construction.{Gains}
-use Rattle.lrplacing.specs.Counts.{items_of_production, grammar_items, bit_of, looks_at, item_looks, looks_count}
+use Rattle.lrspec.specs.tables.Table.{bit_or_none, looks_at}
+use Rattle.lrplacing.specs.Counts.{items_of_production, grammar_items, item_looks, looks_count}
 use Rattle.lrplacing.proofs.SumFacts.{sum_most, sum_larger, count_le, count_more, sum_by_places}
 
 -- the grammar has as many items as it counts
@@ -56,11 +57,11 @@ unfolding looks_count
 looks_count_most g a =
     rw (grammar_items_count g) at (sum_most (item_looks g a) (token_count g) (grammar_items g) (item_looks_most g a))
 
-looks_of_bit : (o : Option (List Bool)) (t : ℕ) → bit_of o t ≡ true → IsSomeAnd o (λ v. IsTrue (slice_index_or v t false))
+looks_of_bit : (o : Option (List Bool)) (t : ℕ) → bit_or_none o t ≡ true → IsSomeAnd o (λ v. IsTrue (slice_index_or v t false))
 looks_of_bit None t e = cc
 looks_of_bit (Some v) t e = e
 
-bit_of_looks : (o : Option (List Bool)) (t : ℕ) → IsSomeAnd o (λ v. IsTrue (slice_index_or v t false)) → bit_of o t ≡ true
+bit_of_looks : (o : Option (List Bool)) (t : ℕ) → IsSomeAnd o (λ v. IsTrue (slice_index_or v t false)) → bit_or_none o t ≡ true
 bit_of_looks None t h = absurd h
 bit_of_looks (Some v) t h = h
 

@@ -10,7 +10,7 @@ use Rattle.lrplacing.specs.Construction.{Draft, core_at, edge_from, Grows, Place
 use Rattle.lrplacing.specs.Invariant.{MayBePlaced, AllMayBePlaced, Holds}
 use Rattle.lrgraphs.specs.declared.errors.BuildError.{BuildError}
 use Rattle.lrgraphs.specs.declared.errors.BuildError.TheVariants.{Table, TooLarge, Memory}
-use Rattle.lrplacing.specs.Chains.{HasChainOf}
+use Rattle.lrspec.specs.merging.Chains.{HasChainOf}
 use Rattle.lrplacing.specs.Refusals.{IsLargeOnly}
 use Rattle.lritems.specs.Merging.{HaveEquallyManyBits}
 use Rattle.lritems.specs.Gotos.{AreGotosOf, AreGotosToPlace, HasGotoOn}

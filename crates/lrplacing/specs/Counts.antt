@@ -1,8 +1,9 @@
 -- how many states are to be closed, and what the states weigh, which bounds how often one is closed
-use Rattle.std.specs.Prelude.{ℕ, ◌+◌, Bool, false, List, map, Option, None, Some, length, sum_by, count_by, flat_map, not, slice_index_or}
+use Rattle.std.specs.Prelude.{ℕ, ◌+◌, List, map, length, sum_by, count_by, flat_map, not}
 use Rattle.std.specs.List.{range_with_len}
 use Rattle.lrspec.specs.grammars.Grammar.{Grammar, token_count, body_of}
-use Rattle.lrspec.specs.grammars.ItemSets.{Items, item_at}
+use Rattle.lrspec.specs.grammars.ItemSets.{Items}
+use Rattle.lrspec.specs.tables.Table.{looks_at}
 use Rattle.lrplacing.specs.Construction.{Draft}
 
 -- how many states are to be closed
@@ -16,14 +17,6 @@ items_of_production g p = map (λ d. (p, d)) (range_with_len 0 (length (body_of 
 -- the items of the grammar, by production and dot
 unfoldable pub grammar_items : Grammar → List (ℕ × ℕ)
 grammar_items g = flat_map (items_of_production g) (range_with_len 0 (length g.productions))
-
-abbrev pub bit_of : Option (List Bool) → ℕ → Bool
-bit_of None t = false
-bit_of (Some v) t = slice_index_or v t false
-
--- whether the item set has the item, which looks at the token `t`
-abbrev pub looks_at : Items → ℕ → ℕ → ℕ → Bool
-looks_at a p d t = bit_of (item_at a p d) t
 
 -- at how many tokens the item looks in the item set
 unfoldable pub item_looks : Grammar → Items → ℕ × ℕ → ℕ

@@ -5,5 +5,4 @@ pub mod Counts
 pub mod DraftOf
 pub mod CandidatesOf
 pub mod ChosenPlaces
-pub mod Chains
 pub mod Refusals

@@ -10,7 +10,7 @@ ghost use Rattle.lrspec.specs.merging.Graph.{same_symbol};
 ghost use Rattle.lrgrammar.specs.Symbols.{symbol_of};
 ghost use Rattle.lrplacing.specs.Construction.{core_at, closed_at, edge_from, with_closed, closed_unless, TellsGrowth, Stays, Gains, Places, PlacesAll};
 ghost use Rattle.lrplacing.specs.Invariant.{MayBePlaced, AllMayBePlaced, Holds};
-ghost use Rattle.lrplacing.specs.Chains.{HasChainOf};
+ghost use Rattle.lrspec.specs.merging.Chains.{HasChainOf};
 ghost use Rattle.lrplacing.specs.CandidatesOf.{AreCandidates, IsFirstItem, listed_at};
 ghost use Rattle.lrplacing.specs.ChosenPlaces.{HoldsOfNone, IsFirstWith, IsEqual, IsCompatible, IsPlaceOf};
 ghost use Rattle.lrplacing.specs.Refusals.{IsLargeOnly};
@@ -160,6 +160,9 @@ impl Placed {
 
 /// Places a goto: at the first candidate that is equal to it, or else at the first one that can be merged with it, or
 /// else at a new state. Answers the state, to which the edge of `from` on the symbol then leads.
+///
+/// Equality is tried with all candidates first: a state that is equal takes the goto in without growing, and so is not
+/// closed again, where one before it that is only weakly compatible would grow.
 fn place<T: IndexStorage>(
     drafts: &mut Vec<Draft<T>>,
     candidates: &mut Candidates<T>,

@@ -1,7 +1,7 @@
 -- no token of those without precedences has one
 use Rattle.std.proofs.Common.{◌≡◌, ℕ, zero, suc, List, [], ◌∷◌, map, ap, refl}
 use Rattle.std.specs.Prelude.{None, slice_get}
-use Rattle.lrspec.specs.tables.Exactness.{HasNoPrecedences}
+use Rattle.lrspec.specs.tables.LrTables.{HasNoPrecedences}
 use Rattle.lrspec.specs.texts.Parts.{PartToken, Parts, precedences_of, grammar_of_parts}
 use Rattle.lrreasons.specs.Precedences.{plain_token, without_precedences}
 use Rattle.std.specs.Option.{option_and_then}

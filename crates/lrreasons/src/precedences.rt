@@ -1,7 +1,7 @@
 //! Grammars without their precedences.
 
 ghost use Rattle.std.specs.Prelude.{◌≡◌, map, IfOk, OnOk, OnErr};
-ghost use Rattle.lrspec.specs.tables.Exactness.{HasNoPrecedences};
+ghost use Rattle.lrspec.specs.tables.LrTables.{HasNoPrecedences};
 ghost use Rattle.lrspec.specs.texts.Parts.{grammar_of_parts};
 ghost use Rattle.lrtext.specs.StoredParts.{parts_of, token_of};
 ghost use Rattle.lrreasons.specs.Precedences.{plain_token, without_precedences};

@@ -5,7 +5,7 @@ ghost use Rattle.std.specs.String.{string_bytes};
 ghost use Rattle.lrspec.specs.merging.Graph.{IsGraphOf};
 ghost use Rattle.lrspec.specs.tables.Table.{Table, IsTableFor};
 ghost use Rattle.lrspec.specs.tables.Conflicts.{AreReductionsContested};
-ghost use Rattle.lrspec.specs.tables.Exactness.{HasNoPrecedences, ListsNothing};
+ghost use Rattle.lrspec.specs.tables.LrTables.{HasNoPrecedences, ListsNothing};
 ghost use Rattle.lrspec.specs.tables.Recognition.{IsUnambiguous};
 ghost use Rattle.lrgrammar.specs.Symbols.{symbol_of};
 ghost use Rattle.lrtable.specs.RunAnswers.{text_of as tokens_of};
@@ -156,7 +156,8 @@ impl<'a, T: IndexStorage> Reasons<'a, T> {
         ensures one { IfOk result (λ o. IfSome o (λ a. IsTreeOfText self.now.grammar
             (tokens_of T.number a.ambiguity.text.items) (tree_of T.number a.ambiguity.one_tree))) }
         ensures other { IfOk result (λ o. IfSome o (λ a. IsTreeOfText self.now.grammar
-            (tokens_of T.number a.ambiguity.text.items) (tree_of T.number a.ambiguity.other_tree))) }
+            (tokens_of T.number a.ambiguity.text.items)
+            (tree_of T.number a.ambiguity.other_tree))) }
         ensures differ { IfOk result (λ o. IfSome o (λ a.
             tree_of T.number a.ambiguity.one_tree ≢ tree_of T.number a.ambiguity.other_tree)) }
         ensures ambiguous { IfOk result (λ o. IsSome o → ¬ (IsUnambiguous self.now.grammar)) }

@@ -114,7 +114,8 @@ fn push_contest<T: IndexStorage>(
 ) -> Result<(), AllocError>
     ensures { OnOk result (string_bytes text.new ≡ string_bytes text.old
         ++ told.contest_text grm.now (T.number conflict.now.production.0)
-        (other_of (entry_of T.number conflict.now)) (move_of T.number contest.now.one) (move_of T.number contest.now.other)) }
+        (other_of (entry_of T.number conflict.now)) (move_of T.number contest.now.one)
+        (move_of T.number contest.now.other)) }
 {
     if is_same_move(contest.one, Move::Reduce(conflict.production))
         && is_same_move(contest.other, other_move(conflict))

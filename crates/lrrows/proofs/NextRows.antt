@@ -22,7 +22,8 @@ use Rattle.lrrows.specs.ReducingRows.{ReducesByOne}
 use Rattle.lrrows.specs.RowsOf.{HasCell, ReduceByOne, AreRowsOf}
 use Rattle.lrrows.specs.StateRows.{action_row, goto_row, complete_items, first_at, least_reductions, reduce_reduce_at, shift_reduce_at}
 use Rattle.lrrows.specs.StoredActions.{action_number, action_numbered, goto_number}
-use Rattle.lrrows.specs.StoredLists.{numbers_of, pairs_of, mixes_of}
+use Rattle.lrgrammar.specs.StoredGrammar.{numbers_of}
+use Rattle.lrrows.specs.StoredLists.{pairs_of, mixes_of}
 use Rattle.lrrows.proofs.KeptNumbers.{numbered_action}
 use Rattle.lrrows.proofs.LeastReductions.{least_is}
 use Rattle.lrrows.proofs.ContestsOfState.{reduce_reduce_is}

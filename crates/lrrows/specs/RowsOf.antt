@@ -10,7 +10,8 @@ use Rattle.lrspec.specs.tables.Table.{Action, Reduce, Error, cell_of}
 use Rattle.lrspec.specs.tables.Rows.{AreAllWith}
 use Rattle.lrsparse.specs.Building.{so_far, empty_of, IsBuilt}
 use Rattle.lrrows.specs.StateRows.{action_row, goto_row, reduce_reduce_at, shift_reduce_at}
-use Rattle.lrrows.specs.StoredLists.{numbers_of, pairs_of, mixes_of}
+use Rattle.lrgrammar.specs.StoredGrammar.{numbers_of}
+use Rattle.lrrows.specs.StoredLists.{pairs_of, mixes_of}
 use Rattle.lrrows.specs.declared.rows.Rows.{Rows}
 
 -- the state has a cell with the action

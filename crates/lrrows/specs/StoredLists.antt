@@ -12,10 +12,6 @@ pair_of number e = (number e.0.0, number e.1.0, number e.2.0, number e.3.0)
 abbrev pub mix_of : {T : Type 0} → (T → ℕ) → TIdx T × PIdx T × StIdx T → ℕ × ℕ × ℕ
 mix_of number e = (number e.0.0, number e.1.0, number e.2.0)
 
--- the numbers of stored productions
-abbrev pub numbers_of : {T : Type 0} → (T → ℕ) → List (PIdx T) → List ℕ
-numbers_of number ps = map (λ p. number p.0) ps
-
 -- productions by their numbers
 abbrev pub least_of : {T : Type 0} → (T → ℕ) → List (Option (PIdx T)) → List (Option ℕ)
 least_of number ps = map (option_map (λ p. number p.0)) ps

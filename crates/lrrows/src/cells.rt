@@ -20,7 +20,8 @@ use std::alloc::AllocError;
 use std::cmp::Ordering;
 
 /// A shift against a reduction, by the precedences of the token and of the production: the higher level wins, and of one
-/// level the token's kind decides; the shift wins where one of them has none.
+/// level the token's kind decides; the shift wins where one of them has none. These are the rules of Yacc, which Bison's manual
+/// tells under "How Precedence Works".
 fn resolved<T: IndexStorage>(
     grm: &YaccGrammar<T>,
     tidx: TIdx<T>,
@@ -48,7 +49,9 @@ fn resolved<T: IndexStorage>(
     }
 }
 
-/// The cell of a token, by the least production that reduces on it, the edge on it, and whether the text may end there.
+/// The cell of a token, by the least production that reduces on it, the edge on it, and whether the text may end there. Where
+/// no precedence decides, these are the two rules of S. C. Johnson's paper (Yacc: Yet Another Compiler-Compiler, 1975): shift
+/// rather than reduce, and reduce by the production that comes first.
 fn cell<T: IndexStorage>(
     grm: &YaccGrammar<T>,
     tidx: TIdx<T>,

@@ -24,7 +24,8 @@ fn contest_on<T: IndexStorage>(
 ) -> Option<(TIdx<T>, PIdx<T>, PIdx<T>, StIdx<T>)>
     requires token { token ≤ T.MAX }
     ensures entry { option_map (pair_of T.number) result
-        ≡ contest (option_map (λ p. T.number p.0) least) (T.number pidx.0) (T.number stidx.0) token }
+        ≡ contest (option_map (λ p. T.number p.0) least)
+        (T.number pidx.0) (T.number stidx.0) token }
 {
     let first = least?;
     if first == pidx {

@@ -8,7 +8,7 @@ ghost use Rattle.lrspec.specs.tables.Rows.{AreAllWith};
 ghost use Rattle.lrrows.specs.ReducingRows.{ReducesByOne};
 ghost use Rattle.lrrows.specs.RowsOf.{AreRowsOf, HaveZeros};
 ghost use Rattle.lrrows.specs.StoredActions.{action_numbered, actions_in, IsIndexed, NeitherShiftsNorAccepts};
-ghost use Rattle.lrrows.specs.StoredLists.{numbers_of};
+ghost use Rattle.lrgrammar.specs.StoredGrammar.{numbers_of};
 
 use crate::action::Action;
 use crate::cells::{make_actions, make_gotos};

@@ -42,7 +42,8 @@ impl MatrixBuilder {
         ensures built { OnOk result (IsBuilt self.new) }
         ensures empty { OnOk result (empty_of self.new ≡ empty_of self.old) }
         ensures cols { OnOk result ((so_far self.new).cols ≡ (so_far self.old).cols) }
-        ensures cells { OnOk result ((so_far self.new).cells ≡ (so_far self.old).cells ++ numbers.now) }
+        ensures cells { OnOk result ((so_far self.new).cells
+            ≡ (so_far self.old).cells ++ numbers.now) }
     {
         let entries = entries_of(*self.displacements.allocator(), numbers, self.empty)?;
         self.push_entries(entries.as_slice())?;

@@ -4,3 +4,4 @@ pub mod WeakCompatibility
 pub mod Sharing
 pub mod Chains
 pub mod Graph
+pub mod Merged

@@ -5,4 +5,5 @@ pub mod Conflicts
 pub mod Machine
 pub mod TreeMachine
 pub mod Recognition
-pub mod Exactness
+pub mod LrTables
+pub mod Built

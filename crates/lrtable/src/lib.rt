@@ -1,15 +1,12 @@
 //! LR(1) state graphs and state tables of grammars, merged by Pager's rule.
 #![tactic(auto)]
 
-ghost use Rattle.std.specs.Prelude.{◌≡◌, ℕ, ◌+◌, ◌-◌, ◌*◌, ◌^◌, ◌<◌, ◌≤◌, length, IfOk, IfErr};
-ghost use Rattle.lrspec.specs.grammars.Grammar.{item_count, token_count};
-ghost use Rattle.lrspec.specs.merging.Graph.{IsGraphOf, AreShared, InventsNoConflict, CoresCross};
-ghost use Rattle.lrspec.specs.tables.Table.{IsTableOf, IsTableFor, lists_of};
-ghost use Rattle.lrspec.specs.tables.Rows.{ReducesApart};
-ghost use Rattle.lrspec.specs.tables.Conflicts.{AreEntriesOf, AreReductionsContested, AreShiftsContested, IsAcceptContested};
-ghost use Rattle.lrspec.specs.tables.Exactness.{IsExactTable};
-ghost use Rattle.lrtable.specs.Chains.{HasChainOf, HasChainOfExactly};
-ghost use Rattle.lrtable.specs.Refusals.{IsBuildRefusal};
+ghost use Rattle.std.specs.Prelude.{◌-◌, ◌<◌, length, Some, IfOk, IfErr, MatchResult};
+ghost use Rattle.lrspec.specs.merging.Chains.{HasChainOf};
+ghost use Rattle.lrspec.specs.merging.Merged.{AreCounts};
+ghost use Rattle.lrspec.specs.tables.Built.{IsBuilt};
+ghost use Rattle.lrspec.specs.tables.LrTables.{IsExactAnswer};
+ghost use Rattle.lrtable.specs.Refusals.{IsBuildRefusal, IsExactError};
 
 /// Item sets with lookaheads.
 pub mod itemset {
@@ -61,20 +58,11 @@ pub fn from_yacc<T: IndexStorage>(
     grm: &YaccGrammar<T>,
     minimiser: Minimiser,
 ) -> Result<(StateGraph<T>, StateTable<T>), BuildError<T>>
-    ensures graph { IfOk result (λ b. IsGraphOf grm.now b.0) }
-    ensures shared { IfOk result (λ b. AreShared grm.now b.0) }
-    ensures conflicts { IfOk result (λ b. InventsNoConflict grm.now b.0) }
-    ensures crossing { IfOk result (λ b. CoresCross b.0) }
+    ensures built { IfOk result (λ b. IsBuilt grm.now b.0 b.1) }
     ensures below { IfOk result (λ b. length b.0 < T.MAX - 1) }
     ensures chain { IfOk result (λ b. HasChainOf grm.now (length b.0)) }
-    ensures table { IfOk result (λ b. IsTableOf grm.now b.0 b.1) }
-    ensures table_for { IfOk result (λ b. IsTableFor grm.now b.1) }
-    ensures reduces { IfOk result (λ b. ReducesApart grm.now b.1) }
-    ensures entries { IfOk result (λ b. AreEntriesOf grm.now (lists_of b.1)) }
-    ensures accepts { IfOk result (λ _. (p : ℕ) → ¬ (IsAcceptContested grm.now p)) }
-    ensures reductions { IfOk result (λ b. AreReductionsContested grm.now b.0) }
-    ensures shifts { IfOk result (λ b. AreShiftsContested grm.now b.0) }
-    ensures exact { IfOk result (λ b. IsExactTable grm.now b.1) }
+    ensures headline { MatchResult result (λ b. IsExactAnswer grm.now (Some b.1))
+        (IsExactError grm.now) }
     ensures refused { IfErr result (IsBuildRefusal T.number T.MAX grm.now) }
 {
     let (graph, table, _counts) = from_yacc_counted(alloc, grm, minimiser)?;
@@ -88,27 +76,12 @@ pub fn from_yacc_counted<T: IndexStorage>(
     grm: &YaccGrammar<T>,
     minimiser: Minimiser,
 ) -> Result<(StateGraph<T>, StateTable<T>, BuildCounts), BuildError<T>>
-    ensures graph { IfOk result (λ b. IsGraphOf grm.now b.0) }
-    ensures shared { IfOk result (λ b. AreShared grm.now b.0) }
-    ensures conflicts { IfOk result (λ b. InventsNoConflict grm.now b.0) }
-    ensures crossing { IfOk result (λ b. CoresCross b.0) }
+    ensures built { IfOk result (λ b. IsBuilt grm.now b.0 b.1) }
     ensures below { IfOk result (λ b. length b.0 < T.MAX - 1) }
-    ensures states { IfOk result (λ b. length b.0 ≤ b.2.made) }
-    ensures made { IfOk result (λ b. b.2.made ≤ T.MAX) }
-    ensures closed { IfOk result (λ b. b.2.made ≤ b.2.closings) }
-    ensures closings { IfOk result (λ b. b.2.closings
-        ≤ b.2.made * (1 + item_count grm.now * token_count grm.now)) }
-    ensures fits { IfOk result (λ _.
-        T.MAX * (1 + item_count grm.now * token_count grm.now) < 2 ^ 128) }
-    ensures chain { IfOk result (λ b. HasChainOfExactly grm.now b.2.made) }
-    ensures table { IfOk result (λ b. IsTableOf grm.now b.0 b.1) }
-    ensures table_for { IfOk result (λ b. IsTableFor grm.now b.1) }
-    ensures reduces { IfOk result (λ b. ReducesApart grm.now b.1) }
-    ensures entries { IfOk result (λ b. AreEntriesOf grm.now (lists_of b.1)) }
-    ensures accepts { IfOk result (λ _. (p : ℕ) → ¬ (IsAcceptContested grm.now p)) }
-    ensures reductions { IfOk result (λ b. AreReductionsContested grm.now b.0) }
-    ensures shifts { IfOk result (λ b. AreShiftsContested grm.now b.0) }
-    ensures exact { IfOk result (λ b. IsExactTable grm.now b.1) }
+    ensures counts { IfOk result (λ b.
+        AreCounts grm.now T.MAX (length b.0) b.2.made b.2.closings) }
+    ensures headline { MatchResult result (λ b. IsExactAnswer grm.now (Some b.1))
+        (IsExactError grm.now) }
     ensures refused { IfErr result (IsBuildRefusal T.number T.MAX grm.now) }
 {
     let Minimiser::Pager = minimiser;

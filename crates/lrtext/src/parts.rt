@@ -29,8 +29,9 @@ pub struct PartProd {
     pub rule: usize,
     /// Its body.
     pub symbols: Vec<PartSymbol>,
-    /// The place in `tokens` of the token whose precedence it has; None where it has that of the
-    /// last token in its body.
+    /// The place in `tokens` of the token whose precedence it has, which `%prec` names; None where it
+    /// has that of the last token in its body. (Yacc's rule; Bison's manual has it under
+    /// "Context-Dependent Precedence".)
     pub precedence: Option<usize>,
 }
 

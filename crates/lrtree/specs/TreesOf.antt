@@ -1,6 +1,7 @@
 -- the trees that productions in order tell
-use Rattle.std.specs.Prelude.{◌≡◌, ℕ, List, [], ◌∷◌, map}
+use Rattle.std.specs.Prelude.{◌≡◌, ℕ, List, [], ◌∷◌}
 use Rattle.lrgrammar.specs.declared.idx.PIdx.{PIdx}
+use Rattle.lrgrammar.specs.StoredGrammar.{numbers_of}
 use Rattle.lrspec.specs.grammars.Grammar.{Rule, Grammar, body_of}
 use Rattle.lrspec.specs.grammars.Trees.{Tree, IsTree, order}
 use Rattle.lrspec.specs.texts.TreeTexts.{IsPrintable}
@@ -11,10 +12,6 @@ pub record IsTreeOf (g : Grammar) (rs : List ℕ) (t : Tree) : Type 0 where
   pub start : body_of g g.start_production ≡ Rule rule ∷ []
   pub is_tree : IsTree g (Rule rule) t
   pub productions : order t ≡ rs
-
--- the productions by their numbers
-abbrev pub numbers_of : {T : Type 0} → (T → ℕ) → List (PIdx T) → List ℕ
-numbers_of number ps = map (λ p. number p.0) ps
 
 -- there is such a tree
 abbrev pub HasTreeOf : {T : Type 0} → (T → ℕ) → Grammar → List (PIdx T) → Type 0

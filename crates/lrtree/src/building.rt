@@ -79,7 +79,8 @@ pub(crate) fn build<T: IndexStorage>(
     productions: Vec<PIdx<T>>,
 ) -> Result<Tree<T>, AllocError>
     requires { HasTreeOf T.number grm.now productions.items }
-    ensures { IfOk result (λ v. IsOfTree T.number grm.now productions.items (λ t. tree_of T.number v ≡ t)) }
+    ensures { IfOk result (λ v.
+        IsOfTree T.number grm.now productions.items (λ t. tree_of T.number v ≡ t)) }
 {
     let mut rows = Vec::new(alloc);
     rows.push(Vec::new(alloc))?;

@@ -1,15 +1,13 @@
 //! Lines that are answered by trees.
 
 ghost use Rattle.lrspec.specs.tables.Table.{IsTableFor};
-ghost use Rattle.lrspec.specs.texts.Devices.{ConsumesSome, AppendsBeginning, AppendsFirstAnswers, HasFailed, GaveTooMuch};
-ghost use Rattle.lrspec.specs.texts.Lines.{whole_lines, lines, answers_to, answer_text};
 ghost use Rattle.lrspec.specs.texts.TreeTexts.{parse_text, tree_answer, tree_text};
 ghost use Rattle.lrspec.specs.tables.Recognition.{AreNamed};
+ghost use Rattle.lrtable.specs.Answered.{AreAnswered, AreFaultsTold};
 ghost use Rattle.lrtable.specs.Labels.{AreLabels};
 ghost use Rattle.lrtable.specs.RunAnswers.{text_of};
 ghost use Rattle.lrtree.specs.TreesOf.{HasPrintableTreeOf, IsOfTree};
-ghost use Rattle.std.specs.Io.KnownBytes.{Appends, IsAtEnd};
-ghost use Rattle.std.specs.Prelude.{◌≡◌, ◌≢◌, ◌⊎◌, ◌++◌, OnOk, IfOk, codes};
+ghost use Rattle.std.specs.Prelude.{◌≡◌, ◌++◌, OnOk, IfOk, codes};
 ghost use Rattle.std.specs.String.{string_bytes};
 
 use crate::texts::push_visits;
@@ -71,7 +69,8 @@ impl<'a, T: IndexStorage> TreeLines<'a, T> {
         requires labels { AreLabels self.now.grm.now labels.now }
         requires named { AreNamed self.now.grm.now (text_of T.number text.now) }
         ensures { OnOk result (out.new.items ≡ out.old.items
-            ++ parse_text self.now.grm.now self.now.table.now self.now.steps (text_of T.number text.now)) }
+            ++ parse_text self.now.grm.now self.now.table.now self.now.steps
+            (text_of T.number text.now)) }
     {
         let outcome = run(self.grm.allocator(), self.grm, self.table, text, self.steps)?;
         match outcome.verdict {
@@ -130,26 +129,11 @@ pub fn tree_lines<T: IndexStorage, R: LineRead, W: LineWrite>(
     steps: usize,
 ) -> Result<(), LineError>
     requires { IsTableFor grm.now table.now }
-    ensures end { OnOk result (IsAtEnd (R.left reader.new)) }
-    ensures ok { OnOk result (ConsumesSome (R.left reader.old) (R.left reader.new) (λ read.
-        Appends (W.written writer.old) (W.written writer.new)
-        (answer_text (tree_answer grm.now table.now steps) read))) }
-    ensures read { result ≡ Err LineError.Read → ConsumesSome (R.left reader.old) (R.left reader.new) (λ read.
-        Appends (W.written writer.old) (W.written writer.new)
-        (answers_to (tree_answer grm.now table.now steps) (whole_lines read))) }
-    ensures write { result ≡ Err LineError.Write → ConsumesSome (R.left reader.old) (R.left reader.new) (λ read.
-        AppendsBeginning (W.written writer.old) (W.written writer.new)
-        (answer_text (tree_answer grm.now table.now steps) read)) }
-    ensures memory { result ≡ Err LineError.Memory → ConsumesSome (R.left reader.old) (R.left reader.new) (λ read.
-        AppendsFirstAnswers (W.written writer.old) (W.written writer.new)
-        (tree_answer grm.now table.now steps) (lines read)) }
-
-    // When each error comes; a fault of a device is told.
-    ensures read_fault { result ≡ Err LineError.Read → HasFailed (R.failures reader.old) (R.failures reader.new)
-        ⊎ GaveTooMuch (R.left reader.old) (R.left reader.new) }
-    ensures write_fault { result ≡ Err LineError.Write → HasFailed (W.failures writer.old) (W.failures writer.new) }
-    ensures reader_counts { result ≢ Err LineError.Read → R.failures reader.new ≡ R.failures reader.old }
-    ensures writer_counts { result ≢ Err LineError.Write → W.failures writer.new ≡ W.failures writer.old }
+    ensures answered { AreAnswered (tree_answer grm.now table.now steps) result
+        (R.left reader.old) (R.left reader.new) (W.written writer.old) (W.written writer.new) }
+    ensures faults { AreFaultsTold result (R.left reader.old) (R.left reader.new)
+        (R.failures reader.old) (R.failures reader.new)
+        (W.failures writer.old) (W.failures writer.new) }
 {
     let answers = TreeLines { grm, table, steps };
     answer_lines(alloc, reader, writer, &answers)

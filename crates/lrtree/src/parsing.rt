@@ -3,8 +3,8 @@
 ghost use Rattle.std.specs.Prelude.{IfOk};
 ghost use Rattle.lrspec.specs.tables.Table.{IsTableFor, IsUncrowded};
 ghost use Rattle.lrspec.specs.tables.Machine as math;
-ghost use Rattle.lrspec.specs.tables.Recognition.{AreNamed, Recognises};
-ghost use Rattle.lrspec.specs.tables.Exactness.{HasNoPrecedences, ListsNothing};
+ghost use Rattle.lrspec.specs.tables.Recognition.{AreNamed};
+ghost use Rattle.lrspec.specs.tables.LrTables.{HasNoPrecedences, ListsNothing, Recognises};
 ghost use Rattle.lrtable.specs.RunAnswers.{text_of};
 ghost use Rattle.lrtree.specs.ParsedTexts.{Tells, HasTheTree, HasTheOnlyTree, HasPrintableTree};
 

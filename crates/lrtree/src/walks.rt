@@ -52,10 +52,12 @@ impl<T: IndexStorage> Walk<T> {
     /// What the walk comes by next; None at its end.
     pub(crate) fn next(&mut self, grm: &YaccGrammar<T>) -> Result<Option<Visit<T>>, AllocError>
         requires { HasRemaining grm.now (open_of T.number self.old) (left_of T.number self.old) }
-        ensures visit { (es : List math.Visit) → Remains grm.now (open_of T.number self.old) (left_of T.number self.old) es →
+        ensures visit { (es : List math.Visit) →
+            Remains grm.now (open_of T.number self.old) (left_of T.number self.old) es →
             IfOk result (λ e. Follows T.number e es
             (Remains grm.now (open_of T.number self.new) (left_of T.number self.new))) }
-        ensures falls { IfOk result (λ e. IsSome e → weight_of T.MAX self.new < weight_of T.MAX self.old) }
+        ensures falls { IfOk result (λ e. IsSome e →
+            weight_of T.MAX self.new < weight_of T.MAX self.old) }
     {
         let last = self.open.len() - 1;
         let Open { pidx, missing } = self.open[last];

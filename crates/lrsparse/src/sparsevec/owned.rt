@@ -39,9 +39,12 @@ fn far_column(columns: &[usize], k: usize) -> usize
 /// that is found before the last column. Places near one another are often owned alike, so a far column is tried beside
 /// each: mostly few are tried before all displacements are met.
 fn met_from(words: &[u64], columns: &[usize], displacement: usize) -> u64
-    requires { (k : ℕ) → k < length columns.now → displacement + slice_index columns.now k < 2 ^ 64 }
-    ensures met { (i : ℕ) → i < 64 → bit_at result i ≡ 1 → ¬ (MeetsNone words.now columns.now (displacement + i)) }
-    ensures unmet { (i : ℕ) → i < 64 → bit_at result i ≡ 0 → MeetsNone words.now columns.now (displacement + i) }
+    requires { (k : ℕ) → k < length columns.now →
+        displacement + slice_index columns.now k < 2 ^ 64 }
+    ensures met { (i : ℕ) → i < 64 → bit_at result i ≡ 1 →
+        ¬ (MeetsNone words.now columns.now (displacement + i)) }
+    ensures unmet { (i : ℕ) → i < 64 → bit_at result i ≡ 0 →
+        MeetsNone words.now columns.now (displacement + i) }
 {
     let mut met = 0;
     for k in 0..columns.len() {

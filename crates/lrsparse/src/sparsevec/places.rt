@@ -56,7 +56,8 @@ fn put_entries(
 
 /// Lets the list be at least this long; what is added has the value.
 fn reach<T: Copy>(list: &mut Vec<T>, len: usize, value: T) -> Result<(), AllocError>
-    ensures values { OnOk result ((k : ℕ) → slice_index_or list.new.items k value ≡ slice_index_or list.old.items k value) }
+    ensures values { OnOk result ((k : ℕ) →
+        slice_index_or list.new.items k value ≡ slice_index_or list.old.items k value) }
     ensures len { OnOk result (length list.new.items ≡ max len (length list.old.items)) }
 {
     if list.len() < len {
@@ -122,7 +123,8 @@ impl Places {
         ensures least { IfOk result (λ d. (k : ℕ) → k < d
             → ¬ (MeetsNone self.old.owned.items columns.now k)) }
         ensures placed { OnOk result (IsPlaced (row + 1) self.new) }
-        ensures owned { OnOk result ((p : ℕ) → IsOwned self.old.owned.items p → IsOwned self.new.owned.items p) }
+        ensures owned { OnOk result ((p : ℕ) →
+            IsOwned self.old.owned.items p → IsOwned self.new.owned.items p) }
         ensures within { IfOk result (λ d. d ≤ length self.old.list.items) }
     {
         let Some(last) = columns.last().copied() else {
@@ -156,7 +158,8 @@ pub(crate) fn place_row(
     ensures others { OnOk result ((empty q p : ℕ) → q ≢ row
         → number_at places.new.list.items empty q p ≡ number_at places.old.list.items empty q p) }
     ensures fits { IfOk result (Fits places.old.list.items entries.now) }
-    ensures least { IfOk result (λ d. (k : ℕ) → k < d → ¬ (Fits places.old.list.items entries.now k)) }
+    ensures least { IfOk result (λ d. (k : ℕ) → k < d →
+        ¬ (Fits places.old.list.items entries.now k)) }
     ensures placed { OnOk result (IsPlaced (row + 1) places.new) }
     ensures starts { OnOk result (AreStarts starts.new places.new.owned.items) }
     ensures within { IfOk result (λ d. d ≤ length places.old.list.items) }

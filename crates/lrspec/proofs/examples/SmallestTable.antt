@@ -7,8 +7,7 @@ use Rattle.lrspec.specs.grammars.Candidates.{IsUncontested}
 use Rattle.lrspec.specs.tables.Table as table
 use Rattle.lrspec.specs.tables.Table.{Table, action_of, goto_of, cell_of, AcceptsAndReduces, IsGrid, IsTableOf}
 use Rattle.lrspec.specs.tables.Machine.{Accepted, run}
-use Rattle.lrspec.specs.tables.Recognition.{Recognises}
-use Rattle.lrspec.specs.tables.Exactness.{HasNoPrecedences}
+use Rattle.lrspec.specs.tables.LrTables.{HasNoPrecedences, Recognises}
 use Rattle.lrspec.specs.examples.ExampleGrammars.{smallest}
 use Rattle.lrspec.proofs.tables.ExactWithoutPrecedences.{tables_exact_without_precedences, recognises_without_precedences}
 use Rattle.lrspec.proofs.examples.SmallestItemSets.{smallest_grammar, one_looks}

@@ -1,15 +1,16 @@
 -- without precedences graphs and tables are exact, and tables recognise their grammar
-use Rattle.std.proofs.Common.{◌≡◌, ◌≢◌, ℕ, ◌<◌, List, [], ◌∷◌, length, refl, sym, ap, ◌∙◌, Some, arith}
+use Rattle.std.proofs.Common.{◌≡◌, ◌≢◌, ℕ, ◌<◌, ◌+◌, ◌↔◌, List, [], ◌∷◌, length, refl, sym, ap, ◌∙◌, None, Some, arith}
 use Rattle.lrspec.specs.grammars.Grammar.{Symbol, Rule, Token, Grammar, IsGrammar, end_token, body_of}
 use Rattle.lrspec.specs.grammars.CanonicalItems.{Stands}
 use Rattle.lrspec.specs.grammars.Candidates as candidate
 use Rattle.lrspec.specs.grammars.Candidates.{Candidate, IsCandidate, IsContested, IsUncontested}
+use Rattle.lrspec.specs.grammars.Trees.{nodes}
 use Rattle.lrspec.specs.merging.Graph.{Graph, closed_of, edge, IsGraphOf, AreShared, Leads}
 use Rattle.lrspec.specs.tables.Table as table
 use Rattle.lrspec.specs.tables.Table.{reductions, IsContender, IsCrowded, NoCellIsCrowded, reduce_reduce_of, shift_reduce_of, AcceptsAndReduces, Table, IsTableOf, IsTableFor, IsUncrowded}
 use Rattle.lrspec.proofs.tables.MachineTheorems.{never_stuck, sound, complete, one_tree}
-use Rattle.lrspec.specs.tables.Conflicts.{HasNoConflicts}
-use Rattle.lrspec.specs.tables.Exactness.{TablesRecognise, HasNoPrecedences, IsExact, ListsNothing, TablesAreExact, TablesAreUncrowded, IsExactTable}
+use Rattle.lrspec.specs.tables.Conflicts.{HasNoConflicts, IsAcceptContested}
+use Rattle.lrspec.specs.tables.LrTables.{HasNoPrecedences, ListsNothing, Recognises, IsExactAnswer}
 use Rattle.lrspec.proofs.grammars.BodyFacts.{symbol_at_dot}
 use Rattle.lrspec.proofs.grammars.CanonicalItemFacts.{stands_of_looks, start_looks_end}
 use Rattle.lrspec.proofs.merging.RootedCores.{rooted_closes_looks}
@@ -132,21 +133,21 @@ module _ (g : Grammar) (h : Graph) (grammar : IsGrammar g) (m : IsGraphOf g h) w
   }
 
   -- without precedences: there are no conflicts exactly where the grammar is uncontested
-  pub exact_without_precedences : HasNoPrecedences g → AreShared g h → IsExact g h
+  pub exact_without_precedences : HasNoPrecedences g → AreShared g h → HasNoConflicts g h ↔ IsUncontested g
   exact_without_precedences plain share = (λ free. uncontested_from_cells (no_cell_is_crowded plain free), no_conflicts_from_uncontested share)
 
   no_conflicts_from_table : (b : Table) → IsTableOf g h b → ListsNothing b → HasNoConflicts g h
   no_conflicts_from_table b k n = record { reduce_reduce = sym k.reduce_reduce ∙ n.0; shift_reduce = sym k.shift_reduce ∙ n.1; no_contest = k.no_contest }
 
   -- so a table of the graph lists nothing exactly where the grammar is uncontested
-  pub tables_exact_without_precedences : HasNoPrecedences g → AreShared g h → TablesAreExact g h
+  pub tables_exact_without_precedences : HasNoPrecedences g → AreShared g h → (b : Table) → IsTableOf g h b → ListsNothing b ↔ IsUncontested g
   tables_exact_without_precedences plain share b k = (
     λ n. uncontested_from_cells (no_cell_is_crowded plain (no_conflicts_from_table b k n)),
     λ none. let free = no_conflicts_from_uncontested share none in (k.reduce_reduce ∙ free.reduce_reduce, k.shift_reduce ∙ free.shift_reduce),
   )
 
   -- and where it lists nothing, none of its cells is crowded
-  pub uncrowded_without_precedences : HasNoPrecedences g → TablesAreUncrowded g h
+  pub uncrowded_without_precedences : HasNoPrecedences g → (b : Table) → IsTableOf g h b → ListsNothing b → IsUncrowded g b
   uncrowded_without_precedences plain b k n = record {
     graph = h;
     graph_of = m;
@@ -155,12 +156,32 @@ module _ (g : Grammar) (h : Graph) (grammar : IsGrammar g) (m : IsGraphOf g h) w
   }
 
   -- so it recognises the grammar
-  pub recognises_without_precedences : HasNoPrecedences g → TablesRecognise g h
+  pub recognises_without_precedences : HasNoPrecedences g → (b : Table) → IsTableOf g h b → ListsNothing b → Recognises g b
   recognises_without_precedences plain b k n =
       let clear = uncrowded_without_precedences plain b k n in
       let for_grammar : IsTableFor g b = record { graph = h; graph_of = m; table_of = k } in
-      record { never_stuck = never_stuck grammar for_grammar; sound = sound grammar for_grammar; complete = complete grammar clear; one_tree = one_tree grammar clear }
+      let right = sound grammar for_grammar in
+      let all = complete grammar clear in record {
+        sentences = λ text named. (
+          λ k. (right k.0 text named k.1).0,
+          λ k. (length text + nodes k.tree + 1, (all (length text + nodes k.tree + 1) text k (omega arith)).verdict),
+        );
+        complete = all;
+        sound = right;
+        one_tree = one_tree grammar clear;
+        never_stuck = never_stuck grammar for_grammar;
+      }
 
-  -- a table of a shared graph is exact
-  pub exact_table : AreShared g h → (b : Table) → IsTableOf g h b → IsExactTable g b
-  exact_table share b k plain = tables_exact_without_precedences plain share b k
+  -- the headline of a table of a shared graph
+  pub table_answer : AreShared g h → (b : Table) → IsTableOf g h b → IsExactAnswer g (Some b)
+  table_answer share b k = record {
+    exact = λ plain. tables_exact_without_precedences plain share b k;
+    recognises = λ plain. recognises_without_precedences plain b k;
+  }
+
+-- the headline where accepting is contested
+pub refusal_answer : {g : Grammar} {p : ℕ} → IsAcceptContested g p → IsExactAnswer g None
+refusal_answer {g} c = record {
+  exact = λ _. (absurd, λ none. none (Rule c.start_rule ∷ []) (end_token g) (accept_contested c));
+  recognises = λ _. tt;
+}

@@ -4,7 +4,7 @@ use Rattle.std.specs.Prelude.{slice_get}
 use Rattle.std.specs.List.{Any}
 use Rattle.std.specs.Option.{IsSome, option_and_then}
 use Rattle.lrspec.specs.grammars.Grammar.{Precedence, Grammar}
-use Rattle.lrspec.specs.tables.Exactness.{HasNoPrecedences}
+use Rattle.lrspec.specs.tables.LrTables.{HasNoPrecedences}
 
 -- what the list has at a place, None where it has none
 abbrev at : List (Option Precedence) → ℕ → Option Precedence

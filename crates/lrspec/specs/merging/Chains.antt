@@ -1,5 +1,5 @@
 -- chains of item sets that no merging joins, which say why a graph is large
-use Rattle.std.specs.Prelude.{ℕ, ◌-◌, ◌≤◌, List, [], ◌∷◌, length}
+use Rattle.std.specs.Prelude.{◌≡◌, ℕ, ◌-◌, ◌≤◌, List, [], ◌∷◌, length}
 use Rattle.lrspec.specs.grammars.Grammar.{Grammar}
 use Rattle.lrspec.specs.grammars.ItemSets.{Items, IsContained}
 use Rattle.lrspec.specs.merging.Cores.{IsRooted}
@@ -22,6 +22,14 @@ IsKeptApartFrom g a (b ∷ bs) = (SameItems a b → IsKeptApart g a b) × IsKept
 abbrev pub IsChain : Grammar → List Items → Type 0
 IsChain g [] = Unit {0}
 IsChain g (a ∷ bs) = IsRooted g a × IsKeptApartFrom g a bs × IsChain g bs
+
+-- there is a chain of at least so many item sets
+abbrev pub HasChainOf : Grammar → ℕ → Type 0
+HasChainOf g n = (chain : List Items) × IsChain g chain × (n ≤ length chain)
+
+-- there is a chain of just so many item sets
+abbrev pub HasChainOfExactly : Grammar → ℕ → Type 0
+HasChainOfExactly g n = (chain : List Items) × IsChain g chain × (length chain ≡ n)
 
 -- why a graph can be too large for numbers up to `most`
 abbrev pub HasCauseOfSize : Grammar → ℕ → Type 0

@@ -82,11 +82,3 @@ HasTrees g = (r : ℕ) → r < length g.rule_names → (t : Tree) × IsTree g (R
 abbrev pub ShiftsBeginnings : Grammar → Table → Type 0
 ShiftsBeginnings g b =
     (n : ℕ) (text : List ℕ) → AreNamed g text → ShiftedBeginsSentence g text (run g b n text)
-
--- the machine accepts exactly the sentences, each in a step a token, a step a node of its tree and
--- one more, with the productions of that tree, which is its only one
-pub record Recognises (g : Grammar) (b : Table) : Type 0 where
-  pub never_stuck : IsNeverStuck g b
-  pub sound : IsSound g b
-  pub complete : IsComplete g b
-  pub one_tree : IsUnambiguous g

@@ -1,8 +1,9 @@
 use Rattle.lrspec.proofs.texts.ResultsPassedOn.{error_passed}
+use Rattle.lrspec.specs.tables.LrTables.{IsExactAnswer}
 use Rattle.lrspec.proofs.tables.ConflictsAreContested.{reductions_contested, shifts_contested, accept_uncontested}
-use Rattle.lrspec.proofs.tables.ExactWithoutPrecedences.{exact_table}
-use Rattle.lrtable.specs.Refusals.{IsBuildRefusal}
-use Rattle.lrtable.proofs.BuildRefusals.{refused_by_table}
+use Rattle.lrspec.proofs.tables.ExactWithoutPrecedences.{table_answer}
+use Rattle.lrtable.specs.Refusals.{IsBuildRefusal, IsExactError}
+use Rattle.lrtable.proofs.BuildRefusals.{refused_by_table, exact_error, exact_without_graph, error_answered}
 use Rattle.lrtable.proofs.from_yacc_counted.Goals as goal
 
 -- the graph has no table
@@ -14,49 +15,48 @@ returns-in_err-table-clause-refused g c =
     let built = c.in_ok-graph.ensures in
     error_passed (IsBuildRefusal number most grm) _ c.in_err-table.field-0.0 c.from_residual-in_err-table.ensures.1
     (refused_by_table number most grm c.in_ok-graph.graph c.in_ok-graph.counts.made c.in_err-table.field-0.0 c.tokens_len.ensures.shape
-    built.graph built.chain built.states c.in_err-table.ensures.refused)
+    built.merged.graph built.counts.chain built.counts.states c.in_err-table.ensures.refused)
 
-pub returns-clause-accepts : goal.returns-clause-accepts
-returns-clause-accepts g c =
-    accept_uncontested c.args.grm.now c.in_ok-graph.graph c.tokens_len.ensures.shape c.in_ok-graph.ensures.graph c.in_ok-table.ensures.table.no_contest
+pub returns-in_err-table-clause-headline : goal.returns-in_err-table-clause-headline
+returns-in_err-table-clause-headline g c =
+    let number = g.T.IndexStorage.number in
+    let most = g.T.IndexStorage.MAX in
+    let grm = c.args.grm.now in
+    let built = c.in_ok-graph.ensures in
+    error_answered _ (IsExactError grm) _ c.in_err-table.field-0.0 c.from_residual-in_err-table.ensures.1
+    (exact_error number most grm c.in_err-table.field-0.0
+    (refused_by_table number most grm c.in_ok-graph.graph c.in_ok-graph.counts.made c.in_err-table.field-0.0 c.tokens_len.ensures.shape
+    built.merged.graph built.counts.chain built.counts.states c.in_err-table.ensures.refused))
 
-pub returns-clause-reductions : goal.returns-clause-reductions
-returns-clause-reductions g c = reductions_contested c.args.grm.now c.in_ok-graph.graph c.in_ok-graph.ensures.graph c.in_ok-graph.ensures.shared
+pub returns-in_err-graph-clause-headline : goal.returns-in_err-graph-clause-headline
+returns-in_err-graph-clause-headline g c =
+    error_answered _ (IsExactError c.args.grm.now) _ c.in_err-graph.field-0.0 c.from_residual.ensures.1
+    (exact_without_graph _ c.args.grm.now c.in_err-graph.field-0.0 c.in_err-graph.ensures.refused)
 
-pub returns-clause-shifts : goal.returns-clause-shifts
-returns-clause-shifts g c = shifts_contested c.args.grm.now c.in_ok-graph.graph c.in_ok-graph.ensures.graph
+pub new-requires : goal.new-requires
+new-requires g c = record { graph = c.in_ok-graph.ensures.merged.graph }
 
-pub returns-clause-exact : goal.returns-clause-exact
-returns-clause-exact g c =
-    exact_table c.args.grm.now c.in_ok-graph.graph c.tokens_len.ensures.shape c.in_ok-graph.ensures.graph c.in_ok-graph.ensures.shared
-    c.in_ok-table.table c.in_ok-table.ensures.table
+pub returns-clause-built : goal.returns-clause-built
+returns-clause-built g c =
+    let grm = c.args.grm.now in
+    let graph = c.in_ok-graph.graph in
+    let merged = c.in_ok-graph.ensures.merged in
+    let made = c.in_ok-table.ensures in record {
+      merged = merged;
+      table = made.table;
+      table_for = record { graph = graph; graph_of = merged.graph; table_of = made.table };
+      reduces = made.reduces;
+      entries = made.entries;
+      accepts = accept_uncontested grm graph c.tokens_len.ensures.shape merged.graph made.table.no_contest;
+      reductions = reductions_contested grm graph merged.graph merged.shared;
+      shifts = shifts_contested grm graph merged.graph;
+    }
 
-pub returns-clause-graph : goal.returns-clause-graph
-returns-clause-graph g c = c.in_ok-graph.ensures.graph
+pub returns-clause-headline : goal.returns-clause-headline
+returns-clause-headline g c =
+    let merged = c.in_ok-graph.ensures.merged in
+    table_answer c.args.grm.now c.in_ok-graph.graph c.tokens_len.ensures.shape merged.graph merged.shared c.in_ok-table.table
+    c.in_ok-table.ensures.table
 
-pub returns-clause-shared : goal.returns-clause-shared
-returns-clause-shared g c = c.in_ok-graph.ensures.shared
-
-pub returns-clause-conflicts : goal.returns-clause-conflicts
-returns-clause-conflicts g c = c.in_ok-graph.ensures.conflicts
-
-pub returns-clause-crossing : goal.returns-clause-crossing
-returns-clause-crossing g c = c.in_ok-graph.ensures.crossing
-
-pub returns-clause-states : goal.returns-clause-states
-returns-clause-states g c = c.in_ok-graph.ensures.states
-
-pub returns-clause-made : goal.returns-clause-made
-returns-clause-made g c = c.in_ok-graph.ensures.made
-
-pub returns-clause-closed : goal.returns-clause-closed
-returns-clause-closed g c = c.in_ok-graph.ensures.closed
-
-pub returns-clause-closings : goal.returns-clause-closings
-returns-clause-closings g c = c.in_ok-graph.ensures.closings
-
-pub returns-clause-fits : goal.returns-clause-fits
-returns-clause-fits g c = c.in_ok-graph.ensures.fits
-
-pub returns-clause-chain : goal.returns-clause-chain
-returns-clause-chain g c = c.in_ok-graph.ensures.chain
+pub returns-clause-counts : goal.returns-clause-counts
+returns-clause-counts g c = c.in_ok-graph.ensures.counts

@@ -36,7 +36,8 @@ pub fn line_tokens<'a, T: IndexStorage>(
         (λ tokens. (first_unknown grm.now (words line.entry.now) ≡ None)
         × (text_of T.number tokens.items ≡ tokens_of grm.now (words line.entry.now)))
         (λ word. first_unknown grm.now (words line.entry.now) ≡ Some word.now)) }
-    ensures named { IfOk result (λ r. IfOk r (λ tokens. AreNamed grm.now (text_of T.number tokens.items))) }
+    ensures named { IfOk result (λ r. IfOk r (λ tokens.
+        AreNamed grm.now (text_of T.number tokens.items))) }
 {
     let mut tokens = Vec::new(grm.allocator());
     for word in Words::new(line) {

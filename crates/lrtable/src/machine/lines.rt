@@ -1,12 +1,9 @@
 //! Lines that the machine answers.
 
 ghost use Rattle.lrspec.specs.tables.Table.{IsTableFor};
-ghost use Rattle.lrspec.specs.texts.Devices.{ConsumesSome, AppendsBeginning, AppendsFirstAnswers, HasFailed, GaveTooMuch};
-ghost use Rattle.lrspec.specs.texts.Lines.{whole_lines, lines, answers_to, answer_text};
 ghost use Rattle.lrspec.specs.texts.MachineLines.{line_answer};
+ghost use Rattle.lrtable.specs.Answered.{AreAnswered, AreFaultsTold};
 ghost use Rattle.lrtable.specs.Labels.{AreLabels};
-ghost use Rattle.std.specs.Io.KnownBytes.{Appends, IsAtEnd};
-ghost use Rattle.std.specs.Prelude.{◌≡◌, ◌≢◌, ◌⊎◌, OnOk};
 
 use crate::machine::answers::{line_tokens, production_labels, push_outcome};
 use crate::machine::running::run;
@@ -74,26 +71,11 @@ pub fn run_lines<T: IndexStorage, R: LineRead, W: LineWrite>(
     steps: usize,
 ) -> Result<(), LineError>
     requires { IsTableFor grm.now table.now }
-    ensures end { OnOk result (IsAtEnd (R.left reader.new)) }
-    ensures ok { OnOk result (ConsumesSome (R.left reader.old) (R.left reader.new) (λ read.
-        Appends (W.written writer.old) (W.written writer.new)
-        (answer_text (line_answer grm.now table.now steps) read))) }
-    ensures read { result ≡ Err LineError.Read → ConsumesSome (R.left reader.old) (R.left reader.new) (λ read.
-        Appends (W.written writer.old) (W.written writer.new)
-        (answers_to (line_answer grm.now table.now steps) (whole_lines read))) }
-    ensures write { result ≡ Err LineError.Write → ConsumesSome (R.left reader.old) (R.left reader.new) (λ read.
-        AppendsBeginning (W.written writer.old) (W.written writer.new)
-        (answer_text (line_answer grm.now table.now steps) read)) }
-    ensures memory { result ≡ Err LineError.Memory → ConsumesSome (R.left reader.old) (R.left reader.new) (λ read.
-        AppendsFirstAnswers (W.written writer.old) (W.written writer.new)
-        (line_answer grm.now table.now steps) (lines read)) }
-
-    // When each error comes; a fault of a device is told.
-    ensures read_fault { result ≡ Err LineError.Read → HasFailed (R.failures reader.old) (R.failures reader.new)
-        ⊎ GaveTooMuch (R.left reader.old) (R.left reader.new) }
-    ensures write_fault { result ≡ Err LineError.Write → HasFailed (W.failures writer.old) (W.failures writer.new) }
-    ensures reader_counts { result ≢ Err LineError.Read → R.failures reader.new ≡ R.failures reader.old }
-    ensures writer_counts { result ≢ Err LineError.Write → W.failures writer.new ≡ W.failures writer.old }
+    ensures answered { AreAnswered (line_answer grm.now table.now steps) result
+        (R.left reader.old) (R.left reader.new) (W.written writer.old) (W.written writer.new) }
+    ensures faults { AreFaultsTold result (R.left reader.old) (R.left reader.new)
+        (R.failures reader.old) (R.failures reader.new)
+        (W.failures writer.old) (W.failures writer.new) }
 {
     let answers = RunLines { grm, table, steps };
     answer_lines(alloc, reader, writer, &answers)

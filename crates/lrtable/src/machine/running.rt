@@ -5,8 +5,8 @@ ghost use Rattle.lrgrammar.specs.declared.idx.TIdx.{TIdx};
 ghost use Rattle.lrspec.specs.tables.Table.{IsTableFor, IsUncrowded};
 ghost use Rattle.lrspec.specs.tables.Machine as math;
 ghost use Rattle.lrspec.specs.tables.Machine.{Goes, reduce_by, start_config};
-ghost use Rattle.lrspec.specs.tables.Recognition.{AreNamed, HasTreeIfAccepted, IsAcceptedIfSentence, ShiftedBeginsSentence, ShiftsWhatIsTaken, IsNeverStuck, IsUnambiguous, HasTrees, Recognises};
-ghost use Rattle.lrspec.specs.tables.Exactness.{HasNoPrecedences, ListsNothing};
+ghost use Rattle.lrspec.specs.tables.Recognition.{AreNamed, HasTreeIfAccepted, IsAcceptedIfSentence, ShiftedBeginsSentence, ShiftsWhatIsTaken, IsNeverStuck, IsUnambiguous, HasTrees};
+ghost use Rattle.lrspec.specs.tables.LrTables.{HasNoPrecedences, ListsNothing, Recognises};
 ghost use Rattle.lrtable.specs.RunAnswers.{text_of, answer_of};
 ghost use Rattle.lrtable.specs.WorkingMachine.{stack_of, config_of, Tells};
 ghost use Rattle.lrtable.specs.Reached.{IsReached, CanReduce};
@@ -69,7 +69,8 @@ impl<T: IndexStorage> Machine<T> {
         table: &StateTable<T>,
         pidx: PIdx<T>,
     ) -> Result<(), AllocError>
-        requires { CanReduce grm.now table.now (T.number pidx.0) (stack_of T.number self.old.stack.items) }
+        requires { CanReduce grm.now table.now (T.number pidx.0)
+            (stack_of T.number self.old.stack.items) }
         ensures { IfOk result (λ _. (text : List (TIdx T)) →
             reduce_by grm.now table.now (T.number pidx.0) (config_of T.number self.old text)
             ≡ Goes (config_of T.number self.new text)) }

@@ -4,8 +4,8 @@ use Rattle.lrcommand.proofs.answers.closed_text.Goals as goal
 
 pub returns-clause-text : goal.returns-clause-text
 returns-clause-text c =
-    let built = c.in_ok-graph.ensures in
+    let built = c.in_ok-graph.ensures.built in
     let text = c.in_ok-pp_closed_states in
     closed_printed c.args.grm.now c.in_ok-graph.graph (string_bytes text.field-0) (string_bytes c.in_ok-ended.field-0)
-    (record { graph = built.graph; shared = built.shared; crossing = built.crossing; order = text.ensures.order }) built.accepts
+    (record { merged = built.merged; order = text.ensures.order }) built.accepts
     text.ensures.text c.in_ok-ended.ensures

@@ -2,7 +2,7 @@ use Rattle.std.proofs.Common.{rules, ◌≡◌, true, false, Option, None, Some,
 use Rattle.std.specs.Option.{MatchOption, is_some}
 use denote.Enum.Bare.{same_true, sameb}
 use Rattle.lrspec.specs.tables.Machine as math
-use Rattle.lrspec.specs.tables.Exactness.{HasNoPrecedences, ListsNothing}
+use Rattle.lrspec.specs.tables.LrTables.{HasNoPrecedences, ListsNothing}
 use Rattle.lrspec.proofs.tables.NoPrecedences.{no_precedences}
 use Rattle.lrtable.specs.contracts.machine.outcome.Verdict.{the_type}
 use Rattle.lrtable.specs.declared.machine.outcome.Verdict.{Verdict}
@@ -46,7 +46,7 @@ returns-then-has_precedences-clause-seen g c plain uncontested s l =
           absurd ((no_precedences c.args.grm.now).0 plain (c.has_precedences.ensures.0 w.if-has_precedences.true))
       | then-has_precedences-via-else-has_precedences+then-is_some w ↦
           absurd (at_some w.conflicts.result _ _ (sym w.is_some.ensures ∙ w.if-is_some.true) w.conflicts.ensures.none
-          ((c.in_ok-_graph.ensures.exact plain).1 uncontested))
+          ((c.in_ok-_graph.ensures.headline.exact plain).1 uncontested))
     ]
 
 pub returns-clause-seen : goal.returns-clause-seen

@@ -1,6 +1,6 @@
 use Rattle.std.proofs.Common.{◌≡◌, false, Option, None, Some, sym, ◌∙◌}
 use Rattle.std.specs.Option.{MatchOption, is_some}
-use Rattle.lrspec.specs.tables.Exactness.{HasNoPrecedences, ListsNothing}
+use Rattle.lrspec.specs.tables.LrTables.{HasNoPrecedences, ListsNothing}
 use Rattle.lrspec.proofs.tables.NoPrecedences.{no_precedences}
 use Rattle.lrspec.proofs.tables.ExactWithoutPrecedences.{recognises_without_precedences}
 use Rattle.lrfindings.proofs.verdicts.checked.Goals as goal
@@ -15,4 +15,4 @@ returns-clause-unambiguous g c told =
     let grm = c.args.grm.now in
     let plain : HasNoPrecedences grm = (no_precedences grm).1 (λ some. let k = c.has_precedences.ensures.1 some in cc) in
     let nothing : ListsNothing c.in_ok-graph.table = at_none c.conflicts.result _ _ (sym c.is_some.ensures ∙ c.if-is_some.false) c.conflicts.ensures.none in
-    (recognises_without_precedences grm c.in_ok-graph.graph c.allocator.ensures.shape c.in_ok-graph.ensures.graph plain c.in_ok-graph.table c.in_ok-graph.ensures.table nothing).one_tree
+    (recognises_without_precedences grm c.in_ok-graph.graph c.allocator.ensures.shape c.in_ok-graph.ensures.built.merged.graph plain c.in_ok-graph.table c.in_ok-graph.ensures.built.table nothing).one_tree

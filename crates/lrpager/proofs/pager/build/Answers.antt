@@ -1,4 +1,4 @@
-use Rattle.std.proofs.Common.{arith}
+use Rattle.std.proofs.Common.{◌≡◌, length, arith}
 use Rattle.lrpager.proofs.Beginnings.{begins_length, begins_holds, begins_gotos, begins_unclosed, one_symbol}
 use Rattle.lrpager.proofs.CollectedStates.{collected_shared, collected_crosses, collected_no_more}
 use Rattle.lrpager.proofs.CollectedGraph.{collected_graph, collected_invents_no_conflict}
@@ -32,40 +32,31 @@ collect-requires-clause-below g c = λ k u x e. (c.in_ok-closings.ensures.holds.
 pub collect-requires-clause-one_symbol : goal.collect-requires-clause-one_symbol
 collect-requires-clause-one_symbol g c = one_symbol c.in_ok-closings.ensures.holds
 
-pub returns-clause-graph : goal.returns-clause-graph
-returns-clause-graph g c =
+pub returns-clause-merged : goal.returns-clause-merged
+returns-clause-merged g c =
+    let shape = c.in_ok-firsts.ensures.shape in
     let e = c.in_ok-closings.ensures in
-    let (marks, marked, collected) = c.in_ok-graph.ensures.collected in
-    collected_graph c.in_ok-firsts.ensures.shape e.holds e.closed e.gotos marked collected
+    let (marks, marked, collected) = c.in_ok-graph.ensures.collected in record {
+      graph = collected_graph shape e.holds e.closed e.gotos marked collected;
+      shared = collected_shared e.holds marked collected;
+      conflicts = collected_invents_no_conflict shape e.holds e.closed e.gotos marked collected;
+      crossing = collected_crosses e.holds marked collected;
+    }
 
-pub returns-clause-shared : goal.returns-clause-shared
-returns-clause-shared g c =
-    let (marks, marked, collected) = c.in_ok-graph.ensures.collected in collected_shared c.in_ok-closings.ensures.holds marked collected
-
-pub returns-clause-conflicts : goal.returns-clause-conflicts
-returns-clause-conflicts g c =
+pub returns-clause-counts : goal.returns-clause-counts
+returns-clause-counts g c =
     let e = c.in_ok-closings.ensures in
-    let (marks, marked, collected) = c.in_ok-graph.ensures.collected in
-    collected_invents_no_conflict c.in_ok-firsts.ensures.shape e.holds e.closed e.gotos marked collected
-
-pub returns-clause-crossing : goal.returns-clause-crossing
-returns-clause-crossing g c =
-    let (marks, marked, collected) = c.in_ok-graph.ensures.collected in collected_crosses c.in_ok-closings.ensures.holds marked collected
-
-pub returns-clause-states : goal.returns-clause-states
-returns-clause-states g c =
     let (marks, marked, collected) = c.in_ok-graph.ensures.collected in
     let most = collected_no_more marked collected in
-    omega (arith, most)
-
-pub returns-clause-chain : goal.returns-clause-chain
-returns-clause-chain g c =
-    let made = chain_of_states c.construct.new.drafts.items c.in_ok-closings.ensures.holds.chain in
-    (made.0, made.1, omega (arith, made.2))
-
-pub returns-clause-fits : goal.returns-clause-fits
-returns-clause-fits g c =
-    closings_bound_fits g.T.IndexStorage.MAX c.args.grm.now c.tokens_len-sizes.ensures.sizes g.met.T.IndexStorage.most
+    let made = chain_of_states c.construct.new.drafts.items e.holds.chain in
+    let same : c.len-made.result ≡ length c.construct.new.drafts.items = omega arith in record {
+      states = omega (arith, most);
+      made = omega (arith, e.most);
+      closed = omega (arith, e.made);
+      closings = rw same e.closings;
+      fits = closings_bound_fits g.T.IndexStorage.MAX c.args.grm.now c.tokens_len-sizes.ensures.sizes g.met.T.IndexStorage.most;
+      chain = (made.0, made.1, omega (arith, made.2));
+    }
 
 pub construct-requires-clause-of : goal.construct-requires-clause-of
 construct-requires-clause-of g c = c.in_ok-firsts.ensures

@@ -1,6 +1,6 @@
 use Rattle.std.proofs.Common.{◌≡◌, ℕ, ◌<◌, List, [], ◌∷◌, refl, length, arith, ap, inl, inr}
 use Rattle.lrspec.proofs.texts.ResultsPassedOn.{error_passed}
-use Rattle.lrplacing.specs.Chains.{HasChainOf}
+use Rattle.lrspec.specs.merging.Chains.{HasChainOf}
 use Rattle.lrplacing.specs.Refusals.{IsLargeOnly}
 use Rattle.lrplacing.specs.Construction as plain
 use Rattle.lrplacing.proofs.ClosedLater.{length_unless, core_unless, still_unclosed, placed_turn}

@@ -1,5 +1,5 @@
 use Rattle.std.proofs.Common.{map, sym, subst}
-use Rattle.lrspec.specs.tables.Exactness.{HasNoPrecedences}
+use Rattle.lrspec.specs.tables.LrTables.{HasNoPrecedences}
 use Rattle.lrspec.specs.texts.Parts.{grammar_of_parts}
 use Rattle.lrtext.specs.StoredParts.{parts_of, token_of}
 use Rattle.lrreasons.proofs.PlainTokens.{plain_parts, none_left}

@@ -3,7 +3,7 @@ use Rattle.std.proofs.Common.{◌≡◌, ℕ, take}
 use Rattle.lrspec.specs.tables.Table.{Reduce}
 use Rattle.lrspec.proofs.grammars.ListMembers.{Among}
 use Rattle.lrrows.specs.StoredActions.{action_numbered, actions_in}
-use Rattle.lrrows.specs.StoredLists.{numbers_of}
+use Rattle.lrgrammar.specs.StoredGrammar.{numbers_of}
 use Rattle.lrrows.proofs.ReducedRows.{AreFound}
 use Rattle.lrrows.proofs.rows.reduced.Given as goal
 

@@ -2,7 +2,7 @@ use Rattle.std.proofs.Common.{◌∷◌, ◌++◌, [], map, reverse, ap, ◌∙�
 use Rattle.lrspec.specs.grammars.Grammar.{body_of}
 use Rattle.lrtree.specs.Walks.{Remains, tree_visits_back}
 use Rattle.lrtree.specs.StoredWalks.{node_of}
-use Rattle.lrtree.specs.TreesOf.{numbers_of}
+use Rattle.lrgrammar.specs.StoredGrammar.{numbers_of}
 use Rattle.lrtree.proofs.WalkSteps.{walk_starts, there_of}
 use Rattle.lrtree.proofs.walks.Walk.new.Goals as goal
 

@@ -1,13 +1,11 @@
 -- the start item alone
-use Rattle.std.proofs.Common.{◌≡◌, ℕ, zero, suc, ◌<◌, Bool, true, false, ◌&&◌, List, [], None, Some, length, refl, sym, ap, ◌∙◌, ◌⊎◌, inl, inr, ⊎_elim, arith, replicate, length-set}
+use Rattle.std.proofs.Common.{◌≡◌, ℕ, zero, suc, ◌<◌, Bool, true, false, ◌&&◌, List, [], ◌∷◌, None, Some, length, refl, sym, ap, ◌∙◌, ◌⊎◌, inl, inr, ⊎_elim, arith, replicate, length-set}
 use Rattle.std.specs.Prelude.{◌==◌, IsTrue, ◌↔◌, slice_set, slice_index_or}
 use Rattle.std.proofs.lemmas.List.{length-replicate}
 use Rattle.std.proofs.lemmas.Bool.Decides.{nat_tests}
 use Rattle.lrspec.specs.grammars.Grammar.{Grammar, IsGrammar, token_count, end_token}
 use Rattle.lrspec.specs.grammars.StartState.{IsStartCore}
 use Rattle.lrspec.specs.grammars.ItemSets.{Items, item_at, HasItem, LooksIn, Fits}
-use Rattle.lrspec.specs.merging.WeakCompatibility.{Apart}
-use Rattle.lritems.specs.ItemsOf.{joined}
 
 both_parts : (a b : Bool) → (a && b) ≡ true → (a ≡ true) × (b ≡ true)
 both_parts true b h = (refl, h)
@@ -43,6 +41,13 @@ set_bit (suc n) (suc l) below = set_bit n l (omega (arith, below))
 
 one_bit : (n l t : ℕ) → l < n → IsTrue (slice_index_or (slice_set (replicate n false) l true) t false) ↔ (t ≡ l)
 one_bit n l t below = (only_bit n l t, λ e. rw e (set_bit n l below))
+
+-- of one item, that one alone is there
+item_of_one : (k : ℕ) (v : List Bool) → item_at (((k, 0), v) ∷ []) k 0 ≡ Some v
+item_of_one k v = grind (arith, nat_tests, item_at)
+
+none_of_one : (k : ℕ) (v : List Bool) (p e : ℕ) → (k ≡ p → 0 ≡ e → ⊥) → item_at (((k, 0), v) ∷ []) p e ≡ None
+none_of_one k v p e x = grind (arith, nat_tests, item_at)
 
 module _
     (g : Grammar) (b : Items) (v : List Bool) (here : item_at b g.start_production 0 ≡ Some v)
@@ -89,18 +94,22 @@ module _
           bits = ap length same ∙ ap length bits ∙ length-set (replicate (token_count g) false) (end_token g) true ∙ length-replicate (token_count g) false;
         }
 
--- what is added to no items is a start core, and fits the grammar
-pub added_start :
-    (g : Grammar) (a b : Items) (k d l n : ℕ) (zeros v : List Bool) → IsGrammar g → a ≡ []
+-- the start item, looking at the end token alone, is a start core, which fits the grammar
+pub one_start :
+    (g : Grammar) (a : Items) (k d l n : ℕ) (zeros v : List Bool) → IsGrammar g → a ≡ ((k, d), v) ∷ []
     → k ≡ g.start_production → d ≡ 0 → l ≡ end_token g → n ≡ token_count g → zeros ≡ replicate n false → v ≡ slice_set zeros l true
-    → item_at b k d ≡ Some (joined (item_at a k d) v) → ((p e : ℕ) → Apart k d p e → item_at b p e ≡ item_at a p e) → IsStartCore g b × Fits g b
-added_start g a b k d l n zeros v shape none is_start is_zero is_end is_count are_zeros set here others = (start_alone g b v at_start apart bits, start_fits g b v at_start apart bits shape)
+    → IsStartCore g a × Fits g a
+one_start g a k d l n zeros v shape one is_start is_zero is_end is_count are_zeros set =
+    (start_alone g a v at_start apart bits, start_fits g a v at_start apart bits shape)
   where
-    at_start : item_at b g.start_production 0 ≡ Some v
-    at_start = rw (← is_start, ← is_zero) (rw none at here)
+    literal : a ≡ ((g.start_production, 0), v) ∷ []
+    literal = rw (← is_start, ← is_zero) one
 
-    apart : (p e : ℕ) → (g.start_production ≡ p → 0 ≡ e → ⊥) → item_at b p e ≡ None
-    apart p e x = others p e (λ i j. x (sym is_start ∙ i) (sym is_zero ∙ j)) ∙ ap (λ z. item_at z p e) none
+    at_start : item_at a g.start_production 0 ≡ Some v
+    at_start = rw literal (item_of_one g.start_production v)
+
+    apart : (p e : ℕ) → (g.start_production ≡ p → 0 ≡ e → ⊥) → item_at a p e ≡ None
+    apart p e x = rw literal (none_of_one g.start_production v p e x)
 
     bits : v ≡ slice_set (replicate (token_count g) false) (end_token g) true
     bits =
