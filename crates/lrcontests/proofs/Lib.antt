@@ -6,6 +6,7 @@ pub mod NeedFacts
 pub mod ClosesInTurn
 pub mod StepsOfPlaces
 pub mod RowsInTurn
+pub mod UsesInTurn
 pub mod TrailsInTurn
 pub mod FingerprintsInTurn
 pub mod ReasonsOfPlaces

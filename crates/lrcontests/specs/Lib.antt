@@ -1,6 +1,7 @@
 -- the files of definitions
 pub mod Searches
 pub mod StoredPlaces
+pub mod StoredUses
 pub mod Rests
 pub mod Fingerprints
 pub mod StoredWays

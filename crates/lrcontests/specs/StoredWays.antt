@@ -10,6 +10,7 @@ use Rattle.lrgrammar.specs.declared.idx.Symbol.{Symbol}
 use Rattle.lrgrammar.specs.Symbols.{symbol_of}
 use Rattle.lrgrammar.specs.Firsts.{AreFirstsOf}
 use Rattle.lrcontests.specs.Fingerprints.{AreFingerprints}
+use Rattle.lrcontests.specs.StoredUses.{AreUses}
 use Rattle.lrcontests.specs.declared.ways.Ways.{Ways}
 
 -- edges that lead into a state: the symbol of each, and from where it leads
@@ -48,6 +49,7 @@ pub record AddsEdgesOf {T : Type 0} (number : T → ℕ) (h : Graph) (s : ℕ) (
 -- what all searches share is that of the grammar and its graph
 pub record AreWaysOf {T : Type 0} (number : T → ℕ) (g : Grammar) (h : Graph) (ways : Ways T) : Type 0 where
   pub firsts : AreFirstsOf g ways.firsts
+  pub uses : AreUses number g ways.uses.items
   pub incoming : AreIncoming number h ways.incoming.items
   pub distances : length ways.distances.items ≡ length h
   pub fingerprints : AreFingerprints h ways.fingerprints.items

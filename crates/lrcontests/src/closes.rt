@@ -8,12 +8,13 @@ ghost use Rattle.lritems.specs.ItemsOf.{set_of};
 ghost use Rattle.lrcontests.specs.Searches as search;
 ghost use Rattle.lrcontests.specs.Searches.{GoesBack, IsSettled, IsMetAtStart, IsLooking, AreClosesOf};
 ghost use Rattle.lrcontests.specs.StoredPlaces.{need_of, needs_of};
+ghost use Rattle.lrcontests.specs.StoredUses.{keys_of, HasUsesOfRule, AreUses};
 
 use crate::places::Need;
 use crate::rests::{Rest, rest_behind};
 use lrgrammar::firsts::YaccFirsts;
 use lrgrammar::grammar::YaccGrammar;
-use lrgrammar::idx::{IndexStorage, PIdx, SIdx, TIdx};
+use lrgrammar::idx::{IndexStorage, PIdx, RIdx, SIdx, TIdx};
 use lritems::itemset::Itemset;
 use std::alloc::AllocError;
 
@@ -90,9 +91,8 @@ pub(crate) fn moved_back<T: IndexStorage>(need: Need<T>) -> Option<Need<T>>
     }
 }
 
-/// What closes the need of the production's item at dot 0: nothing more is needed where an item before its rule goes on with
-/// the token; else that such an item looks at the token, where what comes behind the rule is nullable.
-pub(crate) fn closes<T: IndexStorage>(
+/// What closes the need of the production's item at dot 0, of all items of the closed state.
+fn closes_by_items<T: IndexStorage>(
     grm: &YaccGrammar<T>,
     firsts: &YaccFirsts<T>,
     closed: &Itemset<T>,
@@ -124,4 +124,72 @@ pub(crate) fn closes<T: IndexStorage>(
         }
     }
     Ok(needs)
+}
+
+/// The same, of those items of the row that the closed state has, where all that stand before the rule are in the row.
+fn closes_by_row<T: IndexStorage>(
+    grm: &YaccGrammar<T>,
+    firsts: &YaccFirsts<T>,
+    closed: &Itemset<T>,
+    row: &[(PIdx<T>, SIdx<T>)],
+    rule: RIdx<T>,
+    pidx: PIdx<T>,
+    token: TIdx<T>,
+) -> Result<Vec<Need<T>>, AllocError>
+    requires of { AreFirstsOf grm.now firsts.now }
+    requires fits { Fits grm.now (set_of T.number closed.now) }
+    requires rule { math.IsProductionOf grm.now (T.number pidx.0) (T.number rule.0) }
+    requires row { HasUsesOfRule grm.now (T.number rule.0) (keys_of T.number row.now) }
+    requires token { T.number token.0 < math.token_count grm.now }
+    ensures { IfOk result (λ v. AreClosesOf grm.now (set_of T.number closed.now)
+        (T.number token.0) (T.number pidx.0) (needs_of T.number v.items)) }
+{
+    let mut needs = Vec::new(grm.allocator());
+    for key in row {
+        let Some(ctx) = closed.items.get(key) else {
+            continue;
+        };
+        match rest_behind(grm, firsts, *key, rule, token) {
+            Rest::Begins => {
+                needs.clear();
+                needs.push(Need::Met)?;
+                return Ok(needs);
+            }
+            Rest::Nullable => {
+                if ctx.get(usize::from(token)) {
+                    needs.push(Need::Look(key.0, key.1))?;
+                }
+            }
+            Rest::Neither => {}
+        }
+    }
+    Ok(needs)
+}
+
+/// What closes the need of the production's item at dot 0: nothing more is needed where an item before its rule goes on with
+/// the token; else that such an item looks at the token, where what comes behind the rule is nullable. The items before each
+/// rule are looked at, or those of the closed state where these are fewer.
+pub(crate) fn closes<T: IndexStorage>(
+    grm: &YaccGrammar<T>,
+    firsts: &YaccFirsts<T>,
+    uses: &[Vec<(PIdx<T>, SIdx<T>)>],
+    closed: &Itemset<T>,
+    pidx: PIdx<T>,
+    token: TIdx<T>,
+) -> Result<Vec<Need<T>>, AllocError>
+    requires of { AreFirstsOf grm.now firsts.now }
+    requires uses { AreUses T.number grm.now uses.now }
+    requires fits { Fits grm.now (set_of T.number closed.now) }
+    requires production { T.number pidx.0 < length grm.now.productions }
+    requires token { T.number token.0 < math.token_count grm.now }
+    ensures { IfOk result (λ v. AreClosesOf grm.now (set_of T.number closed.now)
+        (T.number token.0) (T.number pidx.0) (needs_of T.number v.items)) }
+{
+    let rule = grm.prod_to_rule(pidx);
+    let row = uses[usize::from(rule)].as_slice();
+    if row.len() < closed.items.len() {
+        closes_by_row(grm, firsts, closed, row, rule, pidx, token)
+    } else {
+        closes_by_items(grm, firsts, closed, pidx, token)
+    }
 }

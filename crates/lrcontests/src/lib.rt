@@ -8,6 +8,7 @@ mod places;
 mod rests;
 mod search;
 mod steps;
+mod uses;
 mod ways;
 
 pub use crate::contests::Contests;

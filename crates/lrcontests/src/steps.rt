@@ -141,12 +141,13 @@ pub(crate) fn steps<T: IndexStorage>(
         (place_of T.number place.now) (steps_of T.number v.items)) }
 {
     let closed = graph.closed_state(place.state);
+    let uses = ways.uses.as_slice();
     if let Some(pidx) = closable(grm, place.first) {
-        let needs = closes(grm, &ways.firsts, closed, pidx, token)?;
+        let needs = closes(grm, &ways.firsts, uses, closed, pidx, token)?;
         return with_firsts(grm.allocator(), place, needs.as_slice());
     }
     if let Some(pidx) = closable(grm, place.second) {
-        let needs = closes(grm, &ways.firsts, closed, pidx, token)?;
+        let needs = closes(grm, &ways.firsts, uses, closed, pidx, token)?;
         return with_seconds(grm.allocator(), place, needs.as_slice());
     }
     let incoming = ways.incoming[usize::from(place.state)].as_slice();

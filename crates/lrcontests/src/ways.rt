@@ -8,19 +8,22 @@ ghost use Rattle.lrgraphs.specs.GraphOf.{edges_of};
 ghost use Rattle.lrcontests.specs.StoredWays.{AreIncoming, AreWaysOf, HasOneMore, KeepsOthers, AddsEdgesOf};
 
 use crate::fingerprints::fingerprints;
+use crate::uses::uses;
 use lrgrammar::firsts::YaccFirsts;
 use lrgrammar::grammar::YaccGrammar;
-use lrgrammar::idx::{IndexStorage, StIdx, Symbol};
+use lrgrammar::idx::{IndexStorage, PIdx, SIdx, StIdx, Symbol};
 use lrgraphs::stategraph::StateGraph;
 use std::alloc::{AllocError, Global};
 use std::collections::BTreeMap;
 
-/// What is made once of a grammar and its graph: its FIRST sets, the edges into each state, how far each state is from the start
-/// state, and what tells cores apart.
+/// What is made once of a grammar and its graph: its FIRST sets, the items before each rule, the edges into each state, how far
+/// each state is from the start state, and what tells cores apart.
 #[derive(Drop)]
 pub(crate) struct Ways<T: IndexStorage> {
     /// The FIRST sets.
     pub firsts: YaccFirsts<T>,
+    /// For each rule the items that stand before it, upwards.
+    pub uses: Vec<Vec<(PIdx<T>, SIdx<T>)>>,
     /// For each state the edges that lead into it: the symbol of each, and from where it leads.
     pub incoming: Vec<Vec<(Symbol<T>, StIdx<T>)>>,
     /// For each state the length of a shortest list that leads there.
@@ -37,6 +40,7 @@ impl<T: IndexStorage> Ways<T> {
     {
         Ok(Ways {
             firsts: grm.firsts()?,
+            uses: uses(grm)?,
             incoming: incoming(grm, graph)?,
             distances: distances(grm, graph)?,
             fingerprints: fingerprints(grm, graph)?,

@@ -7,7 +7,7 @@ use crate::layers::Layer;
 use crate::numbers::{Hash, Numbers};
 use crate::shared::Shared;
 use crate::states::Way;
-use lrgrammar::idx::{RIdx, TIdx};
+use lrgrammar::idx::{RIdx, Symbol, TIdx};
 use std::alloc::{AllocError, Global};
 use std::cmp::Reverse;
 use std::collections::BinaryHeap;
@@ -197,10 +197,10 @@ impl<'a> Around<'a> {
         let Some(state) = self.way.states.get(open.opening.place) else {
             return Ok(());
         };
-        let states = &self.shared.states;
         let rule = open.opening.rule;
-        for caller in states.callers(*state, rule) {
-            if let Some(item) = states.uses(rule).get(caller.place) {
+        let uses = self.shared.rules.uses(Symbol::Rule(rule));
+        for caller in self.shared.states.callers(*state, rule) {
+            if let Some(item) = uses.get(caller.place) {
                 self.cross(number, open, *item)?;
             }
         }

@@ -1,12 +1,16 @@
 //! Which tokens begin the texts of rules, and least texts that begin with a token.
 
+use crate::behind::BodyCosts;
 use crate::costs::Cost;
+use crate::items::Item;
 use crate::rules::Rules;
-use crate::texts::{MOST_MOVES, Texts};
+use crate::texts::MOST_MOVES;
 use lrgrammar::grammar::YaccGrammar;
 use lrgrammar::idx::{IndexStorage, PIdx, RIdx, Symbol, TIdx};
 use lrgrammar::vob::Vob;
 use std::alloc::{AllocError, Global};
+use std::cmp::Reverse;
+use std::collections::{BTreeMap, BinaryHeap};
 
 /// For each rule the tokens that begin its bodies, and whether it derives nothing.
 #[derive(Drop)]
@@ -89,119 +93,81 @@ pub(crate) struct Beginning {
     pub(crate) place: usize,
 }
 
-/// What is known of the end of a body.
-#[derive(Clone, Copy)]
-struct Suffix {
-    /// What its least text costs.
-    cost: Option<Cost>,
-    /// What its least text costs that begins with the token, and at which place of the body the token comes.
-    begun: Option<(Cost, usize)>,
-}
-
 /// A least text of each rule that has one which begins with a token.
 #[derive(Drop)]
 pub(crate) struct Beginnings {
     token: TIdx<u32>,
-    of_rules: Vec<Option<Beginning>>,
+    of_rules: BTreeMap<RIdx<u32>, Beginning>,
+}
+
+/// The search for least texts that begin with a token, the lesser ones first.
+#[derive(Drop)]
+struct Search<'a> {
+    rules: &'a Rules,
+    body_costs: &'a BodyCosts,
+    beginnings: Beginnings,
+    /// Items whose bodies have texts in which the token comes with the symbol behind the dot, by what a text of each costs.
+    queue: BinaryHeap<Reverse<(Cost, Item)>>,
+}
+
+impl Search<'_> {
+    /// Puts the items before a symbol into the queue whose bodies have such a text, where that of the symbol costs this.
+    fn add_uses(&mut self, symbol: Symbol<u32>, cost: Cost) -> Result<(), AllocError> {
+        for item in self.rules.uses(symbol) {
+            if let Some(cost) = self.body_costs.with(*item, cost) {
+                let cost = cost.and(Cost::NODE);
+                if cost.moves() <= MOST_MOVES {
+                    self.queue.push(Reverse((cost, *item)))?;
+                }
+            }
+        }
+        Ok(())
+    }
+
+    /// Keeps a text of the item's rule, unless there is a lesser one, which came before.
+    fn put(&mut self, cost: Cost, item: Item) -> Result<(), AllocError> {
+        let Some(rule) = self.rules.rule(item.production) else {
+            return Ok(());
+        };
+        if self.beginnings.of(rule).is_some() {
+            return Ok(());
+        }
+        let beginning = Beginning {
+            cost,
+            production: item.production,
+            place: item.dot(),
+        };
+        self.beginnings.of_rules.insert(rule, beginning)?;
+        self.add_uses(Symbol::Rule(rule), cost)
+    }
 }
 
 impl Beginnings {
     /// Those of the rules of a grammar.
-    pub(crate) fn new(
+    pub(crate) fn new<'a>(
         alloc: Global,
-        rules: &Rules,
-        firsts: &Firsts,
-        texts: &Texts,
+        rules: &'a Rules,
+        body_costs: &'a BodyCosts,
         token: TIdx<u32>,
     ) -> Result<Beginnings, AllocError> {
-        let mut beginnings = Beginnings {
-            token,
-            of_rules: Vec::from_elem(alloc, None, rules.len())?,
-        };
-        let begun = begun_rules(alloc, rules, firsts, token)?;
-        // no rule stands below itself in the tree of a least text
-        for _ in 0..=rules.len() {
-            if !beginnings.improve(rules, texts, begun.as_slice()) {
-                break;
-            }
-        }
-        Ok(beginnings)
-    }
-
-    /// Looks for a lesser text of each of the rules, and says whether there was one.
-    fn improve(&mut self, rules: &Rules, texts: &Texts, begun: &[RIdx<u32>]) -> bool {
-        let mut has_changed = false;
-        for rule in begun {
-            has_changed = self.improve_rule(rules, texts, *rule) || has_changed;
-        }
-        has_changed
-    }
-
-    /// Looks for a lesser text of a rule, and says whether there was one.
-    fn improve_rule(&mut self, rules: &Rules, texts: &Texts, rule: RIdx<u32>) -> bool {
-        let mut has_changed = false;
-        for production in rules.productions(rule) {
-            if let Some((cost, place)) = self.begun(texts, rules.body(*production)) {
-                let beginning = Beginning {
-                    cost: cost.and(Cost::NODE),
-                    production: *production,
-                    place,
-                };
-                has_changed = self.put(rule, beginning) || has_changed;
-            }
-        }
-        has_changed
-    }
-
-    /// Keeps a text of a rule if it is less than the one before, and says whether it is.
-    fn put(&mut self, rule: RIdx<u32>, beginning: Beginning) -> bool {
-        let is_less = match self.of(rule) {
-            Some(least) => beginning.cost < least.cost,
-            None => beginning.cost.moves() <= MOST_MOVES,
-        };
-        if is_less {
-            if let Some(place) = self.of_rules.get_mut(usize::from(rule)) {
-                *place = Some(beginning);
-            }
-        }
-        is_less
-    }
-
-    /// What a least text of a body costs that begins with the token, and at which place the token comes.
-    fn begun(&self, texts: &Texts, body: &[Symbol<u32>]) -> Option<(Cost, usize)> {
-        let mut suffix = Suffix {
-            cost: Some(Cost::default()),
-            begun: None,
-        };
-        let mut place = body.len();
-        for symbol in body.iter().rev() {
-            place = place.saturating_sub(1);
-            suffix = self.longer(texts, suffix, *symbol, place);
-        }
-        suffix.begun
-    }
-
-    /// The end of a body with the symbol before it, which stands at the place.
-    fn longer(&self, texts: &Texts, suffix: Suffix, symbol: Symbol<u32>, place: usize) -> Suffix {
-        let cost = texts.cost(symbol);
-        let here = match both(self.cost(symbol), suffix.cost) {
-            Some(cost) => Some((cost, place)),
-            None => None,
-        };
-        let later = match (suffix.begun, cost) {
-            (Some((later, place)), Some(nothing)) if nothing.tokens == 0 => {
-                Some((later.and(nothing), place))
-            }
-            _ => None,
-        };
-        Suffix {
-            cost: both(cost, suffix.cost),
-            begun: match (here, later) {
-                (Some(here), Some(later)) if later.0 < here.0 => Some(later),
-                (Some(here), _) => Some(here),
-                (None, later) => later,
+        let mut search = Search {
+            rules,
+            body_costs,
+            beginnings: Beginnings {
+                token,
+                of_rules: BTreeMap::new(alloc),
             },
+            queue: BinaryHeap::new(alloc),
+        };
+        search.add_uses(Symbol::Token(token), Cost::TOKEN)?;
+        // each item comes into the queue once at most
+        for _ in 0..rules.symbols_len() {
+            let Some(Reverse((cost, item))) = search.queue.pop() else {
+                break;
+            };
+            search.put(cost, item)?;
         }
+        Ok(search.beginnings)
     }
 
     /// What a least text of the symbol costs that begins with the token.
@@ -215,32 +181,6 @@ impl Beginnings {
 
     /// A least text of the rule that begins with the token.
     pub(crate) fn of(&self, rule: RIdx<u32>) -> Option<Beginning> {
-        self.of_rules.get(usize::from(rule)).copied().flatten()
+        self.of_rules.get(&rule).copied()
     }
-}
-
-/// What two texts cost one after the other.
-fn both(first: Option<Cost>, second: Option<Cost>) -> Option<Cost> {
-    match (first, second) {
-        (Some(first), Some(second)) => Some(first.and(second)),
-        _ => None,
-    }
-}
-
-/// The rules that begin with the token.
-fn begun_rules(
-    alloc: Global,
-    rules: &Rules,
-    firsts: &Firsts,
-    token: TIdx<u32>,
-) -> Result<Vec<RIdx<u32>>, AllocError> {
-    let mut begun = Vec::new(alloc);
-    for number in 0..rules.len() {
-        if let Ok(number) = u32::try_from(number) {
-            if firsts.begins(Symbol::Rule(RIdx(number)), token) {
-                begun.push(RIdx(number))?;
-            }
-        }
-    }
-    Ok(begun)
 }

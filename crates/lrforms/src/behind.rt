@@ -39,16 +39,31 @@ impl BodyCosts {
         Ok(BodyCosts { of_productions })
     }
 
-    /// What a least text of the symbols behind the one behind the dot costs.
-    pub(crate) fn behind(&self, item: Item) -> Cost {
-        let Some(costs) = self.of_productions.get(usize::from(item.production)) else {
+    /// What a least text of the end of a body costs from a place on.
+    fn from(&self, production: PIdx<u32>, place: usize) -> Cost {
+        let Some(costs) = self.of_productions.get(usize::from(production)) else {
             return Cost::default();
         };
-        let left = costs.len().saturating_sub(item.dot()).saturating_sub(1);
-        match left.checked_sub(1) {
+        match costs.len().saturating_sub(place).checked_sub(1) {
             Some(place) => costs.get(place).copied().unwrap_or_default(),
             None => Cost::default(),
         }
+    }
+
+    /// What a least text of the symbols behind the one behind the dot costs.
+    pub(crate) fn behind(&self, item: Item) -> Cost {
+        self.from(item.production, item.dot().saturating_add(1))
+    }
+
+    /// What a text of the body costs in which the symbol behind the dot has a text that costs this, and those before the dot
+    /// derive nothing; None where they don't.
+    pub(crate) fn with(&self, item: Item, cost: Cost) -> Option<Cost> {
+        let whole = self.from(item.production, 0);
+        let before = whole.without(self.from(item.production, item.dot()));
+        if before.tokens > 0 {
+            return None;
+        }
+        Some(before.and(cost).and(self.behind(item)))
     }
 }
 

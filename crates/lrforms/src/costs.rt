@@ -28,6 +28,14 @@ impl Cost {
         }
     }
 
+    /// That of what is left of the text without a part that costs this.
+    pub(crate) fn without(self, part: Cost) -> Cost {
+        Cost {
+            tokens: self.tokens.saturating_sub(part.tokens),
+            reductions: self.reductions.saturating_sub(part.reductions),
+        }
+    }
+
     /// How many moves read the text.
     pub(crate) fn moves(self) -> usize {
         self.tokens.saturating_add(self.reductions)

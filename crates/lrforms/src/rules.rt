@@ -3,7 +3,7 @@
 use crate::items::Item;
 use lrambiguity::Move;
 use lrgrammar::grammar::YaccGrammar;
-use lrgrammar::idx::{IndexStorage, PIdx, RIdx, Symbol, TIdx};
+use lrgrammar::idx::{IndexStorage, PIdx, RIdx, SIdx, Symbol, TIdx};
 use std::alloc::{AllocError, Global};
 
 /// A production.
@@ -18,6 +18,11 @@ struct Production {
 pub(crate) struct Rules {
     productions: Vec<Production>,
     of_rules: Vec<Vec<PIdx<u32>>>,
+    /// For each rule, and for each token, the items that stand before it, upwards.
+    before_rules: Vec<Vec<Item>>,
+    before_tokens: Vec<Vec<Item>>,
+    /// How many symbols all bodies have.
+    symbols: usize,
     /// The start production.
     pub(crate) start: PIdx<u32>,
     /// The end token.
@@ -45,6 +50,14 @@ pub(crate) fn plain_move<T: IndexStorage>(step: Move<T>) -> Move<u32> {
     }
 }
 
+/// Adds an item to the list at a place, if there is one.
+fn push_at(lists: &mut Vec<Vec<Item>>, place: usize, item: Item) -> Result<(), AllocError> {
+    if let Some(items) = lists.get_mut(place) {
+        items.push(item)?;
+    }
+    Ok(())
+}
+
 impl Rules {
     /// Those of a grammar.
     pub(crate) fn new<T: IndexStorage>(
@@ -54,11 +67,17 @@ impl Rules {
         let mut rules = Rules {
             productions: Vec::new(alloc),
             of_rules: Vec::new(alloc),
+            before_rules: Vec::new(alloc),
+            before_tokens: Vec::new(alloc),
+            symbols: 0,
             start: PIdx(number_of(grm.start_prod().0)),
             end: TIdx(number_of(grm.eof_token_idx().0)),
         };
         let count = usize::from(grm.rules_len());
         rules.of_rules.resize_with(count, || Vec::new(alloc))?;
+        rules.before_rules.resize_with(count, || Vec::new(alloc))?;
+        let count = usize::from(grm.tokens_len());
+        rules.before_tokens.resize_with(count, || Vec::new(alloc))?;
         for number in 0..usize::from(grm.prods_len()) {
             if let Some(number) = T::from_usize(number) {
                 rules.add_production(alloc, grm, PIdx(number))?;
@@ -85,8 +104,48 @@ impl Rules {
         if let Some(productions) = self.of_rules.get_mut(usize::from(rule)) {
             productions.push(PIdx(number_of(production.0)))?;
         }
+        self.add_uses(PIdx(number_of(production.0)), body.as_slice())?;
         self.productions.push(Production { rule, body })?;
         Ok(())
+    }
+
+    /// Adds the items of the production, which has this body, to those that stand before symbols.
+    fn add_uses(&mut self, production: PIdx<u32>, body: &[Symbol<u32>]) -> Result<(), AllocError> {
+        for (place, symbol) in body.iter().enumerate() {
+            if let Ok(dot) = u32::try_from(place) {
+                let item = Item {
+                    production,
+                    dot: SIdx(dot),
+                };
+                match *symbol {
+                    Symbol::Rule(rule) => push_at(&mut self.before_rules, usize::from(rule), item)?,
+                    Symbol::Token(token) => push_at(
+                        &mut self.before_tokens,
+                        usize::from(token),
+                        item,
+                    )?,
+                }
+            }
+        }
+        self.symbols = self.symbols.saturating_add(body.len());
+        Ok(())
+    }
+
+    /// All items that stand before the symbol, upwards.
+    pub(crate) fn uses(&self, symbol: Symbol<u32>) -> &[Item] {
+        let uses = match symbol {
+            Symbol::Rule(rule) => self.before_rules.get(usize::from(rule)),
+            Symbol::Token(token) => self.before_tokens.get(usize::from(token)),
+        };
+        match uses {
+            Some(items) => items.as_slice(),
+            None => &[],
+        }
+    }
+
+    /// How many symbols all bodies have.
+    pub(crate) fn symbols_len(&self) -> usize {
+        self.symbols
     }
 
     /// The number of rules.

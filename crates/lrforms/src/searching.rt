@@ -14,7 +14,7 @@ use crate::sentences::sentence_of;
 use crate::shared::Shared;
 use crate::states::START;
 use crate::statesets::{Closing, StateSet};
-use lrgrammar::idx::{PIdx, RIdx, SIdx, Symbol};
+use lrgrammar::idx::{PIdx, RIdx, SIdx, Symbol, TIdx};
 use std::alloc::{AllocError, Global};
 
 /// What a step costs that makes a body of a rule where both trees have that rule next.
@@ -191,8 +191,28 @@ impl<'a> Searching<'a> {
             cost = NEEDLESS;
         }
         let spent = node.spent.saturating_add(cost);
-        self.expand(number, node, Side::First, first, spent)?;
-        self.expand(number, node, Side::Second, second, spent)
+        self.expand(number, node, Side::First, first, second, spent)?;
+        self.expand(number, node, Side::Second, second, first, spent)
+    }
+
+    /// The token with which what one tree yields next has to begin, if not with nothing, where the other tree has this symbol
+    /// next: that of the conflict, or that symbol.
+    fn wanted(&self, node: &Node, opposite: Symbol<u32>) -> Option<TIdx<u32>> {
+        if !node.place.has_begun {
+            return Some(self.conflict.token);
+        }
+        match opposite {
+            Symbol::Token(token) => Some(token),
+            Symbol::Rule(_) => None,
+        }
+    }
+
+    /// Whether the body of the production begins with another token than this.
+    fn begins_otherwise(&self, production: PIdx<u32>, wanted: TIdx<u32>) -> bool {
+        match self.shared.rules.body(production).first() {
+            Some(Symbol::Token(token)) => *token != wanted,
+            _ => false,
+        }
     }
 
     /// Both trees yield the symbol that both have next.
@@ -216,20 +236,26 @@ impl<'a> Searching<'a> {
         self.add(met, Step::Meet, number, node.spent)
     }
 
-    /// The rule that one tree has next becomes the body of each of its productions.
+    /// The rule that one tree has next becomes the body of each of its productions. The other tree has the opposite symbol.
     fn expand(
         &mut self,
         number: u32,
         node: &Node,
         side: Side,
         symbol: Symbol<u32>,
+        opposite: Symbol<u32>,
         spent: u32,
     ) -> Result<(), AllocError> {
         let Symbol::Rule(rule) = symbol else {
             return Ok(());
         };
+        let wanted = self.wanted(node, opposite);
         for production in self.shared.rules.productions(rule) {
-            self.expand_by(number, node, side, *production, spent)?;
+            if wanted.is_some_and(|wanted| self.begins_otherwise(*production, wanted)) {
+                self.count_try();
+            } else {
+                self.expand_by(number, node, side, *production, spent)?;
+            }
         }
         Ok(())
     }
@@ -331,10 +357,15 @@ impl<'a> Searching<'a> {
         self.add(place, Step::Close(side), number, node.spent)
     }
 
-    /// Makes a node unless it leads nowhere or its place was come to before.
-    fn add(&mut self, place: Place, step: Step, from: u32, spent: u32) -> Result<(), AllocError> {
+    /// Counts a node that is tried.
+    fn count_try(&mut self) {
         self.is_out = self.is_out || self.tries == 0;
         self.tries = self.tries.saturating_sub(1);
+    }
+
+    /// Makes a node unless it leads nowhere or its place was come to before.
+    fn add(&mut self, place: Place, step: Step, from: u32, spent: u32) -> Result<(), AllocError> {
+        self.count_try();
         let hash = place.hash();
         if self.is_out || self.scratch.is_seen(hash, &place) || !self.is_open(&place) {
             return Ok(());

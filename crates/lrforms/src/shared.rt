@@ -57,7 +57,7 @@ impl Shared {
             return Ok(Some(beginnings));
         }
         let alloc = *self.beginnings.allocator();
-        let made = Beginnings::new(alloc, &self.rules, &self.firsts, &self.texts, token)?;
+        let made = Beginnings::new(alloc, &self.rules, &self.body_costs, token)?;
         let _ = cell.set(made);
         Ok(cell.get())
     }

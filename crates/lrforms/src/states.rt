@@ -1,9 +1,8 @@
 //! What is asked of a state graph.
 
 use crate::graphs::State;
-use crate::items::Item;
 use crate::rules::Rules;
-use lrgrammar::idx::{PIdx, RIdx, SIdx, StIdx, Symbol};
+use lrgrammar::idx::{RIdx, StIdx, Symbol};
 use std::alloc::{AllocError, Global};
 use std::collections::BTreeMap;
 
@@ -37,8 +36,6 @@ pub(crate) struct Way {
 pub(crate) struct States {
     /// For each state the states upwards from which an edge leads to it.
     before: Vec<Vec<StIdx<u32>>>,
-    /// For each rule the items that stand before it, upwards.
-    uses: Vec<Vec<Item>>,
     /// For each state its items before rules, upwards by rule.
     callers: Vec<Vec<Caller>>,
     /// How shortest ways come to the states; none leads to the start state.
@@ -54,7 +51,6 @@ impl States {
     pub(crate) fn new(alloc: Global, rules: &Rules, graph: &[State]) -> Result<States, AllocError> {
         let mut states = States {
             before: Vec::new(alloc),
-            uses: uses_of_rules(alloc, rules)?,
             callers: Vec::new(alloc),
             arrivals: Vec::from_elem(alloc, None, graph.len())?,
             cores: Vec::new(alloc),
@@ -87,7 +83,7 @@ impl States {
         let mut callers = Vec::new(*self.callers.allocator());
         for item in &state.before_rules {
             if let Some(Symbol::Rule(rule)) = rules.symbol(*item) {
-                if let Ok(place) = self.uses(rule).binary_search(item) {
+                if let Ok(place) = rules.uses(Symbol::Rule(rule)).binary_search(item) {
                     callers.push(Caller { rule, place })?;
                 }
             }
@@ -202,14 +198,6 @@ impl States {
         }
     }
 
-    /// All items that stand before the rule, upwards.
-    pub(crate) fn uses(&self, rule: RIdx<u32>) -> &[Item] {
-        match self.uses.get(usize::from(rule)) {
-            Some(items) => items.as_slice(),
-            None => &[],
-        }
-    }
-
     /// The items of the state that stand before the rule, upwards.
     pub(crate) fn callers(&self, state: StIdx<u32>, rule: RIdx<u32>) -> &[Caller] {
         let Some(callers) = self.callers.get(usize::from(state)) else {
@@ -234,35 +222,4 @@ impl States {
             None => &[],
         }
     }
-}
-
-/// For each rule the items that stand before it, upwards.
-fn uses_of_rules(alloc: Global, rules: &Rules) -> Result<Vec<Vec<Item>>, AllocError> {
-    let mut uses = Vec::new(alloc);
-    uses.resize_with(rules.len(), || Vec::new(alloc))?;
-    for number in 0..rules.productions_len() {
-        if let Ok(number) = u32::try_from(number) {
-            add_uses(&mut uses, rules, PIdx(number))?;
-        }
-    }
-    Ok(uses)
-}
-
-/// Adds the items of a production that stand before rules.
-fn add_uses(
-    uses: &mut Vec<Vec<Item>>,
-    rules: &Rules,
-    production: PIdx<u32>,
-) -> Result<(), AllocError> {
-    for (place, symbol) in rules.body(production).iter().enumerate() {
-        if let (Symbol::Rule(rule), Ok(dot)) = (*symbol, u32::try_from(place)) {
-            if let Some(items) = uses.get_mut(usize::from(rule)) {
-                items.push(Item {
-                    production,
-                    dot: SIdx(dot),
-                })?;
-            }
-        }
-    }
-    Ok(())
 }

@@ -5,7 +5,7 @@ use crate::numbers::{Hash, Numbers};
 use crate::rests::{Rest, Rests};
 use crate::shared::Shared;
 use crate::states::States;
-use lrgrammar::idx::{RIdx, StIdx};
+use lrgrammar::idx::{RIdx, StIdx, Symbol};
 use std::alloc::{AllocError, Global};
 use std::ops::Range;
 
@@ -169,12 +169,13 @@ impl StateSets {
             return Ok(span);
         }
         let start = self.closings.len();
+        let uses = shared.rules.uses(Symbol::Rule(rule));
         for (place, having) in self
-            .having(&shared.states, set, rule)?
+            .having(&shared.states, uses.len(), set, rule)?
             .into_iter()
             .enumerate()
         {
-            let item = shared.states.uses(rule).get(place).copied();
+            let item = uses.get(place).copied();
             if let (Some(item), false) = (item, having.is_empty()) {
                 self.close(shared, rests, set, item, having)?;
             }
@@ -210,16 +211,17 @@ impl StateSets {
         Ok(())
     }
 
-    /// For each item before a rule the states of a set that have it, upwards.
+    /// For each item before a rule, of which there are so many, the states of a set that have it, upwards.
     fn having(
         &self,
         graph: &States,
+        count: usize,
         set: StateSet,
         rule: RIdx<u32>,
     ) -> Result<Vec<Vec<StIdx<u32>>>, AllocError> {
         let alloc = *self.sets.allocator();
         let mut having = Vec::new(alloc);
-        having.resize_with(graph.uses(rule).len(), || Vec::new(alloc))?;
+        having.resize_with(count, || Vec::new(alloc))?;
         for state in self.states(set) {
             for caller in graph.callers(*state, rule) {
                 if let Some(states) = having.get_mut(caller.place) {

@@ -4,6 +4,8 @@ use crate::costs::Cost;
 use crate::rules::Rules;
 use lrgrammar::idx::{PIdx, RIdx, Symbol};
 use std::alloc::{AllocError, Global};
+use std::cmp::Reverse;
+use std::collections::BinaryHeap;
 
 /// A text of a rule that takes more moves counts as none.
 pub(crate) const MOST_MOVES: usize = 100_000;
@@ -21,59 +23,98 @@ pub(crate) struct Texts {
     of_rules: Vec<Option<Text>>,
 }
 
+/// The search for least texts, the lesser ones first.
+#[derive(Drop)]
+struct Search<'a> {
+    rules: &'a Rules,
+    texts: Texts,
+    /// For each production how many symbols of its body have no text so far.
+    missing: Vec<usize>,
+    /// Productions whose symbols all have texts, by what a text of each costs.
+    queue: BinaryHeap<Reverse<(Cost, PIdx<u32>)>>,
+}
+
+impl<'a> Search<'a> {
+    /// Before the first text of a rule.
+    fn new(alloc: Global, rules: &'a Rules) -> Result<Search<'a>, AllocError> {
+        let mut search = Search {
+            rules,
+            texts: Texts {
+                of_rules: Vec::from_elem(alloc, None, rules.len())?,
+            },
+            missing: Vec::new(alloc),
+            queue: BinaryHeap::new(alloc),
+        };
+        for number in 0..rules.productions_len() {
+            if let Ok(number) = u32::try_from(number) {
+                search.add_production(PIdx(number))?;
+            }
+        }
+        Ok(search)
+    }
+
+    /// Adds the next production.
+    fn add_production(&mut self, production: PIdx<u32>) -> Result<(), AllocError> {
+        let body = self.rules.body(production).iter();
+        let missing = body
+            .filter(|symbol| matches!(symbol, Symbol::Rule(_)))
+            .count();
+        self.missing.push(missing)?;
+        if missing == 0 {
+            self.enqueue(production)?;
+        }
+        Ok(())
+    }
+
+    /// Puts a production into the queue, whose symbols all have texts.
+    fn enqueue(&mut self, production: PIdx<u32>) -> Result<(), AllocError> {
+        if let Some(cost) = self.texts.cost_of(self.rules.body(production)) {
+            let cost = cost.and(Cost::NODE);
+            if cost.moves() <= MOST_MOVES {
+                self.queue.push(Reverse((cost, production)))?;
+            }
+        }
+        Ok(())
+    }
+
+    /// Keeps a text of the production's rule, unless there is a lesser one, which came before.
+    fn put(&mut self, cost: Cost, production: PIdx<u32>) -> Result<(), AllocError> {
+        let Some(rule) = self.rules.rule(production) else {
+            return Ok(());
+        };
+        if let Some(place @ None) = self.texts.of_rules.get_mut(usize::from(rule)) {
+            *place = Some(Text { cost, production });
+            self.tell(rule)?;
+        }
+        Ok(())
+    }
+
+    /// Tells the productions in whose bodies a rule stands that it has a text.
+    fn tell(&mut self, rule: RIdx<u32>) -> Result<(), AllocError> {
+        for item in self.rules.uses(Symbol::Rule(rule)) {
+            if let Some(missing) = self.missing.get_mut(usize::from(item.production)) {
+                *missing = missing.saturating_sub(1);
+                if *missing == 0 {
+                    self.enqueue(item.production)?;
+                }
+            }
+        }
+        Ok(())
+    }
+}
+
 impl Texts {
     /// Those of the rules of a grammar.
     pub(crate) fn new(alloc: Global, rules: &Rules) -> Result<Texts, AllocError> {
-        let mut texts = Texts {
-            of_rules: Vec::from_elem(alloc, None, rules.len())?,
-        };
-        // no rule stands below itself in the tree of a least text
-        for _ in 0..=rules.len() {
-            if !texts.improve(rules) {
+        let mut search = Search::new(alloc, rules)?;
+        // each production comes into the queue once at most
+        for _ in 0..rules.productions_len() {
+            let Some(Reverse((cost, production))) = search.queue.pop() else {
                 break;
-            }
+            };
+            search.put(cost, production)?;
         }
-        Ok(texts)
-    }
-
-    /// Looks for a lesser text of each rule, and says whether there was one.
-    fn improve(&mut self, rules: &Rules) -> bool {
-        let mut has_changed = false;
-        for number in 0..rules.len() {
-            if let Ok(number) = u32::try_from(number) {
-                has_changed = self.improve_rule(rules, RIdx(number)) || has_changed;
-            }
-        }
-        has_changed
-    }
-
-    /// Looks for a lesser text of a rule, and says whether there was one.
-    fn improve_rule(&mut self, rules: &Rules, rule: RIdx<u32>) -> bool {
-        let mut has_changed = false;
-        for production in rules.productions(rule) {
-            if let Some(cost) = self.cost_of(rules.body(*production)) {
-                let text = Text {
-                    cost: cost.and(Cost::NODE),
-                    production: *production,
-                };
-                has_changed = self.put(rule, text) || has_changed;
-            }
-        }
-        has_changed
-    }
-
-    /// Keeps a text of a rule if it is less than the one before, and says whether it is.
-    fn put(&mut self, rule: RIdx<u32>, text: Text) -> bool {
-        let is_less = match self.text(rule) {
-            Some(least) => text.cost < least.cost,
-            None => text.cost.moves() <= MOST_MOVES,
-        };
-        if is_less {
-            if let Some(place) = self.of_rules.get_mut(usize::from(rule)) {
-                *place = Some(text);
-            }
-        }
-        is_less
+        Ok(search.texts)
     }
 
     /// The least text of a rule.

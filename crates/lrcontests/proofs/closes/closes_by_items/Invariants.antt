@@ -1,9 +1,10 @@
 -- the needs that are listed so far close that of the production
+use Rattle.lrspec.specs.grammars.ItemSets.{HasItem}
 use Rattle.lritems.specs.ItemsOf.{items_of}
 use Rattle.lrclosing.proofs.WalksOverItems.{FoundAll}
 use Rattle.lrcontests.specs.StoredPlaces.{needs_of}
 use Rattle.lrcontests.proofs.ClosesInTurn.{AreClosing}
-use Rattle.lrcontests.proofs.closes.closes.Given as goal
+use Rattle.lrcontests.proofs.closes.closes_by_items.Given as goal
 
 abbrev pub invariant-loop-key : goal.invariant-loop-key
 invariant-loop-key g l =
@@ -12,5 +13,5 @@ invariant-loop-key g l =
       found : FoundAll number l.closed.items.entries l.key-iterator;
       closing :
           AreClosing l.grm (items_of number l.closed.items.entries) (number l.token.0) (number l.rule.0) (number l.fn.pidx.0)
-          (needs_of number l.needs.items) (items_of number l.key-iterator);
+          (needs_of number l.needs.items) (λ q d. HasItem (items_of number l.key-iterator) q d);
     }
