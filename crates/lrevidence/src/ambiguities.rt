@@ -7,9 +7,12 @@ ghost use Rattle.lrambiguity.specs.StoredAmbiguities.{IsAmbiguity};
 ghost use Rattle.lrevidence.specs.Steps.{moves_by};
 ghost use Rattle.lrevidence.specs.Ambiguities.{HasTwoTrees};
 
+use crate::names::start_of;
 use crate::steps::{TwoTrees, steps_of};
+use lrgrammar::grammar::PartSymbol;
 use lrgrammar::idx::{IndexStorage, TIdx};
 use lrreasons::{Conflict, Form, ProvedAmbiguity, Reasons};
+use lryacc::FileGrammar;
 use std::alloc::{AllocError, Global};
 
 /// A text with two trees, which part at a conflict.
@@ -21,6 +24,23 @@ pub struct Ambiguity {
     pub trees: TwoTrees,
     /// Both trees of that part of it which has two, over symbols that need not be tokens.
     pub form: TwoTrees,
+}
+
+impl Ambiguity {
+    /// The start rule from which the text is derived, where the file has several.
+    pub fn start(&self, file: &FileGrammar) -> Option<PartSymbol> {
+        let first = self.tokens.first().copied();
+        start_of(file, first.map(PartSymbol::Token))
+    }
+
+    /// How many tokens of the file stand before the dot.
+    pub fn dot(&self, file: &FileGrammar) -> usize {
+        let dot = self.trees.dot();
+        match self.start(file) {
+            Some(_) => dot.saturating_sub(1),
+            None => dot,
+        }
+    }
 }
 
 /// The numbers of tokens.

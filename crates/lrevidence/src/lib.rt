@@ -14,7 +14,8 @@ pub use crate::ambiguities::Ambiguity;
 pub use crate::evidence::{Effort, Evidence, evidence_for, first_text};
 pub use crate::examples::{Example, Outlook};
 pub use crate::names::{
-    body_of, name_of_rule, names_of, names_of_tokens, rule_name, symbol_name, text_of, token_name,
+    body_of, list_of, name_of_rule, names_of, names_of_tokens, rule_name, start_of, symbol_name,
+    text_of, token_name,
 };
 pub use crate::steps::{Step, TwoTrees};
 pub use crate::trees::{Node, Tree, Visit};

@@ -70,8 +70,35 @@ pub fn name_of_rule(file: &FileGrammar, production: usize) -> &str {
     }
 }
 
-/// The tokens of a text but for the one that ends it, which stands in no text of the file.
-pub fn text_of(tokens: &[usize]) -> &[usize] {
+/// The start rule that has a token of its own, where there are several: the one that has this symbol.
+pub fn start_of(file: &FileGrammar, symbol: Option<PartSymbol>) -> Option<PartSymbol> {
+    for prod in &file.parts.prods {
+        if prod.rule != 0 {
+            return None;
+        }
+        if prod.symbols.len() == 3 && prod.symbols.first().copied() == symbol {
+            return prod.symbols.get(1).copied();
+        }
+    }
+    None
+}
+
+/// The symbols of a list that stand in the file: not the token of the start rule, which comes first where there are several.
+pub fn list_of<'a>(file: &FileGrammar, list: &'a [PartSymbol]) -> &'a [PartSymbol] {
+    match list.split_first() {
+        Some((first, behind)) if start_of(file, Some(*first)).is_some() => behind,
+        _ => list,
+    }
+}
+
+/// The tokens of a text that stand in the file: neither that of the start rule, which comes first where there are several, nor the
+/// one that ends the text.
+pub fn text_of<'a>(file: &FileGrammar, tokens: &'a [usize]) -> &'a [usize] {
+    let tokens = match tokens.split_first() {
+        Some((first, behind)) if start_of(file, Some(PartSymbol::Token(*first))).is_some() =>
+            behind,
+        _ => tokens,
+    };
     match tokens.split_last() {
         Some((0, text)) => text,
         _ => tokens,

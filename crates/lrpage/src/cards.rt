@@ -3,7 +3,7 @@
 use crate::escapes::push_name;
 use crate::pages::{Card, Page, push_count};
 use crate::symbols::DOT;
-use lrevidence::{Evidence, Example, Outlook, Step, text_of};
+use lrevidence::{Evidence, Example, Outlook, Step, list_of, start_of, text_of};
 use lrfindings::Entry;
 use lrgrammar::idx::IndexStorage;
 use std::alloc::AllocError;
@@ -67,7 +67,7 @@ impl<T: IndexStorage> Page<'_, T> {
         page.push_str("<p>")?;
         self.push_candidate(page, entry, step)?;
         page.push_str(", and go on:</p>\n<p class=\"text\">")?;
-        let tokens = text_of(rest.as_slice());
+        let tokens = text_of(self.file, rest.as_slice());
         if tokens.is_empty() {
             page.push_str("<span class=\"soft\">the end</span>")?;
         } else {
@@ -86,10 +86,11 @@ impl<T: IndexStorage> Page<'_, T> {
         let steps = self.steps;
         write!(
             page,
-            "<p>No text with two trees was found in {steps} steps. Both are possible after</p>\n"
+            "<p>No text with two trees was found in {steps} steps. Both are possible"
         )?;
-        page.push_str("<p class=\"text\">")?;
-        for symbol in &example.list {
+        self.push_start(page, start_of(self.file, example.list.first().copied()))?;
+        page.push_str(" after</p>\n<p class=\"text\">")?;
+        for symbol in list_of(self.file, example.list.as_slice()) {
             self.push_symbol(page, *symbol)?;
             page.push(' ')?;
         }

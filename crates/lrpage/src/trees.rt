@@ -4,6 +4,7 @@ use crate::pages::Page;
 use crate::symbols::DOT;
 use lrevidence::{Ambiguity, Step, TwoTrees, text_of};
 use lrfindings::Entry;
+use lrgrammar::grammar::PartSymbol;
 use lrgrammar::idx::IndexStorage;
 use std::alloc::AllocError;
 
@@ -119,6 +120,19 @@ impl<T: IndexStorage> Page<'_, T> {
         page.push_str("</div>\n")
     }
 
+    /// Adds from which start rule a text is derived, where the file has several.
+    pub(crate) fn push_start(
+        &self,
+        page: &mut String,
+        start: Option<PartSymbol>,
+    ) -> Result<(), AllocError> {
+        if let Some(rule) = start {
+            page.push_str(" from ")?;
+            self.push_symbol(page, rule)?;
+        }
+        Ok(())
+    }
+
     /// Adds a text with two trees, and both trees of the part of it in which they differ.
     pub(crate) fn push_ambiguity(
         &self,
@@ -126,9 +140,11 @@ impl<T: IndexStorage> Page<'_, T> {
         entry: &Entry,
         ambiguity: &Ambiguity,
     ) -> Result<(), AllocError> {
-        page.push_str("<p>This text has two trees (proved):</p>\n<p class=\"text\">")?;
-        let tokens = text_of(ambiguity.tokens.as_slice());
-        self.push_tokens(page, tokens, ambiguity.trees.dot())?;
+        page.push_str("<p>This text")?;
+        self.push_start(page, ambiguity.start(self.file))?;
+        page.push_str(" has two trees (proved):</p>\n<p class=\"text\">")?;
+        let tokens = text_of(self.file, ambiguity.tokens.as_slice());
+        self.push_tokens(page, tokens, ambiguity.dot(self.file))?;
         page.push_str("</p>\n<p>They differ in this part of it:</p>\n")?;
         self.push_trees(page, entry, &ambiguity.form)
     }

@@ -3,7 +3,9 @@
 use crate::conflicts::Checked;
 use crate::objects::{AfterObject, AmbiguityObject, ItemObject, OutlookObject};
 use crate::trees::tree_value;
-use lrevidence::{Ambiguity, Evidence, Outlook, Step, Tree, names_of, names_of_tokens, text_of};
+use lrevidence::{
+    Ambiguity, Evidence, Outlook, Step, Tree, list_of, names_of, names_of_tokens, text_of,
+};
 use lrgrammar::idx::IndexStorage;
 use std::alloc::{AllocError, Global};
 
@@ -21,8 +23,12 @@ impl<'a, T: IndexStorage> Checked<'a, T> {
                 Some(Step::Reduce(production)) => self.rule_name(*production),
                 _ => "",
             },
-            text: names_of_tokens(alloc, self.file, text_of(ambiguity.tokens.as_slice()))?,
-            dot: ambiguity.trees.dot(),
+            text: names_of_tokens(
+                alloc,
+                self.file,
+                text_of(self.file, ambiguity.tokens.as_slice()),
+            )?,
+            dot: ambiguity.dot(self.file),
             trees: (
                 tree_value(alloc, self.file, alternatives, &one)?,
                 tree_value(alloc, self.file, alternatives, &other)?,
@@ -62,7 +68,11 @@ impl<'a, T: IndexStorage> Checked<'a, T> {
             })?;
         }
         let rest = match &outlook.rest {
-            Some(rest) => Some(names_of_tokens(alloc, self.file, text_of(rest.as_slice()))?),
+            Some(rest) => Some(names_of_tokens(
+                alloc,
+                self.file,
+                text_of(self.file, rest.as_slice()),
+            )?),
             None => None,
         };
         Ok(Some(OutlookObject { derivation, rest }))
@@ -78,10 +88,18 @@ impl<'a, T: IndexStorage> Checked<'a, T> {
             return Ok(None);
         };
         Ok(Some(AfterObject {
-            list: names_of(alloc, self.file, example.list.as_slice())?,
+            list: names_of(
+                alloc,
+                self.file,
+                list_of(self.file, example.list.as_slice()),
+            )?,
             token: self.token_name(example.token),
             input: match &example.input {
-                Some(input) => Some(names_of_tokens(alloc, self.file, input.as_slice())?),
+                Some(input) => Some(names_of_tokens(
+                    alloc,
+                    self.file,
+                    text_of(self.file, input.as_slice()),
+                )?),
                 None => None,
             },
             reduce: self.outlook_object(alloc, example.one.as_ref())?,

@@ -2,10 +2,11 @@
 
 use crate::conflicts::Checked;
 use crate::drawings::push_drawing;
-use crate::texts::{labels, list_words, shortened, text_words, tree_words};
+use crate::texts::{from_start, labels, list_words, shortened, text_words, tree_words};
 use lrdiagnostics::{Layout, Mark, comma_words, push_blanks};
 use lrevidence::{
-    Ambiguity, Evidence, Example, Outlook, Step, Tree, TwoTrees, names_of_tokens, text_of,
+    Ambiguity, Evidence, Example, Outlook, Step, Tree, TwoTrees, list_of, names_of_tokens,
+    start_of, text_of,
 };
 use lrfindings::Entry;
 use lrgrammar::idx::IndexStorage;
@@ -154,7 +155,10 @@ impl<T: IndexStorage> Checked<'_, T> {
         notes: Notes,
         ambiguity: &Ambiguity,
     ) -> Result<(), AllocError> {
-        notes.push_text(text, "ambiguous (proved): this text has two trees")?;
+        let alloc = *text.allocator();
+        let from = from_start(alloc, self.file, ambiguity.start(self.file))?;
+        let told = format!(in alloc; "ambiguous (proved): this text{from} has two trees")?;
+        notes.push_text(text, told.as_str())?;
         self.push_text_with_trees(text, notes, ambiguity)
     }
 
@@ -166,8 +170,7 @@ impl<T: IndexStorage> Checked<'_, T> {
         ambiguity: &Ambiguity,
     ) -> Result<(), AllocError> {
         let alloc = *text.allocator();
-        let (tokens, dot) = (ambiguity.tokens.as_slice(), ambiguity.trees.dot());
-        let words = text_words(alloc, self.file, tokens, dot)?;
+        let words = text_words(alloc, self.file, ambiguity)?;
         notes.push_shown(text, words.as_slice())?;
         self.push_trees(text, notes, &ambiguity.form)
     }
@@ -186,8 +189,7 @@ impl<T: IndexStorage> Checked<'_, T> {
         words.push(String::from_str(alloc, "also")?)?;
         words.push(String::from_str(alloc, "at")?)?;
         words.push(format!(in alloc; "{name}:")?)?;
-        let (tokens, dot) = (ambiguity.tokens.as_slice(), ambiguity.trees.dot());
-        for word in text_words(alloc, self.file, tokens, dot)? {
+        for word in text_words(alloc, self.file, ambiguity)? {
             words.push(word)?;
         }
         notes.push(text, words.as_slice())
@@ -269,7 +271,7 @@ impl<T: IndexStorage> Checked<'_, T> {
             return Ok(());
         };
         let alloc = *text.allocator();
-        let mut names = names_of_tokens(alloc, self.file, text_of(rest.as_slice()))?;
+        let mut names = names_of_tokens(alloc, self.file, text_of(self.file, rest.as_slice()))?;
         if names.is_empty() {
             names.push("the end")?;
         }
@@ -287,11 +289,14 @@ impl<T: IndexStorage> Checked<'_, T> {
     ) -> Result<(), AllocError> {
         let alloc = *text.allocator();
         let steps = self.options.steps;
+        let start = start_of(self.file, example.list.first().copied());
+        let from = from_start(alloc, self.file, start)?;
         let why = format!(in alloc;
-            "not known to be ambiguous ({steps} steps): both are possible after"
+            "not known to be ambiguous ({steps} steps): both are possible{from} after"
         )?;
         notes.push_text(text, why.as_str())?;
-        let words = list_words(alloc, self.file, example.list.as_slice(), example.token)?;
+        let list = list_of(self.file, example.list.as_slice());
+        let words = list_words(alloc, self.file, list, example.token)?;
         notes.push_shown(text, words.as_slice())?;
         let other = entry.other.map_or(Step::Shift, Step::Reduce);
         let candidates = (Step::Reduce(entry.production), other);

@@ -1,7 +1,8 @@
 //! Words of texts and of trees.
 
 use lrevidence::{
-    Node, Step, Tree, Visit, name_of_rule, names_of, symbol_name, text_of, token_name,
+    Ambiguity, Node, Step, Tree, Visit, name_of_rule, names_of, names_of_tokens, symbol_name,
+    text_of, token_name,
 };
 use lrgrammar::grammar::PartSymbol;
 use lryacc::FileGrammar;
@@ -47,18 +48,29 @@ pub(crate) fn shortened(alloc: Global, names: &[&str]) -> Result<Vec<String>, Al
     Ok(words)
 }
 
-/// The words of a text that stands in the file's language, with a dot behind so many of its tokens.
+/// The words of a text with two trees, with a dot where they part.
 pub(crate) fn text_words(
     alloc: Global,
     file: &FileGrammar,
-    tokens: &[usize],
-    dot: usize,
+    ambiguity: &Ambiguity,
 ) -> Result<Vec<String>, AllocError> {
-    let mut names = Vec::new(alloc);
-    for token in text_of(tokens) {
-        names.push(token_name(file, *token))?;
+    let names = names_of_tokens(alloc, file, text_of(file, ambiguity.tokens.as_slice()))?;
+    words_with_dot(alloc, names.as_slice(), ambiguity.dot(file))
+}
+
+/// From which start rule a text is derived, as words behind others; empty where the file has no several.
+pub(crate) fn from_start(
+    alloc: Global,
+    file: &FileGrammar,
+    start: Option<PartSymbol>,
+) -> Result<String, AllocError> {
+    match start {
+        Some(rule) => {
+            let name = symbol_name(file, rule);
+            format!(in alloc; " from {name}")
+        }
+        None => String::from_str(alloc, ""),
     }
-    words_with_dot(alloc, names.as_slice(), dot)
 }
 
 /// The words of a list of symbols with a dot behind it, and then a token.
