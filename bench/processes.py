@@ -33,10 +33,11 @@ def grammar_files(names):
 
 def counterexamples(source, most, folder):
     """What Bison says of a grammar file in that folder, in so many seconds at the most: for how many of its reports it has an
-    ambiguous sentence, how many reports there are, its seconds, whether it was ended, and its first lines where it fails."""
+    ambiguous sentence, how many reports there are, its seconds, whether it was ended, and its first lines where it fails before
+    its first report: behind reports its status also tells that `%expect` is not met."""
     words = ["timeout", str(most), "bison", "-Wnone", "-Wcounterexamples", "-o", "made.c", source]
     status, seconds = called(words, folder / "told", cwd=folder, env={**os.environ, "LC_ALL": "C"})
     lines = (folder / "told").read_text(errors="replace").splitlines()
     shown = sum(line.startswith("  Example: ") for line in lines)
     reports = sum("/reduce conflict on token" in line for line in lines)
-    return shown, reports, seconds, status == 124, [] if status in (0, 124) else lines[:5]
+    return shown, reports, seconds, status == 124, [] if reports or status in (0, 124) else lines[:5]
