@@ -11,7 +11,8 @@ pub data Folds (g : Grammar) : List Move → List Symbol → List Symbol → Typ
       {ms : List Move} {read stack : List Symbol} (x : Symbol) → Folds g ms read stack
       → Folds g (ms ++ Shift ∷ []) (read ++ x ∷ []) (stack ++ x ∷ [])
   reduce :
-      {ms : List Move} {read : List Symbol} (stack : List Symbol) (p r : ℕ) → Folds g ms read (stack ++ body_of g p)
+      {ms : List Move} {read : List Symbol} (stack : List Symbol) (p r : ℕ)
+      → Folds g ms read (stack ++ body_of g p)
       → IsProductionOf g p r
       → Folds g (ms ++ Reduce p ∷ []) read (stack ++ Rule r ∷ [])
 

@@ -9,6 +9,7 @@ pub data Nests (g : Grammar) : List (ℕ × ℕ) → List Symbol → Type 0 wher
       (d : ℕ) → d ≤ length (body_of g g.start_production)
       → Nests g ((g.start_production, d) ∷ []) (take d (body_of g g.start_production))
   inside :
-      (is : List (ℕ × ℕ)) {w : List Symbol} (p d q e r : ℕ) (y : List Symbol) → Nests g (is ++ (p, d) ∷ []) w
+      (is : List (ℕ × ℕ)) {w : List Symbol} (p d q e r : ℕ) (y : List Symbol)
+      → Nests g (is ++ (p, d) ∷ []) w
       → rest g p d ≡ Rule r ∷ y → IsProductionOf g q r → e ≤ length (body_of g q)
       → Nests g ((is ++ (p, d) ∷ []) ++ (q, e) ∷ []) (w ++ take e (body_of g q))

@@ -19,7 +19,8 @@ pub record Contend (g : Grammar) (h : Graph) (s t : ℕ) (one other : Move) : Ty
 -- both ways to read the text begin with the moves before, which put trees together whose roots are a
 -- list with the core of the state `s`; then the token `t` comes, and the one way goes on with the
 -- move `m`, and the other with `n`
-pub record PartAt (g : Grammar) (h : Graph) (s t : ℕ) (m n : Move) (text : List ℕ) (before one other : List Move) : Type 0 where
+pub record PartAt (g : Grammar) (h : Graph) (s t : ℕ) (m n : Move) (text : List ℕ)
+    (before one other : List Move) : Type 0 where
   pub used : ℕ
   pub roots : List Symbol
   pub trees : Forest

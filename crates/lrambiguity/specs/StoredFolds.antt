@@ -16,8 +16,10 @@ abbrev pub left_of : {T : Type 0} → (T → ℕ) → List (stored.Symbol T) →
 left_of number symbols f = drop f.used (map (symbol_of number) symbols)
 
 -- these moves have folded the others onto the stack
-abbrev pub HasFolded : {T : Type 0} → (T → ℕ) → Grammar → List (stored.Symbol T) → List Move → Fold T → Type 0
-HasFolded number g symbols ms f = Folds g ms (take f.used (map (symbol_of number) symbols)) (stack_of number f)
+abbrev pub HasFolded :
+    {T : Type 0} → (T → ℕ) → Grammar → List (stored.Symbol T) → List Move → Fold T → Type 0
+HasFolded number g symbols ms f =
+    Folds g ms (take f.used (map (symbol_of number) symbols)) (stack_of number f)
 
 -- from this stack on the moves read what is left, and make the goal of it
 abbrev pub Finishes : Grammar → List Symbol → List Move → List Symbol → List Symbol → Type 0
@@ -29,13 +31,18 @@ Finishes g goal (Reduce p ∷ ms) stack left =
     × Finishes g goal ms (front ++ Rule r ∷ []) left
 
 -- between the one and the other this move is made, and no other way is left
-pub record FoldsOn {T : Type 0} (number : T → ℕ) (g : Grammar) (symbols : List (stored.Symbol T)) (m : Move) (old new : Fold T) : Type 0 where
-  pub made : (ms : List Move) → HasFolded number g symbols ms old → HasFolded number g symbols (ms ++ m ∷ []) new
+pub record FoldsOn {T : Type 0} (number : T → ℕ) (g : Grammar)
+    (symbols : List (stored.Symbol T)) (m : Move) (old new : Fold T) : Type 0 where
+  pub made : (ms : List Move) → HasFolded number g symbols ms old
+      → HasFolded number g symbols (ms ++ m ∷ []) new
   pub only :
-      (goal : List Symbol) (ms : List Move) → Finishes g goal (m ∷ ms) (stack_of number old) (left_of number symbols old)
+      (goal : List Symbol) (ms : List Move)
+      → Finishes g goal (m ∷ ms) (stack_of number old) (left_of number symbols old)
       → Finishes g goal ms (stack_of number new) (left_of number symbols new)
 
 -- this move can't be made
-abbrev pub CannotFold : {T : Type 0} → (T → ℕ) → Grammar → List (stored.Symbol T) → Move → Fold T → Type 0
+abbrev pub CannotFold :
+    {T : Type 0} → (T → ℕ) → Grammar → List (stored.Symbol T) → Move → Fold T → Type 0
 CannotFold number g symbols m f =
-    (goal : List Symbol) (ms : List Move) → ¬ (Finishes g goal (m ∷ ms) (stack_of number f) (left_of number symbols f))
+    (goal : List Symbol) (ms : List Move)
+    → ¬ (Finishes g goal (m ∷ ms) (stack_of number f) (left_of number symbols f))

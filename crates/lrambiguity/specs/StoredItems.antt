@@ -13,7 +13,8 @@ items_of number is = map (λ i. (number i.0.0, number i.1.0)) is
 
 -- the item of production `p` at dot `d` is of the rule that stands first behind another's dot, and the list has the symbols
 -- before its dot and then `left`
-pub record Enters (g : Grammar) (behind : List Symbol) (p d : ℕ) (list left : List Symbol) : Type 0 where
+pub record Enters (g : Grammar) (behind : List Symbol) (p d : ℕ) (list left : List Symbol)
+    : Type 0 where
   pub rule : ℕ
   pub others : List Symbol
   pub is_rule : behind ≡ Rule rule ∷ others
@@ -27,14 +28,16 @@ IsFirstRule number None y = (r : ℕ) (z : List Symbol) → y ≢ Rule r ∷ z
 IsFirstRule number (Some r) y = (z : List Symbol) × (y ≡ Rule (number r.0) ∷ z)
 
 -- behind any dot with the wanted rule first the item may come, with so much of the list left, and this rule is behind its dot
-pub record GoesInto {T : Type 0} (number : T → ℕ) (g : Grammar) (wanted : Option (RIdx T)) (p d : ℕ) (list left : List (stored.Symbol T)) (inner : Option (RIdx T)) : Type 0 where
+pub record GoesInto {T : Type 0} (number : T → ℕ) (g : Grammar) (wanted : Option (RIdx T))
+    (p d : ℕ) (list left : List (stored.Symbol T)) (inner : Option (RIdx T)) : Type 0 where
   pub enters :
       (behind : List Symbol) → IsFirstRule number wanted behind
       → Enters g behind p d (map (symbol_of number) list) (map (symbol_of number) left)
   pub told : IsFirstRule number inner (rest g p d)
 
 -- behind none of these it may
-abbrev pub GoesNowhere : {T : Type 0} → (T → ℕ) → Grammar → Option (RIdx T) → ℕ → ℕ → List (stored.Symbol T) → Type 0
+abbrev pub GoesNowhere :
+    {T : Type 0} → (T → ℕ) → Grammar → Option (RIdx T) → ℕ → ℕ → List (stored.Symbol T) → Type 0
 GoesNowhere number g wanted p d list =
     (behind left : List Symbol) → IsFirstRule number wanted behind
     → ¬ (Enters g behind p d (map (symbol_of number) list) left)

@@ -18,15 +18,18 @@ AreRoots number g r = IsForest g (roots_of number r) (forest_of number r.trees.i
 
 -- these moves have put the trees together, of the tokens that are used
 abbrev pub HasMade : {T : Type 0} → (T → ℕ) → Grammar → List ℕ → List Move → Replay T → Type 0
-HasMade number g text ms r = Reads g ms (take r.used text) (roots_of number r) (forest_of number r.trees.items)
+HasMade number g text ms r =
+    Reads g ms (take r.used text) (roots_of number r) (forest_of number r.trees.items)
 
 -- some moves have
 abbrev pub HasMadeSome : {T : Type 0} → (T → ℕ) → Grammar → List ℕ → Replay T → Type 0
 HasMadeSome number g text r = (ms : List Move) × HasMade number g text ms r
 
 -- between the one and the other these moves are made
-abbrev pub Makes : {T : Type 0} → (T → ℕ) → Grammar → List ℕ → List Move → Replay T → Replay T → Type 0
-Makes number g text ns old new = (ms : List Move) → HasMade number g text ms old → HasMade number g text (ms ++ ns) new
+abbrev pub Makes :
+    {T : Type 0} → (T → ℕ) → Grammar → List ℕ → List Move → Replay T → Replay T → Type 0
+Makes number g text ns old new =
+    (ms : List Move) → HasMade number g text ms old → HasMade number g text (ms ++ ns) new
 
 -- no moves that go on with these put together a tree of the text
 abbrev pub LeadsNowhere : {T : Type 0} → (T → ℕ) → Grammar → List ℕ → List Move → Replay T → Type 0

@@ -35,4 +35,5 @@ pub record Packs (n : ℕ) (ws : List ℕ) : Type 0 where
 
 -- the set places from `base` up to `end`, where `word` stands for what is left of the word at `base`
 unfoldable pub places_left : List ℕ → ℕ → ℕ → ℕ → List ℕ
-places_left ws word base end = places base (bits_from (slice_set ws (base / 64) word) base (end - base))
+places_left ws word base end =
+    places base (bits_from (slice_set ws (base / 64) word) base (end - base))

@@ -224,7 +224,8 @@ fn same_words(words: &[u64], other: &[u64]) -> bool
 /// Whether some place is set in both.
 fn words_intersect(words: &[u64], other: &[u64]) -> bool
     requires { length other.now ≡ length words.now }
-    ensures { IsTrue result ↔ ((i : ℕ) × IsTrue (word_bit words.now i) × IsTrue (word_bit other.now i)) }
+    ensures { IsTrue result
+        ↔ ((i : ℕ) × IsTrue (word_bit words.now i) × IsTrue (word_bit other.now i)) }
 {
     for i in 0..words.len() {
         if words[i] & other[i] != 0 {
@@ -249,7 +250,8 @@ impl<'a> Model for IterSetBits<'a> {
 
     ghost view = { λ s. places_left s.words.now s.word s.base s.end };
 
-    ghost invariant = { λ s. (s.base ≤ s.end) × (s.base % 64 ≡ 0) × (s.end ≤ 64 * length s.words.now) };
+    ghost invariant = { λ s.
+        (s.base ≤ s.end) × (s.base % 64 ≡ 0) × (s.end ≤ 64 * length s.words.now) };
 }
 
 impl<'a> Iterator for IterSetBits<'a> {

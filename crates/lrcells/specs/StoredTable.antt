@@ -44,10 +44,13 @@ pub record AreGotos (most n : ℕ) (gotos : Matrix) : Type 0 where
   pub indexed : All (λ c. IfSome (goto_numbered c) (λ s. s ≤ most)) gotos.cells
 
 -- what is kept of the rows of a table: by which productions each reduces, and whether it does nothing else
-pub record AreKeptOfRows {T : Type 0} (number : T → ℕ) (b : Table) (prods : List (Vec (PIdx T) Global)) (alone : List Bool) : Type 0 where
+pub record AreKeptOfRows {T : Type 0} (number : T → ℕ) (b : Table)
+    (prods : List (Vec (PIdx T) Global)) (alone : List Bool) : Type 0 where
   pub count : length alone ≡ length prods
-  pub reduces : (s : ℕ) (d : Vec (PIdx T) Global) → s < length prods → AreReducedBy b s (numbers_of number (slice_index_or prods s d).items)
-  pub only : (s : ℕ) (d : Bool) → s < length prods → IsTrue (slice_index_or alone s d) ↔ ReducesOnly b s
+  pub reduces : (s : ℕ) (d : Vec (PIdx T) Global) → s < length prods
+      → AreReducedBy b s (numbers_of number (slice_index_or prods s d).items)
+  pub only : (s : ℕ) (d : Bool) → s < length prods
+      → IsTrue (slice_index_or alone s d) ↔ ReducesOnly b s
 
 -- conflicts are kept where there are any
 abbrev pub AreKept : Option Lists → Type 0

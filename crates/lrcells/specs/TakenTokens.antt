@@ -26,4 +26,5 @@ tokens_taken m row shifts_only at end =
 abbrev pub IsFirstTaken : Matrix → ℕ → Bool → ℕ → ℕ → Option ℕ → Type 0
 IsFirstTaken m row shifts_only at end first =
     MatchOption first (tokens_taken m row shifts_only at end ≡ [])
-    (λ t. (t < end) × (tokens_taken m row shifts_only at end ≡ t ∷ tokens_taken m row shifts_only (t + 1) end))
+    (λ t. (t < end) × (tokens_taken m row shifts_only at end
+    ≡ t ∷ tokens_taken m row shifts_only (t + 1) end))

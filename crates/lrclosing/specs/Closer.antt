@@ -28,7 +28,9 @@ pub record AreVisited
   pub rows : AreKeptRows g new
   pub len : length after ≡ length todo
   pub underway :
-      (a : Items) → IsUnderway g a (rows_of old) (λ q. IsRuleToDo g todo q ⊎ IsProductionOf g q r) []
+      (a : Items) → IsUnderway g a (rows_of old)
+      (λ q. IsRuleToDo g todo q ⊎ IsProductionOf g q r) []
       → IsUnderway g a (rows_of new) After []
   pub left :
-      visits_left (token_count g) (rows_of new) after ≤ visits_left (token_count g) (rows_of old) todo
+      visits_left (token_count g) (rows_of new) after ≤ visits_left (token_count g)
+      (rows_of old) todo

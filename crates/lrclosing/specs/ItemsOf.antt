@@ -20,5 +20,6 @@ abbrev pub HaveBits : ℕ → Items → Type 0
 HaveBits n a = (p d : ℕ) (v : List Bool) → item_at a p d ≡ Some v → length v ≡ n
 
 -- items whose lookaheads lie elsewhere, each by the numbers of its production and its dot
-abbrev pub listed_of : {T X : Type 0} → (T → ℕ) → List ((PIdx T × SIdx T) × Bor X) → List ((ℕ × ℕ) × X)
+abbrev pub listed_of :
+    {T X : Type 0} → (T → ℕ) → List ((PIdx T × SIdx T) × Bor X) → List ((ℕ × ℕ) × X)
 listed_of number es = map (λ e. ((number e.0.0.0, number e.0.1.0), e.1.now)) es

@@ -34,7 +34,8 @@ AreLeadsOf g a ls = AreLeadsAmong (λ q. IsProductionOf g q a) g a ls
 
 -- by rule, the leads of its productions
 abbrev pub AreLeadsByRule : Grammar → List (Vec Lead Global) → Type 0
-AreLeadsByRule g vs = (a : ℕ) (v : Vec Lead Global) → slice_get vs a ≡ Some v → AreLeadsOf g a v.items
+AreLeadsByRule g vs =
+    (a : ℕ) (v : Vec Lead Global) → slice_get vs a ≡ Some v → AreLeadsOf g a v.items
 
 -- the row of a rule, none where the rule isn't reached
 abbrev pub row_of : Row → Option (List Bool)

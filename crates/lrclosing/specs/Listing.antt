@@ -18,7 +18,8 @@ row_item q (Some v) = ((q, 0), v) ∷ []
 
 -- what the rows give to the productions of `from..end`, upwards
 abbrev pub row_items : Grammar → Rows → ℕ → ℕ → Items
-row_items g rows from end = flat_map (λ q. row_item q (row_at rows (rule_of g q))) (range_with_len from (end - from))
+row_items g rows from end =
+    flat_map (λ q. row_item q (row_at rows (rule_of g q))) (range_with_len from (end - from))
 
 -- the items with what the rows give to the productions from `from` on put between them
 abbrev pub listed_items : Grammar → Rows → ℕ → Items → Items

@@ -76,7 +76,8 @@ fn put_firsts<T: IndexStorage>(
     requires len { length row.old ≡ math.token_count grm.now }
     ensures put { ArePassedOn grm.now (math.rest grm.now (T.number pidx.0) from) None
         (Some row.old) row.new }
-    ensures nullable { IsTrue result ↔ AllNullable grm.now (math.rest grm.now (T.number pidx.0) from) }
+    ensures nullable { IsTrue result
+        ↔ AllNullable grm.now (math.rest grm.now (T.number pidx.0) from) }
 {
     for symbol in &grm.prod(pidx)[from..] {
         match symbol {
@@ -146,7 +147,8 @@ fn join_row(rows: &mut [Row], to: usize, from: usize) -> bool
         → length w.tokens ≡ length v.tokens }
     ensures joined { (v w : Row) → slice_get rows.old to ≡ Some v → slice_get rows.old from ≡ Some w
         → rows.new ≡ slice_set rows.old to (joined_row v w) }
-    ensures changed { (v w : Row) → slice_get rows.old to ≡ Some v → slice_get rows.old from ≡ Some w
+    ensures changed { (v w : Row) → slice_get rows.old to ≡ Some v
+        → slice_get rows.old from ≡ Some w
         → (IsTrue result ↔ (union v.tokens w.tokens ≢ v.tokens)) }
 {
     if to < from {
@@ -238,7 +240,8 @@ fn put_ahead<T: IndexStorage>(
 /// Sets in the row of the rule of a lead what the lead passes on to it from that of another rule, and says whether that
 /// changed it.
 fn put_lead(rows: &mut [Row], lead: &Lead, from: usize) -> bool
-    requires shape { (g : math.Grammar) × (q : ℕ) × IsLeadOf g from q lead.now × AreKeptRows g rows.old }
+    requires shape { (g : math.Grammar) × (q : ℕ) × IsLeadOf g from q lead.now
+        × AreKeptRows g rows.old }
     requires from { from < length rows.old }
     ensures { (g : math.Grammar) (q : ℕ) → IsLeadOf g from q lead.now → AreKeptRows g rows.old
         → IsPut g q from lead.now.rule result rows.old rows.new }

@@ -88,7 +88,8 @@ impl Closing {
         requires rule { T.number rule.0 < length grm.now.rule_names }
         requires rows { length self.old.rows.items ≡ length grm.now.rule_names }
         requires productions { length self.old.todo ≡ length grm.now.productions }
-        ensures row { self.new.rows.items ≡ slice_set self.old.rows.items (T.number rule.0) (Some row) }
+        ensures row { self.new.rows.items
+            ≡ slice_set self.old.rows.items (T.number rule.0) (Some row) }
         ensures todo { AreMarkedIf changed grm.now (T.number rule.0) self.old.todo self.new.todo }
     {
         self.rows[rule.0.to_usize()] = Some(row);

@@ -15,7 +15,8 @@ use std::alloc::AllocError;
 /// Adds lookaheads at dot 0 of a production.
 fn put<T: IndexStorage>(closed: &mut Items<T>, pidx: PIdx<T>, ahead: &Ctx) -> Result<(), AllocError>
     requires { HaveBits (length ahead.now) (items_of T.number closed.old.entries) }
-    ensures bits { OnOk result (HaveBits (length ahead.now) (items_of T.number closed.new.entries)) }
+    ensures bits { OnOk result
+        (HaveBits (length ahead.now) (items_of T.number closed.new.entries)) }
     ensures put { OnOk result (ArePut (λ q. q ≡ T.number pidx.0) ahead.now
         (items_of T.number closed.old.entries) (items_of T.number closed.new.entries)) }
 {
@@ -38,7 +39,8 @@ fn put_all<T: IndexStorage>(
 ) -> Result<(), AllocError>
     requires rule { T.number rule.0 < length grm.now.rule_names }
     requires bits { HaveBits (length ahead.now) (items_of T.number closed.old.entries) }
-    ensures bits { OnOk result (HaveBits (length ahead.now) (items_of T.number closed.new.entries)) }
+    ensures bits { OnOk result
+        (HaveBits (length ahead.now) (items_of T.number closed.new.entries)) }
     ensures put { OnOk result (ArePut (λ q. math.IsProductionOf grm.now q (T.number rule.0))
         ahead.now (items_of T.number closed.old.entries) (items_of T.number closed.new.entries)) }
 {
@@ -58,7 +60,8 @@ pub(crate) fn with_rows<T: IndexStorage>(
     requires rows { AreRows grm.now rows.now }
     ensures fits { IfOk result (λ s. Fits grm.now (items_of T.number s.entries)) }
     ensures rows { IfOk result (λ s.
-        AreWithRows grm.now rows.now (items_of T.number given.now.entries) (items_of T.number s.entries)) }
+        AreWithRows grm.now rows.now (items_of T.number given.now.entries)
+        (items_of T.number s.entries)) }
 {
     let mut closed = given.clone()?;
     for place in 0..grm.rules_len().0.to_usize() {

@@ -21,7 +21,8 @@ pub record IsShiftContest (g : Grammar) (h : Graph) (t p s : ℕ) (w : List Symb
 
 -- after the list, which has the core of the state `s`, to reduce by the production `p` and by `q`,
 -- which is another, on the token `t` are both candidates
-pub record IsReductionContest (g : Grammar) (h : Graph) (t p q s : ℕ) (w : List Symbol) : Type 0 where
+pub record IsReductionContest (g : Grammar) (h : Graph) (t p q s : ℕ) (w : List Symbol)
+    : Type 0 where
   pub differ : p ≢ q
   pub core : HasCoreAfter g w (core_of h s)
   pub first : IsCandidate g w t (Reduce p)

@@ -14,7 +14,8 @@ need_cmp cmp (Look p d) Met = Greater
 need_cmp cmp (Look p d) (Look q e) = ordering_then (cmp p.0 q.0) (cmp d.0 e.0)
 
 -- places by state, and then by their needs
-abbrev pub place_cmp : {T : Type 0} → (T → T → Ordering) → (Need T → Need T → Ordering) → Place T → Place T → Ordering
+abbrev pub place_cmp :
+    {T : Type 0} → (T → T → Ordering) → (Need T → Need T → Ordering) → Place T → Place T → Ordering
 place_cmp cmp needs a b =
     ordering_then (cmp a.state.0 b.state.0)
     (ordering_then (needs a.first b.first) (needs a.second b.second))

@@ -22,7 +22,8 @@ abbrev pub IsRowOf : Graph → ℕ → List (math.Symbol × ℕ) → Type 0
 IsRowOf h u es = (v : math.Symbol) (s : ℕ) → Contains es (v, s) ↔ (edge h s v ≡ Some u)
 
 -- for each state these are the edges that lead into it
-pub record AreIncoming {T : Type 0} (number : T → ℕ) (h : Graph) (lists : List (Vec (Symbol T × StIdx T) Global)) : Type 0 where
+pub record AreIncoming {T : Type 0} (number : T → ℕ) (h : Graph)
+    (lists : List (Vec (Symbol T × StIdx T) Global)) : Type 0 where
   pub states : length lists ≡ length h
   pub rows :
       (u : ℕ) (d : Vec (Symbol T × StIdx T) Global) → u < length h
@@ -31,7 +32,8 @@ pub record AreIncoming {T : Type 0} (number : T → ℕ) (h : Graph) (lists : Li
 -- the list of the state has the edge more, at its end
 abbrev pub HasOneMore : {X : Type 0} → List (Vec X Global) → List (Vec X Global) → ℕ → X → Type 0
 HasOneMore {X} old new state e =
-    (d : Vec X Global) → (slice_index_or new state d).items ≡ (slice_index_or old state d).items ++ e ∷ []
+    (d : Vec X Global) → (slice_index_or new state d).items
+    ≡ (slice_index_or old state d).items ++ e ∷ []
 
 -- the lists of all other states are the same
 abbrev pub KeepsOthers : {X : Type 0} → List (Vec X Global) → List (Vec X Global) → ℕ → Type 0
@@ -39,15 +41,18 @@ KeepsOthers {X} old new state =
     (k : ℕ) (d : Vec X Global) → k ≢ state → slice_index_or new k d ≡ slice_index_or old k d
 
 -- to the edges that lead into each state those of the state `s` are added
-pub record AddsEdgesOf {T : Type 0} (number : T → ℕ) (h : Graph) (s : ℕ) (old new : List (Vec (Symbol T × StIdx T) Global)) : Type 0 where
+pub record AddsEdgesOf {T : Type 0} (number : T → ℕ) (h : Graph) (s : ℕ)
+    (old new : List (Vec (Symbol T × StIdx T) Global)) : Type 0 where
   pub states : length new ≡ length old
   pub edges :
       (u : ℕ) (d : Vec (Symbol T × StIdx T) Global) (v : math.Symbol) (r : ℕ) → u < length h
       → Contains (row_of number (slice_index_or new u d).items) (v, r)
-      ↔ (Contains (row_of number (slice_index_or old u d).items) (v, r) ⊎ ((r ≡ s) × (edge h s v ≡ Some u)))
+      ↔ (Contains (row_of number (slice_index_or old u d).items) (v, r)
+      ⊎ ((r ≡ s) × (edge h s v ≡ Some u)))
 
 -- what all searches share is that of the grammar and its graph
-pub record AreWaysOf {T : Type 0} (number : T → ℕ) (g : Grammar) (h : Graph) (ways : Ways T) : Type 0 where
+pub record AreWaysOf {T : Type 0} (number : T → ℕ) (g : Grammar) (h : Graph) (ways : Ways T)
+    : Type 0 where
   pub firsts : AreFirstsOf g ways.firsts
   pub uses : AreUses number g ways.uses.items
   pub incoming : AreIncoming number h ways.incoming.items

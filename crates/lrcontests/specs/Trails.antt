@@ -39,7 +39,8 @@ HasOrigin g h t places vs i v (Some j) =
     (j < i) × (u : Visit) × (slice_get vs j ≡ Some u) × Steps g h t u.place v.symbol v.place
 
 -- each visit has an origin, and what is needed there looks at the token
-pub record AreVisits (g : Grammar) (h : Graph) (t : ℕ) (places : List Place) (vs : List Visit) : Type 0 where
+pub record AreVisits (g : Grammar) (h : Graph) (t : ℕ) (places : List Place) (vs : List Visit)
+    : Type 0 where
   pub origins :
       (i : ℕ) (v : Visit) → slice_get vs i ≡ Some v → HasOrigin g h t places vs i v v.from
   pub looking : (i : ℕ) (v : Visit) → slice_get vs i ≡ Some v → AreLooking h t v.place
@@ -54,7 +55,8 @@ abbrev pub WasSeen : List Visit → ℕ → Need → Need → Type 0
 WasSeen vs s x y = IsVisited vs (record { state = s; first = x; second = y })
 
 -- a visit more, where its place was not come to: it waits, and nothing else changes
-pub record Adds (vs : List Visit) (ws : List ℕ) (v : Visit) (us : List Visit) (zs : List ℕ) : Type 0 where
+pub record Adds (vs : List Visit) (ws : List ℕ) (v : Visit) (us : List Visit) (zs : List ℕ)
+    : Type 0 where
   pub kept : (i : ℕ) (u : Visit) → slice_get vs i ≡ Some u → slice_get us i ≡ Some u
   pub here : IsVisited us v.place
   pub only :

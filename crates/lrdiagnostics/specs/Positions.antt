@@ -18,7 +18,8 @@ line_of text at = count_by is_feed (take at text) + 1
 pub record AreFeeds (text : List ℕ) (at : ℕ) (places : List ℕ) : Type 0 where
   pub all : length places ≡ count_by is_feed (take at text)
   pub before : (k : ℕ) → k < length places → count_by is_feed (take (slice_index places k) text) ≡ k
-  pub through : (k : ℕ) → k < length places → count_by is_feed (take (slice_index places k + 1) text) ≡ k + 1
+  pub through : (k : ℕ) → k < length places
+      → count_by is_feed (take (slice_index places k + 1) text) ≡ k + 1
 
 -- what stands behind the last line feed
 abbrev pub last_line : List ℕ → List ℕ
@@ -35,10 +36,14 @@ counted column = min column (2 ^ 64 - 1)
 
 -- the column behind a character: a tab ends where the next multiple of 8 does, and a control character takes no column
 abbrev pub column_after : ℕ → ℕ → ℕ
-column_after column c = counted (if c == 9 then (column - 1) / 8 * 8 + 9 else column + unwrap_or (char_width false c) 0)
+column_after column c =
+    counted (if c == 9 then (column - 1) / 8 * 8 + 9 else column + unwrap_or (char_width false c) 0)
 
 -- text that begins at one column ends before the other; a byte at which no character begins takes one
 pub data EndsBefore : List ℕ → ℕ → ℕ → Type 0 where
   nothing : {column : ℕ} → EndsBefore [] column column
-  character : {bs : List ℕ} {column behind : ℕ} (c : ℕ) → IsScalar c → EndsBefore bs (column_after column c) behind → EndsBefore (encode_utf8 c ++ bs) column behind
-  stray : {b : ℕ} {bs : List ℕ} {column behind : ℕ} → StartsWithNoChar (b ∷ bs) → EndsBefore bs (counted (column + 1)) behind → EndsBefore (b ∷ bs) column behind
+  character : {bs : List ℕ} {column behind : ℕ} (c : ℕ) → IsScalar c
+      → EndsBefore bs (column_after column c) behind
+      → EndsBefore (encode_utf8 c ++ bs) column behind
+  stray : {b : ℕ} {bs : List ℕ} {column behind : ℕ} → StartsWithNoChar (b ∷ bs)
+      → EndsBefore bs (counted (column + 1)) behind → EndsBefore (b ∷ bs) column behind

@@ -11,8 +11,10 @@ use Rattle.lrevidence.specs.Steps.{moves_by}
 pub record HasTwoTrees (g : Grammar) (a : Ambiguity) : Type 0 where
   pub one : Tree
   pub other : Tree
-  pub first : IsTreeBy g (moves_by a.trees.before.items ++ moves_by a.trees.one.items) a.tokens.items one
-  pub second : IsTreeBy g (moves_by a.trees.before.items ++ moves_by a.trees.other.items) a.tokens.items other
+  pub first : IsTreeBy g
+      (moves_by a.trees.before.items ++ moves_by a.trees.one.items) a.tokens.items one
+  pub second : IsTreeBy g
+      (moves_by a.trees.before.items ++ moves_by a.trees.other.items) a.tokens.items other
   pub differ : one ≢ other
 
 -- a text that is told of an entry has two trees

@@ -51,7 +51,8 @@ pub record Adds (x y : List (List Bool)) (r : ℕ) (s : Symbol) (b : Bool) : Typ
   pub grown : b ≡ true → unset_rows y < unset_rows x
   pub same : b ≡ false → y ≡ x
   pub held : b ≡ false → (t : ℕ) → IsTrue (starts_symbol x s t) → IsTrue (bit (row x r) t)
-  pub only : (k t : ℕ) → IsTrue (bit (row y k) t) → IsTrue (bit (row x k) t) ⊎ ((k ≡ r) × IsTrue (starts_symbol x s t))
+  pub only : (k t : ℕ) → IsTrue (bit (row y k) t)
+      → IsTrue (bit (row x k) t) ⊎ ((k ≡ r) × IsTrue (starts_symbol x s t))
 
 -- each set bit is of a token that begins the rule
 abbrev pub HoldBegins : Grammar → List (List Bool) → Type 0

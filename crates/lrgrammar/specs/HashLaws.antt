@@ -14,11 +14,19 @@ hashed_u8 x y h k =
 -- and so of two bytes
 pub hashed_u16 : (x y : ℕ) → x < 2 ^ 16 → y < 2 ^ 16 → (fed.u16 x ≡ fed.u16 y) ↔ (x ≡ y)
 unfolding le_bytes
-hashed_u16 x y h k =
-    (λ e. sym (from_le_bytes-to_le_bytes_2 x h) ∙ ap (λ (ws : HashWrites). from_le_bytes w16 (slice_index_or ws 0 [])) e ∙ from_le_bytes-to_le_bytes_2 y k, λ e. ap fed.u16 e)
+hashed_u16 x y h k = (
+  λ e. sym (from_le_bytes-to_le_bytes_2 x h)
+      ∙ ap (λ (ws : HashWrites). from_le_bytes w16 (slice_index_or ws 0 [])) e
+      ∙ from_le_bytes-to_le_bytes_2 y k,
+  λ e. ap fed.u16 e,
+)
 
 -- and of four
 pub hashed_u32 : (x y : ℕ) → x < 2 ^ 32 → y < 2 ^ 32 → (fed.u32 x ≡ fed.u32 y) ↔ (x ≡ y)
 unfolding le_bytes
-hashed_u32 x y h k =
-    (λ e. sym (from_le_bytes-to_le_bytes_4 x h) ∙ ap (λ (ws : HashWrites). from_le_bytes w32 (slice_index_or ws 0 [])) e ∙ from_le_bytes-to_le_bytes_4 y k, λ e. ap fed.u32 e)
+hashed_u32 x y h k = (
+  λ e. sym (from_le_bytes-to_le_bytes_4 x h)
+      ∙ ap (λ (ws : HashWrites). from_le_bytes w32 (slice_index_or ws 0 [])) e
+      ∙ from_le_bytes-to_le_bytes_4 y k,
+  λ e. ap fed.u32 e,
+)

@@ -39,17 +39,22 @@ abbrev pub numbers_of : {T : Type 0} → (T → ℕ) → List (PIdx T) → List 
 numbers_of number ps = map (λ p. number p.0) ps
 
 -- a list for each rule, of the productions of the rule
-pub record AreListsOf {T : Type 0} (number : T → ℕ) (ps : List Production) (rules : ℕ) (lists : List (Vec (PIdx T) Global)) : Type 0 where
+pub record AreListsOf {T : Type 0} (number : T → ℕ) (ps : List Production) (rules : ℕ)
+    (lists : List (Vec (PIdx T) Global)) : Type 0 where
   pub count : length lists ≡ rules
-  pub each : (r : ℕ) (d : Vec (PIdx T) Global) → r < rules → numbers_of number (slice_index_or lists r d).items ≡ places_of_rule ps r
+  pub each : (r : ℕ) (d : Vec (PIdx T) Global) → r < rules
+      → numbers_of number (slice_index_or lists r d).items ≡ places_of_rule ps r
 
 -- the list of the rule has the production more, at its end
-abbrev pub HasOneMore : {T : Type 0} → List (Vec (PIdx T) Global) → List (Vec (PIdx T) Global) → ℕ → PIdx T → Type 0
+abbrev pub HasOneMore :
+    {T : Type 0} → List (Vec (PIdx T) Global) → List (Vec (PIdx T) Global) → ℕ → PIdx T → Type 0
 HasOneMore {T} old new rule p =
-    (d : Vec (PIdx T) Global) → (slice_index_or new rule d).items ≡ (slice_index_or old rule d).items ++ p ∷ []
+    (d : Vec (PIdx T) Global)
+    → (slice_index_or new rule d).items ≡ (slice_index_or old rule d).items ++ p ∷ []
 
 -- the lists of all other rules are the same
-abbrev pub KeepsOthers : {T : Type 0} → List (Vec (PIdx T) Global) → List (Vec (PIdx T) Global) → ℕ → Type 0
+abbrev pub KeepsOthers :
+    {T : Type 0} → List (Vec (PIdx T) Global) → List (Vec (PIdx T) Global) → ℕ → Type 0
 KeepsOthers {T} old new rule =
     (k : ℕ) (d : Vec (PIdx T) Global) → k ≢ rule → slice_index_or new k d ≡ slice_index_or old k d
 
@@ -57,6 +62,9 @@ KeepsOthers {T} old new rule =
 pub record IsStored {T : Type 0} (number : T → ℕ) (most : ℕ) (g : Inside T) : Type 0 where
   pub shape : IsGrammar (grammar_of number g)
   pub sizes : IsWithin most (grammar_of number g)
-  pub lists : AreListsOf number (map (production_of number) g.prods.items) (length g.rule_names.items) g.rule_prods.items
-  pub rules : FindsNames (get_by_text g.rule_places) (map string_bytes g.rule_names.items) (length g.rule_names.items)
-  pub tokens : FindsNames (get_by_text g.token_places) (map string_bytes g.token_names.items) (length g.token_names.items)
+  pub lists : AreListsOf number (map (production_of number) g.prods.items)
+      (length g.rule_names.items) g.rule_prods.items
+  pub rules : FindsNames (get_by_text g.rule_places) (map string_bytes g.rule_names.items)
+      (length g.rule_names.items)
+  pub tokens : FindsNames (get_by_text g.token_places) (map string_bytes g.token_names.items)
+      (length g.token_names.items)

@@ -9,7 +9,8 @@ use Rattle.lrspec.specs.grammars.Grammar as math
 use Rattle.lrspec.specs.merging.Graph.{State, Graph, IsInOrder}
 
 -- the edges of a map: the number of each symbol, and the number of the state to which it leads
-abbrev pub edges_of : {T X : Type 0} → (T → ℕ) → (X → ℕ) → List (Symbol T × X) → List (math.Symbol × ℕ)
+abbrev pub edges_of :
+    {T X : Type 0} → (T → ℕ) → (X → ℕ) → List (Symbol T × X) → List (math.Symbol × ℕ)
 edges_of number state es = map (λ e. (symbol_of number e.0, state e.1)) es
 
 -- a stored state by numbers

@@ -8,7 +8,8 @@ use Rattle.lrlines.specs.declared.errors.LineError.TheVariants as ended
 
 -- lines were answered, of a reader with `bytes` and then `left`, on a writer with `old` and then
 -- `new`: where it ended well, all of them, up to the reader's end
-pub record AreAnswered {X : Type 0} (answer : List ℕ → List ℕ) (result : Result X LineError) (bytes left old new : Option (List ℕ)) : Type 0 where
+pub record AreAnswered {X : Type 0} (answer : List ℕ → List ℕ) (result : Result X LineError)
+    (bytes left old new : Option (List ℕ)) : Type 0 where
   pub end : OnOk result (IsAtEnd left)
   pub ok :
       OnOk result (ConsumesSome bytes left (λ read. Appends old new (answer_text answer read)))
@@ -27,7 +28,8 @@ pub record AreAnswered {X : Type 0} (answer : List ℕ → List ℕ) (result : R
 
 -- when each error comes, and that no fault of a device is kept back: the reader failed `reads` and
 -- then `reads_new` times, the writer `writes` and then `writes_new` times
-pub record AreFaultsTold {X : Type 0} (result : Result X LineError) (bytes left : Option (List ℕ)) (reads reads_new writes writes_new : ℕ) : Type 0 where
+pub record AreFaultsTold {X : Type 0} (result : Result X LineError)
+    (bytes left : Option (List ℕ)) (reads reads_new writes writes_new : ℕ) : Type 0 where
   pub read_fault :
       result ≡ Err ended.Read → HasFailed reads reads_new ⊎ GaveTooMuch bytes left
   pub write_fault : result ≡ Err ended.Write → HasFailed writes writes_new

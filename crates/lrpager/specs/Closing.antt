@@ -19,7 +19,8 @@ pub record Closes (old : List Draft) (i : ℕ) (new : List Draft) : Type 0 where
   pub closed : closed_at new i ≡ true
 
 -- the state `i` was closed, and these are the gotos of what its core closes to
-pub record ClosesTo (g : Grammar) (old : List Draft) (i : ℕ) (new : List Draft) (gs : List (Symbol × Items)) : Type 0 where
+pub record ClosesTo (g : Grammar) (old : List Draft) (i : ℕ) (new : List Draft)
+    (gs : List (Symbol × Items)) : Type 0 where
   pub closed : Items
   pub closure : IsClosure g (core_at old i) closed
   pub fits : Fits g closed

@@ -9,7 +9,8 @@ use Rattle.lrplacing.specs.Construction.{Draft, core_at, edge_from}
 -- following edges from the start state ends in the state
 pub data Walks (ss : List Draft) : List Symbol → ℕ → Type 0 where
   start : Walks ss [] 0
-  follow : {w : List Symbol} {k u : ℕ} (x : Symbol) → Walks ss w k → edge_from ss k x ≡ Some u → Walks ss (w ++ x ∷ []) u
+  follow : {w : List Symbol} {k u : ℕ} (x : Symbol) → Walks ss w k → edge_from ss k x ≡ Some u
+      → Walks ss (w ++ x ∷ []) u
 
 -- a state is marked exactly where it is reached
 pub record AreMarked (ss : List Draft) (marks : List Bool) : Type 0 where
@@ -37,7 +38,8 @@ abbrev pub HasTarget : List (Symbol × ℕ) → ℕ → Type 0
 HasTarget es u = (x : Symbol) × (edge_at es x ≡ Some u)
 
 -- no states were marked but some of which `P` holds, and exactly these were put among those whose edges are to be followed
-pub record MarksOnly (P : ℕ → Type 0) (old : List Bool) (todo : List ℕ) (new : List Bool) (rest : List ℕ) : Type 0 where
+pub record MarksOnly (P : ℕ → Type 0) (old : List Bool) (todo : List ℕ) (new : List Bool)
+    (rest : List ℕ) : Type 0 where
   pub length_is : length new ≡ length old
   pub still : (k : ℕ) → IsMarked old k → IsMarked new k
   pub only : (k : ℕ) → IsMarked new k → IsMarked old k ⊎ (P k × Among k rest)
@@ -73,15 +75,20 @@ pub record IsRenumbered (g : Grammar) (f : ℕ → ℕ) (d : Draft) (s : State) 
   pub edges : AreRenumbered f d.edges s.edges
 
 -- the graph has the marked states in their order, with their new numbers; `marks` has a mark or none for each state
-pub record IsCollected (g : Grammar) (ss : List Draft) (marks : List Bool) (h : Graph) : Type 0 where
+pub record IsCollected (g : Grammar) (ss : List Draft) (marks : List Bool) (h : Graph)
+    : Type 0 where
   pub below : (k : ℕ) → IsTrue (slice_index_or marks k false) → new_number marks k < length h
-  pub cores : (k : ℕ) → IsTrue (slice_index_or marks k false) → core_of h (new_number marks k) ≡ core_at ss k
-  pub closed : (k : ℕ) → IsTrue (slice_index_or marks k false) → IsClosure g (core_at ss k) (closed_of h (new_number marks k))
-  pub fits : (k : ℕ) → IsTrue (slice_index_or marks k false) → Fits g (closed_of h (new_number marks k))
+  pub cores : (k : ℕ) → IsTrue (slice_index_or marks k false)
+      → core_of h (new_number marks k) ≡ core_at ss k
+  pub closed : (k : ℕ) → IsTrue (slice_index_or marks k false)
+      → IsClosure g (core_at ss k) (closed_of h (new_number marks k))
+  pub fits : (k : ℕ) → IsTrue (slice_index_or marks k false)
+      → Fits g (closed_of h (new_number marks k))
   pub edges :
       (k : ℕ) (x : Symbol) → IsTrue (slice_index_or marks k false)
       → edge h (new_number marks k) x ≡ option_map (new_number marks) (edge_from ss k x)
-  pub only : (s : ℕ) → s < length h → (k : ℕ) × IsTrue (slice_index_or marks k false) × (new_number marks k ≡ s)
+  pub only : (s : ℕ) → s < length h
+      → (k : ℕ) × IsTrue (slice_index_or marks k false) × (new_number marks k ≡ s)
 
 -- ---- closing the states that are left
 

@@ -19,8 +19,11 @@ pub record FindsNames (look : List ℕ → Option ℕ) (names : List (List ℕ))
 -- a look-up by level over the first `n` tokens: what it finds is the kind of one of them, and each has the kind that is
 -- found at its level
 pub record FindsKinds (look : ℕ → Option AssocKind) (tokens : List PartToken) (n : ℕ) : Type 0 where
-  pub found : (level : ℕ) (kind : AssocKind) → look level ≡ Some kind → (k : ℕ) × (p : Precedence) × (k < n) × (precedence_at tokens k ≡ Some p) × (p.level ≡ level) × (p.kind ≡ kind)
-  pub kept : (k : ℕ) (p : Precedence) → k < n → precedence_at tokens k ≡ Some p → look p.level ≡ Some p.kind
+  pub found : (level : ℕ) (kind : AssocKind) → look level ≡ Some kind
+      → (k : ℕ) × (p : Precedence) × (k < n) × (precedence_at tokens k ≡ Some p) × (p.level ≡ level)
+      × (p.kind ≡ kind)
+  pub kept : (k : ℕ) (p : Precedence) → k < n → precedence_at tokens k ≡ Some p
+      → look p.level ≡ Some p.kind
 
 -- there was a kind, and another one
 abbrev pub IsOtherKind : Option AssocKind → AssocKind → Type 0

@@ -42,7 +42,9 @@ pub record IsGrammarRefusal (most : ℕ) (text : List ℕ) (e : GrammarError) : 
 -- why the text gives no grammar
 abbrev pub IsTextError : ℕ → List ℕ → TextError → Type 0
 IsTextError most text (text_error.Syntax n) = IsRefused text (meaning.TextRefusal.Syntax n)
-IsTextError most text (text_error.UnknownSymbol w) = IsRefused text (meaning.TextRefusal.UnknownSymbol (string_bytes w))
-IsTextError most text (text_error.DuplicatePrecedence w) = IsRefused text (meaning.TextRefusal.DuplicatePrecedence (string_bytes w))
+IsTextError most text (text_error.UnknownSymbol w) =
+    IsRefused text (meaning.TextRefusal.UnknownSymbol (string_bytes w))
+IsTextError most text (text_error.DuplicatePrecedence w) =
+    IsRefused text (meaning.TextRefusal.DuplicatePrecedence (string_bytes w))
 IsTextError most text (text_error.Grammar e) = IsGrammarRefusal most text e
 IsTextError most text text_error.Memory = Unit {0}

@@ -73,7 +73,8 @@ pub record Grows (old new : List Draft) (k : ℕ) (goto : Items) : Type 0 where
   pub union : IsUnion (core_at old k) goto (core_at new k)
   pub fits_kept : (g : Grammar) → Fits g (core_at old k) → Fits g (core_at new k)
   pub closed :
-      (((p d t : ℕ) → LooksIn (core_at new k) p d t → LooksIn (core_at old k) p d t) × (closed_at new k ≡ closed_at old k))
+      (((p d t : ℕ) → LooksIn (core_at new k) p d t → LooksIn (core_at old k) p d t)
+      × (closed_at new k ≡ closed_at old k))
       ⊎ ((closed_at new k ≡ false) × Gains (core_at old k) (core_at new k))
 
 -- the state `k` was made for the goto, which no state with its items could take in
@@ -82,10 +83,12 @@ pub record Makes (old new : List Draft) (k : ℕ) (goto : Items) : Type 0 where
   pub last : k ≡ length old
   pub core : core_at new k ≡ goto
   pub closed : closed_at new k ≡ false
-  pub clashes : (j : ℕ) → j < length old → SameItems (core_at old j) goto → Clash (core_at old j) goto
+  pub clashes : (j : ℕ) → j < length old → SameItems (core_at old j) goto
+      → Clash (core_at old j) goto
 
 -- the goto on `x` of the state `from` was placed at the state `k`, to which the edge on `x` now leads
-pub record Places (old : List Draft) (from : ℕ) (x : Symbol) (goto : Items) (k : ℕ) (new : List Draft) : Type 0 where
+pub record Places (old : List Draft) (from : ℕ) (x : Symbol) (goto : Items) (k : ℕ)
+    (new : List Draft) : Type 0 where
   pub taken : k < length new
   pub edges :
       (j : ℕ) (y : Symbol)

@@ -15,10 +15,12 @@ HasSharing g a = (ws : List (List Symbol)) × IsRootedBy g ws a × IsShared g ws
 
 -- the item set has the items of the goto on `x` of what the core of the state `k` closes to
 abbrev pub HasItemsOfGoto : Grammar → List Draft → ℕ → Symbol → Items → Type 0
-HasItemsOfGoto g ss k x a = (p d : ℕ) → HasItem a p d ↔ Moved g x (ClosedItem g (HasItem (core_at ss k))) p d
+HasItemsOfGoto g ss k x a =
+    (p d : ℕ) → HasItem a p d ↔ Moved g x (ClosedItem g (HasItem (core_at ss k))) p d
 
 -- the goto on `x` of the state `from` may be placed
-pub record MayBePlaced (g : Grammar) (ss : List Draft) (from : ℕ) (x : Symbol) (goto : Items) : Type 0 where
+pub record MayBePlaced (g : Grammar) (ss : List Draft) (from : ℕ) (x : Symbol) (goto : Items)
+    : Type 0 where
   pub fits : Fits g goto
   pub sharing : HasSharing g goto
   pub items : HasItemsOfGoto g ss from x goto
@@ -30,7 +32,9 @@ pub record LeadsToItems (g : Grammar) (ss : List Draft) (k : ℕ) (x : Symbol) (
 
 -- every two states whose cores have the same items cross
 abbrev pub AllCross : List Draft → Type 0
-AllCross ss = (j k : ℕ) → j < k → k < length ss → SameItems (core_at ss j) (core_at ss k) → Cross (core_at ss j) (core_at ss k)
+AllCross ss =
+    (j k : ℕ) → j < k → k < length ss → SameItems (core_at ss j) (core_at ss k)
+    → Cross (core_at ss j) (core_at ss k)
 
 -- there is a chain with an item set for each state, which its core contains and whose items are its own
 pub record HasChain (g : Grammar) (ss : List Draft) : Type 0 where

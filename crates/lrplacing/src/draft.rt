@@ -105,7 +105,9 @@ impl<T: IndexStorage> Draft<T> {
         ensures core { self.new.core ≡ self.old.core }
         ensures closed { self.new.is_closed ≡ self.old.is_closed }
         ensures edge { OnOk result ((y : math.Symbol) → edge_at self.new.edges y
-            ≡ if same_symbol y (symbol_of T.number symbol) then Some to else edge_at self.old.edges y) }
+            ≡ if same_symbol y (symbol_of T.number symbol)
+            then Some to
+            else edge_at self.old.edges y) }
     {
         self.edges.push((symbol, to))?;
         Ok(())

@@ -25,7 +25,8 @@ pub record IsAmbiguousForm {T : Type 0} (number : T → ℕ) (g : Grammar) (f : 
 
 -- a rule derives a form in two ways, a text has two trees, and these part at the state and the token
 -- of the conflict
-pub record IsProofOf {T : Type 0} (number : T → ℕ) (g : Grammar) (h : Graph) (c : Conflict T) (a : ProvedAmbiguity T) : Type 0 where
+pub record IsProofOf {T : Type 0} (number : T → ℕ) (g : Grammar) (h : Graph) (c : Conflict T)
+    (a : ProvedAmbiguity T) : Type 0 where
   pub state : a.contest.state ≡ c.state
   pub token : a.contest.token ≡ c.token
   pub form : IsAmbiguousForm number g a.form

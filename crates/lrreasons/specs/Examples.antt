@@ -17,7 +17,8 @@ use Rattle.lrreasons.specs.Entries.{Entry, token_of, one_of, other_of, IsRealAft
 
 -- the list derives the text by its moves
 abbrev pub IsTextOf : {T : Type 0} → (T → ℕ) → Grammar → List Symbol → Written T → Type 0
-IsTextOf number g w x = IsReadAs g w (text_of number x.tokens.items) (moves_stored number x.moves.items)
+IsTextOf number g w x =
+    IsReadAs g w (text_of number x.tokens.items) (moves_stored number x.moves.items)
 
 -- the item in which the move on the token `t` is a candidate: complete, or before the token
 pub data IsItemOf (g : Grammar) (t : ℕ) : Move → ℕ → ℕ → Type 0 where
@@ -26,7 +27,8 @@ pub data IsItemOf (g : Grammar) (t : ℕ) : Move → ℕ → ℕ → Type 0 wher
 
 -- the text goes on behind the input by the move on the token `t`: there is no such text where there
 -- is no input
-abbrev pub IsRestBehind : {T : Type 0} → (T → ℕ) → Grammar → ℕ → Move → Option (Written T) → Option (Written T) → Type 0
+abbrev pub IsRestBehind :
+    {T : Type 0} → (T → ℕ) → Grammar → ℕ → Move → Option (Written T) → Option (Written T) → Type 0
 IsRestBehind number g t m input None = Unit {0}
 IsRestBehind number g t m None (Some rest) = ⊥
 IsRestBehind number g t m (Some input) (Some rest) =
@@ -41,7 +43,8 @@ IsLastItemOf g t m items =
 
 -- the items stand in one another after the list, the last one is that of the move on the token `t`,
 -- and the rest is one behind the input
-pub record IsOutlook {T : Type 0} (number : T → ℕ) (g : Grammar) (w : List Symbol) (t : ℕ) (m : Move) (input : Option (Written T)) (o : Outlook T) : Type 0 where
+pub record IsOutlook {T : Type 0} (number : T → ℕ) (g : Grammar) (w : List Symbol) (t : ℕ)
+    (m : Move) (input : Option (Written T)) (o : Outlook T) : Type 0 where
   pub nests : Nests g (items_of number o.items.items) w
   pub last : IsLastItemOf g t m (items_of number o.items.items)
   pub rest : IsRestBehind number g t m input o.rest
@@ -52,7 +55,8 @@ list_of number x = map (symbol_of number) x.list.items
 
 -- after the list the entry is real on the token, which is its own, or else the least on which there
 -- is a list
-pub record IsExampleOf {T : Type 0} (number : T → ℕ) (g : Grammar) (h : Graph) (e : Entry) (x : Example T) : Type 0 where
+pub record IsExampleOf {T : Type 0} (number : T → ℕ) (g : Grammar) (h : Graph) (e : Entry)
+    (x : Example T) : Type 0 where
   pub real : IsRealAfter g h (number x.token.0) e (list_of number x)
   pub own : (number x.token.0 ≡ token_of e) ⊎ IsNowhereReal g h (token_of e) e
   pub least :

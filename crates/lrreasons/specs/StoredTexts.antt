@@ -50,7 +50,8 @@ sentence_text number g a =
 
 -- an ambiguity at a conflict: the form; which candidates contend, if not the conflict's own; what
 -- either makes of the form; and the text
-abbrev pub ambiguity_text : {T : Type 0} → (T → ℕ) → Grammar → Conflict T → ProvedAmbiguity T → List ℕ
+abbrev pub ambiguity_text :
+    {T : Type 0} → (T → ℕ) → Grammar → Conflict T → ProvedAmbiguity T → List ℕ
 ambiguity_text number g c a =
     let one = move_of number a.contest.one in
     let other = move_of number a.contest.other in
@@ -61,7 +62,8 @@ ambiguity_text number g c a =
     ++ sentence_text number g a.ambiguity
 
 -- that no ambiguity is known, or an ambiguity
-abbrev pub verdict_text : {T : Type 0} → (T → ℕ) → Grammar → Conflict T → Option (ProvedAmbiguity T) → List ℕ
+abbrev pub verdict_text :
+    {T : Type 0} → (T → ℕ) → Grammar → Conflict T → Option (ProvedAmbiguity T) → List ℕ
 verdict_text number g c None = line_text 6 (codes "not known to be ambiguous") []
 verdict_text number g c (Some a) = ambiguity_text number g c a
 
@@ -75,7 +77,8 @@ rest_text number g (Some w) =
 
 -- how a text goes on by a candidate against another one, where that is known: the items, each in
 -- the one before it, and the rest
-abbrev pub outlook_text : {T : Type 0} → (T → ℕ) → Grammar → Move → Move → Option (Outlook T) → List ℕ
+abbrev pub outlook_text :
+    {T : Type 0} → (T → ℕ) → Grammar → Move → Move → Option (Outlook T) → List ℕ
 outlook_text number g m other None = []
 outlook_text number g m other (Some o) =
     line_text 6 (move_label g m other) []
@@ -89,7 +92,8 @@ input_line number g (Some w) t =
     before_line g (codes "input:") (map (λ t. Token (number t.0)) w.tokens.items) t
 
 -- the same, where the list is not such a text itself
-abbrev pub input_text : {T : Type 0} → (T → ℕ) → Grammar → List Symbol → Option (Written T) → ℕ → List ℕ
+abbrev pub input_text :
+    {T : Type 0} → (T → ℕ) → Grammar → List Symbol → Option (Written T) → ℕ → List ℕ
 input_text number g w input t = if list_any is_rule w then input_line number g input t else []
 
 -- after what a conflict is real, and how it goes on by either candidate
@@ -105,7 +109,8 @@ example_text number g c x =
     ++ outlook_text number g other reduce x.other
 
 -- the same, if there is an example
-abbrev pub example_or_none : {T : Type 0} → (T → ℕ) → Grammar → Conflict T → Option (Example T) → List ℕ
+abbrev pub example_or_none :
+    {T : Type 0} → (T → ℕ) → Grammar → Conflict T → Option (Example T) → List ℕ
 example_or_none number g c None = []
 example_or_none number g c (Some x) = example_text number g c x
 
@@ -145,7 +150,8 @@ likewise_text number g r rs =
 
 -- reasons behind others, which have been told: each is left out where one before it is alike, and
 -- else told with the tokens of those behind it that are alike
-abbrev pub reasons_text : {T : Type 0} → (T → ℕ) → Grammar → List (Reason T) → List (Reason T) → List ℕ
+abbrev pub reasons_text :
+    {T : Type 0} → (T → ℕ) → Grammar → List (Reason T) → List (Reason T) → List ℕ
 reasons_text number g told [] = []
 reasons_text number g told (r ∷ rs) =
     (if list_any (are_alike number r) told then []

@@ -10,7 +10,8 @@ contest (Some p) q s t = if p == q then None else Some (t, p, q, s)
 
 -- the conflicts of a complete item with the least productions, by token
 abbrev pub contests_by : List (Option ℕ) → ℕ → ℕ × List Bool → List (ℕ × ℕ × ℕ × ℕ)
-contests_by least s c = filter_map (λ t. contest (slice_index_or least t None) c.0 s t) (set_bits c.1)
+contests_by least s c =
+    filter_map (λ t. contest (slice_index_or least t None) c.0 s t) (set_bits c.1)
 
 -- the conflicts of all complete items
 abbrev pub reduce_reduce_by : List (Option ℕ) → ℕ → List (ℕ × List Bool) → List (ℕ × ℕ × ℕ × ℕ)

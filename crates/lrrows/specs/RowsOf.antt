@@ -25,7 +25,8 @@ ReduceByOne g h s =
     × ((t : ℕ) → t < token_count g → (cell_of g h s t ≡ Error) ⊎ (cell_of g h s t ≡ Reduce p))
 
 -- the rows are those of the first `n` states
-pub record AreRowsOf {T : Type 0} (number : T → ℕ) (g : Grammar) (h : Graph) (n : ℕ) (r : Rows T) : Type 0 where
+pub record AreRowsOf {T : Type 0} (number : T → ℕ) (g : Grammar) (h : Graph) (n : ℕ)
+    (r : Rows T) : Type 0 where
   pub built_actions : IsBuilt r.actions
   pub tokens : (so_far r.actions).cols ≡ token_count g
   pub actions : (so_far r.actions).cells ≡ flat_map (action_row g h) (range_with_len 0 n)
@@ -35,11 +36,15 @@ pub record AreRowsOf {T : Type 0} (number : T → ℕ) (g : Grammar) (h : Graph)
   pub count : length r.core_reduces.items ≡ n
   pub reduces :
       (s : ℕ) (d : Vec (PIdx T) Global) → s < n
-      → AreAllWith (λ p. HasCell g h s (Reduce p)) (numbers_of number (slice_index_or r.core_reduces.items s d).items)
+      → AreAllWith (λ p. HasCell g h s (Reduce p))
+      (numbers_of number (slice_index_or r.core_reduces.items s d).items)
   pub counted : length r.reduce_only.items ≡ n
-  pub only : (s : ℕ) (d : Bool) → s < n → IsTrue (slice_index_or r.reduce_only.items s d) ↔ ReduceByOne g h s
-  pub reduce_reduce : pairs_of number r.reduce_reduce.items ≡ flat_map (reduce_reduce_at g h) (range_with_len 0 n)
-  pub shift_reduce : mixes_of number r.shift_reduce.items ≡ flat_map (shift_reduce_at g h) (range_with_len 0 n)
+  pub only : (s : ℕ) (d : Bool) → s < n
+      → IsTrue (slice_index_or r.reduce_only.items s d) ↔ ReduceByOne g h s
+  pub reduce_reduce : pairs_of number r.reduce_reduce.items
+      ≡ flat_map (reduce_reduce_at g h) (range_with_len 0 n)
+  pub shift_reduce : mixes_of number r.shift_reduce.items
+      ≡ flat_map (shift_reduce_at g h) (range_with_len 0 n)
 
 -- in most cells of the rows 0 stands
 pub record HaveZeros {T : Type 0} (r : Rows T) : Type 0 where

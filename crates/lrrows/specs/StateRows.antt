@@ -15,7 +15,8 @@ first_of (p ∷ ps) = Some p
 -- the complete item of a production other than the start production, with its lookaheads
 abbrev pub complete_item : Grammar → (ℕ × ℕ) × List Bool → Option (ℕ × List Bool)
 complete_item g e =
-    if (e.0.1 == length (body_of g e.0.0)) && not (e.0.0 == g.start_production) then Some (e.0.0, e.1)
+    if (e.0.1 == length (body_of g e.0.0)) && not (e.0.0 == g.start_production)
+    then Some (e.0.0, e.1)
     else None
 
 -- the complete items of an item set but for that of the start production, in their order
@@ -33,7 +34,8 @@ least_reductions g a = map (λ t. first_of (reductions g a t)) (range_with_len 0
 
 -- the least production by which an item set reduces at the end of the text, where it accepts there
 abbrev pub least_contest : Grammar → Items → Option ℕ
-least_contest g a = if accepts_at g a (end_token g) then first_of (reductions g a (end_token g)) else None
+least_contest g a =
+    if accepts_at g a (end_token g) then first_of (reductions g a (end_token g)) else None
 
 -- the numbers of the cells of the state, token by token
 abbrev pub action_row : Grammar → Graph → ℕ → List ℕ

@@ -21,7 +21,8 @@ abbrev pub targets_of : {T : Type 0} → (T → ℕ) → List (Option (StIdx T))
 targets_of number us = map (option_map (λ u. number u.0)) us
 
 -- both lists by numbers
-abbrev pub pairs_of : {T : Type 0} → (T → ℕ) → List (TIdx T × PIdx T × PIdx T × StIdx T) → List (ℕ × ℕ × ℕ × ℕ)
+abbrev pub pairs_of :
+    {T : Type 0} → (T → ℕ) → List (TIdx T × PIdx T × PIdx T × StIdx T) → List (ℕ × ℕ × ℕ × ℕ)
 pairs_of number es = map (pair_of number) es
 
 abbrev pub mixes_of : {T : Type 0} → (T → ℕ) → List (TIdx T × PIdx T × StIdx T) → List (ℕ × ℕ × ℕ)

@@ -12,4 +12,5 @@ AreOwned words n = (place : ℕ) → place < n → IsOwned words place
 
 -- at the displacement none of these columns meets an owned place
 abbrev pub MeetsNone : List ℕ → List ℕ → ℕ → Type 0
-MeetsNone words columns displacement = (k : ℕ) → k < length columns → ¬ (IsOwned words (displacement + slice_index columns k))
+MeetsNone words columns displacement =
+    (k : ℕ) → k < length columns → ¬ (IsOwned words (displacement + slice_index columns k))

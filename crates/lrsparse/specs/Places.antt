@@ -27,7 +27,8 @@ AreOwnedBelow row list = (place : ℕ) → IfSome (slice_index_or list place Non
 -- rows above this one are placed: it is known which places they own
 pub record IsPlaced (row : ℕ) (places : Places) : Type 0 where
   pub above : AreOwnedBelow row places.list.items
-  pub owned : (place : ℕ) → IsOwned places.owned.items place ↔ IsSome (slice_index_or places.list.items place None)
+  pub owned : (place : ℕ)
+      → IsOwned places.owned.items place ↔ IsSome (slice_index_or places.list.items place None)
   pub words : 64 * length places.owned.items ≤ length places.list.items + 64
   pub full : AreOwned places.owned.items (64 * places.full)
 
@@ -51,9 +52,11 @@ number_at list empty row place = number_of empty row (slice_index_or list place 
 
 -- the numbers of the row, which stands from the displacement on
 abbrev pub row_of : List (Option Entry) → ℕ → ℕ → ℕ → ℕ → List ℕ
-row_of list empty cols row displacement = map (λ c. number_at list empty row (displacement + c)) (range_with_len 0 cols)
+row_of list empty cols row displacement =
+    map (λ c. number_at list empty row (displacement + c)) (range_with_len 0 cols)
 
 -- the rows from this one on, which have these displacements, one after another
 abbrev pub rows_from : List (Option Entry) → ℕ → ℕ → ℕ → List ℕ → List ℕ
 rows_from list empty cols row [] = []
-rows_from list empty cols row (d ∷ ds) = row_of list empty cols row d ++ rows_from list empty cols (row + 1) ds
+rows_from list empty cols row (d ∷ ds) =
+    row_of list empty cols row d ++ rows_from list empty cols (row + 1) ds

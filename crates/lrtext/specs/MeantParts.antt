@@ -9,7 +9,8 @@ use Rattle.lrspec.specs.texts.Names.{has_no_repeats}
 use Rattle.lrspec.specs.texts.Meaning.{Contents, precedence_names, unknown_names, token_in, production_in, start_in, meant_parts, IsFirstRepeat}
 
 -- the parts by the rules, the tokens and the precedences of names
-abbrev pub numbered_parts : Contents → List (List ℕ) → List (List ℕ) → List (List ℕ × Precedence) → Parts
+abbrev pub numbered_parts :
+    Contents → List (List ℕ) → List (List ℕ) → List (List ℕ × Precedence) → Parts
 numbered_parts s rules tokens ps =
     record {
       rules = rules;

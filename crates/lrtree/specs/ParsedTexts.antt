@@ -15,7 +15,8 @@ Tells parsed.Rejected w = w ≡ machine.Verdict.Rejected
 Tells parsed.Unfinished w = w ≡ machine.Verdict.Unfinished
 
 -- a tree that is told is one of the text, for the start rule, with these productions in order
-abbrev pub HasTheTree : {T : Type 0} → (T → ℕ) → Grammar → List ℕ → List ℕ → stored.Parsed T → Type 0
+abbrev pub HasTheTree :
+    {T : Type 0} → (T → ℕ) → Grammar → List ℕ → List ℕ → stored.Parsed T → Type 0
 HasTheTree number g text rs (parsed.Tree v) =
     (s : IsSentence g text) × (s.tree ≡ tree_of number v) × (order s.tree ≡ rs)
 HasTheTree number g text rs _ = Unit {0}

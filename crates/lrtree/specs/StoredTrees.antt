@@ -16,7 +16,8 @@ forest_of_list (t ∷ ts) = And t (forest_of_list ts)
 -- a tree with plain trees in place of its children
 abbrev pub tree_step : {T : Type 0} → (T → ℕ) → level.Tree-F T math.Tree → math.Tree
 tree_step number (level.Token t) = math.Tree.Leaf (number t.0)
-tree_step number (level.Node p children) = math.Tree.Node (number p.0) (forest_of_list children.items)
+tree_step number (level.Node p children) =
+    math.Tree.Node (number p.0) (forest_of_list children.items)
 
 -- a stored tree as a plain tree
 abbrev pub tree_of : {T : Type 0} → (T → ℕ) → Tree T → math.Tree

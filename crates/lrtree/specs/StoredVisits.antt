@@ -24,7 +24,8 @@ next_trees (Some t) ts = t.now ∷ ts
 abbrev pub left_of_nodes : {T : Type 0} → (T → ℕ) → List (Open T) → List Visit
 left_of_nodes number [] = []
 left_of_nodes number (o ∷ os) =
-    Leave (number o.pidx.0) ∷ forest_visits (forest_of number o.behind.now) ++ left_of_nodes number os
+    Leave (number o.pidx.0) ∷ forest_visits (forest_of number o.behind.now)
+    ++ left_of_nodes number os
 
 -- what is left to be come by
 abbrev pub visits_left : {T : Type 0} → (T → ℕ) → Inside T → List Visit

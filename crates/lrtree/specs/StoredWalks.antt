@@ -31,6 +31,8 @@ HasRemaining g fs rs = (es : List Visit) × Remains g fs rs es
 
 -- what a walk comes by is the first of the visits, and `P` holds of the others; at the end there is
 -- none
-abbrev pub Follows : {T : Type 0} → (T → ℕ) → Option (stored_visit.Visit T) → List Visit → (List Visit → Type 0) → Type 0
+abbrev pub Follows :
+    {T : Type 0} → (T → ℕ) → Option (stored_visit.Visit T) → List Visit → (List Visit → Type 0)
+    → Type 0
 Follows number None es P = es ≡ []
 Follows number (Some e) es P = (rest : List Visit) × (es ≡ visit_of number e ∷ rest) × P rest

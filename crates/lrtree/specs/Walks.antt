@@ -23,7 +23,8 @@ pub record Open : Type 0 where
 
 -- the productions left and the visits to come are those of the children that are missing, and
 -- before these productions and behind these visits `P` holds
-pub record ChildrenThen (g : Grammar) (f : Open) (P : List ℕ → List Visit → Type 0) (rs : List ℕ) (es : List Visit) : Type 0 where
+pub record ChildrenThen (g : Grammar) (f : Open) (P : List ℕ → List Visit → Type 0)
+    (rs : List ℕ) (es : List Visit) : Type 0 where
   pub there : f.production < length g.productions
   pub fits : f.missing ≤ length (body_of g f.production)
   pub children : Forest

@@ -14,12 +14,14 @@ own_line symbol = option_map (λ level. level.0) symbol.level
 
 -- the same by the other name of a symbol, if it has one
 abbrev pub other_line : List Symbol → Symbol → Option ℕ
-other_line symbols symbol = option_and_then (λ other. option_and_then own_line (slice_get symbols other)) symbol.partner
+other_line symbols symbol =
+    option_and_then (λ other. option_and_then own_line (slice_get symbols other)) symbol.partner
 
 -- the precedence line of a symbol, by either of its names
 abbrev pub line_of : List Symbol → ℕ → Option ℕ
 line_of symbols number =
-    option_and_then (λ symbol. option_or (own_line symbol) (other_line symbols symbol)) (slice_get symbols number)
+    option_and_then (λ symbol. option_or (own_line symbol) (other_line symbols symbol))
+    (slice_get symbols number)
 
 -- how the tokens of a line group: those of a `%precedence` line settle nothing among themselves
 abbrev pub group_of : LevelKind → AssocKind

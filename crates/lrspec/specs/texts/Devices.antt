@@ -11,10 +11,12 @@ ConsumesSome old new P = (read : List ℕ) × Consumes old new read × P read
 
 -- a beginning of the text was written to a writer with `old` and then `new` bytes
 abbrev pub AppendsBeginning : Option (List ℕ) → Option (List ℕ) → List ℕ → Type 0
-AppendsBeginning old new text = (wrote more : List ℕ) × Appends old new wrote × (text ≡ wrote ++ more)
+AppendsBeginning old new text =
+    (wrote more : List ℕ) × Appends old new wrote × (text ≡ wrote ++ more)
 
 -- the answers to the first of some lines were written, and those to at least one were not
-abbrev pub AppendsFirstAnswers : Option (List ℕ) → Option (List ℕ) → (List ℕ → List ℕ) → List (List ℕ)
+abbrev pub AppendsFirstAnswers :
+    Option (List ℕ) → Option (List ℕ) → (List ℕ → List ℕ) → List (List ℕ)
     → Type 0
 AppendsFirstAnswers old new answer ls =
     (k : ℕ) × (k < length ls) × Appends old new (answers_to answer (take k ls))

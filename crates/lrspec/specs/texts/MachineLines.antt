@@ -56,7 +56,8 @@ unless_unknown (Some w) text = codes "unknown " ++ w
 
 -- the answer to a line of these words: how at most `n` steps on the tokens of the words come out
 abbrev pub words_answer : Grammar → Table → ℕ → List (List ℕ) → List ℕ
-words_answer g b n ws = unless_unknown (first_unknown g ws) (run_text g (run g b n (tokens_of g ws)))
+words_answer g b n ws =
+    unless_unknown (first_unknown g ws) (run_text g (run g b n (tokens_of g ws)))
 
 -- the answer to a line
 abbrev pub line_answer : Grammar → Table → ℕ → List ℕ → List ℕ
