@@ -132,8 +132,7 @@ pub fn check_ambiguity<T: IndexStorage>(
     ensures conflicts { IfOk result (λ o. IsSome o → HasNoPrecedences grm.now → (b : Table)
         → IsTableFor grm.now b → ¬ (ListsNothing b)) }
 {
-    // `prods_len` says that this is a grammar
-    let _ = grm.prods_len();
+    grm.in_order();
     match read_both(alloc, grm, &text, &before, &one, &other)? {
         Some((one_tree, other_tree)) => Ok(Some(Ambiguity {
             text,

@@ -57,8 +57,7 @@ pub fn nests<T: IndexStorage>(
         → items_of T.number items.now ≡ is ++ (p, d) ∷ []
         → Stands grm.now (map (symbol_of T.number) list.now) p d }
 {
-    // `prods_len` says that this is a grammar
-    let _ = grm.prods_len();
+    grm.in_order();
     let mut left = list;
     let mut wanted = Some(grm.prod_to_rule(grm.start_prod()));
     for item in items {

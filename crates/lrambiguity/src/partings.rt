@@ -73,8 +73,7 @@ fn stands_at<T: IndexStorage>(
         → next_token grm.now (drop replay.now.used (text_of T.number text.now))
         ≡ T.number contest.token.0 }
 {
-    // `prods_len` says that this is a grammar
-    let _ = grm.prods_len();
+    grm.in_order();
     let Some(reached) = replay.state_reached(graph) else {
         return false;
     };
@@ -105,8 +104,7 @@ pub fn parts_at<T: IndexStorage>(
         (T.number contest.state.0) (T.number contest.token.0)
         (move_of T.number contest.one) (move_of T.number contest.other)) }
 {
-    // `prods_len` says that this is a grammar
-    let _ = grm.prods_len();
+    grm.in_order();
     if !begins_with(&ambiguity.one, contest.one) || !begins_with(&ambiguity.other, contest.other) {
         return Ok(false);
     }

@@ -108,8 +108,7 @@ impl<T: IndexStorage> Replay<T> {
         ensures nowhere { IfOk result (λ made. made ≡ false → (text : List ℕ) →
             LeadsNowhere T.number grm.now text (plain.Reduce (T.number pidx.0) ∷ []) self.old) }
     {
-        // `prods_len` says of a grammar that the start production comes last
-        let _ = grm.prods_len();
+        grm.in_order();
         if usize::from(pidx) >= usize::from(grm.start_prod()) {
             return Ok(false);
         }
@@ -142,8 +141,7 @@ impl<T: IndexStorage> Replay<T> {
             LeadsNowhere T.number grm.now (text_of T.number text.now)
             (move_of T.number action ∷ []) self.old) }
     {
-        // `prods_len` says that this is a grammar
-        let _ = grm.prods_len();
+        grm.in_order();
         match action {
             Move::Shift => self.shift(text),
             Move::Reduce(pidx) => self.reduce(alloc, grm, pidx),
@@ -179,8 +177,7 @@ impl<T: IndexStorage> Replay<T> {
         ensures { IsTrue result ↔ ((length text.now ≤ self.now.used)
             × (roots_of T.number self.now ≡ body_of grm.now grm.now.start_production)) }
     {
-        // `prods_len` says of a grammar that the start production is one of its productions
-        let _ = grm.prods_len();
+        grm.in_order();
         self.used >= text.len() && self.roots.as_slice() == grm.prod(grm.start_prod())
     }
 
@@ -201,8 +198,7 @@ impl<T: IndexStorage> Replay<T> {
             → HasMade T.number grm.now (text_of T.number text.now) ms self
             → HasNoTree grm.now ms (text_of T.number text.now)) }
     {
-        // `prods_len` says that this is a grammar
-        let _ = grm.prods_len();
+        grm.in_order();
         if !self.is_whole(grm, text) {
             self.take_apart();
             return None;

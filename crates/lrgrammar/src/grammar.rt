@@ -66,6 +66,15 @@ impl<T: IndexStorage> YaccGrammar<T> {
         *self.prods.allocator()
     }
 
+    /// What a grammar keeps: it is one, and the numbers of its parts fit into the index type. It does nothing, and is there for
+    /// proofs.
+    pub fn in_order(&self)
+        ensures shape { math.IsGrammar self.now }
+        ensures sizes { IsWithin T.MAX self.now }
+    {
+        let _ = self.prods.len();
+    }
+
     /// The number of rules, `^` among them.
     pub fn rules_len(&self) -> RIdx<T>
         ensures value { T.number result.0 ≡ length self.now.rule_names }

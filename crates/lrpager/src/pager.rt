@@ -197,7 +197,7 @@ pub fn build<T: IndexStorage>(
         AreCounts grm.now T.MAX (length b.0) b.1.made b.1.closings) }
     ensures refused { IfErr result (IsLargeOnly (HasChainOf grm.now T.MAX)) }
 {
-    let _sizes = grm.tokens_len();
+    grm.in_order();
     let firsts = grm.firsts()?;
     let (mut drafts, mut candidates) = begin(grm)?;
     let mut tools = Tools::new(grm, &firsts)?;

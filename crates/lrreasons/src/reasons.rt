@@ -164,8 +164,7 @@ impl<'a, T: IndexStorage> Reasons<'a, T> {
         ensures conflicts { IfOk result (λ o. IsSome o → HasNoPrecedences self.now.grammar
             → (b : Table) → IsTableFor self.now.grammar b → ¬ (ListsNothing b)) }
     {
-        // `prods_len` says that this is a grammar
-        let _ = self.grm.prods_len();
+        self.grm.in_order();
         if usize::from(conflict.state) >= usize::from(self.graph.all_states_len()) {
             return Ok(None);
         }

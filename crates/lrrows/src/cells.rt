@@ -147,10 +147,10 @@ pub(crate) fn make_gotos<T: IndexStorage>(
     ensures row { OnOk result (row_with 0 (length grm.now.rule_names) entries.new.items
         ≡ goto_row grm.now sg.now (T.number stidx.0)) }
 {
-    // `rules_len` says of a grammar that its symbols are rules and tokens of its own, and `len` of a map that its keys come
-    // upwards
+    grm.in_order();
     let edges = sg.edges(stidx);
-    let _ = (grm.rules_len(), edges.len());
+    // `len` says of a map that its keys come upwards
+    let _ = edges.len();
     entries.clear();
     for (symbol, target) in edges {
         if let Symbol::Rule(ridx) = symbol {

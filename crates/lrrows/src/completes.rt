@@ -46,8 +46,7 @@ pub(crate) fn accepted<'a, T: IndexStorage>(
     ensures bits { IfSome result (λ ctx. length ctx.now ≡ math.token_count grm.now) }
 {
     let start = grm.start_prod();
-    // `prods_len` says of a grammar that the start production is one of its productions
-    let _ = grm.prods_len();
+    grm.in_order();
     closed.items.get(&(start, grm.prod_len(start)))
 }
 

@@ -66,8 +66,7 @@ impl<T: IndexStorage> Rows<T> {
             (AreRowsOf T.number grm.now sg.now (T.number stidx.0 + 1) self.new) }
         ensures zeros { OnOk result (HaveZeros self.new) }
     {
-        // `tokens_len` says of the grammar how many productions, tokens and rules it has at most
-        let _ = grm.tokens_len();
+        grm.in_order();
         let closed = sg.closed_state(stidx);
         let complete = completes(grm, closed)?;
         let least = least_by_token(grm, complete.as_slice())?;

@@ -85,8 +85,7 @@ pub fn from_yacc_counted<T: IndexStorage>(
     ensures refused { IfErr result (IsBuildRefusal T.number T.MAX grm.now) }
 {
     let Minimiser::Pager = minimiser;
-    // `tokens_len` says that this is a grammar
-    let _ = grm.tokens_len();
+    grm.in_order();
     let (graph, counts) = pager::build(grm)?;
     let table = StateTable::new(alloc, grm, &graph)?;
     Ok((graph, table, counts))

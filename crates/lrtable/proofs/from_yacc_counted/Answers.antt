@@ -14,7 +14,7 @@ returns-in_err-table-clause-refused g c =
     let grm = c.args.grm.now in
     let built = c.in_ok-graph.ensures in
     error_passed (IsBuildRefusal number most grm) _ c.in_err-table.field-0.0 c.from_residual-in_err-table.ensures.1
-    (refused_by_table number most grm c.in_ok-graph.graph c.in_ok-graph.counts.made c.in_err-table.field-0.0 c.tokens_len.ensures.shape
+    (refused_by_table number most grm c.in_ok-graph.graph c.in_ok-graph.counts.made c.in_err-table.field-0.0 c.in_order.ensures.shape
     built.merged.graph built.counts.chain built.counts.states c.in_err-table.ensures.refused)
 
 pub returns-in_err-table-clause-headline : goal.returns-in_err-table-clause-headline
@@ -25,7 +25,7 @@ returns-in_err-table-clause-headline g c =
     let built = c.in_ok-graph.ensures in
     error_answered _ (IsExactError grm) _ c.in_err-table.field-0.0 c.from_residual-in_err-table.ensures.1
     (exact_error number most grm c.in_err-table.field-0.0
-    (refused_by_table number most grm c.in_ok-graph.graph c.in_ok-graph.counts.made c.in_err-table.field-0.0 c.tokens_len.ensures.shape
+    (refused_by_table number most grm c.in_ok-graph.graph c.in_ok-graph.counts.made c.in_err-table.field-0.0 c.in_order.ensures.shape
     built.merged.graph built.counts.chain built.counts.states c.in_err-table.ensures.refused))
 
 pub returns-in_err-graph-clause-headline : goal.returns-in_err-graph-clause-headline
@@ -47,7 +47,7 @@ returns-clause-built g c =
       table_for = record { graph = graph; graph_of = merged.graph; table_of = made.table };
       reduces = made.reduces;
       entries = made.entries;
-      accepts = accept_uncontested grm graph c.tokens_len.ensures.shape merged.graph made.table.no_contest;
+      accepts = accept_uncontested grm graph c.in_order.ensures.shape merged.graph made.table.no_contest;
       reductions = reductions_contested grm graph merged.graph merged.shared;
       shifts = shifts_contested grm graph merged.graph;
     }
@@ -55,7 +55,7 @@ returns-clause-built g c =
 pub returns-clause-headline : goal.returns-clause-headline
 returns-clause-headline g c =
     let merged = c.in_ok-graph.ensures.merged in
-    table_answer c.args.grm.now c.in_ok-graph.graph c.tokens_len.ensures.shape merged.graph merged.shared c.in_ok-table.table
+    table_answer c.args.grm.now c.in_ok-graph.graph c.in_order.ensures.shape merged.graph merged.shared c.in_ok-table.table
     c.in_ok-table.ensures.table
 
 pub returns-clause-counts : goal.returns-clause-counts

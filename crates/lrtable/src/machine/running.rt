@@ -98,8 +98,7 @@ impl<T: IndexStorage> Machine<T> {
             let after = config_of T.number self.new text.now in
             IfOk result (λ v. Tells v before after (math.step grm.now table.now before)) }
     {
-        // `tokens_len` says that this is a grammar
-        let _ = grm.tokens_len();
+        grm.in_order();
         match table.action(self.top(), self.next_token(grm, text)) {
             Action::Shift(stidx) => {
                 // the end token is never shifted
@@ -175,7 +174,6 @@ pub fn run<T: IndexStorage>(
     ensures recognises { HasNoPrecedences grm.now → ListsNothing table.now
         → Recognises grm.now table.now }
 {
-    // `tokens_len` says that this is a grammar
-    let _ = grm.tokens_len();
+    grm.in_order();
     drive(alloc, grm, table, text, steps)
 }

@@ -21,7 +21,7 @@ returns-in-Some-clause-ambiguous g c =
     λ _. ambiguous (returns-in-Some-clause-one g c) (returns-in-Some-clause-other g c) (returns-in-Some-clause-differ g c)
 
 pub returns-in-Some-clause-conflicts : goal.returns-in-Some-clause-conflicts
-returns-in-Some-clause-conflicts g c = λ is. lists_conflicts c.prods_len.ensures.shape (returns-in-Some-clause-ambiguous g c is)
+returns-in-Some-clause-conflicts g c = λ is. lists_conflicts c.in_order.ensures.shape (returns-in-Some-clause-ambiguous g c is)
 
 pub returns-in-None-clause-none : goal.returns-in-None-clause-none
 returns-in-None-clause-none g c =

@@ -4,7 +4,7 @@ use Rattle.lrambiguity.proofs.nesting.nests.Goals as goal
 
 pub loop-item-init : goal.loop-item-init
 loop-item-init g c =
-    walk_begun g.T.IndexStorage.number c.args.grm.now c.args.list.now c.args.items.now c.prod_to_rule.result c.prods_len.ensures.shape
+    walk_begun g.T.IndexStorage.number c.args.grm.now c.args.list.now c.args.items.now c.prod_to_rule.result c.in_order.ensures.shape
     (rw c.start_prod.ensures at c.prod_to_rule.ensures.rule)
 
 pub loop-item-preserved : goal.loop-item-preserved
@@ -19,7 +19,7 @@ returns-in_default-clause-nests g c =
       λ is. let no : false ≡ true = is in cc,
       λ n.
           absurd (walk_stuck g.T.IndexStorage.number c.args.grm.now c.args.list.now c.args.items.now loop.item-index c.item-item.result c.loop-item-test.true c.item-item.is loop.left.now loop.wanted
-          c.prods_len.ensures.shape loop.invariant c.in_default.ensures.none n),
+          c.in_order.ensures.shape loop.invariant c.in_default.ensures.none n),
     )
 
 pub returns-then-is_empty-clause-nests : goal.returns-then-is_empty-clause-nests
@@ -43,5 +43,5 @@ returns-else-is_empty-clause-nests g c =
       λ n.
           (none_told loop.left.now c.is_empty.result c.is_empty.ensures).1
           (all_walked g.T.IndexStorage.number c.args.grm.now c.args.list.now c.args.items.now loop.item-index loop.left.now loop.wanted c.loop-item-test.false loop.invariant
-          c.prods_len.ensures.shape n),
+          c.in_order.ensures.shape n),
     )

@@ -30,5 +30,5 @@ pub returns-clause-contend : goal.returns-clause-contend
 returns-clause-contend g c = λ is.
     let number = g.T.IndexStorage.number in
     let a = c.args.ambiguity.now in
-    contend c.prods_len.ensures.shape c.args.graph.now (number c.args.contest.state.0) (tree_of number a.one_tree) (tree_of number a.other_tree)
+    contend c.in_order.ensures.shape c.args.graph.now (number c.args.contest.state.0) (tree_of number a.one_tree) (tree_of number a.other_tree)
     (returns-clause-parts g c is) c.requires.ambiguity.first c.requires.ambiguity.second

@@ -54,7 +54,7 @@ returns-clause-counts g c =
       made = omega (arith, e.most);
       closed = omega (arith, e.made);
       closings = rw same e.closings;
-      fits = closings_bound_fits g.T.IndexStorage.MAX c.args.grm.now c.tokens_len-sizes.ensures.sizes g.met.T.IndexStorage.most;
+      fits = closings_bound_fits g.T.IndexStorage.MAX c.args.grm.now c.in_order.ensures.sizes g.met.T.IndexStorage.most;
       chain = (made.0, made.1, omega (arith, made.2));
     }
 
@@ -62,7 +62,7 @@ pub construct-requires-clause-of : goal.construct-requires-clause-of
 construct-requires-clause-of g c = c.in_ok-firsts.ensures
 
 pub construct-requires-clause-sizes : goal.construct-requires-clause-sizes
-construct-requires-clause-sizes g c = c.tokens_len-sizes.ensures.sizes
+construct-requires-clause-sizes g c = c.in_order.ensures.sizes
 
 pub construct-requires-clause-candidates : goal.construct-requires-clause-candidates
 construct-requires-clause-candidates g c = c.in_ok-drafts.ensures.candidates

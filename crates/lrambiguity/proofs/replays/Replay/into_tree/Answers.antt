@@ -19,11 +19,11 @@ returns-then-not-is_whole-clause-none g c = λ ms made t a.
 pub returns-clause-tree : goal.returns-clause-tree
 returns-clause-tree g c =
     let whole = c.if-not-is_whole.ensures.0 refl in
-    last_tree_alone g.T.IndexStorage.number c.args.grm.now c.args.text.now c.args.self c.prods_len.ensures.shape whole.1
+    last_tree_alone g.T.IndexStorage.number c.args.grm.now c.args.text.now c.args.self c.in_order.ensures.shape whole.1
     c.pop.new.self.items c.pop.result whole.0 c.pop.ensures.items
 
 pub returns-clause-none : goal.returns-clause-none
 returns-clause-none g c =
     let whole = c.if-not-is_whole.ensures.0 refl in
-    last_tree_there g.T.IndexStorage.number c.args.grm.now c.args.text.now c.args.self c.prods_len.ensures.shape whole.1
+    last_tree_there g.T.IndexStorage.number c.args.grm.now c.args.text.now c.args.self c.in_order.ensures.shape whole.1
     c.pop.result (λ some. c.pop.ensures.variant.1 (omega (arith, some, c.args.self.trees.ok.0)))

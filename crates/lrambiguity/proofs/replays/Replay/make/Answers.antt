@@ -7,7 +7,7 @@ returns-in-Shift-clause-made g c = rw c.in-Shift.is (IfOk-weaker c.shift.result 
 
 pub returns-in-Shift-clause-nowhere : goal.returns-in-Shift-clause-nowhere
 returns-in-Shift-clause-nowhere g c =
-    rw c.in-Shift.is (IfOk-weaker c.shift.result _ _ (λ made all is. all is c.args.grm.now c.prods_len.ensures.shape) c.shift.ensures.nowhere)
+    rw c.in-Shift.is (IfOk-weaker c.shift.result _ _ (λ made all is. all is c.args.grm.now c.in_order.ensures.shape) c.shift.ensures.nowhere)
 
 pub returns-in-Reduce-clause-made : goal.returns-in-Reduce-clause-made
 returns-in-Reduce-clause-made g c =

@@ -41,7 +41,7 @@ pub returns-then-from-clause-nowhere : goal.returns-then-from-clause-nowhere
 returns-then-from-clause-nowhere g c = λ _ text ms rest made t a.
     let used = c.args.self.now.used in
     let there =
-    body_there c.prods_len.ensures.shape made text (drop used text) (sym (take-append-drop used text)) (g.T.IndexStorage.number c.args.pidx.0) rest t a in
+    body_there c.in_order.ensures.shape made text (drop used text) (sym (take-append-drop used text)) (g.T.IndexStorage.number c.args.pidx.0) rest t a in
     omega (arith, there.0, c.if-from.true, c.from.ensures, c.from-2.ensures, c.start_prod.ensures)
 
 pub returns-then-not-ends_with-clause-nowhere : goal.returns-then-not-ends_with-clause-nowhere
@@ -49,7 +49,7 @@ returns-then-not-ends_with-clause-nowhere g c = λ _ text ms rest made t a.
     let number = g.T.IndexStorage.number in
     let law = g.met.T.IndexStorage in
     let used = c.args.self.now.used in
-    let there = body_there c.prods_len.ensures.shape made text (drop used text) (sym (take-append-drop used text)) (number c.args.pidx.0) rest t a in
+    let there = body_there c.in_order.ensures.shape made text (drop used text) (sym (take-append-drop used text)) (number c.args.pidx.0) rest t a in
     let front = there.1.0 in
     let split = ap (map (symbol_of number)) c.deref.ensures.value ∙ there.1.1 ∙ ap (λ l. front ++ l) (sym c.prod-body.ensures.body) in
     let ends =

@@ -27,6 +27,6 @@ pub returns-clause-conflicts : goal.returns-clause-conflicts
 returns-clause-conflicts g c =
     rw (← c.self.view_is)
     (follows_of_some c.in_ok-proved.proved
-    (λ a p. lists_conflicts c.prods_len.ensures.shape
+    (λ a p. lists_conflicts c.in_order.ensures.shape
     (is_ambiguous g.T.IndexStorage.number g.met.T.IndexStorage.injective c.self.inside.grm.now c.self.inside.graph.now c.args.conflict a p))
     c.in_ok-proved.ensures)

@@ -30,7 +30,7 @@ reduces_of-requires g c =
     let made = c.in_ok-make_actions.ensures in
     rw c.as_slice-row.ensures.value
     (each_entry (token_count c.args.grm.now) _ made.entries (λ n. IsIndexed most (action_numbered n))
-    (rw made.row (indexed_action_row c.args.grm.now c.args.sg.now most s c.requires.graph c.tokens_len.ensures.sizes c.requires.states)))
+    (rw made.row (indexed_action_row c.args.grm.now c.args.sg.now most s c.requires.graph c.in_order.ensures.sizes c.requires.states)))
 
 pub reduces_by_one-requires-clause-indexed : goal.reduces_by_one-requires-clause-indexed
 reduces_by_one-requires-clause-indexed g c =
@@ -39,19 +39,19 @@ reduces_by_one-requires-clause-indexed g c =
     let made = c.in_ok-make_actions.ensures in
     rw c.as_slice-row.ensures.value
     (each_entry (token_count c.args.grm.now) _ made.entries (λ n. IsIndexed most (action_numbered n))
-    (rw made.row (indexed_action_row c.args.grm.now c.args.sg.now most s c.requires.graph c.tokens_len.ensures.sizes c.requires.states)))
+    (rw made.row (indexed_action_row c.args.grm.now c.args.sg.now most s c.requires.graph c.in_order.ensures.sizes c.requires.states)))
 
 pub reduces_by_one-requires-clause-reduces : goal.reduces_by_one-requires-clause-reduces
 reduces_by_one-requires-clause-reduces g c = rw c.as_slice-3.ensures.value c.in_ok-reduces.ensures
 
 pub push_entries-requires-clause-cols : goal.push_entries-requires-clause-cols
-push_entries-requires-clause-cols g c = omega (arith, c.requires.rows.tokens, c.tokens_len.ensures.sizes.tokens, g.met.T.IndexStorage.most)
+push_entries-requires-clause-cols g c = omega (arith, c.requires.rows.tokens, c.in_order.ensures.sizes.tokens, g.met.T.IndexStorage.most)
 
 pub push_entries-requires-clause-entries : goal.push_entries-requires-clause-entries
 push_entries-requires-clause-entries g c = rw (c.as_slice-row.ensures.value, c.requires.rows.tokens) c.in_ok-make_actions.ensures.entries
 
 pub push_entries-requires-2-clause-cols : goal.push_entries-requires-2-clause-cols
-push_entries-requires-2-clause-cols g c = omega (arith, c.requires.rows.rules, c.tokens_len.ensures.sizes.rules, g.met.T.IndexStorage.most)
+push_entries-requires-2-clause-cols g c = omega (arith, c.requires.rows.rules, c.in_order.ensures.sizes.rules, g.met.T.IndexStorage.most)
 
 pub push_entries-requires-2-clause-entries : goal.push_entries-requires-2-clause-entries
 push_entries-requires-2-clause-entries g c = rw (c.as_slice-4.ensures.value, c.requires.rows.rules) c.in_ok-make_gotos.ensures.entries
@@ -64,7 +64,7 @@ push_reduce_reduce-requires-clause-bits g c =
 pub push_reduce_reduce-requires-clause-tokens : goal.push_reduce_reduce-requires-clause-tokens
 push_reduce_reduce-requires-clause-tokens g c =
     let count = listed_len _ _ _ _ c.in_ok-least.ensures in
-    rw (c.as_slice-5.ensures.value, count) c.tokens_len.ensures.sizes.tokens
+    rw (c.as_slice-5.ensures.value, count) c.in_order.ensures.sizes.tokens
 
 pub push_shift_reduce-requires : goal.push_shift_reduce-requires
 push_shift_reduce-requires g c =

@@ -13,18 +13,18 @@ use Rattle.lrspec.proofs.tables.ExactWithoutPrecedences.{recognises_without_prec
 use Rattle.lrtable.proofs.machine.running.run.Goals as goal
 
 pub returns-clause-never_stuck : goal.returns-clause-never_stuck
-returns-clause-never_stuck g c = machine.never_stuck c.tokens_len.ensures.shape c.requires.table_for
+returns-clause-never_stuck g c = machine.never_stuck c.in_order.ensures.shape c.requires.table_for
 
 pub returns-clause-shifts_taken : goal.returns-clause-shifts_taken
-returns-clause-shifts_taken g c = machine.shifts_what_is_taken c.tokens_len.ensures.shape c.requires.table_for
+returns-clause-shifts_taken g c = machine.shifts_what_is_taken c.in_order.ensures.shape c.requires.table_for
 
 pub returns-clause-one_tree : goal.returns-clause-one_tree
-returns-clause-one_tree g c = machine.one_tree c.tokens_len.ensures.shape
+returns-clause-one_tree g c = machine.one_tree c.in_order.ensures.shape
 
 pub returns-clause-recognises : goal.returns-clause-recognises
 returns-clause-recognises g c =
     let k = c.requires.table_for in
-    λ plain. recognises_without_precedences c.args.grm.now k.graph c.tokens_len.ensures.shape k.graph_of plain c.args.table.now k.table_of
+    λ plain. recognises_without_precedences c.args.grm.now k.graph c.in_order.ensures.shape k.graph_of plain c.args.table.now k.table_of
 
 -- what a run answers is what holds of the run
 of_run :
@@ -39,7 +39,7 @@ returns-clause-sound g c =
     let table = c.args.table.now in
     let text = text_of number c.args.text.now in
     of_run number (HasTreeIfAccepted grm text) c.drive.result (math.run grm table c.args.steps text) c.drive.ensures
-    (machine.sound c.tokens_len.ensures.shape c.requires.table_for c.args.steps text c.requires.named)
+    (machine.sound c.in_order.ensures.shape c.requires.table_for c.args.steps text c.requires.named)
 
 pub returns-clause-complete : goal.returns-clause-complete
 returns-clause-complete g c =
@@ -48,7 +48,7 @@ returns-clause-complete g c =
     let table = c.args.table.now in
     let text = text_of number c.args.text.now in
     of_run number (λ a. IsUncrowded grm table → IsAcceptedIfSentence grm c.args.steps text a) c.drive.result (math.run grm table c.args.steps text)
-    c.drive.ensures (λ k. machine.complete c.tokens_len.ensures.shape k c.args.steps text)
+    c.drive.ensures (λ k. machine.complete c.in_order.ensures.shape k c.args.steps text)
 
 pub returns-clause-shifts : goal.returns-clause-shifts
 returns-clause-shifts g c =
@@ -57,4 +57,4 @@ returns-clause-shifts g c =
     let table = c.args.table.now in
     let text = text_of number c.args.text.now in
     of_run number (λ a. HasTrees grm → ShiftedBeginsSentence grm text a) c.drive.result (math.run grm table c.args.steps text) c.drive.ensures
-    (λ k. machine.shifts_beginnings c.tokens_len.ensures.shape c.requires.table_for k c.args.steps text c.requires.named)
+    (λ k. machine.shifts_beginnings c.in_order.ensures.shape c.requires.table_for k c.args.steps text c.requires.named)

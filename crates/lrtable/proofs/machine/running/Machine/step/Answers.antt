@@ -14,7 +14,7 @@ top-requires g c =
     let text = text_of number c.args.text.now in
     let states = c.args.self.now.stack.items in
     let there =
-    stack_there c.args.grm.now c.args.table.now text (config_of number c.args.self.now c.args.text.now) c.tokens_len.ensures.shape c.requires.table_for
+    stack_there c.args.grm.now c.args.table.now text (config_of number c.args.self.now c.args.text.now) c.in_order.ensures.shape c.requires.table_for
     c.requires.named c.requires.reached in
     omega (arith, there, length-reverse (map (λ s. number s.0) states), length-map states (λ s. number s.0))
 
@@ -29,7 +29,7 @@ prove-unreachable-requires g c =
     cell_here c.args.table.now (number c.top.result.0) (number c.next_token.result.0) (top config.stack) (next_token c.args.grm.now config.left)
     (table.Action.Shift (number c.in-Shift.stidx.0)) c.in-Shift.ensures.cell c.top.ensures c.next_token.ensures in
     let there : 0 < length (drop used text) =
-    can_shift c.args.grm.now c.args.table.now text config (number c.in-Shift.stidx.0) c.tokens_len.ensures.shape c.requires.table_for c.requires.named
+    can_shift c.args.grm.now c.args.table.now text config (number c.in-Shift.stidx.0) c.in_order.ensures.shape c.requires.table_for c.requires.named
     c.requires.reached cell in
     omega (arith, there, length-drop used text, length-map c.args.text.now (λ t. number t.0), c.if-prove.true)
 
@@ -40,7 +40,7 @@ reduce-requires g c =
     let cell =
     cell_here c.args.table.now (number c.top.result.0) (number c.next_token.result.0) (top config.stack) (next_token c.args.grm.now config.left)
     (table.Action.Reduce (number c.in-Reduce.pidx.0)) c.in-Reduce.ensures.cell c.top.ensures c.next_token.ensures in
-    can_reduce c.args.grm.now c.args.table.now (text_of number c.args.text.now) config (number c.in-Reduce.pidx.0) c.tokens_len.ensures.shape
+    can_reduce c.args.grm.now c.args.table.now (text_of number c.args.text.now) config (number c.in-Reduce.pidx.0) c.in_order.ensures.shape
     c.requires.table_for c.requires.named c.requires.reached cell
 
 pub returns-in_ok-push-in-Shift : goal.returns-in_ok-push-in-Shift
