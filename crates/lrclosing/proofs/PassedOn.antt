@@ -1,6 +1,6 @@
 -- the tokens that an item passes on, as a walk over the symbols finds them
 use Rattle.std.proofs.Common.{◌≡◌, ◌≢◌, ℕ, zero, suc, ◌<◌, ◌≤◌, Option, None, Some, Bool, true, false, cond, List, [], ◌∷◌, length, set, length-set, refl, sym, ap, ◌∙◌, arith, ◌⊎◌, inl, inr}
-use Rattle.std.specs.Prelude.{IsTrue, IfSome, ◌↔◌, ◌||◌}
+use Rattle.std.specs.Prelude.{IsTrue, ◌↔◌, ◌||◌}
 use Rattle.lrspec.specs.grammars.Grammar.{Symbol, Rule, Token, Grammar, token_count, AreBodySymbols}
 use Rattle.lrspec.specs.grammars.First as first
 use Rattle.lrspec.specs.grammars.First.{AllNullable, Begins}
@@ -11,16 +11,11 @@ use Rattle.lrbits.proofs.Unions.{length-union, union_grows, bit_of_union}
 use Rattle.lrbits.proofs.UnsetBits.{unset_falls, set_again}
 use Rattle.lrclosing.proofs.JoinedLookaheads.{or_cases, or_left, or_right}
 
--- the bits together with others, if there are any
-abbrev pub union_if : List Bool → Option (List Bool) → List Bool
-union_if acc None = acc
-union_if acc (Some v) = union acc v
-
 -- what a walk over the symbols `y` makes of the bits `acc`
-abbrev pub passed : Firsts → Option (List Bool) → List Symbol → List Bool → List Bool
-passed f ctx [] acc = union_if acc ctx
-passed f ctx (Token t ∷ y) acc = set acc t true
-passed f ctx (Rule r ∷ y) acc = cond (bit f.nullable r) (passed f ctx y (union acc (firsts_of f r))) (union acc (firsts_of f r))
+abbrev pub passed : Firsts → List Symbol → List Bool → List Bool
+passed f [] acc = acc
+passed f (Token t ∷ y) acc = set acc t true
+passed f (Rule r ∷ y) acc = cond (bit f.nullable r) (passed f y (union acc (firsts_of f r))) (union acc (firsts_of f r))
 
 -- a bit that is set stays set
 pub set_keeps : (v : List Bool) (i t : ℕ) → IsTrue (bit v t) → IsTrue (bit (set v i true) t)
@@ -51,26 +46,6 @@ union_right v w t e h = rw (bit_of_union v w e t) (or_right (bit v t) (bit w t) 
 pub union_from : (v w : List Bool) (t : ℕ) → length w ≡ length v → IsTrue (bit (union v w) t) → IsTrue (bit v t) ⊎ IsTrue (bit w t)
 union_from v w t e h = or_cases (bit v t) (bit w t) (rw (bit_of_union v w e t) at h)
 
-length_union_if : (v : List Bool) (o : Option (List Bool)) → length (union_if v o) ≡ length v
-length_union_if v None = refl
-length_union_if v (Some w) = length-union v w
-
-union_if_left :
-    (v : List Bool) (o : Option (List Bool)) (n t : ℕ) → length v ≡ n → IfSome o (λ w. length w ≡ n) → IsTrue (bit v t) → IsTrue (bit (union_if v o) t)
-union_if_left v None n t e l h = h
-union_if_left v (Some w) n t e l h = union_left v w t (l ∙ sym e) h
-
-union_if_right :
-    (v : List Bool) (o : Option (List Bool)) (n t : ℕ) → length v ≡ n → IfSome o (λ w. length w ≡ n) → HasToken o t → IsTrue (bit (union_if v o) t)
-union_if_right v None n t e l h = absurd h
-union_if_right v (Some w) n t e l h = union_right v w t (l ∙ sym e) h
-
-union_if_from :
-    (v : List Bool) (o : Option (List Bool)) (n t : ℕ) → length v ≡ n → IfSome o (λ w. length w ≡ n) → IsTrue (bit (union_if v o) t)
-    → IsTrue (bit v t) ⊎ HasToken o t
-union_if_from v None n t e l h = inl h
-union_if_from v (Some w) n t e l h = union_from v w t (l ∙ sym e) h
-
 cond_both : (b : Bool) (v w : List Bool) (t : ℕ) → IsTrue (bit v t) → IsTrue (bit w t) → IsTrue (bit (cond b v w) t)
 cond_both true v w t h k = h
 cond_both false v w t h k = k
@@ -83,14 +58,14 @@ length_cond : (b : Bool) (v w : List Bool) (n : ℕ) → length v ≡ n → leng
 length_cond true v w n h k = h
 length_cond false v w n h k = k
 
-length_passed : (f : Firsts) (ctx : Option (List Bool)) (y : List Symbol) (acc : List Bool) → length (passed f ctx y acc) ≡ length acc
-length_passed f ctx [] acc = length_union_if acc ctx
-length_passed f ctx (Token t ∷ y) acc = length-set acc t true
-length_passed f ctx (Rule r ∷ y) acc =
-    length_cond (bit f.nullable r) (passed f ctx y (union acc (firsts_of f r))) (union acc (firsts_of f r)) (length acc)
-    (length_passed f ctx y (union acc (firsts_of f r)) ∙ length-union acc (firsts_of f r)) (length-union acc (firsts_of f r))
+length_passed : (f : Firsts) (y : List Symbol) (acc : List Bool) → length (passed f y acc) ≡ length acc
+length_passed f [] acc = refl
+length_passed f (Token t ∷ y) acc = length-set acc t true
+length_passed f (Rule r ∷ y) acc =
+    length_cond (bit f.nullable r) (passed f y (union acc (firsts_of f r))) (union acc (firsts_of f r)) (length acc)
+    (length_passed f y (union acc (firsts_of f r)) ∙ length-union acc (firsts_of f r)) (length-union acc (firsts_of f r))
 
-module _ (g : Grammar) (f : Firsts) (ctx : Option (List Bool)) (of : AreFirstsOf g f) (len : IfSome ctx (λ w. length w ≡ token_count g)) where
+module _ (g : Grammar) (f : Firsts) (of : AreFirstsOf g f) where
   row : (r : ℕ) (acc : List Bool) → r < length g.rule_names → length acc ≡ token_count g → length (firsts_of f r) ≡ length acc
   row r acc h e = of.bits r h ∙ sym e
 
@@ -99,73 +74,91 @@ module _ (g : Grammar) (f : Firsts) (ctx : Option (List Bool)) (of : AreFirstsOf
 
   -- bits that are set stay set
   passed_keeps :
-      (y : List Symbol) (acc : List Bool) (t : ℕ) → AreBodySymbols g y → length acc ≡ token_count g → IsTrue (bit acc t) → IsTrue (bit (passed f ctx y acc) t)
-  passed_keeps [] acc t s e h = union_if_left acc ctx (token_count g) t e len h
+      (y : List Symbol) (acc : List Bool) (t : ℕ) → AreBodySymbols g y → length acc ≡ token_count g → IsTrue (bit acc t) → IsTrue (bit (passed f y acc) t)
+  passed_keeps [] acc t s e h = h
   passed_keeps (Token u ∷ y) acc t s e h = set_keeps acc u t h
   passed_keeps (Rule r ∷ y) acc t s e h =
       let more : IsTrue (bit (union acc (firsts_of f r)) t) = union_left acc (firsts_of f r) t (row r acc s.0.1 e) h in
-      cond_both (bit f.nullable r) (passed f ctx y (union acc (firsts_of f r))) (union acc (firsts_of f r)) t
+      cond_both (bit f.nullable r) (passed f y (union acc (firsts_of f r))) (union acc (firsts_of f r)) t
       (passed_keeps y (union acc (firsts_of f r)) t s.1 (row_union r acc e) more) more
 
   -- the bits of what begins the symbols are set
   passed_begins :
-      {y : List Symbol} {t : ℕ} (acc : List Bool) → AreBodySymbols g y → length acc ≡ token_count g → Begins g y t → IsTrue (bit (passed f ctx y acc) t)
+      {y : List Symbol} {t : ℕ} (acc : List Bool) → AreBodySymbols g y → length acc ≡ token_count g → Begins g y t → IsTrue (bit (passed f y acc) t)
   passed_begins acc s e (first.Begins.here {t = t} {y = y}) = set_here acc t (omega (arith, e, s.0))
   passed_begins acc s e (first.Begins.inside {r = r} {t = t} {y = y} p h b) =
       let more : IsTrue (bit (union acc (firsts_of f r)) t) = union_right acc (firsts_of f r) t (row r acc s.0.1 e) ((of.begins r t).1 (p, h, b)) in
-      cond_both (bit f.nullable r) (passed f ctx y (union acc (firsts_of f r))) (union acc (firsts_of f r)) t
+      cond_both (bit f.nullable r) (passed f y (union acc (firsts_of f r))) (union acc (firsts_of f r)) t
       (passed_keeps y (union acc (firsts_of f r)) t s.1 (row_union r acc e) more) more
   passed_begins acc s e (first.Begins.past {r = r} {t = t} {y = y} n b) =
       let null : bit f.nullable r ≡ true = (of.is_nullable r).1 n in
       rw null (passed_begins (union acc (firsts_of f r)) s.1 (row_union r acc e) b)
-
-  -- and those of the item where the symbols are nullable
-  passed_inherit :
-      {y : List Symbol} (t : ℕ) (acc : List Bool) → AreBodySymbols g y → length acc ≡ token_count g → AllNullable g y → HasToken ctx t
-      → IsTrue (bit (passed f ctx y acc) t)
-  passed_inherit t acc s e first.AllNullable.none h = union_if_right acc ctx (token_count g) t e len h
-  passed_inherit t acc s e (first.AllNullable.more {r = r} {y = y} n a) h =
-      let null : bit f.nullable r ≡ true = (of.is_nullable r).1 n in
-      rw null (passed_inherit t (union acc (firsts_of f r)) s.1 (row_union r acc e) a h)
 
   row_begins : (r t : ℕ) (y : List Symbol) → IsTrue (bit (firsts_of f r) t) → Begins g (Rule r ∷ y) t
   row_begins r t y h = let b = (of.begins r t).0 h in first.Begins.inside b.0 b.1 b.2
 
   passed_past :
       (r : ℕ) (y : List Symbol) (acc : List Bool) (t : ℕ) → length (firsts_of f r) ≡ length acc → bit f.nullable r ≡ true
-      → IsTrue (bit (union acc (firsts_of f r)) t) ⊎ Begins g y t ⊎ (AllNullable g y × HasToken ctx t)
-      → IsTrue (bit acc t) ⊎ Begins g (Rule r ∷ y) t ⊎ (AllNullable g (Rule r ∷ y) × HasToken ctx t)
-  passed_past r y acc t l n (inl h) = elim (union_from acc (firsts_of f r) t l h) [ inl j ↦ inl j | inr j ↦ inr (inl (row_begins r t y j)) ]
-  passed_past r y acc t l n (inr (inl h)) = inr (inl (first.Begins.past ((of.is_nullable r).0 n) h))
-  passed_past r y acc t l n (inr (inr h)) = inr (inr (first.AllNullable.more ((of.is_nullable r).0 n) h.0, h.1))
+      → IsTrue (bit (union acc (firsts_of f r)) t) ⊎ Begins g y t → IsTrue (bit acc t) ⊎ Begins g (Rule r ∷ y) t
+  passed_past r y acc t l n (inl h) = elim (union_from acc (firsts_of f r) t l h) [ inl j ↦ inl j | inr j ↦ inr (row_begins r t y j) ]
+  passed_past r y acc t l n (inr h) = inr (first.Begins.past ((of.is_nullable r).0 n) h)
 
   -- and no others
   passed_from :
-      (y : List Symbol) (acc : List Bool) (t : ℕ) → AreBodySymbols g y → length acc ≡ token_count g → IsTrue (bit (passed f ctx y acc) t)
-      → IsTrue (bit acc t) ⊎ Begins g y t ⊎ (AllNullable g y × HasToken ctx t)
-  passed_from [] acc t s e h = elim (union_if_from acc ctx (token_count g) t e len h) [ inl k ↦ inl k | inr k ↦ inr (inr (first.AllNullable.none, k)) ]
-  passed_from (Token u ∷ y) acc t s e h = elim (set_from acc u t h) [ inl k ↦ inr (inl (rw k first.Begins.here)) | inr k ↦ inl k ]
+      (y : List Symbol) (acc : List Bool) (t : ℕ) → AreBodySymbols g y → length acc ≡ token_count g → IsTrue (bit (passed f y acc) t)
+      → IsTrue (bit acc t) ⊎ Begins g y t
+  passed_from [] acc t s e h = inl h
+  passed_from (Token u ∷ y) acc t s e h = elim (set_from acc u t h) [ inl k ↦ inr (rw k first.Begins.here) | inr k ↦ inl k ]
   passed_from (Rule r ∷ y) acc t s e h =
-      elim (cond_cases (bit f.nullable r) (passed f ctx y (union acc (firsts_of f r))) (union acc (firsts_of f r)) t h) [
+      elim (cond_cases (bit f.nullable r) (passed f y (union acc (firsts_of f r))) (union acc (firsts_of f r)) t h) [
         | inl k ↦ passed_past r y acc t (row r acc s.0.1 e) k.0 (passed_from y (union acc (firsts_of f r)) t s.1 (row_union r acc e) k.1)
-        | inr k ↦ elim (union_from acc (firsts_of f r) t (row r acc s.0.1 e) k) [ inl j ↦ inl j | inr j ↦ inr (inl (row_begins r t y j)) ]
+        | inr k ↦ elim (union_from acc (firsts_of f r) t (row r acc s.0.1 e) k) [ inl j ↦ inl j | inr j ↦ inr (row_begins r t y j) ]
       ]
 
   -- the walk adds what is passed on
-  are_passed_on : (y : List Symbol) (acc : List Bool) → AreBodySymbols g y → length acc ≡ token_count g → ArePassedOn g y ctx (Some acc) (passed f ctx y acc)
+  are_passed_on : (y : List Symbol) (acc : List Bool) → AreBodySymbols g y → length acc ≡ token_count g → ArePassedOn g y None (Some acc) (passed f y acc)
   are_passed_on y acc s e = record {
-    len = length_passed f ctx y acc ∙ e;
+    len = length_passed f y acc ∙ e;
     kept = λ t h. passed_keeps y acc t s e h;
     begins = λ t b. passed_begins acc s e b;
-    inherit = λ t a h. passed_inherit t acc s e a h;
-    from = λ t h. passed_from y acc t s e h;
+    inherit = λ t a h. absurd h;
+    from = λ t h. elim (passed_from y acc t s e h) [ inl k ↦ inl k | inr b ↦ inr (inl b) ];
   }
 
 -- what the walk ends with is what is passed on
 pub made_passed_on :
-    (g : Grammar) (f : Firsts) (ctx : Option (List Bool)) → AreFirstsOf g f → IfSome ctx (λ w. length w ≡ token_count g) → (y : List Symbol) (acc ahead : List Bool)
-    → AreBodySymbols g y → length acc ≡ token_count g → ahead ≡ passed f ctx y acc → ArePassedOn g y ctx (Some acc) ahead
-made_passed_on g f ctx of len y acc ahead s e h = rw h (are_passed_on g f ctx of len y acc s e)
+    (g : Grammar) (f : Firsts) → AreFirstsOf g f → (y : List Symbol) (acc ahead : List Bool) → AreBodySymbols g y → length acc ≡ token_count g
+    → ahead ≡ passed f y acc → ArePassedOn g y None (Some acc) ahead
+made_passed_on g f of y acc ahead s e h = rw h (are_passed_on g f of y acc s e)
+
+-- with the own tokens of an item behind whose rule all is nullable
+pub with_own :
+    (g : Grammar) (y : List Symbol) (ctx : List Bool) (row : Option (List Bool)) (put : List Bool) → length ctx ≡ token_count g → AllNullable g y
+    → ArePassedOn g y None row put → ArePassedOn g y (Some ctx) row (union put ctx)
+with_own g y ctx row put e n p =
+    let f : length ctx ≡ length put = e ∙ sym p.len in
+    record {
+      len = length-union put ctx ∙ p.len;
+      kept = λ t k. union_left put ctx t f (p.kept t k);
+      begins = λ t k. union_left put ctx t f (p.begins t k);
+      inherit = λ t m k. union_right put ctx t f k;
+      from = λ t k. elim (union_from put ctx t f k) [
+        | inr x ↦ inr (inr (n, x))
+        | inl x ↦ elim (p.from t x) [ inl z ↦ inl z | inr z ↦ elim z [ inl b ↦ inr (inl b) | inr b ↦ absurd b.1 ] ]
+      ];
+    }
+
+-- where none are passed on
+pub without_own :
+    (g : Grammar) (y : List Symbol) (ctx row : Option (List Bool)) (put : List Bool) → ((t : ℕ) → AllNullable g y → HasToken ctx t → ⊥)
+    → ArePassedOn g y None row put → ArePassedOn g y ctx row put
+without_own g y ctx row put n p = record {
+  len = p.len;
+  kept = p.kept;
+  begins = p.begins;
+  inherit = λ t m k. absurd (n t m k);
+  from = λ t k. elim (p.from t k) [ inl z ↦ inl z | inr z ↦ elim z [ inl b ↦ inr (inl b) | inr b ↦ absurd b.1 ] ];
+}
 
 -- a row that is made is more than none
 pub made_grown : (k : ℕ) (new : List Bool) → length new ≡ k → HasGrown k true None new
@@ -217,20 +210,20 @@ grown_before k false false o v w h j = h ∙ j
 
 -- turns of the walk
 pub turn_past :
-    (f : Firsts) (ctx : Option (List Bool)) (acc new total : List Bool) (left more : List Symbol) (r : ℕ) → passed f ctx left acc ≡ total → left ≡ Rule r ∷ more
-    → bit f.nullable r ≡ true → new ≡ union acc (firsts_of f r) → passed f ctx more new ≡ total
-turn_past f ctx acc new total left more r h e n m = rw m ((rw n refl) ∙ ap (λ z. passed f ctx z acc) (sym e) ∙ h)
+    (f : Firsts) (acc new total : List Bool) (left more : List Symbol) (r : ℕ) → passed f left acc ≡ total → left ≡ Rule r ∷ more
+    → bit f.nullable r ≡ true → new ≡ union acc (firsts_of f r) → passed f more new ≡ total
+turn_past f acc new total left more r h e n m = rw m ((rw n refl) ∙ ap (λ z. passed f z acc) (sym e) ∙ h)
 
 pub turn_stop :
-    (f : Firsts) (ctx : Option (List Bool)) (acc new total : List Bool) (left more : List Symbol) (r : ℕ) → passed f ctx left acc ≡ total → left ≡ Rule r ∷ more
+    (f : Firsts) (acc new total : List Bool) (left more : List Symbol) (r : ℕ) → passed f left acc ≡ total → left ≡ Rule r ∷ more
     → bit f.nullable r ≡ false → new ≡ union acc (firsts_of f r) → new ≡ total
-turn_stop f ctx acc new total left more r h e n m = m ∙ (rw n refl) ∙ ap (λ z. passed f ctx z acc) (sym e) ∙ h
+turn_stop f acc new total left more r h e n m = m ∙ (rw n refl) ∙ ap (λ z. passed f z acc) (sym e) ∙ h
 
 pub turn_token :
-    (f : Firsts) (ctx : Option (List Bool)) (acc new total : List Bool) (left more : List Symbol) (t : ℕ) → passed f ctx left acc ≡ total → left ≡ Token t ∷ more
+    (f : Firsts) (acc new total : List Bool) (left more : List Symbol) (t : ℕ) → passed f left acc ≡ total → left ≡ Token t ∷ more
     → new ≡ set acc t true → new ≡ total
-turn_token f ctx acc new total left more t h e m = m ∙ ap (λ z. passed f ctx z acc) (sym e) ∙ h
+turn_token f acc new total left more t h e m = m ∙ ap (λ z. passed f z acc) (sym e) ∙ h
 
 pub turn_end :
-    (f : Firsts) (ctx : Option (List Bool)) (acc new total : List Bool) (left : List Symbol) → passed f ctx left acc ≡ total → left ≡ [] → new ≡ union_if acc ctx → new ≡ total
-turn_end f ctx acc new total left h e m = m ∙ ap (λ z. passed f ctx z acc) (sym e) ∙ h
+    (f : Firsts) (acc new total : List Bool) (left : List Symbol) → passed f left acc ≡ total → left ≡ [] → new ≡ acc → new ≡ total
+turn_end f acc new total left h e m = m ∙ ap (λ z. passed f z acc) (sym e) ∙ h

@@ -1,9 +1,8 @@
 -- what a lead makes of a row
-use Rattle.std.proofs.Common.{◌≡◌, ◌≢◌, ℕ, ◌<◌, Bool, true, false, List, None, Some, length, get_or, set, refl, sym, ap, ◌∙◌, arith, inl, inr}
+use Rattle.std.proofs.Common.{◌≡◌, ◌≢◌, ℕ, ◌<◌, Bool, true, false, List, Option, None, Some, length, get_or, set, refl, sym, ap, ◌∙◌, arith, inl, inr}
 use Rattle.std.specs.Prelude.{IsTrue, slice_get, if◌then◌else◌, ◌↔◌, ◌||◌, not}
 use Rattle.std.proofs.lemmas.Option.{get_or_from_slice_get, same_Some}
 use Rattle.lrspec.specs.grammars.Grammar.{Grammar, Symbol, rest, token_count}
-use Rattle.lrspec.specs.grammars.First.{AllNullable}
 use Rattle.lrbits.specs.Bits.{union}
 use Rattle.lrbits.proofs.Unions.{length-union}
 use Rattle.lrclosing.specs.declared.closer.Row.{Row}
@@ -56,39 +55,16 @@ led_joined g a q l v w h i j y =
       ];
     }
 
--- the tokens that an item passes on, with its own ones where all behind the rule is nullable
-pub ahead_joined :
-    (g : Grammar) (y : List Symbol) (ctx : List Bool) (r : Row) (put : List Bool) → IsRow g r → length ctx ≡ token_count g → AllNullable g y
-    → ArePassedOn g y None (Some r.tokens) put → ArePassedOn g y (Some ctx) (row_of r) (union put ctx)
-ahead_joined g y ctx r put i e n p =
-    let f : length ctx ≡ length put = e ∙ sym p.len in
-    record {
-      len = length-union put ctx ∙ p.len;
-      kept = λ t k. union_left put ctx t f (p.kept t (token_out r.tokens r.is_reached t k));
-      begins = λ t k. union_left put ctx t f (p.begins t k);
-      inherit = λ t m k. union_right put ctx t f k;
-      from = λ t k. elim (union_from put ctx t f k) [
-        | inr x ↦ inr (inr (n, x))
-        | inl x ↦ elim (p.from t x) [
-          | inl z ↦ inl (token_in r.tokens r.is_reached t i.empty z)
-          | inr z ↦ elim z [ inl b ↦ inr (inl b) | inr b ↦ absurd b.1 ]
-        ]
-      ];
-    }
-
--- and without them
-pub ahead_alone :
-    (g : Grammar) (y : List Symbol) (ctx : List Bool) (r : Row) (put : List Bool) → IsRow g r → (AllNullable g y → ⊥)
-    → ArePassedOn g y None (Some r.tokens) put → ArePassedOn g y (Some ctx) (row_of r) put
-ahead_alone g y ctx r put i n p = record {
+-- as the row that it was, whether it was reached or not
+pub as_row :
+    (g : Grammar) (y : List Symbol) (ctx : Option (List Bool)) (r : Row) (new : List Bool) → IsRow g r → ArePassedOn g y ctx (Some r.tokens) new
+    → ArePassedOn g y ctx (row_of r) new
+as_row g y ctx r new i p = record {
   len = p.len;
   kept = λ t k. p.kept t (token_out r.tokens r.is_reached t k);
   begins = p.begins;
-  inherit = λ t m k. absurd (n m);
-  from = λ t k. elim (p.from t k) [
-    | inl z ↦ inl (token_in r.tokens r.is_reached t i.empty z)
-    | inr z ↦ elim z [ inl b ↦ inr (inl b) | inr b ↦ absurd b.1 ]
-  ];
+  inherit = p.inherit;
+  from = λ t k. elim (p.from t k) [ inl z ↦ inl (token_in r.tokens r.is_reached t i.empty z) | inr z ↦ inr z ];
 }
 
 -- a row that wasn't reached has grown

@@ -13,6 +13,7 @@ ghost use Rattle.lrclosing.specs.Leads.{AreLeadsOf, IsLeadOf, AreLeadsByRule, ro
 ghost use Rattle.lrclosing.specs.declared.closer.Row.{Row};
 ghost use Rattle.lrclosing.specs.Closer.{IsClosing, IsCloserOf, AreVisited};
 
+use crate::ahead::put_firsts;
 use crate::closing::next_set;
 use crate::items::{Ctx, rule_behind};
 use lrgrammar::firsts::YaccFirsts;
@@ -61,41 +62,6 @@ fn no_tokens<T: IndexStorage>(grm: &YaccGrammar<T>) -> Result<Ctx, AllocError>
     Vob::from_elem(grm.allocator(), false, grm.tokens_len().0.to_usize())
 }
 
-/// Sets the tokens that begin the body of the production from a place on, and says whether all of it from there on is
-/// nullable.
-fn put_firsts<T: IndexStorage>(
-    row: &mut Ctx,
-    grm: &YaccGrammar<T>,
-    firsts: &YaccFirsts<T>,
-    pidx: PIdx<T>,
-    from: usize,
-) -> bool
-    requires of { AreFirstsOf grm.now firsts.now }
-    requires production { T.number pidx.0 < length grm.now.productions }
-    requires place { from ≤ length (math.body_of grm.now (T.number pidx.0)) }
-    requires len { length row.old ≡ math.token_count grm.now }
-    ensures put { ArePassedOn grm.now (math.rest grm.now (T.number pidx.0) from) None
-        (Some row.old) row.new }
-    ensures nullable { IsTrue result
-        ↔ AllNullable grm.now (math.rest grm.now (T.number pidx.0) from) }
-{
-    for symbol in &grm.prod(pidx)[from..] {
-        match symbol {
-            Symbol::Token(token) => {
-                row.set(token.0.to_usize(), true);
-                return false;
-            }
-            Symbol::Rule(rule) => {
-                row.or(firsts.firsts(*rule));
-                if !firsts.is_epsilon_set(*rule) {
-                    return false;
-                }
-            }
-        }
-    }
-    true
-}
-
 /// What the production passes on, which begins with the rule. The error says that memory was refused.
 fn lead_of<T: IndexStorage>(
     grm: &YaccGrammar<T>,
@@ -110,11 +76,11 @@ fn lead_of<T: IndexStorage>(
         → IsLeadOf grm.now a (T.number pidx.0) l) }
 {
     let mut begins = no_tokens(grm)?;
-    let inherits = put_firsts(&mut begins, grm, firsts, pidx, 1);
+    let begun = put_firsts(&mut begins, grm, firsts, pidx, 1);
     Ok(Lead {
         rule: rule.0.to_usize(),
         begins,
-        inherits,
+        inherits: begun.is_nullable,
     })
 }
 
@@ -232,7 +198,8 @@ fn put_ahead<T: IndexStorage>(
     ensures reached { row.new.is_reached ≡ true }
 {
     row.is_reached = true;
-    if put_firsts(&mut row.tokens, grm, firsts, pidx, from) {
+    let begun = put_firsts(&mut row.tokens, grm, firsts, pidx, from);
+    if begun.is_nullable {
         row.tokens.or(ctx);
     }
 }

@@ -8,8 +8,8 @@ pub returns : goal.returns
 returns g c = λ a h.
     let number = g.T.IndexStorage.number in
     rw c.to_usize.ensures.number
-    (lead_made c.args.grm.now (number c.args.pidx.0) a (number c.args.rule.0) _ c.in_ok-begins.begins c.put_firsts-inherits.new.row c.put_firsts-inherits.result
-    c.requires.of.shape c.requires.first h c.in_ok-begins.ensures c.put_firsts-inherits.ensures.put c.put_firsts-inherits.ensures.nullable)
+    (lead_made c.args.grm.now (number c.args.pidx.0) a (number c.args.rule.0) _ c.in_ok-begins.begins c.put_firsts-begun.new.row c.put_firsts-begun.result.is_nullable
+    c.requires.of.shape c.requires.first h c.in_ok-begins.ensures c.put_firsts-begun.ensures.put c.put_firsts-begun.ensures.nullable)
 
-pub put_firsts-inherits-requires-clause-len : goal.put_firsts-inherits-requires-clause-len
-put_firsts-inherits-requires-clause-len g c = ap length c.in_ok-begins.ensures ∙ length-replicate (token_count c.args.grm.now) false
+pub put_firsts-begun-requires-clause-len : goal.put_firsts-begun-requires-clause-len
+put_firsts-begun-requires-clause-len g c = ap length c.in_ok-begins.ensures ∙ length-replicate (token_count c.args.grm.now) false

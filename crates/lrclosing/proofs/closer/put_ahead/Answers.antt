@@ -1,18 +1,23 @@
-use Rattle.std.proofs.Common.{◌≡◌, ◌∙◌, true, false, sym}
+use Rattle.std.proofs.Common.{◌≡◌, ◌∙◌, true, false, sym, Some}
 use Rattle.lrspec.specs.grammars.Grammar.{rest}
-use Rattle.lrclosing.proofs.PutLeads.{ahead_joined, ahead_alone}
+use Rattle.lrclosing.proofs.PassedOn.{with_own, without_own}
+use Rattle.lrclosing.proofs.PutLeads.{as_row}
 use Rattle.lrclosing.proofs.closer.put_ahead.Goals as goal
 
-pub returns-then-put_firsts-clause-passed : goal.returns-then-put_firsts-clause-passed
-returns-then-put_firsts-clause-passed g c =
-    let y = rest c.args.grm.now (g.T.IndexStorage.number c.args.pidx.0) c.args.from in
-    let put = c.put_firsts.ensures in
+pub returns-then-begun-clause-passed : goal.returns-then-begun-clause-passed
+returns-then-begun-clause-passed g c =
+    let grm = c.args.grm.now in
+    let y = rest grm (g.T.IndexStorage.number c.args.pidx.0) c.args.from in
+    let put = c.put_firsts-begun.ensures in
     rw c.or.ensures.after
-    (ahead_joined c.args.grm.now y c.args.ctx.now c.args.row.now c.put_firsts.new.row c.requires.row c.requires.bits (put.nullable.0 c.if-put_firsts.true) put.put)
+    (as_row grm y (Some c.args.ctx.now) c.args.row.now _ c.requires.row
+    (with_own grm y c.args.ctx.now (Some c.args.row.now.tokens) _ c.requires.bits (put.nullable.0 c.if-begun.true) put.put))
 
-pub returns-else-put_firsts-clause-passed : goal.returns-else-put_firsts-clause-passed
-returns-else-put_firsts-clause-passed g c =
-    let y = rest c.args.grm.now (g.T.IndexStorage.number c.args.pidx.0) c.args.from in
-    let put = c.put_firsts.ensures in
-    ahead_alone c.args.grm.now y c.args.ctx.now c.args.row.now c.put_firsts.new.row c.requires.row
-    (λ m. let t : true ≡ false = sym (put.nullable.1 m) ∙ c.if-put_firsts.false in cc) put.put
+pub returns-else-begun-clause-passed : goal.returns-else-begun-clause-passed
+returns-else-begun-clause-passed g c =
+    let grm = c.args.grm.now in
+    let y = rest grm (g.T.IndexStorage.number c.args.pidx.0) c.args.from in
+    let put = c.put_firsts-begun.ensures in
+    as_row grm y (Some c.args.ctx.now) c.args.row.now _ c.requires.row
+    (without_own grm y (Some c.args.ctx.now) (Some c.args.row.now.tokens) _
+    (λ t m h. let e : true ≡ false = sym (put.nullable.1 m) ∙ c.if-begun.false in cc) put.put)
