@@ -18,8 +18,8 @@ pub type Ctx = Vob;
 pub type Items<T> = BTreeMap<(PIdx<T>, SIdx<T>), Ctx>;
 
 /// Whether the symbols are the same.
-fn is_same<T: IndexStorage>(a: Symbol<T>, b: Symbol<T>) -> bool
-    ensures { IsTrue result ↔ (a ≡ b) }
+pub fn is_same_symbol<T: IndexStorage>(a: Symbol<T>, b: Symbol<T>) -> bool
+    ensures { IsTrue result ↔ (symbol_of T.number a ≡ symbol_of T.number b) }
 {
     a == b
 }
@@ -64,7 +64,7 @@ pub fn dot_behind<T: IndexStorage>(
     let Some((symbol, next)) = step_over(grm, pidx, dot) else {
         return None;
     };
-    is_same(symbol, *sym).then_some(next)
+    is_same_symbol(symbol, *sym).then_some(next)
 }
 
 /// The rule behind the dot, if a rule stands there.

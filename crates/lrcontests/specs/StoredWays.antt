@@ -13,6 +13,10 @@ use Rattle.lrcontests.specs.Fingerprints.{AreFingerprints}
 use Rattle.lrcontests.specs.StoredUses.{AreUses}
 use Rattle.lrcontests.specs.declared.ways.Ways.{Ways}
 
+-- each edge of the state `s` leads to a state of the graph
+abbrev pub LeadsBelow : Graph → ℕ → Type 0
+LeadsBelow h s = (x : math.Symbol) (u : ℕ) → edge h s x ≡ Some u → u < length h
+
 -- edges that lead into a state: the symbol of each, and from where it leads
 abbrev pub row_of : {T : Type 0} → (T → ℕ) → List (Symbol T × StIdx T) → List (math.Symbol × ℕ)
 row_of number es = map (λ e. (symbol_of number e.0, number e.1.0)) es

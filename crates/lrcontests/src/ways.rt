@@ -5,7 +5,7 @@ ghost use Rattle.lrspec.specs.merging.Graph.{IsGraphOf};
 ghost use Rattle.lrspec.specs.merging.Graph as math;
 ghost use Rattle.lrgrammar.specs.SymbolLaws.{symbol_cmp};
 ghost use Rattle.lrgraphs.specs.GraphOf.{edges_of};
-ghost use Rattle.lrcontests.specs.StoredWays.{AreIncoming, AreWaysOf, HasOneMore, KeepsOthers, AddsEdgesOf};
+ghost use Rattle.lrcontests.specs.StoredWays.{AreIncoming, AreWaysOf, LeadsBelow, HasOneMore, KeepsOthers, AddsEdgesOf};
 
 use crate::fingerprints::fingerprints;
 use crate::uses::uses;
@@ -79,11 +79,10 @@ fn add_edge<T: IndexStorage>(
 /// Adds the edges of the state to those that lead into each state.
 fn add_edges<T: IndexStorage>(
     incoming: &mut Vec<Vec<(Symbol<T>, StIdx<T>)>>,
-    _grm: &YaccGrammar<T>,
     graph: &StateGraph<T>,
     stidx: StIdx<T>,
 ) -> Result<(), AllocError>
-    requires graph { IsGraphOf _grm.now graph.now }
+    requires below { LeadsBelow graph.now (T.number stidx.0) }
     requires states { length incoming.old.items ≡ length graph.now }
     requires state { T.number stidx.0 < length graph.now }
     ensures { OnOk result (AddsEdgesOf T.number graph.now (T.number stidx.0)
@@ -121,12 +120,7 @@ fn incoming<T: IndexStorage>(
     let states = graph.all_states_len().0.to_usize();
     let mut incoming = no_edges(grm.allocator(), states)?;
     for state in 0..states {
-        add_edges(
-            &mut incoming,
-            grm,
-            graph,
-            StIdx(T::from_usize(state).unwrap()),
-        )?;
+        add_edges(&mut incoming, graph, StIdx(T::from_usize(state).unwrap()))?;
     }
     Ok(incoming)
 }
@@ -135,11 +129,10 @@ fn incoming<T: IndexStorage>(
 fn add_targets<T: IndexStorage>(
     reached: &mut Vec<(StIdx<T>, usize)>,
     distances: &mut Vec<Option<usize>>,
-    _grm: &YaccGrammar<T>,
     graph: &StateGraph<T>,
     from: (StIdx<T>, usize),
 ) -> Result<(), AllocError>
-    requires graph { IsGraphOf _grm.now graph.now }
+    requires below { LeadsBelow graph.now (T.number from.0.0) }
     requires states { length distances.old.items ≡ length graph.now }
     requires state { T.number from.0.0 < length graph.now }
     requires within { All (λ e. T.number e.0.0 < length graph.now) reached.old.items }
@@ -175,7 +168,7 @@ fn distances<T: IndexStorage>(
             break;
         }
         let from = reached[turn];
-        add_targets(&mut reached, &mut distances, grm, graph, from)?;
+        add_targets(&mut reached, &mut distances, graph, from)?;
     }
     Ok(distances)
 }

@@ -10,7 +10,7 @@ ghost use Rattle.lritems.specs.Gotos.{AreGotosOf, item_of, goto_of, gotos_of, no
 
 use crate::cores::Core;
 use crate::itemset::{Ctx, Itemset};
-use lrclosing::items::step_over;
+use lrclosing::items::{is_same_symbol, step_over};
 use lrgrammar::grammar::YaccGrammar;
 use lrgrammar::idx::{IndexStorage, PIdx, SIdx, Symbol};
 use std::alloc::{AllocError, Global};
@@ -120,13 +120,6 @@ impl Places {
             Symbol::Token(tidx) => self.tokens[usize::from(tidx)] = place,
         }
     }
-}
-
-/// Whether the symbols are the same.
-fn is_same_symbol<T: IndexStorage>(a: Symbol<T>, b: Symbol<T>) -> bool
-    ensures { IsTrue result ↔ (symbol_of T.number a ≡ symbol_of T.number b) }
-{
-    a == b
 }
 
 /// The place of the goto on a symbol, if there is one.

@@ -1,5 +1,6 @@
 -- lemmas: of entries and what is found of them; then of their texts
 pub mod AddedEntries
+pub mod ListsOfGraphs
 pub mod EntryTokens
 pub mod ListedEntries
 pub mod PlainTokens

@@ -21,7 +21,7 @@ pub add_edge-requires : goal.add_edge-requires
 add_edge-requires g c =
     let number = g.T.IndexStorage.number in
     let found = rw c.in-Some.ensures.steps at c.loop-symbol.invariant.found in
-    let below = (c.requires.graph.gotos.gotos (number c.args.stidx.0) (number c.in-Some.target.now.0) (symbol_of number c.in-Some.symbol.now) found.0).below in
+    let below = c.requires.below (symbol_of number c.in-Some.symbol.now) (number c.in-Some.target.now.0) found.0 in
     omega (arith, below, c.from.ensures, c.loop-symbol.invariant.adding.states, c.requires.states)
 
 pub loop-symbol-preserved : goal.loop-symbol-preserved

@@ -21,7 +21,7 @@ pub loop-target-preserved-in-Continue-1 : goal.loop-target-preserved-in-Continue
 loop-target-preserved-in-Continue-1 g c =
     let number = g.T.IndexStorage.number in
     let found = rw c.in-Some.ensures.steps at c.loop-target.invariant.found in
-    let below = (c.requires.graph.gotos.gotos (number c.args.from.0.0) (number c.in-Some.target.now.0) (symbol_of number c.in-Some.field-0-0.now) found.0).below in
+    let below = c.requires.below (symbol_of number c.in-Some.field-0-0.now) (number c.in-Some.target.now.0) found.0 in
     record {
       found = found.1;
       states = length-set c.loop-target.distances.items c.from-place.result _ ∙ c.loop-target.invariant.states;

@@ -25,3 +25,6 @@ pub unwrap-requires : goal.unwrap-requires
 unwrap-requires g c =
     has_index _ g.T.IndexStorage.MAX c.loop-state.state c.from_usize.result c.from_usize.ensures
     (omega (arith, c.loop-state-test.true, c.to_usize-states.ensures.number, c.to_usize-states.ensures.within))
+
+pub add_edges-requires-clause-below : goal.add_edges-requires-clause-below
+add_edges-requires-clause-below g c = λ x u e. (c.requires.gotos.gotos _ u x e).below

@@ -1,17 +1,6 @@
-use Rattle.std.proofs.Common.{◌≡◌, ℕ, List, ap, ◌∙◌}
-use Rattle.lrspec.specs.grammars.Grammar.{Grammar}
-use Rattle.lrspec.specs.merging.Graph.{Graph}
-use Rattle.lrspec.specs.tables.Table.{Table, Lists, IsTableOf, lists_of, reduce_reduce_of}
-use Rattle.lrreasons.specs.Entries.{lists_in}
+use Rattle.std.proofs.Common.{◌∙◌}
+use Rattle.lrreasons.proofs.ListsOfGraphs.{lists_same}
 use Rattle.lrexamples.proofs.explanations.explain.Goals as goal
-
--- both lists
-abbrev both : List (ℕ × ℕ × ℕ × ℕ) → List (ℕ × ℕ × ℕ) → Lists
-both pairs mixes = record { reduce_reduce = pairs; shift_reduce = mixes }
-
--- a table lists what its graph has
-lists_same : (g : Grammar) (h : Graph) (b : Table) → IsTableOf g h b → lists_of b ≡ lists_in g h
-lists_same g h b t = ap (λ pairs. both pairs b.shift_reduce) t.reduce_reduce ∙ ap (λ mixes. both (reduce_reduce_of g h) mixes) t.shift_reduce
 
 pub reasons-requires-clause-lists : goal.reasons-requires-clause-lists
 reasons-requires-clause-lists g c =
