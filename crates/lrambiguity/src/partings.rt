@@ -4,6 +4,7 @@ ghost use Rattle.std.specs.Prelude.{◌≡◌, ℕ, ◌<◌, List, ◌∷◌, le
 ghost use Rattle.lrspec.specs.grammars.ItemSets.{HasItem};
 ghost use Rattle.lrspec.specs.merging.Cores.{HasCoreAfter};
 ghost use Rattle.lrspec.specs.merging.Graph.{core_of, IsGraphOf};
+ghost use Rattle.lrspec.specs.merging.WeakCompatibility.{SameItems};
 ghost use Rattle.lrspec.specs.tables.Machine.{next_token};
 ghost use Rattle.lritems.specs.ItemsOf.{set_of};
 ghost use Rattle.lrtable.specs.RunAnswers.{text_of};
@@ -48,6 +49,21 @@ fn has_items_of<T: IndexStorage>(one: &Itemset<T>, other: &Itemset<T>) -> bool
     true
 }
 
+/// Whether the cores of both states have the same items.
+fn have_same_items<T: IndexStorage>(graph: &StateGraph<T>, one: StIdx<T>, other: StIdx<T>) -> bool
+    requires one { T.number one.0 < length graph.now }
+    requires other { T.number other.0 < length graph.now }
+    ensures { IsTrue result
+        → SameItems (core_of graph.now (T.number one.0)) (core_of graph.now (T.number other.0)) }
+{
+    if one == other {
+        return true;
+    }
+    let core = graph.core_state(one);
+    let core_other = graph.core_state(other);
+    has_items_of(core, core_other) && has_items_of(core_other, core)
+}
+
 /// Whether the moves begin with this one.
 pub(crate) fn begins_with<T: IndexStorage>(moves: &[Move<T>], first: Move<T>) -> bool
     ensures { IsTrue result → (rest : List plain.Move)
@@ -77,11 +93,7 @@ fn stands_at<T: IndexStorage>(
     let Some(reached) = replay.state_reached(graph) else {
         return false;
     };
-    let core = graph.core_state(contest.state);
-    let core_reached = graph.core_state(reached);
-    replay.next_token(grm, text) == contest.token
-        && has_items_of(core, core_reached)
-        && has_items_of(core_reached, core)
+    replay.next_token(grm, text) == contest.token && have_same_items(graph, reached, contest.state)
 }
 
 /// Whether the trees of the ambiguity part where these two moves contend: what was put together before has roots that lead

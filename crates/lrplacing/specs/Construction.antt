@@ -57,6 +57,12 @@ abbrev pub TellsGrowth : Bool → Items → Items → Type 0
 TellsGrowth grew a b =
     (grew ≡ true → Gains a b) × (grew ≡ false → (p d t : ℕ) → LooksIn b p d t → LooksIn a p d t)
 
+-- a state with the core `a` that now has the core `b`, and that was closed or not and is so now: where its core looks at
+-- more it is to be closed again, and else it is as it was
+abbrev pub IsUnclosedIfGrown : Items → Items → Bool → Bool → Type 0
+IsUnclosedIfGrown a b was is =
+    (((p d t : ℕ) → LooksIn b p d t → LooksIn a p d t) × (is ≡ was)) ⊎ ((is ≡ false) × Gains a b)
+
 -- ---- placing a goto
 
 -- the state `k` has its core still, and is closed or not as it was
@@ -72,10 +78,7 @@ pub record Grows (old new : List Draft) (k : ℕ) (goto : Items) : Type 0 where
   pub fits : (core_at new k ≡ core_at old k) ⊎ IsWeaklyCompatible (core_at old k) goto
   pub union : IsUnion (core_at old k) goto (core_at new k)
   pub fits_kept : (g : Grammar) → Fits g (core_at old k) → Fits g (core_at new k)
-  pub closed :
-      (((p d t : ℕ) → LooksIn (core_at new k) p d t → LooksIn (core_at old k) p d t)
-      × (closed_at new k ≡ closed_at old k))
-      ⊎ ((closed_at new k ≡ false) × Gains (core_at old k) (core_at new k))
+  pub closed : IsUnclosedIfGrown (core_at old k) (core_at new k) (closed_at old k) (closed_at new k)
 
 -- the state `k` was made for the goto, which no state with its items could take in
 pub record Makes (old new : List Draft) (k : ℕ) (goto : Items) : Type 0 where

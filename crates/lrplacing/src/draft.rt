@@ -3,13 +3,13 @@
 ghost use Rattle.std.specs.Prelude.{◌≡◌, ℕ, [], None, Some, false, true, ◌⊎◌, OnOk, if◌then◌else◌};
 ghost use Rattle.lrspec.specs.grammars.Grammar as math;
 ghost use Rattle.lrspec.specs.grammars.Grammar.{Grammar};
-ghost use Rattle.lrspec.specs.grammars.ItemSets.{LooksIn, Fits, AreUpwards};
+ghost use Rattle.lrspec.specs.grammars.ItemSets.{Fits, AreUpwards};
 ghost use Rattle.lrspec.specs.merging.WeakCompatibility.{SameItems, IsUnion};
 ghost use Rattle.lrspec.specs.merging.Graph.{same_symbol, edge_at};
 ghost use Rattle.lrgrammar.specs.Symbols.{symbol_of};
 ghost use Rattle.lritems.specs.Gotos.{goto_of};
 ghost use Rattle.lrgraphs.specs.GraphOf.{edges_of};
-ghost use Rattle.lrplacing.specs.Construction.{Gains, TellsGrowth, HasEdgesOnce};
+ghost use Rattle.lrplacing.specs.Construction.{IsUnclosedIfGrown, TellsGrowth, HasEdgesOnce};
 ghost use Rattle.lritems.specs.Merging.{HaveEquallyManyBits};
 
 use lrgrammar::idx::{IndexStorage, Symbol};
@@ -121,9 +121,8 @@ impl<T: IndexStorage> Draft<T> {
         ensures edges { self.new.edges ≡ self.old.edges }
         ensures fits { (g : Grammar) → Fits g self.old.core → Fits g self.new.core }
         ensures union { IsUnion self.old.core (goto_of T.number goto.now) self.new.core }
-        ensures closed { (((p d t : ℕ) → LooksIn self.new.core p d t → LooksIn self.old.core p d t)
-            × (self.new.is_closed ≡ self.old.is_closed))
-            ⊎ ((self.new.is_closed ≡ false) × Gains self.old.core self.new.core) }
+        ensures closed { IsUnclosedIfGrown self.old.core self.new.core
+            self.old.is_closed self.new.is_closed }
         ensures grew { TellsGrowth result self.old.core self.new.core }
     {
         let grew = weakly_merge(&mut self.core, goto);

@@ -4,11 +4,11 @@ ghost use Rattle.std.specs.Prelude.{◌≡◌, ◌≢◌, ℕ, true, false, IsTr
 ghost use Rattle.std.specs.List.{All};
 ghost use Rattle.lrspec.specs.grammars.Grammar as math;
 ghost use Rattle.lrspec.specs.grammars.Grammar.{Grammar};
-ghost use Rattle.lrspec.specs.grammars.ItemSets.{HasItem, LooksIn, Fits, AreUpwards};
+ghost use Rattle.lrspec.specs.grammars.ItemSets.{HasItem, Fits, AreUpwards};
 ghost use Rattle.lrspec.specs.merging.WeakCompatibility.{SameItems, IsWeaklyCompatible, Clash, IsUnion};
 ghost use Rattle.lrspec.specs.merging.Graph.{same_symbol};
 ghost use Rattle.lrgrammar.specs.Symbols.{symbol_of};
-ghost use Rattle.lrplacing.specs.Construction.{core_at, closed_at, edge_from, with_closed, closed_unless, TellsGrowth, Stays, Gains, Places, PlacesAll};
+ghost use Rattle.lrplacing.specs.Construction.{core_at, closed_at, edge_from, with_closed, closed_unless, TellsGrowth, Stays, IsUnclosedIfGrown, Places, PlacesAll};
 ghost use Rattle.lrplacing.specs.Invariant.{MayBePlaced, AllMayBePlaced, Holds};
 ghost use Rattle.lrspec.specs.merging.Chains.{HasChainOf};
 ghost use Rattle.lrplacing.specs.CandidatesOf.{AreCandidates, IsFirstItem, listed_at};
@@ -106,11 +106,8 @@ fn merge_at<T: IndexStorage>(drafts: &mut Vec<Draft<T>>, k: usize, goto: &Goto<T
         (core_at drafts.new.items k) }
     ensures fits { (g : Grammar) → Fits g (core_at drafts.old.items k)
         → Fits g (core_at drafts.new.items k) }
-    ensures closed { (((p d t : ℕ) → LooksIn (core_at drafts.new.items k) p d t
-        → LooksIn (core_at drafts.old.items k) p d t)
-        × (closed_at drafts.new.items k ≡ closed_at drafts.old.items k))
-        ⊎ ((closed_at drafts.new.items k ≡ false)
-        × Gains (core_at drafts.old.items k) (core_at drafts.new.items k)) }
+    ensures closed { IsUnclosedIfGrown (core_at drafts.old.items k) (core_at drafts.new.items k)
+        (closed_at drafts.old.items k) (closed_at drafts.new.items k) }
     ensures grew { TellsGrowth result (core_at drafts.old.items k) (core_at drafts.new.items k) }
 {
     drafts[k].merge(goto)
