@@ -11,8 +11,8 @@ use Rattle.lrspec.specs.grammars.Grammar.{Grammar}
 use Rattle.lrspec.specs.tables.Table.{Table}
 use Rattle.lrtable.specs.declared.machine.LineError.{LineError}
 use Rattle.lrtable.specs.declared.machine.LineError.TheVariants as ended
-use Rattle.lrcommand.specs.Answers.{MeansGrammar, IsMergedTable, AcceptsAlone}
-use Rattle.lrcommand.specs.Runs.{HasTable, AnswersAll, AnswersBeginning}
+use Rattle.lrcommand.specs.Printing.{MeansGrammar, IsMergedTable, AcceptsAlone}
+use Rattle.lrcommand.specs.Lines.{HasTable, AnswersAll, AnswersBeginning}
 
 -- what was written stays, if then known bytes are kept
 pub Appends-kept : (old mid new : Option (List ℕ)) (text : List ℕ) → Appends old mid text → Keeps mid new → Appends old new text

@@ -8,7 +8,7 @@ use Rattle.lrspec.specs.tables.Table.{Lists, Table, lists_of}
 use Rattle.lrspec.specs.tables.LrTables.{ListsNothing}
 use Rattle.lrspec.specs.texts.PrintedTexts.{items_text, core_text, closed_text, conflicts_text}
 use Rattle.lrcommand.specs.declared.requests.Listing.TheVariants.{Start, Core, Closed, Conflicts}
-use Rattle.lrcommand.specs.Answers.{Prints, IsStartState, IsMergedGraph, IsMergedTable, AcceptsAlone}
+use Rattle.lrcommand.specs.Printing.{Prints, IsStartState, IsMergedGraph, IsMergedTable, AcceptsAlone}
 
 pub start_printed :
     {X E : Type 0} (bytes : X → List ℕ) (g : Grammar) (c : Items) (text : List ℕ) (r : Result X E) → IsStartState g c → text ≡ items_text g c

@@ -1,6 +1,6 @@
 -- what the arguments ask for
 pub mod Requests
--- what is answered to that, and why there is no answer
-pub mod Answers
+-- what is printed of a grammar, and why nothing is
+pub mod Printing
 -- how lines are answered, and why that ends before they do
-pub mod Runs
+pub mod Lines

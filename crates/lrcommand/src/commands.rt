@@ -6,13 +6,13 @@ ghost use Rattle.std.specs.Io.KnownBytes.{Appends};
 ghost use Rattle.std.specs.String.{string_bytes};
 ghost use Rattle.lrcommand.specs.declared.faults.Fault.TheVariants as fault;
 ghost use Rattle.lrcommand.specs.Requests.{bytes_of, name_of, AsksSome, AsksNothing, IfPrint, IfAnswer};
-ghost use Rattle.lrcommand.specs.Answers.{HasAnswer, AppendsAnswer, IsPrintFault, fault_text};
-ghost use Rattle.lrcommand.specs.Runs.{HasMachine, AnswersAll, AnswersBeginning};
+ghost use Rattle.lrcommand.specs.Printing.{PrintsSome, AppendsPrinted, IsPrintFault, fault_text};
+ghost use Rattle.lrcommand.specs.Lines.{HasMachine, AnswersAll, AnswersBeginning};
 
-use crate::answers::answer;
 use crate::faults::Fault;
+use crate::lines::answer_input;
+use crate::printing::listing_text;
 use crate::requests::{Command, Listing, Request, Source, USAGE, requested};
-use crate::running::run;
 use std::alloc::Global;
 use std::io::{self, Read, Write};
 
@@ -33,7 +33,7 @@ pub fn command<R: Read + Drop, W: Write, F: Write>(
 ) -> (u8, W, F)
     ensures status { result.0 ≤ 2 }
     ensures printed { result.0 ≡ 0 → AsksSome (map string_bytes args.now) (λ command.
-        IfPrint command (λ listing. AppendsAnswer (W.contents out) (W.contents result.1)
+        IfPrint command (λ listing. AppendsPrinted (W.contents out) (W.contents result.1)
         (bytes_of file.entry) listing)) }
     // The reader is read to its end, and `out` grows by the answers to its lines.
     ensures ran { result.0 ≡ 0 → AsksSome (map string_bytes args.now) (λ command.
@@ -44,7 +44,7 @@ pub fn command<R: Read + Drop, W: Write, F: Write>(
     // Only an answer that could not be written whole changes what `out` holds.
     ensures fault { result.0 ≡ 1 → AsksSome (map string_bytes args.now) (λ command.
         IfPrint command (λ listing.
-        (result.1 ≡ out) ⊎ HasAnswer (bytes_of file.entry) listing)) }
+        (result.1 ≡ out) ⊎ PrintsSome (bytes_of file.entry) listing)) }
     // Answering that has begun leaves a beginning of the answers.
     ensures run_fault { result.0 ≡ 1 → AsksSome (map string_bytes args.now) (λ command.
         IfAnswer command (λ reply steps. (result.1 ≡ out)
@@ -76,13 +76,13 @@ fn carry_out<'a, R: Read + Drop, W: Write>(
     mut out: W,
 ) -> (Result<(), Fault<'a>>, W)
     ensures printed { OnOk result.0 (IfPrint request.now.command (λ listing.
-        AppendsAnswer (W.contents out) (W.contents result.1)
+        AppendsPrinted (W.contents out) (W.contents result.1)
         (bytes_of file.entry) listing)) }
     ensures ran { OnOk result.0 (IfAnswer request.now.command (λ reply steps.
         HasMachine (bytes_of file.entry) reply steps (λ answer.
         AnswersAll answer (R.remaining reader) (W.contents out) (W.contents result.1)))) }
     ensures print_fault { OnErr result.0 (IfPrint request.now.command (λ listing.
-        (result.1 ≡ out) ⊎ HasAnswer (bytes_of file.entry) listing)) }
+        (result.1 ≡ out) ⊎ PrintsSome (bytes_of file.entry) listing)) }
     ensures run_fault { OnErr result.0 (IfAnswer request.now.command (λ reply steps.
         (result.1 ≡ out)
         ⊎ HasMachine (bytes_of file.entry) reply steps (λ answer.
@@ -94,7 +94,7 @@ fn carry_out<'a, R: Read + Drop, W: Write>(
             (printed, out)
         }
         Command::Answer(reply, steps) => {
-            run(alloc, reply, steps, request.source, file, reader, out)
+            answer_input(alloc, reply, steps, request.source, file, reader, out)
         }
     }
 }
@@ -107,13 +107,13 @@ fn print<'a, W: Write>(
     file: Option<&[u8]>,
     out: &mut W,
 ) -> Result<(), Fault<'a>>
-    ensures printed { OnOk result (AppendsAnswer (W.contents out.old) (W.contents out.new)
+    ensures printed { OnOk result (AppendsPrinted (W.contents out.old) (W.contents out.new)
         (bytes_of file.entry) listing) }
     ensures fault { IfErr result (IsPrintFault (bytes_of file.entry)
         listing (name_of source.entry)) }
     ensures untouched { IfErr result (λ e. e ≢ fault.CannotWrite → out.new ≡ out.old) }
 {
-    let text = answer(alloc, listing, source, file)?;
+    let text = listing_text(alloc, listing, source, file)?;
     out.write_all(text.as_bytes())
         .map_err(|_| Fault::CannotWrite)?;
     out.flush().map_err(|_| Fault::CannotWrite)

@@ -1,7 +1,7 @@
 //! Why the program answers nothing, or less than all.
 
 ghost use Rattle.std.specs.Prelude.{◌≡◌};
-ghost use Rattle.lrcommand.specs.Answers.{fault_text};
+ghost use Rattle.lrcommand.specs.Printing.{fault_text};
 ghost use Rattle.lrcommand.specs.declared.faults.Fault.TheVariants as fault;
 
 use crate::requests::Source;

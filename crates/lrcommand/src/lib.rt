@@ -1,11 +1,11 @@
 //! The commands of the program `lrt`: from its arguments to its exit status, over devices that the caller gives.
 #![tactic(auto)]
 
-mod answers;
 mod commands;
 mod faults;
+mod lines;
+mod printing;
 mod requests;
-mod running;
 
 pub use crate::commands::command;
 pub use crate::faults::Fault;

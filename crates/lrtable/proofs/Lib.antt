@@ -6,7 +6,7 @@ pub mod StackLists
 pub mod MachineSteps
 pub mod NamedTokens
 pub mod SearchedPlaces
-pub mod PushedOutcomes
+pub mod PushedRuns
 pub mod PushedReductions
 pub mod MadeLabels
 pub mod ReducedProductions

@@ -3,9 +3,9 @@ use Rattle.std.specs.Prelude.{ℕ, List, map}
 use Rattle.lrgrammar.specs.declared.idx.TIdx.{TIdx}
 use Rattle.lrspec.specs.tables.Machine as math
 use Rattle.lrspec.specs.tables.Machine.{Answer}
-use Rattle.lrtable.specs.declared.machine.outcome.Run.{Run}
-use Rattle.lrtable.specs.declared.machine.outcome.Verdict.{Verdict}
-use Rattle.lrtable.specs.declared.machine.outcome.Verdict.TheVariants.{Accepted, Rejected, Unfinished}
+use Rattle.lrtable.specs.declared.machine.runs.Run.{Run}
+use Rattle.lrtable.specs.declared.machine.runs.Verdict.{Verdict}
+use Rattle.lrtable.specs.declared.machine.runs.Verdict.TheVariants.{Accepted, Rejected, Unfinished}
 
 -- the text by the numbers of its tokens
 abbrev pub text_of : {T : Type 0} → (T → ℕ) → List (TIdx T) → List ℕ

@@ -4,8 +4,8 @@ use Rattle.lrgrammar.specs.declared.idx.StIdx.{StIdx}
 use Rattle.lrgrammar.specs.declared.idx.TIdx.{TIdx}
 use Rattle.lrspec.specs.tables.Machine.{Config, Outcome, Goes, Accepts, Rejects}
 use Rattle.lrtable.specs.RunAnswers.{text_of}
-use Rattle.lrtable.specs.declared.machine.outcome.Verdict.{Verdict}
-use Rattle.lrtable.specs.declared.machine.outcome.Verdict.TheVariants.{Accepted, Rejected, Unfinished}
+use Rattle.lrtable.specs.declared.machine.runs.Verdict.{Verdict}
+use Rattle.lrtable.specs.declared.machine.runs.Verdict.TheVariants.{Accepted, Rejected, Unfinished}
 use Rattle.lrtable.specs.declared.machine.running.Machine.{Machine}
 
 -- the stack, which is kept with its top last

@@ -72,10 +72,10 @@ impl<'a, T: IndexStorage> TreeLines<'a, T> {
             ++ parse_text self.now.grm.now self.now.table.now self.now.steps
             (text_of T.number text.now)) }
     {
-        let outcome = run(self.grm.allocator(), self.grm, self.table, text, self.steps)?;
-        match outcome.verdict {
+        let ran = run(self.grm.allocator(), self.grm, self.table, text, self.steps)?;
+        match ran.verdict {
             Verdict::Accepted => {
-                let text = tree_text(self.grm, labels, outcome.reductions)?;
+                let text = tree_text(self.grm, labels, ran.reductions)?;
                 push_tree(text.as_str(), out)
             }
             Verdict::Rejected => out.extend_from_slice("reject".as_bytes()),

@@ -52,9 +52,9 @@ pub fn parse<T: IndexStorage>(
     ensures recognises { HasNoPrecedences grm.now → ListsNothing table.now
         → Recognises grm.now table.now }
 {
-    let outcome = run(alloc, grm, table, text, steps)?;
-    match outcome.verdict {
-        Verdict::Accepted => Ok(Parsed::Tree(build(alloc, grm, outcome.reductions)?)),
+    let ran = run(alloc, grm, table, text, steps)?;
+    match ran.verdict {
+        Verdict::Accepted => Ok(Parsed::Tree(build(alloc, grm, ran.reductions)?)),
         Verdict::Rejected => Ok(Parsed::Rejected),
         Verdict::Unfinished => Ok(Parsed::Unfinished),
     }

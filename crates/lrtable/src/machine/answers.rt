@@ -9,7 +9,7 @@ ghost use Rattle.lrspec.specs.texts.Lines.{words};
 ghost use Rattle.lrtable.specs.Labels.{AreLabels, labels_text};
 ghost use Rattle.lrtable.specs.RunAnswers.{text_of, answer_of};
 
-use crate::machine::outcome::{Run, Verdict};
+use crate::machine::runs::{Run, Verdict};
 use lrgrammar::grammar::YaccGrammar;
 use lrgrammar::idx::{IndexStorage, PIdx, TIdx};
 use lrlines::Words;
@@ -108,7 +108,7 @@ fn push_reductions<T: IndexStorage>(
 }
 
 /// Writes how a run came out behind `out`, by the labels of the grammar's productions. The error says that memory was refused.
-pub(crate) fn push_outcome<T: IndexStorage>(
+pub(crate) fn push_run<T: IndexStorage>(
     grm: &YaccGrammar<T>,
     labels: &[String],
     run: &Run<T>,

@@ -5,7 +5,7 @@ ghost use Rattle.lrspec.specs.texts.MachineLines.{line_answer};
 ghost use Rattle.lrtable.specs.Answered.{AreAnswered, AreFaultsTold};
 ghost use Rattle.lrtable.specs.Labels.{AreLabels};
 
-use crate::machine::answers::{line_tokens, production_labels, push_outcome};
+use crate::machine::answers::{line_tokens, production_labels, push_run};
 use crate::machine::running::run;
 use crate::statetable::StateTable;
 use lrgrammar::grammar::YaccGrammar;
@@ -45,8 +45,8 @@ impl<'a, T: IndexStorage> LineAnswers for RunLines<'a, T> {
         let alloc = self.grm.allocator();
         match line_tokens(self.grm, line)? {
             Ok(tokens) => {
-                let outcome = run(alloc, self.grm, self.table, &tokens, self.steps)?;
-                push_outcome(self.grm, labels, &outcome, out)
+                let ran = run(alloc, self.grm, self.table, &tokens, self.steps)?;
+                push_run(self.grm, labels, &ran, out)
             }
             Err(word) => {
                 out.extend_from_slice("unknown ".as_bytes())?;

@@ -11,7 +11,7 @@ ghost use Rattle.lrtable.specs.RunAnswers.{text_of, answer_of};
 ghost use Rattle.lrtable.specs.WorkingMachine.{stack_of, config_of, Tells};
 ghost use Rattle.lrtable.specs.Reached.{IsReached, CanReduce};
 
-use crate::machine::outcome::{Run, Verdict};
+use crate::machine::runs::{Run, Verdict};
 use crate::statetable::{Action, StateTable};
 use lrgrammar::grammar::YaccGrammar;
 use lrgrammar::idx::{IndexStorage, PIdx, StIdx, TIdx};

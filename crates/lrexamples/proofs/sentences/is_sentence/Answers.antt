@@ -4,9 +4,9 @@ use denote.Enum.Bare.{same_true, sameb}
 use Rattle.lrspec.specs.tables.Machine as math
 use Rattle.lrspec.specs.tables.LrTables.{HasNoPrecedences, ListsNothing}
 use Rattle.lrspec.proofs.tables.NoPrecedences.{no_precedences}
-use Rattle.lrtable.specs.contracts.machine.outcome.Verdict.{the_type}
-use Rattle.lrtable.specs.declared.machine.outcome.Verdict.{Verdict}
-use Rattle.lrtable.specs.declared.machine.outcome.Verdict.TheVariants.{Accepted, Rejected, Unfinished}
+use Rattle.lrtable.specs.contracts.machine.runs.Verdict.{the_type}
+use Rattle.lrtable.specs.declared.machine.runs.Verdict.{Verdict}
+use Rattle.lrtable.specs.declared.machine.runs.Verdict.TheVariants.{Accepted, Rejected, Unfinished}
 use Rattle.lrtable.specs.RunAnswers.{text_of, verdict_of}
 use Rattle.lrexamples.proofs.sentences.is_sentence.Goals as goal
 use Rattle.lrexamples.proofs.sentences.is_sentence.Goals.{then-has_precedences-via-then-has_precedences, then-has_precedences-via-else-has_precedences+then-is_some}

@@ -3,8 +3,8 @@ use Rattle.lrspec.specs.grammars.Grammar.{Grammar}
 use Rattle.lrspec.specs.tables.Table.{Table}
 use Rattle.lrspec.specs.tables.Machine as math
 use Rattle.lrspec.specs.tables.Machine.{Config, Answer, ended, after_step, step}
-use Rattle.lrtable.specs.declared.machine.outcome.Verdict.{Verdict}
-use Rattle.lrtable.specs.declared.machine.outcome.Verdict.TheVariants.{Accepted, Rejected, Unfinished}
+use Rattle.lrtable.specs.declared.machine.runs.Verdict.{Verdict}
+use Rattle.lrtable.specs.declared.machine.runs.Verdict.TheVariants.{Accepted, Rejected, Unfinished}
 use Rattle.lrtable.specs.RunAnswers.{text_of, verdict_of}
 use Rattle.lrtable.specs.WorkingMachine.{config_of, Tells}
 use Rattle.lrtable.specs.Reached.{IsReachedIn}

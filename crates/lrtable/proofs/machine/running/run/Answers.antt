@@ -6,7 +6,7 @@ use Rattle.lrspec.specs.tables.Table.{IsUncrowded}
 use Rattle.lrspec.specs.tables.Machine as math
 use Rattle.lrspec.specs.tables.Machine.{Answer}
 use Rattle.lrspec.specs.tables.Recognition.{HasTreeIfAccepted, IsAcceptedIfSentence, HasTrees, ShiftedBeginsSentence}
-use Rattle.lrtable.specs.declared.machine.outcome.Run.{Run}
+use Rattle.lrtable.specs.declared.machine.runs.Run.{Run}
 use Rattle.lrtable.specs.RunAnswers.{text_of, answer_of}
 use Rattle.lrspec.proofs.tables.MachineTheorems as machine
 use Rattle.lrspec.proofs.tables.ExactWithoutPrecedences.{recognises_without_precedences}

@@ -18,8 +18,8 @@ run-requires-clause-named g c =
     let same : text_of number c.deref.result.now ≡ tokens_of m ws = ap (text_of number) c.deref.ensures.value ∙ facts.1 in
     subst (AreNamed m) (sym same) (tokens_named m ws)
 
-pub push_outcome-requires : goal.push_outcome-requires
-push_outcome-requires g c =
+pub push_run-requires : goal.push_run-requires
+push_run-requires g c =
     let number = g.T.IndexStorage.number in
     let m = c.args.self.now.grm.now in
     let b = c.args.self.now.table.now in
@@ -31,7 +31,7 @@ push_outcome-requires g c =
     let named : AreNamed m text = subst (AreNamed m) (sym same) (tokens_named m ws) in
     record {
       labels = subst (AreLabels m) (sym c.deref-in-Ok.ensures.value) c.requires.prepared;
-      productions = of_images (λ p. p < length m.productions) (λ p. number p.0) c.in_ok-outcome-in-Ok.outcome.reductions.items (run m b n text).reductions
-          (ap (λ (a : Answer). a.reductions) c.in_ok-outcome-in-Ok.ensures.answer)
+      productions = of_images (λ p. p < length m.productions) (λ p. number p.0) c.in_ok-ran-in-Ok.ran.reductions.items (run m b n text).reductions
+          (ap (λ (a : Answer). a.reductions) c.in_ok-ran-in-Ok.ensures.answer)
           (reduces_by_productions m b n text c.allocator-alloc.ensures.shape c.requires.can named);
     }

@@ -1,4 +1,4 @@
--- what is answered to a request, and why there is no answer
+-- what is printed of a grammar, and why nothing is
 use Rattle.std.specs.Prelude.{◌≡◌, ◌≢◌, ℕ, List, ◌++◌, Option, None, Some, codes}
 use Rattle.std.specs.Io.KnownBytes.{Appends}
 use Rattle.std.specs.List.{All}
@@ -69,21 +69,21 @@ abbrev pub MeansGrammar : List ℕ → Grammar → Type 0
 MeansGrammar bytes g = IsUtf8 bytes × IsGrammarOf max_index bytes g
 
 -- the bytes are a grammar text, and what is printed of its grammar is the text
-pub record IsAnswer (bytes : List ℕ) (listing : Listing) (text : List ℕ) : Type 0 where
+pub record IsPrinted (bytes : List ℕ) (listing : Listing) (text : List ℕ) : Type 0 where
   pub utf8 : IsUtf8 bytes
   pub grammar : Grammar
   pub means : IsGrammarOf max_index bytes grammar
   pub prints : Prints grammar listing text
 
 -- something is printed of the grammar that the bytes mean
-abbrev pub HasAnswer : Option (List ℕ) → Listing → Type 0
-HasAnswer bytes listing = IsSomeAnd bytes (λ bs. (text : List ℕ) × IsAnswer bs listing text)
+abbrev pub PrintsSome : Option (List ℕ) → Listing → Type 0
+PrintsSome bytes listing = IsSomeAnd bytes (λ bs. (text : List ℕ) × IsPrinted bs listing text)
 
 -- what a writer holds grew by what is printed of the grammar that the bytes mean
-abbrev pub AppendsAnswer :
+abbrev pub AppendsPrinted :
     Option (List ℕ) → Option (List ℕ) → Option (List ℕ) → Listing → Type 0
-AppendsAnswer old new bytes listing =
-    IsSomeAnd bytes (λ bs. (text : List ℕ) × IsAnswer bs listing text × Appends old new text)
+AppendsPrinted old new bytes listing =
+    IsSomeAnd bytes (λ bs. (text : List ℕ) × IsPrinted bs listing text × Appends old new text)
 
 -- why the bytes of that name, which are none where they could not be read, are no text
 abbrev pub IsUnread : Option (List ℕ) → Option (List ℕ) → Fault → Type 0
@@ -114,7 +114,7 @@ IsFault bytes listing name e = IsTextFault bytes name e
 -- why the text that is to be printed about the bytes of that name is not: it cannot be written, or
 -- there is none
 abbrev pub IsPrintFault : Option (List ℕ) → Listing → Option (List ℕ) → Fault → Type 0
-IsPrintFault bytes listing name CannotWrite = HasAnswer bytes listing
+IsPrintFault bytes listing name CannotWrite = PrintsSome bytes listing
 IsPrintFault bytes listing name e = IsFault bytes listing name e
 
 -- how a fault is told, where the text is not that of an error of a library

@@ -13,7 +13,7 @@ use Rattle.lrcommand.specs.declared.requests.Reply.{Reply}
 use Rattle.lrcommand.specs.declared.requests.Reply.TheVariants.{Run, Tree}
 use Rattle.lrcommand.specs.declared.faults.Fault.{Fault}
 use Rattle.lrcommand.specs.declared.faults.Fault.TheVariants.{Build, Lines}
-use Rattle.lrcommand.specs.Answers.{max_index, MeansGrammar, IsMergedTable, AcceptsAlone, IsTextFault}
+use Rattle.lrcommand.specs.Printing.{max_index, MeansGrammar, IsMergedTable, AcceptsAlone, IsTextFault}
 
 -- the bytes are a grammar text, and this is the table of its grammar
 pub record HasTable (bytes : List ℕ) (g : Grammar) (b : Table) : Type 0 where
@@ -58,7 +58,7 @@ IsTableFault bytes name e = IsTextFault bytes name e
 
 -- why lines are not all answered with the bytes of that name: there is no table, or else a fault
 -- of the lines
-abbrev pub IsRunFault : Option (List ℕ) → Option (List ℕ) → Fault → Type 0
-IsRunFault bytes name (Lines e) =
+abbrev pub IsLinesFault : Option (List ℕ) → Option (List ℕ) → Fault → Type 0
+IsLinesFault bytes name (Lines e) =
     IsSomeAnd bytes (λ bs. (g : Grammar) × (b : Table) × HasTable bs g b)
-IsRunFault bytes name e = IsTableFault bytes name e
+IsLinesFault bytes name e = IsTableFault bytes name e

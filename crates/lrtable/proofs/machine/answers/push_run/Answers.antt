@@ -2,8 +2,8 @@ use Rattle.std.proofs.Common.{◌≡◌, ◌++◌, ◌∙◌, ◌<◌, length, m
 use Rattle.std.specs.Prelude.{All, OnOk}
 use Rattle.std.proofs.lemmas.List.Elements.{All-map}
 use Rattle.lrtable.proofs.MadeLabels.{labels_count, labels_are}
-use Rattle.lrtable.proofs.PushedOutcomes.{accepted, rejected, unfinished}
-use Rattle.lrtable.proofs.machine.answers.push_outcome.Goals as goal
+use Rattle.lrtable.proofs.PushedRuns.{accepted, rejected, unfinished}
+use Rattle.lrtable.proofs.machine.answers.push_run.Goals as goal
 
 pub push_reductions-requires : goal.push_reductions-requires
 push_reductions-requires g c =

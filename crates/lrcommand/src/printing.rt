@@ -1,4 +1,4 @@
-//! The answers to requests, as text.
+//! What is printed of a grammar, as text.
 
 ghost use Rattle.std.specs.Prelude.{◌≡◌, ◌++◌, Some, IfOk, IfErr, codes};
 ghost use Rattle.std.specs.Option.{IsSomeAnd};
@@ -6,8 +6,8 @@ ghost use Rattle.std.specs.String.{string_bytes};
 ghost use Rattle.lrtable.specs.Refusals.{IsBuildRefusal};
 ghost use Rattle.lrcommand.specs.declared.requests.Listing.TheVariants.{Start, Core, Closed, Conflicts};
 ghost use Rattle.lrcommand.specs.Requests.{bytes_of, name_of};
-ghost use Rattle.lrcommand.specs.Answers.{max_index, MeansGrammar, Prints, IsAnswer};
-ghost use Rattle.lrcommand.specs.Answers.{IsUnread, IsUnprinted, IsTextFault, IsFault};
+ghost use Rattle.lrcommand.specs.Printing.{max_index, MeansGrammar, Prints, IsPrinted};
+ghost use Rattle.lrcommand.specs.Printing.{IsUnread, IsUnprinted, IsTextFault, IsFault};
 
 use crate::faults::Fault;
 use crate::requests::{Listing, Source};
@@ -18,14 +18,14 @@ use std::alloc::{AllocError, Global};
 
 /// The text that is printed of a grammar; `file` holds the bytes of its source, and is None where they could not be
 /// read.
-pub fn answer<'a>(
+pub fn listing_text<'a>(
     alloc: Global,
     listing: Listing,
     source: Source<'a>,
     file: Option<&[u8]>,
 ) -> Result<String, Fault<'a>>
     ensures text { IfOk result (λ text. IsSomeAnd (bytes_of file.entry)
-        (λ bytes. IsAnswer bytes listing (string_bytes text))) }
+        (λ bytes. IsPrinted bytes listing (string_bytes text))) }
     ensures fault { IfErr result (IsFault (bytes_of file.entry)
         listing (name_of source.entry)) }
 {

@@ -1,7 +1,7 @@
 use Rattle.std.specs.String.{string_bytes}
 use Rattle.lrtable.specs.ItemSets.{set_of}
 use Rattle.lrcommand.proofs.PrintedTexts.{start_printed}
-use Rattle.lrcommand.proofs.answers.start_text.Goals as goal
+use Rattle.lrcommand.proofs.printing.start_text.Goals as goal
 
 pub close-requires-clause-fits : goal.close-requires-clause-fits
 close-requires-clause-fits c = rw c.in_ok-core.ensures c.in_ok-of_start.ensures.fits

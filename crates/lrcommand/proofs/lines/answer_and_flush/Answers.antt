@@ -1,6 +1,6 @@
-use Rattle.lrcommand.specs.Runs.{reply_text}
+use Rattle.lrcommand.specs.Lines.{reply_text}
 use Rattle.lrcommand.proofs.AnsweredLines.{answers_beginning}
-use Rattle.lrcommand.proofs.running.answer_lines.Goals as goal
+use Rattle.lrcommand.proofs.lines.answer_and_flush.Goals as goal
 
 pub returns-clause-beginning : goal.returns-clause-beginning
 returns-clause-beginning g c =

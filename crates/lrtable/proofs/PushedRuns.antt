@@ -6,9 +6,9 @@ use Rattle.std.specs.Result.{is_ok}
 use Rattle.lrspec.specs.grammars.Grammar.{Grammar}
 use Rattle.lrspec.specs.texts.MachineLines.{reductions_text, run_text, verdict_text}
 use Rattle.lrgrammar.specs.declared.idx.PIdx.{PIdx}
-use Rattle.lrtable.specs.declared.machine.outcome.Run.{Run}
-use Rattle.lrtable.specs.declared.machine.outcome.Verdict.{Verdict}
-use Rattle.lrtable.specs.declared.machine.outcome.Verdict.TheVariants.{Accepted, Rejected, Unfinished}
+use Rattle.lrtable.specs.declared.machine.runs.Run.{Run}
+use Rattle.lrtable.specs.declared.machine.runs.Verdict.{Verdict}
+use Rattle.lrtable.specs.declared.machine.runs.Verdict.TheVariants.{Accepted, Rejected, Unfinished}
 use Rattle.lrtable.specs.RunAnswers.{answer_of, verdict_of}
 
 -- what is written where all goes well

@@ -1,5 +1,5 @@
 use Rattle.lrcommand.proofs.AnsweredLines.{has_table}
-use Rattle.lrcommand.proofs.running.machine_of.Goals as goal
+use Rattle.lrcommand.proofs.lines.machine_of.Goals as goal
 
 pub returns-clause-machine : goal.returns-clause-machine
 returns-clause-machine c =

@@ -1,7 +1,7 @@
 use Rattle.lrspec.specs.texts.MachineLines.{line_answer}
 use Rattle.lrspec.specs.texts.TreeTexts.{tree_answer}
 use Rattle.lrcommand.proofs.AnsweredLines.{ended_well, however_ended}
-use Rattle.lrcommand.proofs.running.reply_lines.Goals as goal
+use Rattle.lrcommand.proofs.lines.reply_lines.Goals as goal
 
 pub returns-in-Run-clause-all : goal.returns-in-Run-clause-all
 returns-in-Run-clause-all g c =

@@ -4,11 +4,11 @@ ghost use Rattle.std.specs.Prelude.{◌≡◌, ◌⊎◌, IfOk, IfErr, OnOk, OnE
 ghost use Rattle.std.specs.Option.{IsSomeAnd};
 ghost use Rattle.lrspec.specs.tables.Table.{IsTableFor};
 ghost use Rattle.lrcommand.specs.Requests.{bytes_of, name_of};
-ghost use Rattle.lrcommand.specs.Runs.{HasTable, HasMachine, AnswersAll, AnswersBeginning};
-ghost use Rattle.lrcommand.specs.Runs.{reply_text, IsTableFault, IsRunFault};
+ghost use Rattle.lrcommand.specs.Lines.{HasTable, HasMachine, AnswersAll, AnswersBeginning};
+ghost use Rattle.lrcommand.specs.Lines.{reply_text, IsTableFault, IsLinesFault};
 
-use crate::answers::grammar_of;
 use crate::faults::Fault;
+use crate::printing::grammar_of;
 use crate::requests::{Reply, Source};
 use lrgrammar::grammar::YaccGrammar;
 use lrtable::machine::{Counted, LineError, LineRead, LineWrite, run_lines};
@@ -20,7 +20,7 @@ use std::io::{Read, Write};
 /// Answers the lines of a reader by the machine of a grammar, each by such a reply in at most so many steps; `file`
 /// holds the bytes of the grammar's source, and is None where they could not be read. The answers go to `out`, which is
 /// given back.
-pub fn run<'a, R: Read + Drop, W: Write>(
+pub fn answer_input<'a, R: Read + Drop, W: Write>(
     alloc: Global,
     reply: Reply,
     steps: usize,
@@ -32,7 +32,7 @@ pub fn run<'a, R: Read + Drop, W: Write>(
     ensures all { OnOk result.0 (
         HasMachine (bytes_of file.entry) reply steps (λ answer.
         AnswersAll answer (R.remaining reader) (W.contents out) (W.contents result.1))) }
-    ensures fault { IfErr result.0 (IsRunFault (bytes_of file.entry)
+    ensures fault { IfErr result.0 (IsLinesFault (bytes_of file.entry)
         (name_of source.entry)) }
     ensures beginning { OnErr result.0 ((result.1 ≡ out)
         ⊎ HasMachine (bytes_of file.entry) reply steps (λ answer.
@@ -42,7 +42,7 @@ pub fn run<'a, R: Read + Drop, W: Write>(
         Ok(machine) => machine,
         Err(fault) => return (Err(fault), out),
     };
-    let (answered, out) = answer_lines(&grm, &table, reply, steps, reader, out);
+    let (answered, out) = answer_and_flush(&grm, &table, reply, steps, reader, out);
     (answered.map_err(|error| Fault::Lines(error)), out)
 }
 
@@ -64,7 +64,7 @@ fn machine_of<'a>(
 }
 
 /// Answers all lines of a reader on a writer, which is flushed and given back.
-fn answer_lines<R: Read + Drop, W: Write>(
+fn answer_and_flush<R: Read + Drop, W: Write>(
     grm: &YaccGrammar<u32>,
     table: &StateTable<u32>,
     reply: Reply,

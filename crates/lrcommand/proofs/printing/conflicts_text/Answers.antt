@@ -1,6 +1,6 @@
 use Rattle.std.specs.String.{string_bytes}
 use Rattle.lrcommand.proofs.PrintedTexts.{conflicts_printed, no_conflicts_printed}
-use Rattle.lrcommand.proofs.answers.conflicts_text.Goals as goal
+use Rattle.lrcommand.proofs.printing.conflicts_text.Goals as goal
 
 pub returns-in-Some-clause-text : goal.returns-in-Some-clause-text
 returns-in-Some-clause-text c =
