@@ -12,18 +12,18 @@ use Rattle.std.proofs.Math.Nat.{mul-le-mul_right}
 use Rattle.lrspec.specs.tables.Table.{Error, Lists, action_of, goto_of, IsGrid}
 use Rattle.lrsparse.specs.Matrix.{Matrix, value_at}
 use Rattle.lrrows.specs.StoredActions.{action_numbered, goto_numbered}
-use Rattle.lrcells.specs.StoredTable.{rows_of, table_of}
+use Rattle.lrcells.specs.StoredTable.{grid_of, table_of}
 
 -- rows beyond the number of rows and cells beyond the number of columns have the default, and the others what their
 -- numbers say
 module _ {X : Type 0} (f : ℕ → X) (d : X) (n : ℕ) (m : Matrix) (s c : ℕ) where
   abbrev cell : X
-  cell = slice_index_or (slice_index_or (rows_of f n m) s []) c d
+  cell = slice_index_or (slice_index_or (grid_of f n m) s []) c d
 
   abbrev said : ℕ → X
   said k = f (slice_index_or m.cells (s * m.cols + k) 0)
 
-  row_there : s < n → slice_index_or (rows_of f n m) s [] ≡ map said (range_with_len 0 m.cols)
+  row_there : s < n → slice_index_or (grid_of f n m) s [] ≡ map said (range_with_len 0 m.cols)
   row_there l =
       get_or-map-range_with_len (λ r. map (λ k. f (slice_index_or m.cells (r * m.cols + k) 0)) (range_with_len 0 m.cols)) 0 n s s [] l (omega arith)
 
@@ -31,7 +31,7 @@ module _ {X : Type 0} (f : ℕ → X) (d : X) (n : ℕ) (m : Matrix) (s c : ℕ)
   cell_there l k = rw (row_there l) (get_or-map-range_with_len said 0 m.cols c c d k (omega arith))
 
   cell_past_row : n ≤ s → cell ≡ d
-  cell_past_row l = rw (get_or_past (rows_of f n m) s [] (simp length-map-range_with_len l)) refl
+  cell_past_row l = rw (get_or_past (grid_of f n m) s [] (simp length-map-range_with_len l)) refl
 
   cell_past_column : m.cols ≤ c → cell ≡ d
   cell_past_column k = elim (cases_lt s n) [
@@ -63,7 +63,7 @@ module _ {X : Type 0} (f : ℕ → X) (d : X) (n : ℕ) (m : Matrix) (s c : ℕ)
   ]
 
 -- the first `n` rows are a grid with the matrix's columns
-pub grid_of_rows : {X : Type 0} (f : ℕ → X) (n : ℕ) (m : Matrix) → IsGrid n m.cols (rows_of f n m)
+pub grid_of_rows : {X : Type 0} (f : ℕ → X) (n : ℕ) (m : Matrix) → IsGrid n m.cols (grid_of f n m)
 grid_of_rows {X} f n m =
     let row : ℕ → List X = λ r. map (λ c. f (slice_index_or m.cells (r * m.cols + c) 0)) (range_with_len 0 m.cols) in
     record {

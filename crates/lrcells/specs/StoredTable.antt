@@ -11,8 +11,8 @@ use Rattle.lrgrammar.specs.StoredGrammar.{numbers_of}
 use Rattle.lrrows.specs.StoredActions.{action_numbered, goto_numbered, IsIndexed}
 
 -- the first `n` rows of a matrix, where `f` tells what each number says
-abbrev pub rows_of : {X : Type 0} → (ℕ → X) → ℕ → Matrix → List (List X)
-rows_of f n m =
+abbrev pub grid_of : {X : Type 0} → (ℕ → X) → ℕ → Matrix → List (List X)
+grid_of f n m =
     map (λ s. map (λ c. f (slice_index_or m.cells (s * m.cols + c) 0)) (range_with_len 0 m.cols))
     (range_with_len 0 n)
 
@@ -26,8 +26,8 @@ abbrev pub table_of : ℕ → Matrix → Matrix → Option Lists → Table
 table_of n actions gotos conflicts =
     record {
       start = 0;
-      actions = rows_of action_numbered n actions;
-      gotos = rows_of goto_numbered n gotos;
+      actions = grid_of action_numbered n actions;
+      gotos = grid_of goto_numbered n gotos;
       reduce_reduce = (lists_or_none conflicts).reduce_reduce;
       shift_reduce = (lists_or_none conflicts).shift_reduce;
     }

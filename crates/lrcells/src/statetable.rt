@@ -7,7 +7,7 @@ ghost use Rattle.lrspec.specs.tables.Table.{IsTableOf, lists_of, goto_of};
 ghost use Rattle.lrspec.specs.tables.Conflicts.{AreEntriesOf};
 ghost use Rattle.lrspec.specs.tables.LrTables.{ListsNothing};
 ghost use Rattle.lrspec.specs.tables.Rows.{AreActingTokens, AreShiftedTokens, AreReducedBy, ReducesOnly, ReducesApart};
-ghost use Rattle.lrrows.specs.StoredActions.{action_of};
+ghost use Rattle.lrrows.specs.StoredActions.{stored_action};
 ghost use Rattle.lrcells.specs.Refusals.{IsTableRefusal};
 
 mod conflicts;
@@ -98,7 +98,7 @@ impl<T: IndexStorage> StateTable<T> {
 
     /// What the state does on the token; `Error` where the cell is empty.
     pub fn action(&self, stidx: StIdx<T>, tidx: TIdx<T>) -> Action<T>
-        ensures cell { action_of T.number result
+        ensures cell { stored_action T.number result
             ≡ math.action_of self.now (T.number stidx.0) (T.number tidx.0) }
     {
         match self.actions.get(usize::from(stidx), usize::from(tidx)) {

@@ -8,7 +8,7 @@ use Rattle.lrbits.proofs.Unions.{length-union}
 use Rattle.lrclosing.specs.declared.closer.Row.{Row}
 use Rattle.lrclosing.specs.declared.closer.Lead.{Lead}
 use Rattle.lrclosing.specs.Rows.{HasToken, ArePassedOn, HasGrown}
-use Rattle.lrclosing.specs.Leads.{row_of, joined_row, IsLeadOf, IsRow, AreKeptRows, IsPut}
+use Rattle.lrclosing.specs.Leads.{row_in, joined_row, IsLeadOf, IsRow, AreKeptRows, IsPut}
 use Rattle.lrclosing.proofs.PassedOn.{union_left, union_right, union_from, made_grown, grown_union, grown_before}
 use Rattle.lrclosing.proofs.VisitedItems.{set_twice}
 use Rattle.lrclosing.proofs.RowsWritten.{row_here, some_at, written_here, written_there, token_in, token_out}
@@ -16,7 +16,7 @@ use Rattle.lrclosing.proofs.RowsWritten.{row_here, some_at, written_here, writte
 -- the tokens of a lead alone, where the row has those of the production or the lead doesn't pass them on
 led_alone :
     (g : Grammar) (a q : ℕ) (l : Lead) (v w : Row) → IsLeadOf g a q l → IsRow g v → IsRow g w → (IsTrue l.inherits → v ≡ w)
-    → ArePassedOn g (rest g q 1) (row_of w) (row_of v) (union v.tokens l.begins)
+    → ArePassedOn g (rest g q 1) (row_in w) (row_in v) (union v.tokens l.begins)
 led_alone g a q l v w h i j own =
     let e : length l.begins ≡ length v.tokens = h.bits ∙ sym i.bits in
     record {
@@ -25,7 +25,7 @@ led_alone g a q l v w h i j own =
       begins = λ t k. union_right v.tokens l.begins t e ((h.begins t).1 k);
       inherit = λ t n k.
           let same : v ≡ w = own (h.nullable.1 n) in
-          let had : HasToken (row_of v) t = rw same k in
+          let had : HasToken (row_in v) t = rw same k in
           union_left v.tokens l.begins t e (token_out v.tokens v.is_reached t had);
       from = λ t k. elim (union_from v.tokens l.begins t e k) [
         | inl x ↦ inl (token_in v.tokens v.is_reached t i.empty x)
@@ -36,7 +36,7 @@ led_alone g a q l v w h i j own =
 -- and with those of the production
 led_joined :
     (g : Grammar) (a q : ℕ) (l : Lead) (v w : Row) → IsLeadOf g a q l → IsRow g v → IsRow g w → IsTrue l.inherits
-    → ArePassedOn g (rest g q 1) (row_of w) (row_of v) (union (union v.tokens l.begins) w.tokens)
+    → ArePassedOn g (rest g q 1) (row_in w) (row_in v) (union (union v.tokens l.begins) w.tokens)
 led_joined g a q l v w h i j y =
     let e : length l.begins ≡ length v.tokens = h.bits ∙ sym i.bits in
     let f : length w.tokens ≡ length (union v.tokens l.begins) = j.bits ∙ sym i.bits ∙ sym (length-union v.tokens l.begins) in
@@ -58,7 +58,7 @@ led_joined g a q l v w h i j y =
 -- as the row that it was, whether it was reached or not
 pub as_row :
     (g : Grammar) (y : List Symbol) (ctx : Option (List Bool)) (r : Row) (new : List Bool) → IsRow g r → ArePassedOn g y ctx (Some r.tokens) new
-    → ArePassedOn g y ctx (row_of r) new
+    → ArePassedOn g y ctx (row_in r) new
 as_row g y ctx r new i p = record {
   len = p.len;
   kept = λ t k. p.kept t (token_out r.tokens r.is_reached t k);
@@ -134,7 +134,7 @@ put_joined g a q l rows new x u c d h k below apart y e ch joined changed =
       passed = rw (row_here rows a w.0 w.1, row_here rows l.rule v.0 v.1, s) p;
       written = joined mid w.0 here there ∙ set_twice rows l.rule mid (joined_row mid w.0);
       grown = rw (row_here rows l.rule v.0 v.1, at)
-          (grown_before (token_count g) (c || not v.0.is_reached) d (row_of v.0) u (union u w.0.tokens)
+          (grown_before (token_count g) (c || not v.0.is_reached) d (row_in v.0) u (union u w.0.tokens)
           (grown_reached (token_count g) c v.0.is_reached v.0.tokens u first len)
           (grown_union (token_count g) d u w.0.tokens (union u w.0.tokens) refl (changed mid w.0 here there)));
     }

@@ -10,7 +10,7 @@ use Rattle.lrspec.proofs.grammars.ListMembers.{Among}
 use Rattle.lrbits.specs.Bits.{bit}
 use Rattle.lrclosing.specs.declared.closer.Row.{Row}
 use Rattle.lrclosing.specs.Rows.{row_at}
-use Rattle.lrclosing.specs.Leads.{rows_of, reached_of, IsPut}
+use Rattle.lrclosing.specs.Leads.{rows_in, reached_of, IsPut}
 use Rattle.lrclosing.proofs.MarkedProductions.{below_of_bit}
 use Rattle.lrclosing.proofs.RowsWritten.{written_here, written_there}
 use Rattle.lrclosing.proofs.VisitedLeads.{IsSetIf}
@@ -32,17 +32,17 @@ if_some : (v : List Bool) (b : Bool) → IsSome (if b then Some v else None) →
 if_some v true h = refl
 if_some v false h = cc
 
-pub row_by_bit : (rs : List Row) (a : ℕ) → IsTrue (bit (reached_of rs) a) → IsSome (row_at (rows_of rs) a)
+pub row_by_bit : (rs : List Row) (a : ℕ) → IsTrue (bit (reached_of rs) a) → IsSome (row_at (rows_in rs) a)
 row_by_bit [] a h = cc
 row_by_bit (x ∷ rs) zero h = some_if x.tokens x.is_reached h
 row_by_bit (x ∷ rs) (suc a) h = row_by_bit rs a h
 
-pub bit_by_row : (rs : List Row) (a : ℕ) → IsSome (row_at (rows_of rs) a) → IsTrue (bit (reached_of rs) a)
+pub bit_by_row : (rs : List Row) (a : ℕ) → IsSome (row_at (rows_in rs) a) → IsTrue (bit (reached_of rs) a)
 bit_by_row [] a h = cc
 bit_by_row (x ∷ rs) zero h = if_some x.tokens x.is_reached h
 bit_by_row (x ∷ rs) (suc a) h = bit_by_row rs a h
 
-pub below_of_row : (rs : List Row) (a : ℕ) → IsSome (row_at (rows_of rs) a) → a < length rs
+pub below_of_row : (rs : List Row) (a : ℕ) → IsSome (row_at (rows_in rs) a) → a < length rs
 below_of_row rs a h = omega (arith, below_of_bit (reached_of rs) a (bit_by_row rs a h), length_reached rs)
 
 -- ---- a row that is written
@@ -57,7 +57,7 @@ was_reached v w true e = refl
 was_reached v w false e = cc
 
 -- a bit that was set is set again
-set_again : (rs : List Row) (b : ℕ) (v : List Bool) → row_at (rows_of rs) b ≡ Some v → set (reached_of rs) b true ≡ reached_of rs
+set_again : (rs : List Row) (b : ℕ) (v : List Bool) → row_at (rows_in rs) b ≡ Some v → set (reached_of rs) b true ≡ reached_of rs
 set_again [] b v e = refl
 set_again (x ∷ rs) zero v e = ap (λ c. c ∷ reached_of rs) (was_reached x.tokens v x.is_reached e)
 set_again (x ∷ rs) (suc b) v e = ap (λ l. x.is_reached ∷ l) (set_again rs b v e)

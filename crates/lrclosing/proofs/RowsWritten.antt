@@ -10,27 +10,27 @@ use Rattle.lrbits.specs.Bits.{bit}
 use Rattle.lrclosing.specs.declared.closer.Row.{Row}
 use Rattle.lrclosing.specs.Rows.{row_at, HasToken, AreRows}
 use Rattle.lrclosing.specs.Visits.{HasNone}
-use Rattle.lrclosing.specs.Leads.{row_of, rows_of, IsRow, AreKeptRows}
+use Rattle.lrclosing.specs.Leads.{row_in, rows_in, IsRow, AreKeptRows}
 use Rattle.lrclosing.proofs.VisitedItems.{clear_bits}
 use Rattle.lrclosing.proofs.LeadsOfRule.{pushed_cases}
 
 -- the row at a place
-pub row_here : (rs : List Row) (a : ℕ) (r : Row) → slice_get rs a ≡ Some r → row_at (rows_of rs) a ≡ row_of r
+pub row_here : (rs : List Row) (a : ℕ) (r : Row) → slice_get rs a ≡ Some r → row_at (rows_in rs) a ≡ row_in r
 row_here [] a r e = cc
-row_here (x ∷ rs) zero r e = ap row_of (same_Some x r e)
+row_here (x ∷ rs) zero r e = ap row_in (same_Some x r e)
 row_here (x ∷ rs) (suc a) r e = row_here rs a r e
 
-row_there : (rs : List Row) (a : ℕ) (v : List Bool) → row_at (rows_of rs) a ≡ Some v → (r : Row) × (slice_get rs a ≡ Some r) × (row_of r ≡ Some v)
+row_there : (rs : List Row) (a : ℕ) (v : List Bool) → row_at (rows_in rs) a ≡ Some v → (r : Row) × (slice_get rs a ≡ Some r) × (row_in r ≡ Some v)
 row_there [] a v e = cc
 row_there (x ∷ rs) zero v e = (x, refl, e)
 row_there (x ∷ rs) (suc a) v e = row_there rs a v e
 
-pub rows_set : (rs : List Row) (b : ℕ) (r : Row) → rows_of (set rs b r) ≡ set (rows_of rs) b (row_of r)
+pub rows_set : (rs : List Row) (b : ℕ) (r : Row) → rows_in (set rs b r) ≡ set (rows_in rs) b (row_in r)
 rows_set [] b r = refl
 rows_set (x ∷ rs) zero r = refl
-rows_set (x ∷ rs) (suc b) r = ap (λ l. row_of x ∷ l) (rows_set rs b r)
+rows_set (x ∷ rs) (suc b) r = ap (λ l. row_in x ∷ l) (rows_set rs b r)
 
-pub length_rows : (rs : List Row) → length (rows_of rs) ≡ length rs
+pub length_rows : (rs : List Row) → length (rows_in rs) ≡ length rs
 length_rows [] = refl
 length_rows (x ∷ rs) = ap suc (length_rows rs)
 
@@ -107,7 +107,7 @@ bits_of x v true n e h = let s : x ≡ v = same_Some x v e in rw s at h
 bits_of x v false n e h = cc
 
 -- they are rows of the grammar
-pub are_rows : (g : Grammar) (rs : List Row) → AreKeptRows g rs → AreRows g (rows_of rs)
+pub are_rows : (g : Grammar) (rs : List Row) → AreKeptRows g rs → AreRows g (rows_in rs)
 are_rows g rs k = record {
   rules = length_rows rs ∙ k.len;
   bits = λ r v e. let x = row_there rs r v e in bits_of x.0.tokens v x.0.is_reached (token_count g) x.2 ((k.each r x.0 x.1).bits);
@@ -118,7 +118,7 @@ not_reached x true e = cc
 not_reached x false e = refl
 
 -- rows that are clear are none
-pub rows_clear : (rs : List Row) → ((a : ℕ) (r : Row) → slice_get rs a ≡ Some r → r.is_reached ≡ false) → (a : ℕ) → row_at (rows_of rs) a ≡ None
+pub rows_clear : (rs : List Row) → ((a : ℕ) (r : Row) → slice_get rs a ≡ Some r → r.is_reached ≡ false) → (a : ℕ) → row_at (rows_in rs) a ≡ None
 rows_clear [] c a = refl
 rows_clear (x ∷ rs) c zero = not_reached x.tokens x.is_reached (c zero x refl)
 rows_clear (x ∷ rs) c (suc a) = rows_clear rs (λ k r h. c (suc k) r h) a

@@ -10,7 +10,7 @@ use Rattle.lrclosing.specs.declared.closer.Row.{Row}
 use Rattle.lrclosing.specs.declared.closer.Lead.{Lead}
 use Rattle.lrclosing.specs.Rows.{row_at, ArePassedOn, HasGrown}
 use Rattle.lrclosing.specs.Visits.{IsRuleToDo, IsVisited, IsUnderway, visits_left}
-use Rattle.lrclosing.specs.Leads.{row_of, rows_of, IsLeadOf, AreLeadsOf, AreKeptRows, IsPut}
+use Rattle.lrclosing.specs.Leads.{row_in, rows_in, IsLeadOf, AreLeadsOf, AreKeptRows, IsPut}
 use Rattle.lrclosing.specs.Closer.{AreVisited}
 use Rattle.lrclosing.proofs.PassedOn.{set_keeps, set_here, set_from}
 use Rattle.lrclosing.proofs.VisitedItems.{behind_rule, visited, passed_nothing}
@@ -57,21 +57,21 @@ set_same false b todo after e h = e
 visited_put :
     (g : Grammar) (q a : ℕ) (l : Lead) (c : Bool) (old new : List Row) (todo after : List Bool) (Left : ℕ → Type 0) → IsLeadOf g a q l → AreKeptRows g old
     → length todo ≡ length g.rule_names → IsPut g q a l.rule c old new → IsSetIf c l.rule todo after
-    → IsVisited g q 0 (row_at (rows_of old) a) (rows_of old) (rows_of new) (λ p. IsRuleToDo g todo p ⊎ Left p) (λ p. IsRuleToDo g after p ⊎ Left p)
+    → IsVisited g q 0 (row_at (rows_in old) a) (rows_in old) (rows_in new) (λ p. IsRuleToDo g todo p ⊎ Left p) (λ p. IsRuleToDo g after p ⊎ Left p)
 visited_put g q a l c old new todo after Left h k e p s =
     let one : 1 ≡ 0 + 1 = omega arith in
-    let m : ArePassedOn g h.is.0 (row_at (rows_of old) a) (row_at (rows_of old) l.rule) p.row = rw (behind_rule g q 0 l.rule 1 h.is one) at p.passed in
-    let below : l.rule < length (rows_of old) = omega (arith, h.rule, k.len, length_rows old) in
+    let m : ArePassedOn g h.is.0 (row_at (rows_in old) a) (row_at (rows_in old) l.rule) p.row = rw (behind_rule g q 0 l.rule 1 h.is one) at p.passed in
+    let below : l.rule < length (rows_in old) = omega (arith, h.rule, k.len, length_rows old) in
     let bits : l.rule < length todo = omega (arith, h.rule, e) in
-    let w : rows_of new ≡ set (rows_of old) l.rule (Some p.row) = ap rows_of p.written ∙ rows_set old l.rule (record { tokens = p.row; is_reached = true }) in
-    rw w (visited g q 0 l.rule h.is.0 (row_at (rows_of old) a) (row_at (rows_of old) a) (rows_of old) p.row (λ x. IsRuleToDo g todo x ⊎ Left x)
+    let w : rows_in new ≡ set (rows_in old) l.rule (Some p.row) = ap rows_in p.written ∙ rows_set old l.rule (record { tokens = p.row; is_reached = true }) in
+    rw w (visited g q 0 l.rule h.is.0 (row_at (rows_in old) a) (row_at (rows_in old) a) (rows_in old) p.row (λ x. IsRuleToDo g todo x ⊎ Left x)
     (λ x. IsRuleToDo g after x ⊎ Left x) h.is.1 below m
     (λ x y. elim y [ inl z ↦ inl (z.0, z.1, set_kept c l.rule todo after s z.0 z.2) | inr z ↦ inr z ])
     (λ x y. elim y [
       | inr z ↦ inl (inr z)
       | inl z ↦ elim (set_came c l.rule todo after s z.0 z.2) [ inl n ↦ inl (inl (z.0, z.1, n)) | inr n ↦ inr (rw n at z.1) ]
     ])
-    (λ x y. elim (set_stays c (token_count g) l.rule (row_at (rows_of old) l.rule) p.row todo after bits p.grown s) [
+    (λ x y. elim (set_stays c (token_count g) l.rule (row_at (rows_in old) l.rule) p.row todo after bits p.grown s) [
       | inl z ↦ inl z
       | inr z ↦ inr (inl (l.rule, y, z))
     ])
@@ -94,13 +94,13 @@ pub leads_start :
 leads_start g a ls rows todo m k = record {
   rows = k;
   len = refl;
-  underway = λ b u. fewer_underway g b (rows_of rows) (λ q. IsRuleToDo g todo q ⊎ IsProductionOf g q a) (λ q. IsRuleToDo g todo q ⊎ IsLeft g a ls 0 q) [] u
+  underway = λ b u. fewer_underway g b (rows_in rows) (λ q. IsRuleToDo g todo q ⊎ IsProductionOf g q a) (λ q. IsRuleToDo g todo q ⊎ IsLeft g a ls 0 q) [] u
       (λ q h. elim h [ inl z ↦ inl z | inr z ↦ inr z.4.is_production ])
       (λ q r i h. elim h [
         | inl z ↦ inl (inl z)
         | inr z ↦ elim (rule_first (rest g q 0)) [
           | inl n ↦ let o = m.all q n.0 z (n.1, n.2) in let low : 0 ≤ o.0 = omega arith in inl (inr (o.0, low, o.1, o.2, o.3))
-          | inr n ↦ inr (passed_nothing g q 0 (row_at (rows_of rows) r) (rows_of rows) n)
+          | inr n ↦ inr (passed_nothing g q 0 (row_at (rows_in rows) r) (rows_in rows) n)
         ]
       ]);
   left = omega arith;
@@ -118,7 +118,7 @@ leads_step g a k q ls l c old rows new start todo after v e at h puts s = record
   underway = λ b u.
       let now = v.underway b u in
       let here : IsLeft g a ls k q = (k, low, l, at, h) in
-      next_productions g b (rows_of rows) (rows_of new) (λ p. IsRuleToDo g todo p ⊎ IsLeft g a ls k p) (λ p. IsRuleToDo g todo p ⊎ IsLeft g a ls (k + 1) p)
+      next_productions g b (rows_in rows) (rows_in new) (λ p. IsRuleToDo g todo p ⊎ IsLeft g a ls k p) (λ p. IsRuleToDo g todo p ⊎ IsLeft g a ls (k + 1) p)
       (λ p. IsRuleToDo g after p ⊎ IsLeft g a ls (k + 1) p) (λ p. IsLeadOf g a p l) q a [] now h.is_production (now.put_in q a (inr here) h.is_production)
       (λ p i. i.is_production)
       (λ p i. (visited_put g p a l c rows new todo after (IsLeft g a ls (k + 1)) i v.rows e (puts p i) s).passed)
@@ -126,12 +126,12 @@ leads_step g a k q ls l c old rows new start todo after v e at h puts s = record
       (λ p i. elim i [ inl z ↦ inl z | inr z ↦ inr (more p z) ])
       (λ p i. elim i [ inl z ↦ inr (inl z) | inr z ↦ elim (split p z) [ inl n ↦ inl n | inr n ↦ inr (inr n) ] ]);
   left =
-      let w : rows_of new ≡ set (rows_of rows) l.rule (Some put.row) =
-      ap rows_of put.written ∙ rows_set rows l.rule (record { tokens = put.row; is_reached = true }) in
-      let below : l.rule < length (rows_of rows) = omega (arith, h.rule, v.rows.len, length_rows rows) in
-      let less : visits_left (token_count g) (set (rows_of rows) l.rule (Some put.row)) after ≤ visits_left (token_count g) (rows_of rows) todo =
-      left_by_row c (token_count g) l.rule (rows_of rows) put.row todo after below put.grown (set_len c l.rule todo after s) (set_same c l.rule todo after s) in
-      let most : visits_left (token_count g) (rows_of new) after ≤ visits_left (token_count g) (rows_of rows) todo = rw w less in
+      let w : rows_in new ≡ set (rows_in rows) l.rule (Some put.row) =
+      ap rows_in put.written ∙ rows_set rows l.rule (record { tokens = put.row; is_reached = true }) in
+      let below : l.rule < length (rows_in rows) = omega (arith, h.rule, v.rows.len, length_rows rows) in
+      let less : visits_left (token_count g) (set (rows_in rows) l.rule (Some put.row)) after ≤ visits_left (token_count g) (rows_in rows) todo =
+      left_by_row c (token_count g) l.rule (rows_in rows) put.row todo after below put.grown (set_len c l.rule todo after s) (set_same c l.rule todo after s) in
+      let most : visits_left (token_count g) (rows_in new) after ≤ visits_left (token_count g) (rows_in rows) todo = rw w less in
       omega (arith, most, v.left);
 }
   where
@@ -160,7 +160,7 @@ pub leads_end :
 leads_end g a n ls old new start todo l v = record {
   rows = v.rows;
   len = v.len;
-  underway = λ b u. fewer_underway g b (rows_of new) (λ p. IsRuleToDo g todo p ⊎ IsLeft g a ls n p) (IsRuleToDo g todo) [] (v.underway b u)
+  underway = λ b u. fewer_underway g b (rows_in new) (λ p. IsRuleToDo g todo p ⊎ IsLeft g a ls n p) (IsRuleToDo g todo) [] (v.underway b u)
       (λ q h. inl h)
       (λ q r i h. elim h [
         | inl z ↦ inl z
@@ -171,10 +171,10 @@ leads_end g a n ls old new start todo l v = record {
 
 -- a rule is taken from what is to be done, and its productions are left to do
 pub taken_underway :
-    (g : Grammar) (b : Items) (r : ℕ) (rows : List Row) (todo : List Bool) → IsTrue (bit todo r) → IsUnderway g b (rows_of rows) (IsRuleToDo g todo) []
-    → IsUnderway g b (rows_of rows) (λ q. IsRuleToDo g (set todo r false) q ⊎ IsProductionOf g q r) []
+    (g : Grammar) (b : Items) (r : ℕ) (rows : List Row) (todo : List Bool) → IsTrue (bit todo r) → IsUnderway g b (rows_in rows) (IsRuleToDo g todo) []
+    → IsUnderway g b (rows_in rows) (λ q. IsRuleToDo g (set todo r false) q ⊎ IsProductionOf g q r) []
 taken_underway g b r rows todo h u =
-    fewer_underway g b (rows_of rows) (IsRuleToDo g todo) (λ q. IsRuleToDo g (set todo r false) q ⊎ IsProductionOf g q r) [] u
+    fewer_underway g b (rows_in rows) (IsRuleToDo g todo) (λ q. IsRuleToDo g (set todo r false) q ⊎ IsProductionOf g q r) [] u
     (λ q k. elim k [ inl z ↦ (z.0, z.1, was z.0 z.2) | inr z ↦ (r, z, h) ])
     (λ q s i k. inl (elim (cases_eq k.0 r) [ inl e ↦ inr (rw e at k.1) | inr n ↦ inl (k.0, k.1, still k.0 n k.2) ]))
   where
@@ -187,18 +187,18 @@ taken_underway g b r rows todo h u =
 -- a given item stands before a rule, whose row is written
 pub visited_given :
     (g : Grammar) (p d b e i : ℕ) (ctx : List Bool) (old : List Row) (x y : Row) (todo after : List Bool) → IsBefore g p d (Rule b) → e ≡ d + 1 → i ≡ b
-    → slice_get old i ≡ Some x → ArePassedOn g (rest g p e) (Some ctx) (row_of x) y.tokens → y.is_reached ≡ true → i < length todo → after ≡ set todo i true
-    → IsVisited g p d (Some ctx) (rows_of old) (rows_of (set old i y)) (IsRuleToDo g todo) (IsRuleToDo g after)
+    → slice_get old i ≡ Some x → ArePassedOn g (rest g p e) (Some ctx) (row_in x) y.tokens → y.is_reached ≡ true → i < length todo → after ≡ set todo i true
+    → IsVisited g p d (Some ctx) (rows_in old) (rows_in (set old i y)) (IsRuleToDo g todo) (IsRuleToDo g after)
 visited_given g p d b e i ctx old x y todo after before next same at passed reached bits m =
     let here : slice_get old b ≡ Some x = rw same at at in
     let in_bits : b < length todo = omega (arith, bits, same) in
     let within : b < length old = slice_get_within old b x here in
-    let below : b < length (rows_of old) = omega (arith, within, length_rows old) in
-    let put : ArePassedOn g before.0 (Some ctx) (row_at (rows_of old) b) y.tokens = rw (row_here old b x here) (rw (behind_rule g p d b e before next) at passed) in
-    let some : row_of y ≡ Some y.tokens = reached_row y.tokens y.is_reached reached in
-    let w : rows_of (set old i y) ≡ set (rows_of old) b (Some y.tokens) = rw (same, ← some) (rows_set old b y) in
+    let below : b < length (rows_in old) = omega (arith, within, length_rows old) in
+    let put : ArePassedOn g before.0 (Some ctx) (row_at (rows_in old) b) y.tokens = rw (row_here old b x here) (rw (behind_rule g p d b e before next) at passed) in
+    let some : row_in y ≡ Some y.tokens = reached_row y.tokens y.is_reached reached in
+    let w : rows_in (set old i y) ≡ set (rows_in old) b (Some y.tokens) = rw (same, ← some) (rows_set old b y) in
     let n : after ≡ set todo b true = rw same at m in
-    rw (w, n) (visited g p d b before.0 (Some ctx) (Some ctx) (rows_of old) y.tokens (IsRuleToDo g todo) (IsRuleToDo g (set todo b true)) before.1 below put
+    rw (w, n) (visited g p d b before.0 (Some ctx) (Some ctx) (rows_in old) y.tokens (IsRuleToDo g todo) (IsRuleToDo g (set todo b true)) before.1 below put
     (λ q h. (h.0, h.1, set_keeps todo b h.0 h.2))
     (λ q h. elim (set_from todo b h.0 h.2) [ inl z ↦ inr (rw z at h.1) | inr z ↦ inl (h.0, h.1, z) ])
     (λ q h. inr (b, h, set_here todo b in_bits))

@@ -3,7 +3,7 @@ use Rattle.std.specs.Prelude.{◌≡◌, ℕ, ◌≤◌, Bool, List, [], length,
 use Rattle.lrspec.specs.grammars.Grammar.{Grammar, token_count, IsProductionOf}
 use Rattle.lrspec.specs.grammars.ItemSets.{Items}
 use Rattle.lrclosing.specs.Visits.{HasNone, IsRuleToDo, IsUnderway, visits_left}
-use Rattle.lrclosing.specs.Leads.{AreLeadsByRule, AreKeptRows, rows_of, reached_of}
+use Rattle.lrclosing.specs.Leads.{AreLeadsByRule, AreKeptRows, rows_in, reached_of}
 use Rattle.lrclosing.specs.declared.closer.Row.{Row}
 use Rattle.lrclosing.specs.declared.closer.Closer.{Closer}
 
@@ -28,9 +28,9 @@ pub record AreVisited
   pub rows : AreKeptRows g new
   pub len : length after ≡ length todo
   pub underway :
-      (a : Items) → IsUnderway g a (rows_of old)
+      (a : Items) → IsUnderway g a (rows_in old)
       (λ q. IsRuleToDo g todo q ⊎ IsProductionOf g q r) []
-      → IsUnderway g a (rows_of new) After []
+      → IsUnderway g a (rows_in new) After []
   pub left :
-      visits_left (token_count g) (rows_of new) after ≤ visits_left (token_count g)
-      (rows_of old) todo
+      visits_left (token_count g) (rows_in new) after ≤ visits_left (token_count g)
+      (rows_in old) todo

@@ -38,12 +38,12 @@ AreLeadsByRule g vs =
     (a : ℕ) (v : Vec Lead Global) → slice_get vs a ≡ Some v → AreLeadsOf g a v.items
 
 -- the row of a rule, none where the rule isn't reached
-abbrev pub row_of : Row → Option (List Bool)
-row_of r = if r.is_reached then Some r.tokens else None
+abbrev pub row_in : Row → Option (List Bool)
+row_in r = if r.is_reached then Some r.tokens else None
 
 -- the rows of the rules
-abbrev pub rows_of : List Row → Rows
-rows_of rs = map row_of rs
+abbrev pub rows_in : List Row → Rows
+rows_in rs = map row_in rs
 
 -- by rule, whether its row is reached
 abbrev pub reached_of : List Row → List Bool
@@ -71,6 +71,6 @@ pub record AreClearRows (g : Grammar) (rs : List Row) : Type 0 where
 -- the row of the rule `b` is written, with what the production `q` of the rule `a` passes on to it
 pub record IsPut (g : Grammar) (q a b : ℕ) (changed : Bool) (old new : List Row) : Type 0 where
   pub row : List Bool
-  pub passed : ArePassedOn g (rest g q 1) (row_at (rows_of old) a) (row_at (rows_of old) b) row
+  pub passed : ArePassedOn g (rest g q 1) (row_at (rows_in old) a) (row_at (rows_in old) b) row
   pub written : new ≡ slice_set old b (record { tokens = row; is_reached = true })
-  pub grown : HasGrown (token_count g) changed (row_at (rows_of old) b) row
+  pub grown : HasGrown (token_count g) changed (row_at (rows_in old) b) row

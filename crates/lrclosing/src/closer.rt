@@ -9,7 +9,7 @@ ghost use Rattle.lrgrammar.specs.Firsts.{AreFirstsOf};
 ghost use Rattle.lrclosing.specs.ItemsOf.{items_of};
 ghost use Rattle.lrclosing.specs.Rows.{ArePassedOn, AreClosingRows};
 ghost use Rattle.lrclosing.specs.Visits.{IsRuleToDo, IsVisited, IsUnderway, visits_left};
-ghost use Rattle.lrclosing.specs.Leads.{AreLeadsOf, IsLeadOf, AreLeadsByRule, row_of, rows_of, reached_of, joined_row, IsRow, AreKeptRows, AreClearRows, IsPut};
+ghost use Rattle.lrclosing.specs.Leads.{AreLeadsOf, IsLeadOf, AreLeadsByRule, row_in, rows_in, reached_of, joined_row, IsRow, AreKeptRows, AreClearRows, IsPut};
 ghost use Rattle.lrclosing.specs.declared.closer.Row.{Row};
 ghost use Rattle.lrclosing.specs.Closer.{IsClosing, IsCloserOf, AreVisited};
 
@@ -194,7 +194,7 @@ fn put_ahead<T: IndexStorage>(
     requires row { IsRow grm.now row.old }
     requires bits { length ctx.now ≡ math.token_count grm.now }
     ensures passed { ArePassedOn grm.now (math.rest grm.now (T.number pidx.0) from) (Some ctx.now)
-        (row_of row.old) row.new.tokens }
+        (row_in row.old) row.new.tokens }
     ensures reached { row.new.is_reached ≡ true }
 {
     row.is_reached = true;
@@ -278,7 +278,7 @@ impl Closer {
         requires is { IsClosing grm.now self.old }
         ensures is { IsClosing grm.now self.new }
         ensures visited { IsVisited grm.now (T.number pidx.0) (T.number dot.0) (Some ctx.now)
-            (rows_of self.old.rows.items) (rows_of self.new.rows.items)
+            (rows_in self.old.rows.items) (rows_in self.new.rows.items)
             (IsRuleToDo grm.now self.old.todo) (IsRuleToDo grm.now self.new.todo) }
     {
         if let Some(rule) = rule_behind(grm, pidx, dot) {
@@ -310,7 +310,7 @@ impl Closer {
         requires clear { AreClearRows grm.now self.old.rows.items }
         ensures is { IsClosing grm.now self.new }
         ensures underway { IsUnderway grm.now (items_of T.number given.now)
-            (rows_of self.new.rows.items) (IsRuleToDo grm.now self.new.todo) [] }
+            (rows_in self.new.rows.items) (IsRuleToDo grm.now self.new.todo) [] }
     {
         for (key, ctx) in given {
             self.visit_item(grm, firsts, key.0, key.1, ctx);
@@ -323,11 +323,11 @@ impl Closer {
         requires todo { IsTrue (bit self.old.todo place) }
         ensures is { (g : math.Grammar) → IsClosing g self.old → IsClosing g self.new }
         ensures underway { (g : math.Grammar) (a : MathItems) → IsClosing g self.old
-            → IsUnderway g a (rows_of self.old.rows.items) (IsRuleToDo g self.old.todo) []
-            → IsUnderway g a (rows_of self.new.rows.items) (IsRuleToDo g self.new.todo) [] }
+            → IsUnderway g a (rows_in self.old.rows.items) (IsRuleToDo g self.old.todo) []
+            → IsUnderway g a (rows_in self.new.rows.items) (IsRuleToDo g self.new.todo) [] }
         ensures left { (g : math.Grammar) → IsClosing g self.old
-            → visits_left (math.token_count g) (rows_of self.new.rows.items) self.new.todo
-            < visits_left (math.token_count g) (rows_of self.old.rows.items) self.old.todo }
+            → visits_left (math.token_count g) (rows_in self.new.rows.items) self.new.todo
+            < visits_left (math.token_count g) (rows_in self.old.rows.items) self.old.todo }
     {
         self.todo.set(place, false);
         visit_leads(
@@ -352,7 +352,7 @@ impl Closer {
         requires is { IsCloserOf grm.now self.old }
         ensures is { IsCloserOf grm.now self.new }
         ensures closes { AreClosingRows grm.now (items_of T.number given.now)
-            (rows_of self.new.rows.items) }
+            (rows_in self.new.rows.items) }
     {
         clear_rows(self.rows.as_mut_slice(), &mut self.reached);
         self.visit_given(grm, firsts, given);

@@ -5,7 +5,7 @@ ghost use Rattle.lrgrammar.specs.GrammarSizes.{IsWithin};
 ghost use Rattle.lrspec.specs.grammars.ItemSets.{HasItem, Fits, AreUpwards};
 ghost use Rattle.lrclosing.specs.ItemsOf.{items_of, listed_of};
 ghost use Rattle.lrclosing.specs.Rows.{IsPutIn, AreWithRows};
-ghost use Rattle.lrclosing.specs.Leads.{rows_of, AreKeptRows};
+ghost use Rattle.lrclosing.specs.Leads.{rows_in, AreKeptRows};
 ghost use Rattle.lrclosing.specs.Closer.{IsCloserOf};
 ghost use Rattle.lrclosing.specs.Listing.{ArePutIn, row_items, listed_items};
 
@@ -23,7 +23,7 @@ fn productions_with_rows<T: IndexStorage>(
     closer: &Closer,
 ) -> Result<Vob, AllocError>
     requires { IsCloserOf grm.now closer.now }
-    ensures { IfOk result (ArePutIn grm.now (rows_of closer.now.rows.items)) }
+    ensures { IfOk result (ArePutIn grm.now (rows_in closer.now.rows.items)) }
 {
     let reached = &closer.reached;
     let mut productions = Vob::from_elem(grm.allocator(), false, grm.prods_len().0.to_usize())?;
@@ -44,11 +44,11 @@ fn push_from<'a, T: IndexStorage>(
 ) -> Result<(), AllocError>
     requires sizes { IsWithin T.MAX grm.now }
     requires rows { AreKeptRows grm.now rows.now }
-    requires productions { ArePutIn grm.now (rows_of rows.now) productions.now }
+    requires productions { ArePutIn grm.now (rows_in rows.now) productions.now }
     requires order { from ≤ end }
     requires end { end ≤ length grm.now.productions }
     ensures { OnOk result (listed_of T.number items.new.items
-        ≡ listed_of T.number items.old.items ++ row_items grm.now (rows_of rows.now) from end) }
+        ≡ listed_of T.number items.old.items ++ row_items grm.now (rows_in rows.now) from end) }
 {
     let zero = SIdx(T::from_usize(0).unwrap());
     for place in productions.iter_set_bits(from..end) {
@@ -70,10 +70,10 @@ fn push_closed<'a, T: IndexStorage>(
     requires fits { Fits grm.now (items_of T.number given.now) }
     requires upwards { AreUpwards (items_of T.number given.now) }
     requires rows { AreKeptRows grm.now rows.now }
-    requires productions { ArePutIn grm.now (rows_of rows.now) productions.now }
+    requires productions { ArePutIn grm.now (rows_in rows.now) productions.now }
     ensures { OnOk result (listed_of T.number items.new.items
         ≡ listed_of T.number items.old.items
-        ++ listed_items grm.now (rows_of rows.now) 0 (items_of T.number given.now)) }
+        ++ listed_items grm.now (rows_in rows.now) 0 (items_of T.number given.now)) }
 {
     let end = grm.prods_len().0.to_usize();
     let mut from = 0;
@@ -97,9 +97,9 @@ pub fn closed_items<'a, T: IndexStorage>(
     requires fits { Fits grm.now (items_of T.number given.now) }
     requires upwards { AreUpwards (items_of T.number given.now) }
     requires is { IsCloserOf grm.now closer.now }
-    requires apart { (q : ℕ) → IsPutIn grm.now (rows_of closer.now.rows.items) q
+    requires apart { (q : ℕ) → IsPutIn grm.now (rows_in closer.now.rows.items) q
         → HasItem (items_of T.number given.now) q 0 → ⊥ }
-    ensures rows { IfOk result (λ v. AreWithRows grm.now (rows_of closer.now.rows.items)
+    ensures rows { IfOk result (λ v. AreWithRows grm.now (rows_in closer.now.rows.items)
         (items_of T.number given.now) (listed_of T.number v.items)) }
     ensures fits { IfOk result (λ v. Fits grm.now (listed_of T.number v.items)) }
     ensures upwards { IfOk result (λ v. AreUpwards (listed_of T.number v.items)) }

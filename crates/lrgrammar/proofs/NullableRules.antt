@@ -5,14 +5,14 @@ use Rattle.std.proofs.lemmas.Bool.{cases_eq, and_from, and_parts}
 use Rattle.lrspec.specs.grammars.Grammar.{Symbol, Rule, Token, Grammar, Production, body_of, IsOfRule, IsProductionOf}
 use Rattle.lrspec.specs.grammars.First.{Nullable, AllNullable, by_body, none, more}
 use Rattle.lrbits.specs.Bits.{bit}
-use Rattle.lrgrammar.specs.NullableBits.{all_set, HoldsNullable, IsClosed, IsClosedBelow}
+use Rattle.lrgrammar.specs.NullableBits.{all_set, HoldsNullable, IsClosedUnderBodies, IsClosedUnderBodiesBelow}
 
 -- a closed vector holds each nullable rule
 mutual
-  pub set_from_closed : {g : Grammar} {r : ℕ} (v : List Bool) → IsClosed g v → Nullable g r → IsTrue (bit v r)
+  pub set_from_closed : {g : Grammar} {r : ℕ} (v : List Bool) → IsClosedUnderBodies g v → Nullable g r → IsTrue (bit v r)
   set_from_closed v c (by_body p h a) = c p _ h (all_set_from_closed v c a)
 
-  pub all_set_from_closed : {g : Grammar} {y : List Symbol} (v : List Bool) → IsClosed g v → AllNullable g y → IsTrue (all_set v y)
+  pub all_set_from_closed : {g : Grammar} {y : List Symbol} (v : List Bool) → IsClosedUnderBodies g v → AllNullable g y → IsTrue (all_set v y)
   all_set_from_closed v c none = refl
   all_set_from_closed v c (more n a) = and_from _ _ (set_from_closed v c n) (all_set_from_closed v c a)
 
@@ -40,8 +40,8 @@ one_rule g p a b h k = of_one_rule (slice_get g.productions p) a b h k
 
 -- one production more
 pub closed_below_more :
-    (g : Grammar) (v : List Bool) (i s : ℕ) → IsClosedBelow g v i → IsProductionOf g i s → (IsTrue (all_set v (body_of g i)) → IsTrue (bit v s))
-    → IsClosedBelow g v (i + 1)
+    (g : Grammar) (v : List Bool) (i s : ℕ) → IsClosedUnderBodiesBelow g v i → IsProductionOf g i s → (IsTrue (all_set v (body_of g i)) → IsTrue (bit v s))
+    → IsClosedUnderBodiesBelow g v (i + 1)
 closed_below_more g v i s c h f p r lt k a =
     ⊎_elim
     (λ (same : p ≡ i). rw (one_rule g i r s (rw same at k) h) (f (rw same at a)))
@@ -57,9 +57,9 @@ of_rule_below (q ∷ ps) (suc p) r h = omega (arith, of_rule_below ps p r h)
 pub below_from_rule : (g : Grammar) (p r : ℕ) → IsProductionOf g p r → p < length g.productions
 below_from_rule g p r h = of_rule_below g.productions p r h
 
-pub closed_from_below : (g : Grammar) (v : List Bool) (n : ℕ) → length g.productions ≤ n → IsClosedBelow g v n → IsClosed g v
+pub closed_from_below : (g : Grammar) (v : List Bool) (n : ℕ) → length g.productions ≤ n → IsClosedUnderBodiesBelow g v n → IsClosedUnderBodies g v
 closed_from_below g v n all c p r h a = c p r (omega (arith, below_from_rule g p r h)) h a
 
 -- where both hold, the set bits are the nullable rules
-pub nullable_bits : (g : Grammar) (v : List Bool) → HoldsNullable g v → IsClosed g v → (r : ℕ) → IsTrue (bit v r) ↔ Nullable g r
+pub nullable_bits : (g : Grammar) (v : List Bool) → HoldsNullable g v → IsClosedUnderBodies g v → (r : ℕ) → IsTrue (bit v r) ↔ Nullable g r
 nullable_bits g v s c r = (s r, set_from_closed v c)

@@ -15,11 +15,11 @@ abbrev pub HoldsNullable : Grammar → List Bool → Type 0
 HoldsNullable g v = (r : ℕ) → IsTrue (bit v r) → Nullable g r
 
 -- each rule with a body of set bits has its own bit set, for the productions below `n`
-abbrev pub IsClosedBelow : Grammar → List Bool → ℕ → Type 0
-IsClosedBelow g v n =
+abbrev pub IsClosedUnderBodiesBelow : Grammar → List Bool → ℕ → Type 0
+IsClosedUnderBodiesBelow g v n =
     (p r : ℕ) → p < n → IsProductionOf g p r → IsTrue (all_set v (body_of g p)) → IsTrue (bit v r)
 
 -- the same for all productions
-abbrev pub IsClosed : Grammar → List Bool → Type 0
-IsClosed g v =
+abbrev pub IsClosedUnderBodies : Grammar → List Bool → Type 0
+IsClosedUnderBodies g v =
     (p r : ℕ) → IsProductionOf g p r → IsTrue (all_set v (body_of g p)) → IsTrue (bit v r)

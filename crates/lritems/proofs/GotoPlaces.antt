@@ -10,8 +10,8 @@ use Rattle.std.proofs.lemmas.Option.{slice_get-map, slice_get-get_or, slice_get_
 use Rattle.lrgrammar.specs.declared.idx.Symbol as code
 use Rattle.lrgrammar.specs.Symbols.{symbol_of}
 use Rattle.lritems.specs.declared.gotos.Goto.{Goto}
-use Rattle.lritems.specs.declared.gotos.Places.{Places}
-use Rattle.lritems.specs.Gotos.{goto_of, gotos_of, noted_at, HasPlaceFor, ArePlacesFor, HasGotoOn, HasGotoAt, ArePlacesOf, IsPutAt}
+use Rattle.lritems.specs.declared.gotos.PlacesBySymbol.{PlacesBySymbol}
+use Rattle.lritems.specs.Gotos.{items_in, gotos_of, noted_at, HasPlaceFor, ArePlacesFor, HasGotoOn, HasGotoAt, ArePlacesOf, IsPutAt}
 use Rattle.lritems.proofs.SymbolTests.{symbol_from_test, test_itself}
 
 -- a place below the length of a list has an element
@@ -111,7 +111,7 @@ at_set (e ∷ gs) (suc k) (suc j) y x a b t h = at_set gs k j y x a b t h
 
 -- the places of a list with one goto more
 pub places_longer :
-    (gs : List (Symbol × Items)) (ps qs : Places) (x : Symbol) (a : Items) → ArePlacesOf gs ps → noted_at qs x ≡ Some (length gs)
+    (gs : List (Symbol × Items)) (ps qs : PlacesBySymbol) (x : Symbol) (a : Items) → ArePlacesOf gs ps → noted_at qs x ≡ Some (length gs)
     → ((y : Symbol) → (y ≡ x → ⊥) → noted_at qs y ≡ noted_at ps y) → ArePlacesOf (gs ++ (x, a) ∷ []) qs
 places_longer gs ps qs x a h here others y on = go (same_symbol y x) refl
   where
@@ -124,7 +124,7 @@ places_longer gs ps qs x a h here others y on = go (same_symbol y x) refl
         (p.0, others y n ∙ p.1, at_longer gs ((x, a) ∷ []) p.0 y p.2)
 
 -- a symbol's goto is at the place that is noted
-pub at_noted : (gs : List (Symbol × Items)) (ps : Places) (x : Symbol) (k : ℕ) → ArePlacesOf gs ps → Some k ≡ noted_at ps x → HasGotoOn gs x → HasGotoAt gs k x
+pub at_noted : (gs : List (Symbol × Items)) (ps : PlacesBySymbol) (x : Symbol) (k : ℕ) → ArePlacesOf gs ps → Some k ≡ noted_at ps x → HasGotoOn gs x → HasGotoAt gs k x
 at_noted gs ps x k h e on =
     let p = h x on in
     let s : Some k ≡ Some p.0 = e ∙ p.1 in
@@ -134,25 +134,25 @@ at_noted gs ps x k h e on =
 -- what is read at a place of the code's list stands there
 pub goto_read :
     {T : Type 0} (number : T → ℕ) (gs : List (code.Symbol T × Goto T)) (k : ℕ) (d : code.Symbol T × Goto T) → k < length gs
-    → slice_get (gotos_of number gs) k ≡ Some (symbol_of number (get_or gs k d).0, goto_of number (get_or gs k d).1)
-goto_read number gs k d below = slice_get-map (λ f. (symbol_of number f.0, goto_of number f.1)) gs k ∙ rw (slice_get-get_or gs k d below) refl
+    → slice_get (gotos_of number gs) k ≡ Some (symbol_of number (get_or gs k d).0, items_in number (get_or gs k d).1)
+goto_read number gs k d below = slice_get-map (λ f. (symbol_of number f.0, items_in number f.1)) gs k ∙ rw (slice_get-get_or gs k d below) refl
 
 -- an empty goto put at the end
 pub pushed_gotos :
-    {T : Type 0} (number : T → ℕ) (gs hs : List (code.Symbol T × Goto T)) (x : code.Symbol T) (a : Goto T) → hs ≡ gs ++ (x, a) ∷ [] → goto_of number a ≡ []
+    {T : Type 0} (number : T → ℕ) (gs hs : List (code.Symbol T × Goto T)) (x : code.Symbol T) (a : Goto T) → hs ≡ gs ++ (x, a) ∷ [] → items_in number a ≡ []
     → gotos_of number hs ≡ gotos_of number gs ++ (symbol_of number x, []) ∷ []
 pushed_gotos number gs hs x a e f = rw e (map-append _ gs ((x, a) ∷ []) ∙ rw f refl)
 
 -- an item put at the end of the goto at a place
 pub put_in_goto :
     {T : Type 0} (number : T → ℕ) (gs : List (code.Symbol T × Goto T)) (k : ℕ) (e : code.Symbol T × Goto T) (a : Goto T) (p d : ℕ) (ctx : List Bool) → k < length gs
-    → e ≡ get_or gs k e → goto_of number a ≡ goto_of number e.1 ++ ((p, d), ctx) ∷ []
+    → e ≡ get_or gs k e → items_in number a ≡ items_in number e.1 ++ ((p, d), ctx) ∷ []
     → IsPutAt k p d ctx (gotos_of number gs) (gotos_of number (slice_set gs k (e.0, a)))
 put_in_goto number gs k e a p d ctx below at longer = record {
   symbol = symbol_of number e.0;
-  before = goto_of number e.1;
+  before = items_in number e.1;
   was = rw at (goto_read number gs k e below);
-  is = rw (← longer) (map-set (λ f. (symbol_of number f.0, goto_of number f.1)) gs k (e.0, a));
+  is = rw (← longer) (map-set (λ f. (symbol_of number f.0, items_in number f.1)) gs k (e.0, a));
 }
 
 -- one goto alone stands at a place
@@ -171,13 +171,13 @@ below_of_at number gs k x h =
 
 -- the places stay where an item is put into a goto
 pub places_put :
-    (gs hs : List (Symbol × Items)) (ps : Places) (k p d : ℕ) (ctx : List Bool) → ArePlacesOf gs ps → IsPutAt k p d ctx gs hs → ArePlacesOf hs ps
+    (gs hs : List (Symbol × Items)) (ps : PlacesBySymbol) (k p d : ℕ) (ctx : List Bool) → ArePlacesOf gs ps → IsPutAt k p d ctx gs hs → ArePlacesOf hs ps
 places_put gs hs ps k p d ctx h put x on =
     let longer : Items = put.before ++ ((p, d), ctx) ∷ [] in
     let j = h x (on_set gs k x put.symbol put.before longer put.was (rw put.is at on)) in
     (j.0, j.1, rw put.is (at_set gs k j.0 x put.symbol put.before longer put.was j.2))
 
 -- the places of the grammar's symbols
-pub has_place : (g : Grammar) (ps : Places) (x : Symbol) → ArePlacesFor g ps → IsBodySymbol g x → HasPlaceFor ps x
+pub has_place : (g : Grammar) (ps : PlacesBySymbol) (x : Symbol) → ArePlacesFor g ps → IsBodySymbol g x → HasPlaceFor ps x
 has_place g ps (Rule r) h b = is_there ps.rules.items r (omega (arith, h.rules, b.1))
 has_place g ps (Token t) h b = is_there ps.tokens.items t (omega (arith, h.tokens, b))

@@ -10,20 +10,20 @@ use Rattle.lrspec.specs.grammars.Grammar.{Grammar}
 use Rattle.lrspec.specs.grammars.ItemSets.{Items, HasItem, Fits, IsBefore, IsGoto, AreUpwards}
 use Rattle.lrspec.specs.merging.Graph.{same_symbol}
 use Rattle.lritems.specs.declared.gotos.Goto.{Goto}
-use Rattle.lritems.specs.declared.gotos.Places.{Places}
+use Rattle.lritems.specs.declared.gotos.PlacesBySymbol.{PlacesBySymbol}
 
 -- an item by the numbers of its production and its dot, with bits
 abbrev pub item_of : {T : Type 0} → (T → ℕ) → PIdx T × SIdx T → List Bool → (ℕ × ℕ) × List Bool
 item_of number k v = ((number k.0.0, number k.1.0), v)
 
 -- the items of a goto, each by the numbers of its production and its dot
-abbrev pub goto_of : {T : Type 0} → (T → ℕ) → Goto T → Items
-goto_of number a = map (λ e. item_of number e.0 e.1.now) a.items.items
+abbrev pub items_in : {T : Type 0} → (T → ℕ) → Goto T → Items
+items_in number a = map (λ e. item_of number e.0 e.1.now) a.items.items
 
 -- gotos as plain data, each with its symbol
 abbrev pub gotos_of :
     {T : Type 0} → (T → ℕ) → List (Symbol T × Goto T) → List (math.Symbol × Items)
-gotos_of number gs = map (λ e. (symbol_of number e.0, goto_of number e.1)) gs
+gotos_of number gs = map (λ e. (symbol_of number e.0, items_in number e.1)) gs
 
 -- the item set has an item before the symbol
 abbrev pub HasItemBefore : Grammar → Items → math.Symbol → Type 0
@@ -77,16 +77,16 @@ pub record AreGotosOf (g : Grammar) (c : Items) (gs : List (math.Symbol × Items
 -- ---- making them
 
 -- the place that is noted for the symbol, if places are kept for it
-abbrev pub noted_at : Places → math.Symbol → Option ℕ
+abbrev pub noted_at : PlacesBySymbol → math.Symbol → Option ℕ
 noted_at ps (math.Rule r) = slice_get ps.rules.items r
 noted_at ps (math.Token t) = slice_get ps.tokens.items t
 
 -- a place is kept for the symbol
-abbrev pub HasPlaceFor : Places → math.Symbol → Type 0
+abbrev pub HasPlaceFor : PlacesBySymbol → math.Symbol → Type 0
 HasPlaceFor ps x = IsSome (noted_at ps x)
 
 -- places are kept for the symbols of the grammar
-pub record ArePlacesFor (g : Grammar) (ps : Places) : Type 0 where
+pub record ArePlacesFor (g : Grammar) (ps : PlacesBySymbol) : Type 0 where
   pub rules : length ps.rules.items ≡ length g.rule_names
   pub tokens : length ps.tokens.items ≡ math.token_count g
 
@@ -95,7 +95,7 @@ abbrev pub HasGotoAt : List (math.Symbol × Items) → ℕ → math.Symbol → T
 HasGotoAt gs k x = (a : Items) × (slice_get gs k ≡ Some (x, a))
 
 -- for each symbol on which there is a goto, its place is noted
-abbrev pub ArePlacesOf : List (math.Symbol × Items) → Places → Type 0
+abbrev pub ArePlacesOf : List (math.Symbol × Items) → PlacesBySymbol → Type 0
 ArePlacesOf gs ps =
     (x : math.Symbol) → HasGotoOn gs x → (k : ℕ) × (noted_at ps x ≡ Some k) × HasGotoAt gs k x
 

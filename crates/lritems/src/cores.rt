@@ -4,7 +4,7 @@ ghost use Rattle.std.specs.Prelude.{◌≡◌, IfOk};
 ghost use Rattle.lrspec.specs.grammars.ItemSets.{AreUpwards, Fits};
 ghost use Rattle.lrspec.specs.grammars.StartState.{IsStartCore};
 ghost use Rattle.lritems.specs.ItemsOf.{items_of, set_of};
-ghost use Rattle.lritems.specs.Gotos.{goto_of};
+ghost use Rattle.lritems.specs.Gotos.{items_in};
 
 use crate::gotos::Goto;
 use crate::itemset::{Ctx, Itemset};
@@ -50,8 +50,8 @@ impl<T: IndexStorage> Core<T> {
 
     /// The items of a goto. The error says that memory was refused.
     pub fn from_goto(alloc: Global, goto: &Goto<T>) -> Result<Core<T>, AllocError>
-        requires { AreUpwards (goto_of T.number goto.now) }
-        ensures { IfOk result (λ c. c ≡ goto_of T.number goto.now) }
+        requires { AreUpwards (items_in T.number goto.now) }
+        ensures { IfOk result (λ c. c ≡ items_in T.number goto.now) }
     {
         let mut items = Vec::with_capacity(alloc, goto.items.len())?;
         for (key, looks) in &goto.items {

@@ -6,7 +6,7 @@ ghost use Rattle.lrspec.specs.grammars.ItemSets.{Fits, HasItem, AreUpwards};
 ghost use Rattle.lrgrammar.specs.Symbols.{symbol_of};
 ghost use Rattle.lritems.specs.ItemsOf.{set_of, listed_of, Agree};
 ghost use Rattle.lritems.specs.LeastItem.{least_item};
-ghost use Rattle.lritems.specs.Gotos.{AreGotosOf, item_of, goto_of, gotos_of, noted_at, HasPlaceFor, ArePlacesFor, ArePlacesOf, HasGotoOn, HasGotoAt, IsMadeReady, IsPutAt};
+ghost use Rattle.lritems.specs.Gotos.{AreGotosOf, item_of, items_in, gotos_of, noted_at, HasPlaceFor, ArePlacesFor, ArePlacesOf, HasGotoOn, HasGotoAt, IsMadeReady, IsPutAt};
 
 use crate::cores::Core;
 use crate::itemset::{Ctx, Itemset};
@@ -38,7 +38,7 @@ fn is_same_item<T: IndexStorage>(
 impl<'a, T: IndexStorage> Goto<'a, T> {
     /// No items.
     fn new(alloc: Global) -> Goto<'a, T>
-        ensures { goto_of T.number result ≡ [] }
+        ensures { items_in T.number result ≡ [] }
     {
         Goto {
             items: Vec::new(alloc),
@@ -47,12 +47,12 @@ impl<'a, T: IndexStorage> Goto<'a, T> {
 
     /// The first item, which is the least by production and then dot.
     pub fn first_item(&self) -> Option<(PIdx<T>, SIdx<T>)>
-        requires { AreUpwards (goto_of T.number self.now) }
-        ensures none { IfNone result (goto_of T.number self.now ≡ []) }
+        requires { AreUpwards (items_in T.number self.now) }
+        ensures none { IfNone result (items_in T.number self.now ≡ []) }
         ensures there { IfSome result (λ k.
-            HasItem (goto_of T.number self.now) (T.number k.0.0) (T.number k.1.0)) }
+            HasItem (items_in T.number self.now) (T.number k.0.0) (T.number k.1.0)) }
         ensures least { option_map (λ k. (T.number k.0.0, T.number k.1.0)) result
-            ≡ least_item (goto_of T.number self.now) }
+            ≡ least_item (items_in T.number self.now) }
     {
         let (key, _looks) = self.items.first()?;
         Some(*key)
@@ -60,8 +60,8 @@ impl<'a, T: IndexStorage> Goto<'a, T> {
 
     /// Whether the core has the items of the goto and no others, with the same lookaheads.
     pub fn is_equal(&self, core: &Core<T>) -> bool
-        requires { AreUpwards (goto_of T.number self.now) }
-        ensures { IsTrue result ↔ Agree core.now (goto_of T.number self.now) }
+        requires { AreUpwards (items_in T.number self.now) }
+        ensures { IsTrue result ↔ Agree core.now (items_in T.number self.now) }
     {
         if self.items.len() != core.items.len() {
             return false;
@@ -79,17 +79,17 @@ impl<'a, T: IndexStorage> Goto<'a, T> {
 
 /// By rule and by token the place of the goto on it, which is to be read only where there is one.
 #[derive(Drop)]
-pub struct Places {
+pub struct PlacesBySymbol {
     rules: Vec<usize>,
     tokens: Vec<usize>,
 }
 
-impl Places {
+impl PlacesBySymbol {
     /// Places for the symbols of the grammar. The error says that memory was refused.
-    pub fn new<T: IndexStorage>(grm: &YaccGrammar<T>) -> Result<Places, AllocError>
+    pub fn new<T: IndexStorage>(grm: &YaccGrammar<T>) -> Result<PlacesBySymbol, AllocError>
         ensures { IfOk result (ArePlacesFor grm.now) }
     {
-        Ok(Places {
+        Ok(PlacesBySymbol {
             rules: vec![in grm.allocator(); 0; usize::from(grm.rules_len())]?,
             tokens: vec![in grm.allocator(); 0; usize::from(grm.tokens_len())]?,
         })
@@ -125,7 +125,7 @@ impl Places {
 /// The place of the goto on a symbol, if there is one.
 fn known_place<T: IndexStorage>(
     gotos: &[(Symbol<T>, Goto<'_, T>)],
-    places: &Places,
+    places: &PlacesBySymbol,
     symbol: Symbol<T>,
 ) -> Option<usize>
     requires noted { HasPlaceFor places.now (symbol_of T.number symbol) }
@@ -145,7 +145,7 @@ fn known_place<T: IndexStorage>(
 /// The place of the goto on a symbol, where an empty one is put if there is none.
 fn place_of<T: IndexStorage>(
     gotos: &mut Vec<(Symbol<T>, Goto<'_, T>)>,
-    places: &mut Places,
+    places: &mut PlacesBySymbol,
     grm: &YaccGrammar<T>,
     symbol: Symbol<T>,
 ) -> Result<usize, AllocError>
@@ -188,7 +188,7 @@ fn put_at<'a, T: IndexStorage>(
 pub fn gotos<'a, T: IndexStorage>(
     closed: &[((PIdx<T>, SIdx<T>), &'a Ctx)],
     grm: &YaccGrammar<T>,
-    places: &mut Places,
+    places: &mut PlacesBySymbol,
 ) -> Result<Vec<(Symbol<T>, Goto<'a, T>)>, AllocError>
     requires fits { Fits grm.now (listed_of T.number closed.now) }
     requires upwards { AreUpwards (listed_of T.number closed.now) }

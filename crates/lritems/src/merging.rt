@@ -7,7 +7,7 @@ ghost use Rattle.lrspec.specs.merging.WeakCompatibility.{SameItems, IsWeaklyComp
 ghost use Rattle.lrbits.specs.Bits.{union};
 ghost use Rattle.lritems.specs.ItemsOf.{Agree};
 ghost use Rattle.lritems.specs.LeastItem.{least_item};
-ghost use Rattle.lritems.specs.Gotos.{goto_of};
+ghost use Rattle.lritems.specs.Gotos.{items_in};
 ghost use Rattle.lritems.specs.Merging.{HaveEquallyManyBits, HaveSameKeys, BitsPass, BitsClash, PassesWithLater, Gains};
 
 use crate::cores::Core;
@@ -28,7 +28,7 @@ pub fn first_item<T: IndexStorage>(core: &Core<T>) -> Option<(PIdx<T>, SIdx<T>)>
 
 /// Whether a goto has the items of a core and no others, in the same order, whatever their lookaheads.
 fn has_same_items<T: IndexStorage>(a: &Core<T>, b: &Goto<T>) -> bool
-    ensures same { IsTrue result ↔ HaveSameKeys a.now (goto_of T.number b.now) }
+    ensures same { IsTrue result ↔ HaveSameKeys a.now (items_in T.number b.now) }
     ensures upwards { AreUpwards a.now }
 {
     if a.items.len() != b.items.len() {
@@ -60,11 +60,11 @@ fn pair_passes(a_i: &Ctx, a_j: &Ctx, b_i: &Ctx, b_j: &Ctx) -> bool
 /// have the same items.
 fn passes_with_later<T: IndexStorage>(a: &Core<T>, b: &Goto<T>, place: usize) -> bool
     requires place { place < length a.now }
-    requires items { HaveSameKeys a.now (goto_of T.number b.now) }
-    requires upwards { AreUpwards (goto_of T.number b.now) }
-    requires bits { HaveEquallyManyBits a.now (goto_of T.number b.now) }
-    ensures yes { IsTrue result → PassesWithLater a.now (goto_of T.number b.now) place }
-    ensures no { result ≡ false → Clash a.now (goto_of T.number b.now) }
+    requires items { HaveSameKeys a.now (items_in T.number b.now) }
+    requires upwards { AreUpwards (items_in T.number b.now) }
+    requires bits { HaveEquallyManyBits a.now (items_in T.number b.now) }
+    ensures yes { IsTrue result → PassesWithLater a.now (items_in T.number b.now) place }
+    ensures no { result ≡ false → Clash a.now (items_in T.number b.now) }
 {
     let a_i = &a.items[place].1;
     let b_i = b.items[place].1;
@@ -85,11 +85,11 @@ fn passes_with_later<T: IndexStorage>(a: &Core<T>, b: &Goto<T>, place: usize) ->
 /// items no token of the one in `a` is one of the other in `b`, or they share a token in `a`, or in `b`. So two items meet in
 /// the union only where they met already, and merging brings no conflict that the grammar hasn't.
 pub fn weakly_compatible<T: IndexStorage>(a: &Core<T>, b: &Goto<T>) -> bool
-    requires bits { HaveEquallyManyBits a.now (goto_of T.number b.now) }
-    requires upwards { AreUpwards (goto_of T.number b.now) }
-    ensures compatible { IsTrue result ↔ IsWeaklyCompatible a.now (goto_of T.number b.now) }
-    ensures clash { result ≡ false → SameItems a.now (goto_of T.number b.now)
-        → Clash a.now (goto_of T.number b.now) }
+    requires bits { HaveEquallyManyBits a.now (items_in T.number b.now) }
+    requires upwards { AreUpwards (items_in T.number b.now) }
+    ensures compatible { IsTrue result ↔ IsWeaklyCompatible a.now (items_in T.number b.now) }
+    ensures clash { result ≡ false → SameItems a.now (items_in T.number b.now)
+        → Clash a.now (items_in T.number b.now) }
 {
     if !has_same_items(a, b) {
         return false;
@@ -116,10 +116,10 @@ fn merge_at<T: IndexStorage>(core: &mut Core<T>, place: usize, ctx: &Ctx) -> boo
 /// Makes the core its union with the goto, which has the same items, and says whether that changed it. Takes no
 /// memory.
 pub fn weakly_merge<T: IndexStorage>(core: &mut Core<T>, other: &Goto<T>) -> bool
-    requires items { SameItems core.old (goto_of T.number other.now) }
-    requires bits { HaveEquallyManyBits core.old (goto_of T.number other.now) }
-    requires upwards { AreUpwards (goto_of T.number other.now) }
-    ensures union { IsUnion core.old (goto_of T.number other.now) core.new }
+    requires items { SameItems core.old (items_in T.number other.now) }
+    requires bits { HaveEquallyManyBits core.old (items_in T.number other.now) }
+    requires upwards { AreUpwards (items_in T.number other.now) }
+    ensures union { IsUnion core.old (items_in T.number other.now) core.new }
     ensures fits { (g : Grammar) → Fits g core.old → Fits g core.new }
     ensures same { result ≡ false → Agree core.new core.old }
     ensures grew { result ≡ true → Gains core.old core.new }

@@ -8,7 +8,7 @@ use Rattle.lrplacing.specs.Construction.{Draft, edge_from}
 use Rattle.lrplacing.specs.Counts.{unclosed, weight}
 use Rattle.lrplacing.specs.Invariant.{Holds, HasGotos}
 use Rattle.lrpager.specs.Closing.{start_states, StartsWith}
-use Rattle.lrplacing.specs.CandidatesOf.{Lists, listed_at, IsFirstItem, AreCandidates}
+use Rattle.lrplacing.specs.CandidatesOf.{StatesByItem, listed_at, IsFirstItem, AreCandidates}
 use Rattle.lrspec.specs.merging.WeakCompatibility.{Apart}
 use Rattle.lrpager.proofs.ClosedStates.{start_holds, start_gotos}
 use Rattle.lrplacing.proofs.CountFacts.{start_counts}
@@ -44,7 +44,7 @@ start_item {g} s = (g.start_production, 0, (s.item g.start_production 0).1 (refl
 
 -- the start state is listed at its first item
 pub start_candidates :
-    (core : Items) (ds : Lists) (p d : ℕ) → IsFirstItem core p d → listed_at ds p d ≡ 0 ∷ [] → ((q e : ℕ) → Apart p d q e → listed_at ds q e ≡ [])
+    (core : Items) (ds : StatesByItem) (p d : ℕ) → IsFirstItem core p d → listed_at ds p d ≡ 0 ∷ [] → ((q e : ℕ) → Apart p d q e → listed_at ds q e ≡ [])
     → AreCandidates (start_states core) ds
 start_candidates core ds p d first here there =
     candidates_made [] (start_states core) [] ds core p d refl (λ j b. absurd (omega arith)) refl first here there

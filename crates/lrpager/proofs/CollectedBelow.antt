@@ -10,7 +10,7 @@ use Rattle.lrspec.specs.grammars.ItemSets.{Items, Fits, IsClosure}
 use Rattle.lrspec.specs.merging.Graph.{State, Graph, core_or_none, closed_or_none, edges_or_none, core_of, closed_of, edge, edge_at}
 use Rattle.lrpager.specs.Collecting as collecting
 use Rattle.lrplacing.specs.Construction.{Draft, draft_core, draft_edges, core_at, edge_from}
-use Rattle.lrpager.specs.Collecting.{AreMarked, new_number, IsCollected, LeadToStates, IsMarked, HaveDistinctTargets, IsRenumbered}
+use Rattle.lrpager.specs.Collecting.{ReachedAreMarked, new_number, IsCollected, LeadToStates, IsMarked, HaveDistinctTargets, IsRenumbered}
 use Rattle.lrpager.proofs.NewNumbers.{marked_below, new_number_after, new_number_increases, new_number_below, new_number_taken}
 
 -- the state `n` of the graph has the core of the state `k`, for its closed state what that closes to, and its edges by new
@@ -178,7 +178,7 @@ number_most marks k =
     omega (arith, part, all)
 
 -- the start state is collected
-pub some_collected : {g : Grammar} {ss : List Draft} {marks : List Bool} {h : Graph} → AreMarked ss marks → IsCollected g ss marks h → 0 < length h
+pub some_collected : {g : Grammar} {ss : List Draft} {marks : List Bool} {h : Graph} → ReachedAreMarked ss marks → IsCollected g ss marks h → 0 < length h
 some_collected marked collected =
     let start = collected.below 0 (marked.marked [] 0 collecting.Walks.start) in
     omega (arith, start)

@@ -15,7 +15,7 @@ use Rattle.lrspec.proofs.tables.ConflictsAreContested.{invents_no_conflict}
 use Rattle.lrpager.specs.Collecting as collecting
 use Rattle.lrplacing.specs.Construction.{Draft, core_at, edge_from}
 use Rattle.lrplacing.specs.Invariant.{Holds, HasGotos, AreClosed}
-use Rattle.lrpager.specs.Collecting.{Walks, AreMarked, new_number, IsCollected}
+use Rattle.lrpager.specs.Collecting.{Walks, ReachedAreMarked, new_number, IsCollected}
 use Rattle.lrpager.proofs.CollectedStates.{each_state, below_of_marked, closure_of_marked, closes_cores, collected_shared, collected_rooted, lists_lead}
 
 -- an edge by its new number comes from one by its old
@@ -32,7 +32,7 @@ moved_from :
     {g : Grammar} {x : Symbol} {A : ℕ → ℕ → Type 0} {p d : ℕ} → Moved g x A p d → (q : ℕ) × (e : ℕ) × A q e × IsBefore g q e x
 moved_from (set.Moved.moved {p = q} {d = e} i b) = (q, e, i, b)
 
-module _ (g : Grammar) (ss : List Draft) (marks : List Bool) (h : Graph) (holds : Holds g ss) (marked : AreMarked ss marks) (collected : IsCollected g ss marks h) where
+module _ (g : Grammar) (ss : List Draft) (marks : List Bool) (h : Graph) (holds : Holds g ss) (marked : ReachedAreMarked ss marks) (collected : IsCollected g ss marks h) where
   -- the state is marked
   abbrev IsMarked : ℕ → Type 0
   IsMarked k = IsTrue (slice_index_or marks k false)
@@ -134,14 +134,14 @@ module _ (g : Grammar) (ss : List Draft) (marks : List Bool) (h : Graph) (holds 
 -- where the invariant holds, states contain their gotos and the reached ones are collected, the graph is the grammar's
 pub collected_graph :
     {g : Grammar} {ss : List Draft} {marks : List Bool} {h : Graph} → IsGrammar g → Holds g ss → AreClosed ss → ((k : ℕ) → HasGotos g ss k)
-    → AreMarked ss marks → IsCollected g ss marks h → IsGraphOf g h
+    → ReachedAreMarked ss marks → IsCollected g ss marks h → IsGraphOf g h
 collected_graph {g} {ss} {marks} {h} grammar holds closed gotos marked collected =
     graph_of_collected g ss marks h holds marked collected closed gotos grammar
 
 -- and merging invents no conflict
 pub collected_invents_no_conflict :
     {g : Grammar} {ss : List Draft} {marks : List Bool} {h : Graph} → IsGrammar g → Holds g ss → AreClosed ss → ((k : ℕ) → HasGotos g ss k)
-    → AreMarked ss marks → IsCollected g ss marks h → InventsNoConflict g h
+    → ReachedAreMarked ss marks → IsCollected g ss marks h → InventsNoConflict g h
 collected_invents_no_conflict {g} {ss} {marks} {h} grammar holds closed gotos marked collected =
     invents_no_conflict g h (collected_graph grammar holds closed gotos marked collected)
     (collected_shared holds marked collected)

@@ -14,11 +14,11 @@ use Rattle.lrspec.proofs.merging.SameCores.{cross_back}
 use Rattle.lrpager.specs.Collecting as collecting
 use Rattle.lrplacing.specs.Construction.{Draft, core_at}
 use Rattle.lrplacing.specs.Invariant.{HasSharing, Holds}
-use Rattle.lrpager.specs.Collecting.{Walks, AreMarked, new_number, IsCollected}
+use Rattle.lrpager.specs.Collecting.{Walks, ReachedAreMarked, new_number, IsCollected}
 use Rattle.lrpager.proofs.NewNumbers.{mark_count, marked_below, new_number_start, new_number_below, new_number_taken}
 use Rattle.std.proofs.lemmas.List.Sums.{count_by-le-length}
 
-module _ (g : Grammar) (ss : List Draft) (marks : List Bool) (h : Graph) (holds : Holds g ss) (marked : AreMarked ss marks) (collected : IsCollected g ss marks h) where
+module _ (g : Grammar) (ss : List Draft) (marks : List Bool) (h : Graph) (holds : Holds g ss) (marked : ReachedAreMarked ss marks) (collected : IsCollected g ss marks h) where
   -- the state is marked
   abbrev pub IsMarked : ℕ → Type 0
   IsMarked k = IsTrue (slice_index_or marks k false)
@@ -101,13 +101,13 @@ module _ (g : Grammar) (ss : List Draft) (marks : List Bool) (h : Graph) (holds 
 
 -- every core is rooted by lists by which it is shared
 pub collected_shared :
-    {g : Grammar} {ss : List Draft} {marks : List Bool} {h : Graph} → Holds g ss → AreMarked ss marks → IsCollected g ss marks h
+    {g : Grammar} {ss : List Draft} {marks : List Bool} {h : Graph} → Holds g ss → ReachedAreMarked ss marks → IsCollected g ss marks h
     → AreShared g h
 collected_shared {g} {ss} {marks} {h} holds marked collected = shared_states g ss marks h holds marked collected
 
 -- cores with the same items cross
 pub collected_crosses :
-    {g : Grammar} {ss : List Draft} {marks : List Bool} {h : Graph} → Holds g ss → AreMarked ss marks → IsCollected g ss marks h
+    {g : Grammar} {ss : List Draft} {marks : List Bool} {h : Graph} → Holds g ss → ReachedAreMarked ss marks → IsCollected g ss marks h
     → CoresCross h
 collected_crosses {g} {ss} {marks} {h} holds marked collected = cross_states g ss marks h holds marked collected
 
@@ -134,7 +134,7 @@ collected_length {g} {ss} {marks} {h} collected =
 
 -- so no more than there were
 pub collected_no_more :
-    {g : Grammar} {ss : List Draft} {marks : List Bool} {h : Graph} → AreMarked ss marks → IsCollected g ss marks h → length h ≤ length ss
+    {g : Grammar} {ss : List Draft} {marks : List Bool} {h : Graph} → ReachedAreMarked ss marks → IsCollected g ss marks h → length h ≤ length ss
 collected_no_more {g} {ss} {marks} {h} marked collected =
     let count = count_by-le-length (λ (b : Bool). b) marks in
     omega (arith, collected_length collected, count, marked.length_is)

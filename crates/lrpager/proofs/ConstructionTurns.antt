@@ -6,7 +6,7 @@ use Rattle.lrspec.specs.grammars.ItemSets.{Items, HasItem, LooksIn, IsContained,
 use Rattle.lrspec.proofs.grammars.ListMembers.{Among}
 use Rattle.lrspec.proofs.grammars.Closures.{contained_itself, contained_then, closed_item_mono, closed_look_mono}
 use Rattle.lrplacing.specs.Construction as con
-use Rattle.lrplacing.specs.Construction.{Draft, core_at, closed_at, Places, PlacesAll}
+use Rattle.lrplacing.specs.Construction.{Draft, core_at, closed_at, PlacesOne, PlacesAll}
 use Rattle.lrplacing.specs.Invariant.{MayBePlaced, HasChain, Holds, HasGotos}
 use Rattle.lrpager.specs.Closing.{Closes}
 use Rattle.lrplacing.proofs.PlacedCores.{length_grown, closed_before, closed_grew_not}
@@ -18,7 +18,7 @@ use Rattle.lrplacing.proofs.PlacedGotos.{LooksOver, AreGotosOf, goto_may_be_plac
 -- wherever a goto of the state `from` is placed there is a chain
 abbrev pub LeavesChain : Grammar → ℕ → Type 0
 LeavesChain g from =
-    (ss ts : List Draft) (x : Symbol) (a : Items) (k : ℕ) → Holds g ss → MayBePlaced g ss from x a → Places ss from x a k ts → HasChain g ts
+    (ss ts : List Draft) (x : Symbol) (a : Items) (k : ℕ) → Holds g ss → MayBePlaced g ss from x a → PlacesOne ss from x a k ts → HasChain g ts
 
 -- each goto of the list may be placed
 abbrev pub AllMayBePlaced : Grammar → List Draft → ℕ → List (Symbol × Items) → Type 0

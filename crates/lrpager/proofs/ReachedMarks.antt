@@ -6,7 +6,7 @@ use Rattle.lrspec.specs.grammars.Grammar.{Symbol}
 use Rattle.lrspec.proofs.grammars.ListMembers.{Among}
 use Rattle.lrpager.specs.Collecting as collecting
 use Rattle.lrplacing.specs.Construction.{Draft, draft_edges, edge_from}
-use Rattle.lrpager.specs.Collecting.{Walks, AreMarked, IsMarked, HasTarget, MarksOnly}
+use Rattle.lrpager.specs.Collecting.{Walks, ReachedAreMarked, IsMarked, HasTarget, MarksOnly}
 use Rattle.lrpager.proofs.MarksAdded.{among_more, among_last, among_pushed}
 
 -- the start state is marked, marked states are reached, and the edges of each are still to be followed or lead to marked ones
@@ -61,7 +61,7 @@ marking_turn ss marks new k before todo rest es i pop is m marked = record {
     go j u x n e (inr o) = inr (m.still u o)
 
 -- where none is to be followed, exactly those that are reached are marked
-pub marking_end : (ss : List Draft) (marks : List Bool) (todo : List ℕ) → IsMarking ss marks todo → todo ≡ [] → AreMarked ss marks
+pub marking_end : (ss : List Draft) (marks : List Bool) (todo : List ℕ) → IsMarking ss marks todo → todo ≡ [] → ReachedAreMarked ss marks
 marking_end ss marks todo i e = record { length_is = i.length_is; reached = i.reached; marked = walk_marked }
   where
     walk_marked : (w : List Symbol) (k : ℕ) → Walks ss w k → IsMarked marks k

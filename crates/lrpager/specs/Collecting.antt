@@ -13,7 +13,7 @@ pub data Walks (ss : List Draft) : List Symbol → ℕ → Type 0 where
       → Walks ss (w ++ x ∷ []) u
 
 -- a state is marked exactly where it is reached
-pub record AreMarked (ss : List Draft) (marks : List Bool) : Type 0 where
+pub record ReachedAreMarked (ss : List Draft) (marks : List Bool) : Type 0 where
   pub length_is : length marks ≡ length ss
   pub reached : (k : ℕ) → IsTrue (slice_index_or marks k false) → (w : List Symbol) × Walks ss w k
   pub marked : (w : List Symbol) (k : ℕ) → Walks ss w k → IsTrue (slice_index_or marks k false)

@@ -29,7 +29,7 @@ use lrgrammar::grammar::YaccGrammar;
 use lrgrammar::idx::IndexStorage;
 use lrgraphs::{BuildError, StateGraph};
 use lritems::cores::Core;
-use lritems::gotos::{Places, gotos};
+use lritems::gotos::{PlacesBySymbol, gotos};
 use lritems::merging::first_item;
 use lrplacing::candidates::Candidates;
 use lrplacing::draft::Draft;
@@ -42,7 +42,7 @@ struct Tools {
     /// It keeps the rows of the last closing.
     closer: Closer,
     /// Places for the gotos of one state.
-    places: Places,
+    places: PlacesBySymbol,
 }
 
 impl Tools {
@@ -56,7 +56,7 @@ impl Tools {
     {
         Ok(Tools {
             closer: Closer::new(grm, firsts)?,
-            places: Places::new(grm)?,
+            places: PlacesBySymbol::new(grm)?,
         })
     }
 }

@@ -12,7 +12,7 @@ use Rattle.lrspec.specs.grammars.ItemSets.{Items, HasItem}
 use Rattle.lrspec.specs.merging.WeakCompatibility.{SameItems, Apart, Clash, IsUnion}
 use Rattle.lrclosing.proofs.ItemKeys.{same_or_apart}
 use Rattle.lrplacing.specs.Construction.{Draft, draft_core, core_at}
-use Rattle.lrplacing.specs.CandidatesOf.{Lists, listed_at, IsFirstItem, AreCandidates}
+use Rattle.lrplacing.specs.CandidatesOf.{StatesByItem, listed_at, IsFirstItem, AreCandidates}
 use Rattle.lrgrammar.specs.declared.idx.PIdx.{PIdx}
 use Rattle.lrgrammar.specs.declared.idx.SIdx.{SIdx}
 use Rattle.lritems.specs.LeastItem.{least_item}
@@ -40,7 +40,7 @@ first_found number a o k l e = sym l ∙ ap (option_map (λ k. (number k.0.0, nu
 
 -- what holds of the list at the first item that was found holds of it at each item that is the first
 pub at_each_first :
-    {T : Type 0} (number : T → ℕ) (P : List ℕ → Type 0) (cs : Lists) (goto : Items) (ks : List ℕ) (o : Option (PIdx T × SIdx T)) (k : PIdx T × SIdx T)
+    {T : Type 0} (number : T → ℕ) (P : List ℕ → Type 0) (cs : StatesByItem) (goto : Items) (ks : List ℕ) (o : Option (PIdx T × SIdx T)) (k : PIdx T × SIdx T)
     → option_map (λ k. (number k.0.0, number k.1.0)) o ≡ least_item goto → o ≡ Some k → ks ≡ listed_at cs (number k.0.0) (number k.1.0) → P ks
     → (p d : ℕ) → IsFirstItem goto p d → P (listed_at cs p d)
 at_each_first number P cs goto ks o k l e s h p d i =
@@ -48,12 +48,12 @@ at_each_first number P cs goto ks o k l e s h p d i =
     rw (u.0, u.1, ← s) h
 
 -- all that are listed are states
-pub all_below : {ss : List Draft} {cs : Lists} (ks : List ℕ) (p d : ℕ) → AreCandidates ss cs → ks ≡ listed_at cs p d → All (λ k. k < length ss) ks
+pub all_below : {ss : List Draft} {cs : StatesByItem} (ks : List ℕ) (p d : ℕ) → AreCandidates ss cs → ks ≡ listed_at cs p d → All (λ k. k < length ss) ks
 all_below {ss} {cs} ks p d c e = rw e (λ k x l. c.below p d _ (All-contains_itself (listed_at cs p d) k x l))
 
 -- where what is listed at a goto's first item clashes with it, every state with its items does
 pub all_clash :
-    {ss : List Draft} {cs : Lists} {goto : Items} (ks : List ℕ) (p d : ℕ) → AreCandidates ss cs → IsFirstItem goto p d → ks ≡ listed_at cs p d
+    {ss : List Draft} {cs : StatesByItem} {goto : Items} (ks : List ℕ) (p d : ℕ) → AreCandidates ss cs → IsFirstItem goto p d → ks ≡ listed_at cs p d
     → All (λ k. SameItems (core_at ss k) goto → Clash (core_at ss k) goto) ks
     → (j : ℕ) → j < length ss → SameItems (core_at ss j) goto → Clash (core_at ss j) goto
 all_clash {ss} {cs} {goto} ks p d c f e all j l s =
@@ -81,7 +81,7 @@ others_core old new others j b = ap draft_core (others j (λ e. omega arith))
 
 -- states that keep their items keep their places in the lists
 pub candidates_kept :
-    {old new : List Draft} {cs : Lists} → length new ≡ length old → ((j : ℕ) → j < length old → SameItems (core_at old j) (core_at new j))
+    {old new : List Draft} {cs : StatesByItem} → length new ≡ length old → ((j : ℕ) → j < length old → SameItems (core_at old j) (core_at new j))
     → AreCandidates old cs → AreCandidates new cs
 candidates_kept {old} {new} l s c = record {
   below = λ p d k h. rw l (c.below p d k h);
@@ -107,7 +107,7 @@ the_one n = (0, omega arith, refl)
 
 -- a state that was made is added at its first item
 module _
-    (old new : List Draft) (cs ds : Lists) (goto : Items) (p d : ℕ) (longer : length new ≡ length old + 1)
+    (old new : List Draft) (cs ds : StatesByItem) (goto : Items) (p d : ℕ) (longer : length new ≡ length old + 1)
     (others : (j : ℕ) → j < length old → core_at new j ≡ core_at old j) (core : core_at new (length old) ≡ goto) (first : IsFirstItem goto p d)
     (here : listed_at ds p d ≡ listed_at cs p d ++ length old ∷ []) (there : (q e : ℕ) → Apart p d q e → listed_at ds q e ≡ listed_at cs q e)
     (c : AreCandidates old cs)

@@ -8,7 +8,7 @@ use Rattle.lrspec.specs.merging.WeakCompatibility.{SameItems}
 use Rattle.lrspec.specs.merging.Chains.{IsChain, IsKeptApart}
 use Rattle.lrspec.proofs.grammars.Closures.{contained_itself, contained_then}
 use Rattle.lrspec.proofs.merging.ChainFacts.{kept_apart_by_clash, chain_longer}
-use Rattle.lrplacing.specs.Construction.{Draft, core_at, Makes, Places}
+use Rattle.lrplacing.specs.Construction.{Draft, core_at, Makes, PlacesOne}
 use Rattle.lrplacing.specs.Invariant.{MayBePlaced, HasChain, Holds}
 use Rattle.lrplacing.proofs.CoreGrowth.{GrowsInto, placed_core}
 
@@ -46,7 +46,7 @@ chain_stays old new l grows c = record {
 
 module _
     (g : Grammar) (old new : List Draft) (from k : ℕ) (x : Symbol) (goto : Items)
-    (holds : Holds g old) (may : MayBePlaced g old from x goto) (m : Places old from x goto k new)
+    (holds : Holds g old) (may : MayBePlaced g old from x goto) (m : PlacesOne old from x goto k new)
   where
     -- each item set of the chain with the items of the goto is kept apart from it, where the goto made a state
     apart_from_goto :

@@ -5,7 +5,7 @@ use Rattle.std.proofs.lemmas.Bool.{cases_eq, false≢true}
 use Rattle.lrspec.specs.grammars.Grammar.{Symbol}
 use Rattle.lrspec.specs.grammars.ItemSets.{Items, LooksIn}
 use Rattle.lrspec.specs.merging.Graph.{same_symbol}
-use Rattle.lrplacing.specs.Construction.{Draft, draft_closed, core_at, closed_at, edge_from, with_closed, closed_unless, TellsGrowth, Stays, Gains, Grows, Places}
+use Rattle.lrplacing.specs.Construction.{Draft, draft_closed, core_at, closed_at, edge_from, with_closed, closed_unless, TellsGrowth, Stays, Gains, Grows, PlacesOne}
 
 pub length_with : (ss : List Draft) (i : ℕ) → length (with_closed ss i) ≡ length ss
 length_with [] i = refl
@@ -73,7 +73,7 @@ grows_by l m e f closed g = record {
 }
 
 module _
-    {old new : List Draft} {from : ℕ} {x : Symbol} {goto : Items} {k : ℕ} (p : Places old from x goto k new) (below : from < length old)
+    {old new : List Draft} {from : ℕ} {x : Symbol} {goto : Items} {k : ℕ} (p : PlacesOne old from x goto k new) (below : from < length old)
     (unclosed : closed_at old from ≡ false)
   where
     longer : from < length new
@@ -106,7 +106,7 @@ module _
     }
 
     -- a goto that was placed elsewhere
-    at_other : k ≢ from → Places (with_closed old from) from x goto k (with_closed new from)
+    at_other : k ≢ from → PlacesOne (with_closed old from) from x goto k (with_closed new from)
     at_other n = record {
       taken = rw (length_with new from) p.taken;
       edges = edges_kept;
@@ -125,7 +125,7 @@ module _
 
     module _ {grew : Bool} (how_grown : k < length old → TellsGrowth grew (core_at old k) (core_at new k)) where
       -- a goto that did not grow the state
-      here_same : k ≡ from → grew ≡ false → Places (with_closed old from) from x goto k (with_closed new from)
+      here_same : k ≡ from → grew ≡ false → PlacesOne (with_closed old from) from x goto k (with_closed new from)
       here_same e f = record {
         taken = rw (length_with new from) p.taken;
         edges = edges_kept;
@@ -137,7 +137,7 @@ module _
       }
 
       -- a goto that grew it
-      here_grown : k ≡ from → grew ≡ true → Places (with_closed old from) from x goto k new
+      here_grown : k ≡ from → grew ≡ true → PlacesOne (with_closed old from) from x goto k new
       here_grown e f = record {
         taken = p.taken;
         edges = λ j y. p.edges j y ∙ ap (λ o. if ((j == from) && same_symbol y x) then Some k else o) (sym (edge_with old from j y));
@@ -154,7 +154,7 @@ module _
       -- so a goto was placed among the states of which this one is closed, unless the state has grown
       pub placed_turn :
           (before now : Bool) → IsTrue now ↔ ((k ≡ from) × (grew ≡ true))
-          → Places (closed_unless before old from) from x goto k (closed_unless (before || now) new from)
+          → PlacesOne (closed_unless before old from) from x goto k (closed_unless (before || now) new from)
       placed_turn true now h = p
       placed_turn false true h = here_grown (h.0 refl).0 (h.0 refl).1
       placed_turn false false h =
@@ -163,6 +163,6 @@ module _
             | inr m ↦ at_other m
           ]
         where
-          go : (b : Bool) → grew ≡ b → k ≡ from → Places (with_closed old from) from x goto k (with_closed new from)
+          go : (b : Bool) → grew ≡ b → k ≡ from → PlacesOne (with_closed old from) from x goto k (with_closed new from)
           go true f e = absurd (false≢true (h.1 (e, f)))
           go false f e = here_same e f

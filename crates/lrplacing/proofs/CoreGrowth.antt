@@ -6,7 +6,7 @@ use Rattle.lrspec.specs.grammars.ItemSets.{Items, LooksIn, IsContained}
 use Rattle.lrspec.specs.merging.WeakCompatibility.{SameItems, IsUnion}
 use Rattle.lrspec.proofs.grammars.Closures.{contained_itself}
 use Rattle.lritems.specs.ItemsOf.{Agree}
-use Rattle.lrplacing.specs.Construction.{Draft, core_at, closed_at, TellsGrowth, Places}
+use Rattle.lrplacing.specs.Construction.{Draft, core_at, closed_at, TellsGrowth, PlacesOne}
 
 -- one core grew into another: it keeps its items, and looks at least where it looked
 pub record GrowsInto (a b : Items) : Type 0 where
@@ -26,7 +26,7 @@ into_union u = record {
   contained = record { items = λ p d. (u.items p d).1; looks = λ p d t l. (u.looks p d t).1 (inl l) };
 }
 
-module _ (old new : List Draft) (from k : ℕ) (x : Symbol) (goto : Items) (m : Places old from x goto k new) where
+module _ (old new : List Draft) (from k : ℕ) (x : Symbol) (goto : Items) (m : PlacesOne old from x goto k new) where
   -- there are as many states as there were, or one more
   pub placed_length : (length old ≤ length new) × (length new ≤ length old + 1)
   placed_length = elim m.how [ inl h ↦ (omega (arith, h.length_is), omega (arith, h.length_is)) | inr h ↦ (omega (arith, h.length_is), omega (arith, h.length_is)) ]

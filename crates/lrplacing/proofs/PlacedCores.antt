@@ -6,7 +6,7 @@ use Rattle.lrspec.specs.grammars.Grammar.{Symbol}
 use Rattle.lrspec.specs.grammars.ItemSets.{Items, LooksIn, IsContained}
 use Rattle.lrspec.specs.merging.Graph.{same_symbol}
 use Rattle.lrspec.specs.merging.WeakCompatibility.{SameItems, Cross}
-use Rattle.lrplacing.specs.Construction.{Draft, core_at, closed_at, edge_from, Makes, Places}
+use Rattle.lrplacing.specs.Construction.{Draft, core_at, closed_at, edge_from, Makes, PlacesOne}
 use Rattle.lrplacing.specs.Invariant.{AllCross}
 use Rattle.lrplacing.proofs.DraftFacts.{closed_below, same_symbol_itself, symbol_equal}
 use Rattle.lrplacing.proofs.GrowingItemSets.{same_itself, same_back, same_then, contained_equal, union_contains, union_contains_second, cross_grown}
@@ -18,7 +18,7 @@ edge_test true true k u o e = inl (refl, refl, cc)
 edge_test true false k u o e = inr e
 edge_test false b k u o e = inr e
 
-module _ {old new : List Draft} {from : ℕ} {x : Symbol} {goto : Items} {k : ℕ} (m : Places old from x goto k new) where
+module _ {old new : List Draft} {from : ℕ} {x : Symbol} {goto : Items} {k : ℕ} (m : PlacesOne old from x goto k new) where
   -- a core only grows
   pub core_grown : (j : ℕ) → j < length old → IsContained (core_at old j) (core_at new j)
   core_grown j lt =

@@ -3,7 +3,7 @@ use Rattle.std.proofs.Common.{◌≡◌, ◌≢◌, ℕ, suc, ◌+◌, ◌<◌, 
 use Rattle.std.proofs.lemmas.Bool.{cases_eq}
 use Rattle.lrspec.specs.grammars.Grammar.{Symbol}
 use Rattle.lrspec.specs.grammars.ItemSets.{Items, LooksIn}
-use Rattle.lrplacing.specs.Construction.{Draft, core_at, closed_at, Gains, Grows, Places, PlacesAll}
+use Rattle.lrplacing.specs.Construction.{Draft, core_at, closed_at, Gains, Grows, PlacesOne, PlacesAll}
 use Rattle.lrplacing.specs.Construction as step
 use Rattle.lrplacing.specs.Counts.{unclosed}
 use Rattle.lrplacing.proofs.CoreGrowth.{placed_length, placed_last}
@@ -35,7 +35,7 @@ makes (s ∷ ss) (t ∷ ts) l h n =
       makes ss ts (omega arith) (λ j b. h (suc j) (omega arith)) (λ j m b. n (suc j) (omega arith) (omega arith)),
     )
 
-module _ (old new : List Draft) (from k : ℕ) (x : Symbol) (goto : Items) (m : Places old from x goto k new) where
+module _ (old new : List Draft) (from k : ℕ) (x : Symbol) (goto : Items) (m : PlacesOne old from x goto k new) where
   each_open : (j : ℕ) → j < length old → open_count (closed_at old j) ≤ open_count (closed_at new j)
   each_open j b =
       ⊎_elim

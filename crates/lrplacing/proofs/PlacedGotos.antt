@@ -9,7 +9,7 @@ use Rattle.lrspec.specs.merging.Graph.{same_symbol}
 use Rattle.lrspec.proofs.grammars.Closures.{closed_item_mono, closed_look_mono, moved_mono}
 use Rattle.lrspec.proofs.merging.RootedCores.{followed}
 use Rattle.lrspec.proofs.merging.SharingKept.{goto_shared}
-use Rattle.lrplacing.specs.Construction.{Draft, core_at, edge_from, draft_core, Places}
+use Rattle.lrplacing.specs.Construction.{Draft, core_at, edge_from, draft_core, PlacesOne}
 use Rattle.lrplacing.specs.Invariant.{MayBePlaced, Holds, LeadsOver, HasGotos}
 use Rattle.lrplacing.proofs.DraftFacts.{none_past, symbol_equal}
 use Rattle.lrplacing.proofs.PlacedCores.{core_grown, goto_contained, edge_placed, closed_before, closed_grew_not}
@@ -54,7 +54,7 @@ pub leads_over_from :
     → LeadsOver g ss k x
 leads_over_from f h = record { to = h.to; is = h.is; looks = λ p d t m. h.looks p d t (moved_mono (λ q e l. f q e t l) m) }
 
-module _ {old new : List Draft} {from : ℕ} {x : Symbol} {goto : Items} {k : ℕ} (m : Places old from x goto k new) where
+module _ {old new : List Draft} {from : ℕ} {x : Symbol} {goto : Items} {k : ℕ} (m : PlacesOne old from x goto k new) where
   -- whatever its number a core looks where it looked
   core_looks_kept : (j p d t : ℕ) → LooksIn (core_at old j) p d t → LooksIn (core_at new j) p d t
   core_looks_kept j p d t l =

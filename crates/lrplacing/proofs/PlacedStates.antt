@@ -6,7 +6,7 @@ use Rattle.lrspec.specs.grammars.ItemSets.{Items, Fits}
 use Rattle.lrspec.specs.grammars.StartState.{IsStartCore}
 use Rattle.lrspec.specs.merging.WeakCompatibility.{SameItems}
 use Rattle.lrspec.proofs.merging.SharingKept.{union_shared}
-use Rattle.lrplacing.specs.Construction.{Draft, core_at, edge_from, Grows, Places}
+use Rattle.lrplacing.specs.Construction.{Draft, core_at, edge_from, Grows, PlacesOne}
 use Rattle.lrplacing.specs.Invariant.{HasSharing, HasItemsOfGoto, MayBePlaced, LeadsToItems, HasChain, Holds}
 use Rattle.lrplacing.proofs.GrowingItemSets.{same_itself, moved_same, moved_above_zero}
 use Rattle.lrplacing.proofs.DraftFacts.{edge_below}
@@ -26,7 +26,7 @@ no_start_core {g} ss j y a b start s h =
     let item = (s g.start_production 0).0 ((start.item g.start_production 0).1 (refl, refl)) in
     moved_above_zero ((h g.start_production 0).0 item) refl
 
-module _ {g : Grammar} {old new : List Draft} {from : ℕ} {x : Symbol} {goto : Items} {k : ℕ} (m : Places old from x goto k new) where
+module _ {g : Grammar} {old new : List Draft} {from : ℕ} {x : Symbol} {goto : Items} {k : ℕ} (m : PlacesOne old from x goto k new) where
   -- the start state is the start state still
   pub start_kept : 0 < length old → IsStartCore g (core_at old 0) → MayBePlaced g old from x goto → IsStartCore g (core_at new 0)
   start_kept some start goes =

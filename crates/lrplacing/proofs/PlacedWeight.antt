@@ -4,7 +4,7 @@ use Rattle.std.proofs.lemmas.Bool.{cases_eq}
 use Rattle.lrspec.specs.grammars.Grammar.{Symbol, Grammar}
 use Rattle.lrspec.specs.grammars.ItemSets.{Items, LooksIn, Fits}
 use Rattle.lrspec.proofs.grammars.ListMembers.{Among}
-use Rattle.lrplacing.specs.Construction.{Draft, core_at, closed_at, Gains, Grows, Places, PlacesAll}
+use Rattle.lrplacing.specs.Construction.{Draft, core_at, closed_at, Gains, Grows, PlacesOne, PlacesAll}
 use Rattle.lrplacing.specs.Construction as step
 use Rattle.lrplacing.specs.Counts.{unclosed, looks_count, weight}
 use Rattle.lrplacing.proofs.CoreGrowth.{placed_length}
@@ -30,7 +30,7 @@ weighs g (s ∷ ss) (t ∷ ts) l h =
       weighs g ss ts (omega arith) (λ j b. h (suc j) (omega arith)),
     )
 
-module _ (g : Grammar) (old new : List Draft) (from k : ℕ) (x : Symbol) (goto : Items) (m : Places old from x goto k new) where
+module _ (g : Grammar) (old new : List Draft) (from k : ℕ) (x : Symbol) (goto : Items) (m : PlacesOne old from x goto k new) where
   -- where the goto grew a core, it gained a token of the grammar at an item of the grammar
   gains_weight : Fits g goto → Grows old new k goto → Gains (core_at old k) (core_at new k) → looks_count g (core_at old k) < looks_count g (core_at new k)
   gains_weight fits h n =

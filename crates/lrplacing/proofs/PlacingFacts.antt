@@ -7,7 +7,7 @@ use Rattle.lrspec.specs.grammars.ItemSets.{Items, LooksIn, Fits}
 use Rattle.lrspec.specs.merging.WeakCompatibility.{SameItems, IsWeaklyCompatible, Clash, IsUnion}
 use Rattle.lrspec.specs.merging.Graph.{same_symbol, edge_at}
 use Rattle.lritems.specs.ItemsOf.{Agree}
-use Rattle.lrplacing.specs.Construction.{Draft, draft_core, draft_closed, draft_edges, core_at, closed_at, edge_from, Stays, Gains, Grows, Makes, Places}
+use Rattle.lrplacing.specs.Construction.{Draft, draft_core, draft_closed, draft_edges, core_at, closed_at, edge_from, Stays, Gains, Grows, Makes, PlacesOne}
 use Rattle.lrplacing.proofs.DraftFacts.{none_past}
 
 -- the goto was put at the state `k`, and the edge is still to be set
@@ -37,7 +37,7 @@ pub put_places :
     {old mid new : List Draft} (from : ℕ) (x : Symbol) {goto : Items} (k : ℕ) → IsPut old mid goto k → length new ≡ length mid
     → ((j : ℕ) → Stays mid new j)
     → ((j : ℕ) (y : Symbol) → edge_from new j y ≡ if ((j == from) && same_symbol y x) then Some k else edge_from mid j y)
-    → Places old from x goto k new
+    → PlacesOne old from x goto k new
 put_places from x k p l s e = record {
   taken = rw l p.taken;
   edges = λ j y. e j y ∙ ap (λ o. if ((j == from) && same_symbol y x) then Some k else o) (p.edges j y);

@@ -6,7 +6,7 @@ use Rattle.lrspec.specs.grammars.Grammar.{Symbol, Grammar, token_count}
 use Rattle.lrspec.specs.grammars.ItemSets.{Items, HasItem, Fits}
 use Rattle.lrspec.proofs.grammars.ListMembers.{Among}
 use Rattle.lrspec.specs.merging.Graph.{same_symbol}
-use Rattle.lrplacing.specs.Construction.{Draft, core_at, edge_from, Grows, Places}
+use Rattle.lrplacing.specs.Construction.{Draft, core_at, edge_from, Grows, PlacesOne}
 use Rattle.lrplacing.specs.Invariant.{MayBePlaced, AllMayBePlaced, Holds}
 use Rattle.lrgraphs.specs.declared.errors.BuildError.{BuildError}
 use Rattle.lrgraphs.specs.declared.errors.BuildError.TheVariants.{Table, TooLarge, Memory}
@@ -32,7 +32,7 @@ bits_of_goto {g} holds m k b = (token_count g, λ p d v e. (holds.fits k b p d v
 -- wherever a goto of the state `from` is placed, the core that took it in fits the grammar
 abbrev pub LeavesFit : Grammar → ℕ → Type 0
 LeavesFit g from =
-    (ss ts : List Draft) (x : Symbol) (a : Items) (k : ℕ) → Holds g ss → MayBePlaced g ss from x a → Places ss from x a k ts → Fits g (core_at ts k)
+    (ss ts : List Draft) (x : Symbol) (a : Items) (k : ℕ) → Holds g ss → MayBePlaced g ss from x a → PlacesOne ss from x a k ts → Fits g (core_at ts k)
 
 -- which it does where growing cores go on to fit
 pub leaves_fit :
@@ -46,21 +46,21 @@ leaves_fit from grown ss ts x a k h goes m =
 
 -- the invariant holds on
 pub held_on :
-    {g : Grammar} {old new : List Draft} {from : ℕ} {x : Symbol} {a : Items} {k : ℕ} → Places old from x a k new → Holds g old → from < length old
+    {g : Grammar} {old new : List Draft} {from : ℕ} {x : Symbol} {a : Items} {k : ℕ} → PlacesOne old from x a k new → Holds g old → from < length old
     → MayBePlaced g old from x a → Holds g new
 held_on {g} {old} {new} {from} {x} {a} {k} m holds b may =
     places_holds m holds b may (leaves_fit from (λ ss ts j c w f. w.fits_kept g f) old new x a k holds may m) (places_chain g old new from k x a holds may m)
 
 -- and the other gotos may still be placed
 pub still_may_be_placed :
-    (g : Grammar) {old new : List Draft} {from : ℕ} {x : Symbol} {a : Items} {k : ℕ} → Places old from x a k new → from < length old
+    (g : Grammar) {old new : List Draft} {from : ℕ} {x : Symbol} {a : Items} {k : ℕ} → PlacesOne old from x a k new → from < length old
     → (gs : List (Symbol × Items)) → AllMayBePlaced g old from gs → AllMayBePlaced g new from gs
 still_may_be_placed g m b [] h = tt
 still_may_be_placed g m b (e ∷ es) h = (may_be_placed_kept m b h.0, still_may_be_placed g m b es h.1)
 
 -- as the other gotos are on other symbols, from the state there is no edge on theirs still
 pub still_free :
-    {old new : List Draft} {from : ℕ} {x : Symbol} {a : Items} {k : ℕ} → Places old from x a k new → (gs : List (Symbol × Items))
+    {old new : List Draft} {from : ℕ} {x : Symbol} {a : Items} {k : ℕ} → PlacesOne old from x a k new → (gs : List (Symbol × Items))
     → (HasGotoOn gs x → ⊥) → ((y : Symbol) → HasGotoOn gs y → edge_from old from y ≡ None) → (y : Symbol) → HasGotoOn gs y
     → edge_from new from y ≡ None
 still_free {from = from} {x = x} m gs other free y i =

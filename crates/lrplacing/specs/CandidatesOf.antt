@@ -11,19 +11,20 @@ use Rattle.lrplacing.specs.Construction.{Draft, core_at}
 use Rattle.lritems.specs.LeastItem.{least_item}
 
 -- numbers of states, by the first item of their cores
-abbrev pub Lists : Type 0
-Lists = List ((ℕ × ℕ) × List ℕ)
+abbrev pub StatesByItem : Type 0
+StatesByItem = List ((ℕ × ℕ) × List ℕ)
 
 -- stored lists by numbers
-abbrev pub lists_of : {T : Type 0} → (T → ℕ) → List ((PIdx T × SIdx T) × Vec ℕ Global) → Lists
-lists_of number es = map (λ e. ((number e.0.0.0, number e.0.1.0), e.1.items)) es
+abbrev pub states_by_item :
+    {T : Type 0} → (T → ℕ) → List ((PIdx T × SIdx T) × Vec ℕ Global) → StatesByItem
+states_by_item number es = map (λ e. ((number e.0.0.0, number e.0.1.0), e.1.items)) es
 
 abbrev pub list_or_empty : Option (List ℕ) → List ℕ
 list_or_empty None = []
 list_or_empty (Some ks) = ks
 
 -- the states listed at an item
-abbrev pub listed_at : Lists → ℕ → ℕ → List ℕ
+abbrev pub listed_at : StatesByItem → ℕ → ℕ → List ℕ
 listed_at cs p d = list_or_empty (item_at cs p d)
 
 -- the item is the first one of the item set
@@ -32,7 +33,7 @@ IsFirstItem a p d = least_item a ≡ Some (p, d)
 
 -- the lists have each state, at the first item of its core, and nothing but states, in order of
 -- making
-pub record AreCandidates (ss : List Draft) (cs : Lists) : Type 0 where
+pub record AreCandidates (ss : List Draft) (cs : StatesByItem) : Type 0 where
   pub below : (p d k : ℕ) → Contains (listed_at cs p d) k → k < length ss
   pub listed :
       (k p d : ℕ) → k < length ss → IsFirstItem (core_at ss k) p d

@@ -90,7 +90,7 @@ pub record Makes (old new : List Draft) (k : ℕ) (goto : Items) : Type 0 where
       → Clash (core_at old j) goto
 
 -- the goto on `x` of the state `from` was placed at the state `k`, to which the edge on `x` now leads
-pub record Places (old : List Draft) (from : ℕ) (x : Symbol) (goto : Items) (k : ℕ)
+pub record PlacesOne (old : List Draft) (from : ℕ) (x : Symbol) (goto : Items) (k : ℕ)
     (new : List Draft) : Type 0 where
   pub taken : k < length new
   pub edges :
@@ -104,4 +104,4 @@ pub data PlacesAll (from : ℕ) : List Draft → List (Symbol × Items) → List
   none : {ss : List Draft} → PlacesAll from ss [] ss
   more :
       {ss ts us : List Draft} {x : Symbol} {a : Items} {gs : List (Symbol × Items)} (k : ℕ)
-      → Places ss from x a k ts → PlacesAll from ts gs us → PlacesAll from ss ((x, a) ∷ gs) us
+      → PlacesOne ss from x a k ts → PlacesAll from ts gs us → PlacesAll from ss ((x, a) ∷ gs) us

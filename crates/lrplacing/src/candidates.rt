@@ -19,9 +19,9 @@ pub struct Candidates<T: IndexStorage> {
 impl<T: IndexStorage> Model for Candidates<T> {
     ghost use Rattle.lrplacing.specs.CandidatesOf as plain;
 
-    ghost Value = { plain.Lists };
+    ghost Value = { plain.StatesByItem };
 
-    ghost view = { λ c. plain.lists_of T.number c.lists.entries };
+    ghost view = { λ c. plain.states_by_item T.number c.lists.entries };
 }
 
 impl<T: IndexStorage> Candidates<T> {

@@ -8,13 +8,13 @@ ghost use Rattle.lrspec.specs.grammars.ItemSets.{HasItem, Fits, AreUpwards};
 ghost use Rattle.lrspec.specs.merging.WeakCompatibility.{SameItems, IsWeaklyCompatible, Clash, IsUnion};
 ghost use Rattle.lrspec.specs.merging.Graph.{same_symbol};
 ghost use Rattle.lrgrammar.specs.Symbols.{symbol_of};
-ghost use Rattle.lrplacing.specs.Construction.{core_at, closed_at, edge_from, with_closed, closed_unless, TellsGrowth, Stays, IsUnclosedIfGrown, Places, PlacesAll};
+ghost use Rattle.lrplacing.specs.Construction.{core_at, closed_at, edge_from, with_closed, closed_unless, TellsGrowth, Stays, IsUnclosedIfGrown, PlacesOne, PlacesAll};
 ghost use Rattle.lrplacing.specs.Invariant.{MayBePlaced, AllMayBePlaced, Holds};
 ghost use Rattle.lrspec.specs.merging.Chains.{HasChainOf};
 ghost use Rattle.lrplacing.specs.CandidatesOf.{AreCandidates, IsFirstItem, listed_at};
 ghost use Rattle.lrplacing.specs.ChosenPlaces.{HoldsOfNone, IsFirstWith, IsEqual, IsCompatible, IsPlaceOf};
 ghost use Rattle.lrplacing.specs.Refusals.{IsLargeOnly};
-ghost use Rattle.lritems.specs.Gotos.{goto_of, gotos_of, AllUpwards, AreOnDistinctSymbols};
+ghost use Rattle.lritems.specs.Gotos.{items_in, gotos_of, AllUpwards, AreOnDistinctSymbols};
 ghost use Rattle.lritems.specs.Merging.{HaveEquallyManyBits};
 
 use crate::candidates::Candidates;
@@ -34,10 +34,10 @@ fn find_equal<T: IndexStorage>(
     goto: &Goto<T>,
 ) -> Option<usize>
     requires below { All (λ k. k < length drafts.now) candidates.now }
-    requires upwards { AreUpwards (goto_of T.number goto.now) }
+    requires upwards { AreUpwards (items_in T.number goto.now) }
     ensures { MatchOption result
-        (HoldsOfNone (IsEqual drafts.now (goto_of T.number goto.now)) candidates.now)
-        (IsFirstWith (IsEqual drafts.now (goto_of T.number goto.now)) candidates.now) }
+        (HoldsOfNone (IsEqual drafts.now (items_in T.number goto.now)) candidates.now)
+        (IsFirstWith (IsEqual drafts.now (items_in T.number goto.now)) candidates.now) }
 {
     for k in candidates {
         if goto.is_equal(drafts[*k].core()) {
@@ -55,16 +55,16 @@ fn find_compatible<T: IndexStorage>(
 ) -> Option<usize>
     requires below { All (λ k. k < length drafts.now) candidates.now }
     requires bits { (k : ℕ) → k < length drafts.now
-        → HaveEquallyManyBits (core_at drafts.now k) (goto_of T.number goto.now) }
-    requires upwards { AreUpwards (goto_of T.number goto.now) }
+        → HaveEquallyManyBits (core_at drafts.now k) (items_in T.number goto.now) }
+    requires upwards { AreUpwards (items_in T.number goto.now) }
     ensures compatible { MatchOption result
-        (All (λ k. SameItems (core_at drafts.now k) (goto_of T.number goto.now)
-        → Clash (core_at drafts.now k) (goto_of T.number goto.now)) candidates.now)
+        (All (λ k. SameItems (core_at drafts.now k) (items_in T.number goto.now)
+        → Clash (core_at drafts.now k) (items_in T.number goto.now)) candidates.now)
         (λ k. (k < length drafts.now)
-        × IsWeaklyCompatible (core_at drafts.now k) (goto_of T.number goto.now)) }
+        × IsWeaklyCompatible (core_at drafts.now k) (items_in T.number goto.now)) }
     ensures first { MatchOption result
-        (HoldsOfNone (IsCompatible drafts.now (goto_of T.number goto.now)) candidates.now)
-        (IsFirstWith (IsCompatible drafts.now (goto_of T.number goto.now)) candidates.now) }
+        (HoldsOfNone (IsCompatible drafts.now (items_in T.number goto.now)) candidates.now)
+        (IsFirstWith (IsCompatible drafts.now (items_in T.number goto.now)) candidates.now) }
 {
     for k in candidates {
         if weakly_compatible(drafts[*k].core(), goto) {
@@ -95,14 +95,14 @@ fn link<T: IndexStorage>(
 /// Merges the goto into the core of the state `k`, and says whether that grew it.
 fn merge_at<T: IndexStorage>(drafts: &mut Vec<Draft<T>>, k: usize, goto: &Goto<T>) -> bool
     requires below { k < length drafts.old.items }
-    requires items { SameItems (core_at drafts.old.items k) (goto_of T.number goto.now) }
-    requires bits { HaveEquallyManyBits (core_at drafts.old.items k) (goto_of T.number goto.now) }
-    requires upwards { AreUpwards (goto_of T.number goto.now) }
+    requires items { SameItems (core_at drafts.old.items k) (items_in T.number goto.now) }
+    requires bits { HaveEquallyManyBits (core_at drafts.old.items k) (items_in T.number goto.now) }
+    requires upwards { AreUpwards (items_in T.number goto.now) }
     ensures len { length drafts.new.items ≡ length drafts.old.items }
     ensures others { (j : ℕ) → j ≢ k → slice_get drafts.new.items j ≡ slice_get drafts.old.items j }
     ensures edges { (y : math.Symbol)
         → edge_from drafts.new.items k y ≡ edge_from drafts.old.items k y }
-    ensures union { IsUnion (core_at drafts.old.items k) (goto_of T.number goto.now)
+    ensures union { IsUnion (core_at drafts.old.items k) (items_in T.number goto.now)
         (core_at drafts.new.items k) }
     ensures fits { (g : Grammar) → Fits g (core_at drafts.old.items k)
         → Fits g (core_at drafts.new.items k) }
@@ -170,17 +170,17 @@ fn place<T: IndexStorage>(
     requires from { from < length drafts.old.items }
     requires most { length drafts.old.items ≤ T.MAX }
     requires free { edge_from drafts.old.items from (symbol_of T.number symbol) ≡ None }
-    requires some { (p : ℕ) × (d : ℕ) × HasItem (goto_of T.number goto.now) p d }
-    requires upwards { AreUpwards (goto_of T.number goto.now) }
+    requires some { (p : ℕ) × (d : ℕ) × HasItem (items_in T.number goto.now) p d }
+    requires upwards { AreUpwards (items_in T.number goto.now) }
     requires bits { (k : ℕ) → k < length drafts.old.items
-        → HaveEquallyManyBits (core_at drafts.old.items k) (goto_of T.number goto.now) }
+        → HaveEquallyManyBits (core_at drafts.old.items k) (items_in T.number goto.now) }
     requires candidates { AreCandidates drafts.old.items candidates.old }
-    ensures placed { IfOk result (λ r. Places drafts.old.items from (symbol_of T.number symbol)
-        (goto_of T.number goto.now) r.state drafts.new.items) }
+    ensures placed { IfOk result (λ r. PlacesOne drafts.old.items from (symbol_of T.number symbol)
+        (items_in T.number goto.now) r.state drafts.new.items) }
     ensures grew { IfOk result (λ r. r.state < length drafts.old.items → TellsGrowth r.grew
         (core_at drafts.old.items r.state) (core_at drafts.new.items r.state)) }
-    ensures choice { IfOk result (λ r. (p d : ℕ) → IsFirstItem (goto_of T.number goto.now) p d
-        → IsPlaceOf drafts.old.items (listed_at candidates.old p d) (goto_of T.number goto.now)
+    ensures choice { IfOk result (λ r. (p d : ℕ) → IsFirstItem (items_in T.number goto.now) p d
+        → IsPlaceOf drafts.old.items (listed_at candidates.old p d) (items_in T.number goto.now)
         (length drafts.old.items) r.state) }
     ensures most { OnOk result (length drafts.new.items ≤ T.MAX) }
     ensures candidates { OnOk result (AreCandidates drafts.new.items candidates.new) }

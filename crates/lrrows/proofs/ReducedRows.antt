@@ -13,7 +13,7 @@ use Rattle.lrgrammar.specs.declared.idx.PIdx.{PIdx}
 use Rattle.lrgrammar.specs.declared.idx.StIdx.{StIdx}
 use Rattle.lrrows.specs.declared.action.Action as stored
 use Rattle.lrrows.specs.declared.action.Action.TheVariants as code
-use Rattle.lrrows.specs.StoredActions.{action_of, NeitherShiftsNorAccepts}
+use Rattle.lrrows.specs.StoredActions.{stored_action, NeitherShiftsNorAccepts}
 use Rattle.lrspec.proofs.grammars.ListMembers.{Among, among_from_contains, contains_from_among, among_front, among_back, among_append}
 
 -- the productions are those by which the actions reduce
@@ -102,7 +102,7 @@ module _ {K : Type 0} (number : K → ℕ) (cmp : K → K → Ordering) (ordered
 
 module _ {T : Type 0} (number : T → ℕ) where
   -- an action of the code that is no reduction says none
-  pub no_reduction : (a : stored.Action T) → ((x : PIdx T) → a ≡ code.Reduce x → ⊥) → (p : ℕ) → action_of number a ≡ Reduce p → ⊥
+  pub no_reduction : (a : stored.Action T) → ((x : PIdx T) → a ≡ code.Reduce x → ⊥) → (p : ℕ) → stored_action number a ≡ Reduce p → ⊥
   no_reduction (code.Shift s) n p e = cc
   no_reduction (code.Reduce x) n p e = n x refl
   no_reduction code.Accept n p e = cc
@@ -111,7 +111,7 @@ module _ {T : Type 0} (number : T → ℕ) where
   -- an action of the code that is neither a shift nor accepting says neither
   pub no_shift :
       (a : stored.Action T) → ((x : StIdx T) → a ≡ code.Shift x → ⊥) → (a ≡ code.Accept → ⊥)
-      → NeitherShiftsNorAccepts (action_of number a)
+      → NeitherShiftsNorAccepts (stored_action number a)
   no_shift (code.Shift s) n m = n s refl
   no_shift (code.Reduce x) n m = tt
   no_shift code.Accept n m = m refl

@@ -5,11 +5,11 @@ use Rattle.lrrows.specs.declared.action.Action as stored
 use Rattle.lrrows.specs.declared.action.Action.TheVariants as code
 
 -- an action of the code, by the numbers of its state or production
-abbrev pub action_of : {T : Type 0} → (T → ℕ) → stored.Action T → Action
-action_of number (code.Shift s) = Shift (number s.0)
-action_of number (code.Reduce p) = Reduce (number p.0)
-action_of number code.Accept = Accept
-action_of number code.Error = Error
+abbrev pub stored_action : {T : Type 0} → (T → ℕ) → stored.Action T → Action
+stored_action number (code.Shift s) = Shift (number s.0)
+stored_action number (code.Reduce p) = Reduce (number p.0)
+stored_action number code.Accept = Accept
+stored_action number code.Error = Error
 
 -- the number by which a cell keeps an action: 0 and 1 for an error and for accepting, from 2 on the
 -- even ones for shifts and the odd ones for reductions

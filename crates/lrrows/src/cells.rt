@@ -6,7 +6,7 @@ ghost use Rattle.lrspec.specs.merging.Graph.{closed_of, IsGraphOf};
 ghost use Rattle.lrspec.specs.tables.Table.{accepts_at, bit_or_none, cell_by, decide};
 ghost use Rattle.lrsparse.specs.Entries.{row_with, AreEntries};
 ghost use Rattle.lrrows.specs.StateRows.{action_row, goto_row, first_of, least_reductions};
-ghost use Rattle.lrrows.specs.StoredActions.{action_of, action_number};
+ghost use Rattle.lrrows.specs.StoredActions.{stored_action, action_number};
 ghost use Rattle.lrrows.specs.StoredLists.{least_of};
 
 use crate::action::Action;
@@ -30,7 +30,7 @@ fn resolved<T: IndexStorage>(
 ) -> Action<T>
     requires token { T.number tidx.0 < math.token_count grm.now }
     requires prod { T.number pidx.0 < length grm.now.productions }
-    ensures { action_of T.number result
+    ensures { stored_action T.number result
         ≡ decide (math.token_precedence grm.now (T.number tidx.0))
         (math.production_precedence grm.now (T.number pidx.0))
         (T.number target.0) (T.number pidx.0) }
@@ -62,7 +62,7 @@ fn cell<T: IndexStorage>(
     requires token { T.number tidx.0 < math.token_count grm.now }
     requires prod { IfSome least (λ p. T.number p.0 < length grm.now.productions) }
     ensures { (ps : List ℕ) → first_of ps ≡ option_map (λ p. T.number p.0) least
-        → action_of T.number result
+        → stored_action T.number result
         ≡ cell_by grm.now (T.number tidx.0) ps (option_map (λ s. T.number s.0) edge) accepts }
 {
     match (least, edge) {

@@ -1,14 +1,14 @@
 //! The numbers by which cells keep actions and gotos.
 
 ghost use Rattle.std.specs.Prelude.{◌≡◌, ◌≤◌, option_map, IfSome};
-ghost use Rattle.lrrows.specs.StoredActions.{action_of, action_number, action_numbered, IsIndexed, goto_number, goto_numbered};
+ghost use Rattle.lrrows.specs.StoredActions.{stored_action, action_number, action_numbered, IsIndexed, goto_number, goto_numbered};
 
 use crate::action::Action;
 use lrgrammar::idx::{IndexStorage, PIdx, StIdx};
 
 /// The number that keeps an action.
 pub(crate) fn number_of_action<T: IndexStorage>(action: Action<T>) -> usize
-    ensures { result ≡ action_number (action_of T.number action) }
+    ensures { result ≡ action_number (stored_action T.number action) }
 {
     match action {
         Action::Error => 0,
@@ -21,7 +21,7 @@ pub(crate) fn number_of_action<T: IndexStorage>(action: Action<T>) -> usize
 /// The action that the number keeps.
 pub fn action_of_number<T: IndexStorage>(number: usize) -> Action<T>
     requires { IsIndexed T.MAX (action_numbered number) }
-    ensures { action_of T.number result ≡ action_numbered number }
+    ensures { stored_action T.number result ≡ action_numbered number }
 {
     if number == 0 {
         return Action::Error;

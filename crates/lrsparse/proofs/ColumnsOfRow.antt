@@ -9,7 +9,7 @@ use Rattle.std.proofs.lemmas.Option.{slice_get_within, get_or_from_slice_get, sl
 use Rattle.lrsparse.specs.declared.sparsevec.places.Entry.{Entry}
 use Rattle.lrsparse.specs.Entries.{columns_in}
 use Rattle.lrsparse.specs.Owned.{IsOwned, MeetsNone}
-use Rattle.lrsparse.specs.Places.{Fits}
+use Rattle.lrsparse.specs.Places.{FitsIn}
 use Rattle.lrsparse.proofs.EntriesOfRow.{column_at, columns_len}
 
 -- of numbers that rise none is above the last
@@ -34,12 +34,12 @@ none_some (Some x) e h = cc
 
 module _ (list : List (Option Entry)) (words : List ℕ) (owned : (p : ℕ) → IsOwned words p ↔ IsSome (slice_index_or list p None)) where
   -- where no column meets an owned place, no entry does, and the other way round
-  pub fits_row : (es : List (ℕ × ℕ)) (d : ℕ) → MeetsNone words (columns_in es) d → Fits list es d
+  pub fits_row : (es : List (ℕ × ℕ)) (d : ℕ) → MeetsNone words (columns_in es) d → FitsIn list es d
   fits_row es d none k x l =
       free_unless_some (slice_index_or list (d + (get_or es k x).0) None)
       (λ s. none k (omega (arith, columns_len es)) (rw (column_at es k x l) ((owned (d + (get_or es k x).0)).1 s)))
 
-  pub row_fits : (es : List (ℕ × ℕ)) (d : ℕ) → Fits list es d → MeetsNone words (columns_in es) d
+  pub row_fits : (es : List (ℕ × ℕ)) (d : ℕ) → FitsIn list es d → MeetsNone words (columns_in es) d
   row_fits es d fits k l o =
       let m : k < length es = omega (arith, columns_len es) in
       let place = d + (get_or es k (0, 0)).0 in

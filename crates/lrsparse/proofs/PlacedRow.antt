@@ -8,7 +8,7 @@ use Rattle.std.proofs.lemmas.List.Kept.{AllPairs-from_increasing}
 use Rattle.lrsparse.specs.declared.sparsevec.places.Entry.{Entry}
 use Rattle.lrsparse.specs.Entries.{columns_in, number_in, row_with}
 use Rattle.lrsparse.specs.Owned.{IsOwned}
-use Rattle.lrsparse.specs.Places.{Fits, AreOwnedBelow, number_of, number_at, row_of}
+use Rattle.lrsparse.specs.Places.{FitsIn, AreOwnedBelow, number_of, number_at, row_of}
 use Rattle.lrsparse.proofs.EntriesOfRow.{column_at, columns_len, entry_or_none, number_of_entry, no_number}
 use Rattle.lrsparse.proofs.RowsInList.{same_map}
 
@@ -57,7 +57,7 @@ module _
         ]
 
     -- the other rows have theirs
-    pub others_kept : Fits old es d → (empty q p : ℕ) → q ≢ row → number_at new empty q p ≡ number_at old empty q p
+    pub others_kept : FitsIn old es d → (empty q p : ℕ) → q ≢ row → number_at new empty q p ≡ number_at old empty q p
     others_kept fits empty q p ne = elim (entry_or_none es d p) [
       | inl (k, l, e) ↦
           let was : slice_index_or old p None ≡ None = ap (λ j. slice_index_or old j None) e ∙ fits k (0, 0) l in

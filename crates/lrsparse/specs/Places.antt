@@ -17,8 +17,8 @@ abbrev pub IsFree : List (Option Entry) → ℕ → Type 0
 IsFree list place = slice_index_or list place None ≡ None
 
 -- at the displacement none of these entries of a row meets an owned place
-abbrev pub Fits : List (Option Entry) → List (ℕ × ℕ) → ℕ → Type 0
-Fits list entries displacement = All (λ e. IsFree list (displacement + e.0)) entries
+abbrev pub FitsIn : List (Option Entry) → List (ℕ × ℕ) → ℕ → Type 0
+FitsIn list entries displacement = All (λ e. IsFree list (displacement + e.0)) entries
 
 -- all places that are owned are owned by rows above this one
 abbrev pub AreOwnedBelow : ℕ → List (Option Entry) → Type 0

@@ -8,7 +8,7 @@ use Rattle.std.proofs.lemmas.Bool.Decides.{nat_tests}
 use Rattle.std.proofs.lemmas.Slice.Eq.{bytes_eq-Decides}
 use Rattle.lrspec.specs.texts.Lexemes as lexemes
 use Rattle.lrspec.specs.texts.Lexemes.{Lexeme, Name, Quoted, Separator, is_blank, is_no_line_feed, is_name_start, is_name_byte, is_quote, may_be_quoted, goes_on, Spells, IsMisfit}
-use Rattle.lrspec.proofs.texts.ByteSplits.{split_while, split_while_is, IsClosed, until_close_closes}
+use Rattle.lrspec.proofs.texts.ByteSplits.{split_while, split_while_is, IsCutAtClose, until_close_closes}
 use Rattle.lrspec.proofs.texts.TextFronts.{Unfit, OfQuoted, OfNothing, beginning, quoted_front, word_lexeme, word_found, word_front, front_by, front}
 use Rattle.lrspec.proofs.texts.FrontComplete.{by_quote}
 use Rattle.lrspec.proofs.texts.FrontSound.{unfit_is}
@@ -125,7 +125,7 @@ line_in_front text line comment behind e whole all stops = record { skipped = co
 -- a comment that is closed is in front
 pub block_in_front : (text block behind : List ℕ) (i j : ℕ) → text ≡ 42 ∷ block → FindsText (codes "*/") block (Some (i, j)) → behind ≡ drop j block → BeginsWithGap (47 ∷ text) behind
 block_in_front text block behind i j e found h =
-    let closed : IsClosed block (Some (take i block, drop j block)) = subst (IsClosed block) (closes_at block (drop j block) i found.0 found.1.split) (until_close_closes block) in record {
+    let closed : IsCutAtClose block (Some (take i block, drop j block)) = subst (IsCutAtClose block) (closes_at block (drop j block) i found.0 found.1.split) (until_close_closes block) in record {
       skipped = codes "/*" ++ take i block ++ codes "*/";
       whole = ap (λ l. 47 ∷ l) (e ∙ ap (λ l. 42 ∷ l) (closed.0 ∙ sym (append_assoc (take i block) (42 ∷ 47 ∷ []) (drop j block)) ∙ ap (λ l. take i block ++ codes "*/" ++ l) (sym h)));
       gap = lexemes.IsGap.block (take i block) closed.1;

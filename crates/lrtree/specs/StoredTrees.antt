@@ -29,5 +29,5 @@ forest_of number ts = forest_of_list (map (tree_of number) ts)
 
 -- the children of the open nodes, which are kept last child first, and those of the innermost node
 -- last
-abbrev pub rows_of : {T : Type 0} → (T → ℕ) → List (Vec (Tree T) Global) → List Forest
-rows_of number rows = reverse (map (λ row. forest_of number (reverse row.items)) rows)
+abbrev pub forests_of : {T : Type 0} → (T → ℕ) → List (Vec (Tree T) Global) → List Forest
+forests_of number rows = reverse (map (λ row. forest_of number (reverse row.items)) rows)

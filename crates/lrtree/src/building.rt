@@ -3,7 +3,7 @@
 ghost use Rattle.std.specs.Prelude.{◌≡◌, [], ◌∷◌, ◌++◌, Some, IfOk, OnOk, IsSome};
 ghost use Rattle.lrspec.specs.grammars.Trees.{Bare, And};
 ghost use Rattle.lrtree.specs.Built.{with_visit};
-ghost use Rattle.lrtree.specs.StoredTrees.{tree_of, rows_of};
+ghost use Rattle.lrtree.specs.StoredTrees.{tree_of, forests_of};
 ghost use Rattle.lrtree.specs.StoredVisits.{visit_of};
 ghost use Rattle.lrtree.specs.TreesOf.{HasTreeOf, IsOfTree};
 
@@ -33,9 +33,9 @@ fn add_visit<T: IndexStorage>(
     rows: &mut Vec<Vec<Tree<T>>>,
     visit: Visit<T>,
 ) -> Result<(), AllocError>
-    requires { IsSome (with_visit (rows_of T.number rows.old.items) (visit_of T.number visit)) }
-    ensures { OnOk result (with_visit (rows_of T.number rows.old.items) (visit_of T.number visit)
-        ≡ Some (rows_of T.number rows.new.items)) }
+    requires { IsSome (with_visit (forests_of T.number rows.old.items) (visit_of T.number visit)) }
+    ensures { OnOk result (with_visit (forests_of T.number rows.old.items) (visit_of T.number visit)
+        ≡ Some (forests_of T.number rows.new.items)) }
 {
     match visit {
         Visit::Leave(_) => rows.push(Vec::new(alloc))?,
@@ -60,10 +60,10 @@ fn add_visits<T: IndexStorage>(
     productions: Vec<PIdx<T>>,
     rows: &mut Vec<Vec<Tree<T>>>,
 ) -> Result<(), AllocError>
-    requires alone { rows_of T.number rows.old.items ≡ Bare ∷ [] }
+    requires alone { forests_of T.number rows.old.items ≡ Bare ∷ [] }
     requires tree { HasTreeOf T.number grm.now productions.items }
     ensures { OnOk result (IsOfTree T.number grm.now productions.items (λ t.
-        rows_of T.number rows.new.items ≡ And t Bare ∷ [])) }
+        forests_of T.number rows.new.items ≡ And t Bare ∷ [])) }
 {
     let mut walk = Walk::new(alloc, grm, productions)?;
     while let Some(visit) = walk.next(grm)? {

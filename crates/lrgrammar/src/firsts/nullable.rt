@@ -4,7 +4,7 @@ ghost use Rattle.std.specs.Prelude.{◌≡◌, ℕ, ◌<◌, false, length, IfOk
 ghost use Rattle.lrspec.specs.grammars.Grammar as math;
 ghost use Rattle.lrspec.specs.grammars.First.{Nullable};
 ghost use Rattle.lrbits.specs.Bits.{bit};
-ghost use Rattle.lrgrammar.specs.NullableBits.{all_set, HoldsNullable, IsClosed};
+ghost use Rattle.lrgrammar.specs.NullableBits.{all_set, HoldsNullable, IsClosedUnderBodies};
 ghost use Rattle.lrbits.specs.Bits.{unset};
 
 use crate::grammar::YaccGrammar;
@@ -29,7 +29,7 @@ fn grow_nullable<T: IndexStorage>(grm: &YaccGrammar<T>, known: &mut Vob) -> bool
     ensures rules { length known.new ≡ length known.old }
     ensures sound { HoldsNullable grm.now known.old → HoldsNullable grm.now known.new }
     ensures grown { IsTrue result → unset known.new < unset known.old }
-    ensures done { result ≡ false → IsClosed grm.now known.new }
+    ensures done { result ≡ false → IsClosedUnderBodies grm.now known.new }
 {
     let mut grown = false;
     for i in 0..grm.prods_len().0.to_usize() {

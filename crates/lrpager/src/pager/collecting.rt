@@ -12,7 +12,7 @@ ghost use Rattle.lritems.specs.ItemsOf.{set_of};
 ghost use Rattle.lrplacing.specs.Construction.{core_at, draft_edges, edge_from, HasEdgesOnce};
 ghost use Rattle.lrgraphs.specs.GraphOf.{edges_of, state_of, graph_of};
 ghost use Rattle.lrplacing.specs.Refusals.{IsLargeOnly};
-ghost use Rattle.lrpager.specs.Collecting.{AreMarked, IsCollected, LeadToStates, IsMarked, HasTarget, MarksOnly, AreNewNumbers, HaveDistinctTargets, AreRenumbered, IsRenumbered, OnlyStartsAtZero};
+ghost use Rattle.lrpager.specs.Collecting.{ReachedAreMarked, IsCollected, LeadToStates, IsMarked, HasTarget, MarksOnly, AreNewNumbers, HaveDistinctTargets, AreRenumbered, IsRenumbered, OnlyStartsAtZero};
 
 use lrclosing::closer::Closer;
 use lrclosing::listing::closed_items;
@@ -75,7 +75,7 @@ fn edges_at<T: IndexStorage>(drafts: &[Draft<T>], k: usize) -> &[(Symbol<T>, usi
 fn mark_reached<T: IndexStorage>(alloc: Global, drafts: &[Draft<T>]) -> Result<Vob, AllocError>
     requires some { 0 < length drafts.now }
     requires below { LeadToStates drafts.now }
-    ensures { IfOk result (λ marks. AreMarked drafts.now marks) }
+    ensures { IfOk result (λ marks. ReachedAreMarked drafts.now marks) }
 {
     let mut marks = Vob::from_elem(alloc, false, drafts.len())?;
     let mut todo = Vec::new(alloc);
@@ -242,11 +242,11 @@ pub(crate) fn collect<T: IndexStorage>(
     requires closer { IsCloserOf grm.now closer.old }
     requires most { length drafts.items ≤ T.MAX }
     ensures collected { IfOk result (λ h. (marks : List Bool)
-        × AreMarked drafts.items marks × IsCollected grm.now drafts.items marks h) }
+        × ReachedAreMarked drafts.items marks × IsCollected grm.now drafts.items marks h) }
     ensures states { IfOk result (λ h. length h < T.MAX) }
     ensures refused { IfErr result (IsLargeOnly (T.MAX ≤ length drafts.items)) }
     ensures large { IfErr result (IsLargeOnly ((marks : List Bool)
-        × AreMarked drafts.items marks × (T.MAX ≤ count_by (λ b. b) marks))) }
+        × ReachedAreMarked drafts.items marks × (T.MAX ≤ count_by (λ b. b) marks))) }
 {
     let alloc = *drafts.allocator();
     let marks = mark_reached(alloc, drafts.as_slice())?;

@@ -5,7 +5,7 @@ ghost use Rattle.std.specs.List.{All};
 ghost use Rattle.std.specs.List.Sorted.{IsStrictlyIncreasing};
 ghost use Rattle.lrsparse.specs.Owned.{IsOwned, AreOwned, MeetsNone};
 ghost use Rattle.lrsparse.specs.Entries.{columns_in, row_with, AreEntries};
-ghost use Rattle.lrsparse.specs.Places.{AreStarts, Fits, IsPlaced, number_at, row_of};
+ghost use Rattle.lrsparse.specs.Places.{AreStarts, FitsIn, IsPlaced, number_at, row_of};
 
 use crate::sparsevec::owned::{WORD, full_words, least_displacement, own_columns};
 use std::alloc::{AllocError, Global};
@@ -119,7 +119,7 @@ impl Places {
             → row_of self.new.list.items empty cols row d ≡ row_with empty cols entries.now) }
         ensures others { OnOk result ((empty q p : ℕ) → q ≢ row
             → number_at self.new.list.items empty q p ≡ number_at self.old.list.items empty q p) }
-        ensures fits { IfOk result (Fits self.old.list.items entries.now) }
+        ensures fits { IfOk result (FitsIn self.old.list.items entries.now) }
         ensures least { IfOk result (λ d. (k : ℕ) → k < d
             → ¬ (MeetsNone self.old.owned.items columns.now k)) }
         ensures placed { OnOk result (IsPlaced (row + 1) self.new) }
@@ -157,9 +157,9 @@ pub(crate) fn place_row(
         → row_of places.new.list.items empty cols row d ≡ row_with empty cols entries.now) }
     ensures others { OnOk result ((empty q p : ℕ) → q ≢ row
         → number_at places.new.list.items empty q p ≡ number_at places.old.list.items empty q p) }
-    ensures fits { IfOk result (Fits places.old.list.items entries.now) }
+    ensures fits { IfOk result (FitsIn places.old.list.items entries.now) }
     ensures least { IfOk result (λ d. (k : ℕ) → k < d →
-        ¬ (Fits places.old.list.items entries.now k)) }
+        ¬ (FitsIn places.old.list.items entries.now k)) }
     ensures placed { OnOk result (IsPlaced (row + 1) places.new) }
     ensures starts { OnOk result (AreStarts starts.new places.new.owned.items) }
     ensures within { IfOk result (λ d. d ≤ length places.old.list.items) }

@@ -54,20 +54,20 @@ until_close_is (b ∷ []) rest h = cond-false _ _ _ (or_parts (b == 42 && false)
 until_close_is (b ∷ d ∷ c) rest h = cond-false (b == 42 && d == 47) _ _ (or_parts (b == 42 && d == 47) _ h).0 ∙ ap (option_map (onto b)) (until_close_is (d ∷ c) rest (or_parts (b == 42 && d == 47) _ h).1)
 
 -- what `until_close` answers: the part of the text before its first `*/` and the part behind it
-abbrev pub IsClosed : List ℕ → Option (List ℕ × List ℕ) → Type 0
-IsClosed bs None = Unit {0}
-IsClosed bs (Some s) = (bs ≡ s.0 ++ 42 ∷ 47 ∷ s.1) × (has_close (s.0 ++ 42 ∷ []) ≡ false)
+abbrev pub IsCutAtClose : List ℕ → Option (List ℕ × List ℕ) → Type 0
+IsCutAtClose bs None = Unit {0}
+IsCutAtClose bs (Some s) = (bs ≡ s.0 ++ 42 ∷ 47 ∷ s.1) × (has_close (s.0 ++ 42 ∷ []) ≡ false)
 
-closed_onto : (b c : ℕ) (bs : List ℕ) (o : Option (List ℕ × List ℕ)) → (b == 42 && c == 47) ≡ false → IsClosed (c ∷ bs) o → IsClosed (b ∷ c ∷ bs) (option_map (onto b) o)
+closed_onto : (b c : ℕ) (bs : List ℕ) (o : Option (List ℕ × List ℕ)) → (b == 42 && c == 47) ≡ false → IsCutAtClose (c ∷ bs) o → IsCutAtClose (b ∷ c ∷ bs) (option_map (onto b) o)
 closed_onto b c bs None h k = tt
 closed_onto b c bs (Some ([], rest)) h (e, k) = (ap (λ l. b ∷ l) e, or_from (b == 42 && false) false (and_right (b == 42) false refl) refl)
 closed_onto b c bs (Some (d ∷ w, rest)) h (e, k) =
     (ap (λ l. b ∷ l) e, or_from (b == 42 && d == 47) _ (let same : c ≡ d = cc in rw (← same) h) k)
 
 -- `until_close` finds the first `*/`
-pub until_close_closes : (bs : List ℕ) → IsClosed bs (until_close bs)
+pub until_close_closes : (bs : List ℕ) → IsCutAtClose bs (until_close bs)
 until_close_closes [] = tt
 until_close_closes (b ∷ []) = tt
-until_close_closes (b ∷ c ∷ bs) = cond_both (b == 42 && c == 47) (Some ([], bs)) (option_map (onto b) (until_close (c ∷ bs))) (IsClosed (b ∷ c ∷ bs))
+until_close_closes (b ∷ c ∷ bs) = cond_both (b == 42 && c == 47) (Some ([], bs)) (option_map (onto b) (until_close (c ∷ bs))) (IsCutAtClose (b ∷ c ∷ bs))
     (λ h. (λ i. eqb-true b 42 (and_parts (b == 42) (c == 47) h).0 i ∷ (eqb-true c 47 (and_parts (b == 42) (c == 47) h).1 i ∷ bs), refl))
     (λ h. closed_onto b c bs (until_close (c ∷ bs)) h (until_close_closes (c ∷ bs)))

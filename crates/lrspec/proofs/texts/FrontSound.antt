@@ -6,7 +6,7 @@ use Rattle.std.proofs.lemmas.Slice.Eq.{bytes_eq-Decides}
 use Rattle.lrspec.specs.grammars.Grammar.{Left, Right, Nonassoc}
 use Rattle.lrspec.specs.texts.Lexemes as text
 use Rattle.lrspec.specs.texts.Lexemes.{Lexeme, Name, Quoted, StartWord, TokenWord, KindWord, PrecedenceWord, Separator, Colon, Bar, Semicolon, is_blank, is_no_line_feed, is_name_start, is_name_byte, is_quote, may_be_quoted, IsGap, Spells, IsMisfit, goes_on}
-use Rattle.lrspec.proofs.texts.ByteSplits.{IsSplit, split_while_splits, IsClosed, until_close_closes}
+use Rattle.lrspec.proofs.texts.ByteSplits.{IsSplit, split_while_splits, IsCutAtClose, until_close_closes}
 use Rattle.lrspec.proofs.texts.TextFronts.{Front, Gap, Found, Unfit, Beginning, OfName, OfQuoted, OfWord, OfComment, OfBlank, OfMark, OfNothing, beginning, name_front, quoted_front, word_lexeme, word_found, word_front, line_front, block_front, comment_front, front_by, front}
 use Rattle.lrspec.proofs.texts.FrontComplete.{front_gap, front_lexeme}
 
@@ -90,7 +90,7 @@ line_is : (bs : List ℕ) (s : List ℕ × List ℕ) → IsSplit is_no_line_feed
 line_is bs (c, rest) s = (ap (λ l. 47 ∷ 47 ∷ l) s.whole, text.IsGap.line s.all s.stops)
 
 -- a comment in two marks in front
-block_is : (bs : List ℕ) (o : Option (List ℕ × List ℕ)) → IsClosed bs o → IsFront (47 ∷ 42 ∷ bs) (block_front o)
+block_is : (bs : List ℕ) (o : Option (List ℕ × List ℕ)) → IsCutAtClose bs o → IsFront (47 ∷ 42 ∷ bs) (block_front o)
 block_is bs None h = tt
 block_is bs (Some (c, rest)) (e, h) = (ap (λ l. 47 ∷ 42 ∷ l) (e ∙ sym (append_assoc c (42 ∷ 47 ∷ []) rest)), text.IsGap.block c h)
 

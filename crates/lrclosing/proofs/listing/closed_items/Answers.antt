@@ -1,6 +1,6 @@
 use Rattle.std.proofs.Common.{◌≡◌}
 use Rattle.lrclosing.specs.ItemsOf.{items_of, listed_of}
-use Rattle.lrclosing.specs.Leads.{rows_of}
+use Rattle.lrclosing.specs.Leads.{rows_in}
 use Rattle.lrclosing.specs.Listing.{listed_items}
 use Rattle.lrclosing.proofs.AscendingItems.{ascending_from_upwards}
 use Rattle.lrclosing.proofs.ListedItems.{closed_with_rows, closed_fits, closed_upwards}
@@ -19,9 +19,9 @@ returns-clause-rows g c =
     let grm = c.args.grm.now in
     let rs = c.args.closer.now.rows.items in
     let es = c.args.given.now in
-    let listed : listed_of number c.push_closed.new.items.items ≡ listed_items grm (rows_of rs) 0 (items_of number es) =
+    let listed : listed_of number c.push_closed.new.items.items ≡ listed_items grm (rows_in rs) 0 (items_of number es) =
     rw (c.new-items.ensures.items, c.as_slice-rows.ensures.value) at c.in_ok-push_closed.ensures in
-    closed_with_rows grm (rows_of rs) (items_of number es) c.requires.fits (are_rows grm rs c.requires.is.is.rows) (ascending_from_upwards (items_of number es) c.requires.upwards)
+    closed_with_rows grm (rows_in rs) (items_of number es) c.requires.fits (are_rows grm rs c.requires.is.is.rows) (ascending_from_upwards (items_of number es) c.requires.upwards)
     c.requires.apart _ listed
 
 pub returns-clause-fits : goal.returns-clause-fits
@@ -30,9 +30,9 @@ returns-clause-fits g c =
     let grm = c.args.grm.now in
     let rs = c.args.closer.now.rows.items in
     let es = c.args.given.now in
-    let listed : listed_of number c.push_closed.new.items.items ≡ listed_items grm (rows_of rs) 0 (items_of number es) =
+    let listed : listed_of number c.push_closed.new.items.items ≡ listed_items grm (rows_in rs) 0 (items_of number es) =
     rw (c.new-items.ensures.items, c.as_slice-rows.ensures.value) at c.in_ok-push_closed.ensures in
-    closed_fits grm (rows_of rs) (items_of number es) c.requires.fits (are_rows grm rs c.requires.is.is.rows) (ascending_from_upwards (items_of number es) c.requires.upwards)
+    closed_fits grm (rows_in rs) (items_of number es) c.requires.fits (are_rows grm rs c.requires.is.is.rows) (ascending_from_upwards (items_of number es) c.requires.upwards)
     c.requires.apart _ listed
 
 pub returns-clause-upwards : goal.returns-clause-upwards
@@ -41,7 +41,7 @@ returns-clause-upwards g c =
     let grm = c.args.grm.now in
     let rs = c.args.closer.now.rows.items in
     let es = c.args.given.now in
-    let listed : listed_of number c.push_closed.new.items.items ≡ listed_items grm (rows_of rs) 0 (items_of number es) =
+    let listed : listed_of number c.push_closed.new.items.items ≡ listed_items grm (rows_in rs) 0 (items_of number es) =
     rw (c.new-items.ensures.items, c.as_slice-rows.ensures.value) at c.in_ok-push_closed.ensures in
-    closed_upwards grm (rows_of rs) (items_of number es) c.requires.fits (are_rows grm rs c.requires.is.is.rows) (ascending_from_upwards (items_of number es) c.requires.upwards)
+    closed_upwards grm (rows_in rs) (items_of number es) c.requires.fits (are_rows grm rs c.requires.is.is.rows) (ascending_from_upwards (items_of number es) c.requires.upwards)
     c.requires.apart _ listed

@@ -1,6 +1,6 @@
 use Rattle.std.proofs.Common.{◌≡◌, ℕ, ◌∙◌, ◌+◌, ◌++◌, Bool, List, drop, refl, arith, inl}
 use Rattle.lrclosing.specs.ItemsOf.{items_of, listed_of}
-use Rattle.lrclosing.specs.Leads.{rows_of}
+use Rattle.lrclosing.specs.Leads.{rows_in}
 use Rattle.lrclosing.specs.Listing.{listed_items}
 use Rattle.lrclosing.proofs.ItemsInTurn.{left_here, none_left, item_in_turn, behind_in_turn}
 use Rattle.lrclosing.proofs.ListedTurns.{from_next, item_listed, all_listed}
@@ -12,7 +12,7 @@ loop-key-init g c =
     record {
       place = omega arith;
       order = λ x j. omega arith;
-      listed = refl {a = listed_of number c.args.items.now.items ++ listed_items c.args.grm.now (rows_of c.args.rows.now) 0 (items_of number c.args.given.now)};
+      listed = refl {a = listed_of number c.args.items.now.items ++ listed_items c.args.grm.now (rows_in c.args.rows.now) 0 (items_of number c.args.given.now)};
     }
 
 pub push_from-requires-clause-sizes : goal.push_from-requires-clause-sizes
@@ -52,7 +52,7 @@ push_from-requires-clause-end g c =
 pub loop-key-preserved : goal.loop-key-preserved
 loop-key-preserved g c =
     let number = g.T.IndexStorage.number in
-    let rows = rows_of c.args.rows.now in
+    let rows = rows_in c.args.rows.now in
     let es = c.args.given.now in
     let i = c.loop-key.key-index in
     let e = c.loop-key-item.result in
@@ -72,6 +72,6 @@ loop-key-preserved g c =
 pub returns : goal.returns
 returns g c =
     let number = g.T.IndexStorage.number in
-    all_listed (λ y. ((number y.0.0.0, number y.0.1.0), y.1.now)) c.args.grm.now (rows_of c.args.rows.now) _ _ _ _ _ _
+    all_listed (λ y. ((number y.0.0.0, number y.0.1.0), y.1.now)) c.args.grm.now (rows_in c.args.rows.now) _ _ _ _ _ _
     (none_left number c.args.given.now c.loop-key.key-index c.loop-key-test.false) (c.to_usize-end.ensures.number ∙ c.prods_len.ensures.value)
     c.in_ok-push_from-2.ensures c.loop-key.invariant.listed

@@ -4,7 +4,7 @@ use Rattle.std.specs.List.{flat_map}
 use Rattle.lrspec.proofs.grammars.ListMembers.{contains_from_among}
 use Rattle.lrbits.specs.Bits.{bit, set_places}
 use Rattle.lrclosing.specs.ItemsOf.{listed_of}
-use Rattle.lrclosing.specs.Leads.{rows_of}
+use Rattle.lrclosing.specs.Leads.{rows_in}
 use Rattle.lrclosing.proofs.ListedItems.{row_of_production}
 use Rattle.lrclosing.proofs.ListedTurns.{over_set_places, number_kept, row_item_is, marked_row, row_pushed}
 use Rattle.lrclosing.proofs.MarkedProductions.{below_of_bit}
@@ -16,7 +16,7 @@ pub loop-place-init : goal.loop-place-init
 loop-place-init g c =
     let number = g.T.IndexStorage.number in
     let v = c.args.productions.now in
-    let rows = rows_of c.args.rows.now in
+    let rows = rows_in c.args.rows.now in
     let are : c.into_iter-place-iterator.result ≡ set_places v c.args.from c.args.end =
     rw (c.into_iter-place-iterator.ensures.into_iter_gives, c.iter_set_bits-place-items.ensures.places) (refl {a = set_places v c.args.from c.args.end}) in
     record {
@@ -57,9 +57,9 @@ loop-place-preserved g c =
     record {
       set = rest_among (λ q. IsTrue (bit c.args.productions.now q)) _ _ _ c.in-Some.ensures.steps c.loop-place.invariant.set;
       added =
-          row_pushed (λ e. ((number e.0.0.0, number e.0.1.0), e.1.now)) (row_of_production grm (rows_of rs)) _ _ _ c.in-Some.place _ _ _ c.in-Some.ensures.steps
+          row_pushed (λ e. ((number e.0.0.0, number e.0.1.0), e.1.now)) (row_of_production grm (rows_in rs)) _ _ _ c.in-Some.place _ _ _ c.in-Some.ensures.steps
           c.in_ok-push.ensures.items
-          (row_item_is grm (rows_of rs) c.in-Some.place p r (number c.unwrap.result) row.tokens place c.prod_to_rule.ensures.rule
+          (row_item_is grm (rows_in rs) c.in-Some.place p r (number c.unwrap.result) row.tokens place c.prod_to_rule.ensures.rule
           (marked_row grm rs c.args.productions.now p r row c.requires.productions marked c.prod_to_rule.ensures.rule at) dot)
           c.loop-place.invariant.added;
     }

@@ -5,7 +5,7 @@ use Rattle.std.specs.List.{flat_map}
 use Rattle.lrspec.proofs.grammars.ListMembers.{Among}
 use Rattle.lrbits.specs.Bits.{bit}
 use Rattle.lrclosing.specs.ItemsOf.{listed_of}
-use Rattle.lrclosing.specs.Leads.{rows_of}
+use Rattle.lrclosing.specs.Leads.{rows_in}
 use Rattle.lrclosing.specs.Listing.{row_items}
 use Rattle.lrclosing.proofs.ListedItems.{row_of_production}
 use Rattle.lrclosing.proofs.listing.push_from.Given as goal
@@ -16,6 +16,6 @@ invariant-loop-place g l =
     record {
       set : (q : ℕ) → Among q l.place-iterator → IsTrue (bit l.productions q);
       added :
-          listed_of number l.items.items ++ flat_map (row_of_production l.grm (rows_of l.rows)) l.place-iterator
-          ≡ listed_of number l.fn.items.items ++ row_items l.grm (rows_of l.rows) l.from l.end;
+          listed_of number l.items.items ++ flat_map (row_of_production l.grm (rows_in l.rows)) l.place-iterator
+          ≡ listed_of number l.fn.items.items ++ row_items l.grm (rows_in l.rows) l.from l.end;
     }

@@ -1,6 +1,6 @@
 use Rattle.std.proofs.Common.{◌≡◌, ◌<◌, ◌≤◌, ◌∙◌, sym, ap, refl, length, arith}
 use Rattle.std.proofs.lemmas.List.{length-map}
-use Rattle.lritems.specs.Gotos.{goto_of}
+use Rattle.lritems.specs.Gotos.{items_in}
 use Rattle.lritems.specs.Merging.{HaveSameKeys}
 use Rattle.lritems.proofs.GotoItems.{left_shown, none_left, numbers_from_denied, numbers_apart}
 use Rattle.lritems.proofs.SameKeys.{keys_turn, keys_apart, no_from, same_length}
@@ -13,7 +13,7 @@ returns-then-len-clause-same g c =
     no_from _
     (λ k.
     let long : length mine.items ≡ length its.items =
-    sym (length-map mine.items _) ∙ ap length c.a.view_is ∙ same_length c.args.a.now (goto_of g.T.IndexStorage.number c.args.b.now) k ∙ length-map its.items _ in
+    sym (length-map mine.items _) ∙ ap length c.a.view_is ∙ same_length c.args.a.now (items_in g.T.IndexStorage.number c.args.b.now) k ∙ length-map its.items _ in
     c.if-len.true (c.len.ensures ∙ mine.ok.0 ∙ long ∙ sym (c.len-2.ensures ∙ its.ok.0)))
 
 pub returns-then-len-clause-upwards : goal.returns-then-len-clause-upwards
@@ -57,7 +57,7 @@ returns-clause-same g c =
     let its = c.args.b.now.items in
     let end : length mine.items ≤ c.loop-k.k = omega (arith, mine.ok.0) in
     let its_end : length its.items ≤ c.loop-k.k = omega (arith, mine.ok.0, its.ok.0) in
-    let same : HaveSameKeys c.args.a.now (goto_of number c.args.b.now) =
+    let same : HaveSameKeys c.args.a.now (items_in number c.args.b.now) =
     c.loop-k.invariant.1 (rw (none_left number (λ v. v) mine.items c.loop-k.k end, none_left number (λ r. r.now) its.items c.loop-k.k its_end) refl) in
     (λ _. same, λ _. refl)
 

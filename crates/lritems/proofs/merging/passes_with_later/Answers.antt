@@ -1,5 +1,5 @@
 use Rattle.std.proofs.Common.{ℕ, ◌<◌, ◌≤◌, ◌∙◌, sym, arith, length, below_more}
-use Rattle.lritems.specs.Gotos.{goto_of}
+use Rattle.lritems.specs.Gotos.{items_in}
 use Rattle.lritems.specs.Merging.{PassAt}
 use Rattle.lritems.proofs.ComparedPlaces.{AreCompared, items_long, others_long, stands, found, other_found}
 use Rattle.lritems.proofs.PassingPairs.{all_passed, clash_here, passed_turn, passes_here, passes_sharing}
@@ -43,7 +43,7 @@ pub loop-j-preserved-then-intersects : goal.loop-j-preserved-then-intersects
 loop-j-preserved-then-intersects g c =
     let number = g.T.IndexStorage.number in
     let a = c.args.a.now in
-    let b = goto_of number c.args.b.now in
+    let b = items_in number c.args.b.now in
     let both : AreCompared number (λ r. r.now) c.a.inside.items.items c.args.b.now.items.items c.args.a.now =
     record { is = c.a.view_is; upwards = c.a.invariant; other_upwards = c.requires.upwards; keys = c.requires.items } in
     let below : c.loop-j.j < length c.args.a.now = omega (arith, items_long both, c.a.inside.items.ok.0) in
@@ -61,7 +61,7 @@ pub returns-then-not-pair_passes-clause-no : goal.returns-then-not-pair_passes-c
 returns-then-not-pair_passes-clause-no g c = λ _.
     let number = g.T.IndexStorage.number in
     let a = c.args.a.now in
-    let b = goto_of number c.args.b.now in
+    let b = items_in number c.args.b.now in
     let both : AreCompared number (λ r. r.now) c.a.inside.items.items c.args.b.now.items.items c.args.a.now =
     record { is = c.a.view_is; upwards = c.a.invariant; other_upwards = c.requires.upwards; keys = c.requires.items } in
     let below : c.loop-j.j < length c.args.a.now = omega (arith, items_long both, c.a.inside.items.ok.0) in
@@ -75,7 +75,7 @@ pub loop-j-preserved : goal.loop-j-preserved
 loop-j-preserved g c =
     let number = g.T.IndexStorage.number in
     let a = c.args.a.now in
-    let b = goto_of number c.args.b.now in
+    let b = items_in number c.args.b.now in
     let both : AreCompared number (λ r. r.now) c.a.inside.items.items c.args.b.now.items.items c.args.a.now =
     record { is = c.a.view_is; upwards = c.a.invariant; other_upwards = c.requires.upwards; keys = c.requires.items } in
     let below : c.loop-j.j < length c.args.a.now = omega (arith, items_long both, c.a.inside.items.ok.0) in
@@ -93,7 +93,7 @@ pub returns-clause-yes : goal.returns-clause-yes
 returns-clause-yes g c = λ _.
     let number = g.T.IndexStorage.number in
     let a = c.args.a.now in
-    let b = goto_of number c.args.b.now in
+    let b = items_in number c.args.b.now in
     let both : AreCompared number (λ r. r.now) c.a.inside.items.items c.args.b.now.items.items c.args.a.now =
     record { is = c.a.view_is; upwards = c.a.invariant; other_upwards = c.requires.upwards; keys = c.requires.items } in
     let end : length c.args.a.now ≤ c.loop-j.j = omega (arith, items_long both, c.a.inside.items.ok.0) in

@@ -2,7 +2,7 @@ use Rattle.std.proofs.Common.{◌≡◌, ℕ, ◌<◌, ◌∙◌, sym, ap, refl,
 use Rattle.std.specs.Prelude.{false}
 use Rattle.std.proofs.lemmas.List.{length-map}
 use Rattle.lrspec.proofs.merging.CrossFacts.{clash_refutes}
-use Rattle.lritems.specs.Gotos.{goto_of}
+use Rattle.lritems.specs.Gotos.{items_in}
 use Rattle.lritems.specs.Merging.{PassesWithLater}
 use Rattle.lritems.proofs.PassingPairs.{compatible_from_later}
 use Rattle.lritems.proofs.SameKeys.{same_from_keys, keys_from_same, no_from}
@@ -32,14 +32,14 @@ passes_with_later-requires-clause-place g c =
 
 pub loop-i-preserved : goal.loop-i-preserved
 loop-i-preserved g c =
-    below_more (λ (k : ℕ). PassesWithLater c.args.a.now (goto_of g.T.IndexStorage.number c.args.b.now) k) c.loop-i.i c.loop-i.invariant
+    below_more (λ (k : ℕ). PassesWithLater c.args.a.now (items_in g.T.IndexStorage.number c.args.b.now) k) c.loop-i.i c.loop-i.invariant
     (c.passes_with_later.ensures.yes c.if-not-passes_with_later.false)
 
 pub returns-clause-compatible : goal.returns-clause-compatible
 returns-clause-compatible g c =
     let number = g.T.IndexStorage.number in
     let a = c.args.a.now in
-    let b = goto_of number c.args.b.now in
+    let b = items_in number c.args.b.now in
     let same = same_from_keys a b (c.has_same_items.ensures.same.0 c.if-not-has_same_items.false) in
     let long : length c.a.inside.items.items ≡ length a = sym (length-map c.a.inside.items.items _) ∙ ap length c.a.view_is in
     (λ _. compatible_from_later a b same (λ k l. let below : k < c.loop-i.i = omega (arith, c.a.inside.items.ok.0) in c.loop-i.invariant k below), λ _. refl)

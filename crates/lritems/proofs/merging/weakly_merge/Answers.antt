@@ -1,7 +1,7 @@
 use Rattle.std.proofs.Common.{ℕ, Bool, List, ◌<◌, ◌≤◌, ◌∙◌, arith, length}
 use Rattle.lrspec.specs.grammars.ItemSets.{AreUpwards}
 use Rattle.lrbits.specs.Bits.{union}
-use Rattle.lritems.specs.Gotos.{goto_of}
+use Rattle.lritems.specs.Gotos.{items_in}
 use Rattle.lritems.proofs.GotoItems.{left_shown, none_left}
 use Rattle.lritems.proofs.ItemsByPlace.{equally_long, shown_at, item_at_place, set_keys}
 use Rattle.lritems.proofs.MergingUnderway.{begin_merging, end_merging, fits_of_merging, there_to_merge, turn_merged}
@@ -11,7 +11,7 @@ use Rattle.lritems.proofs.merging.weakly_merge.Goals as goal
 pub loop-k-init : goal.loop-k-init
 loop-k-init g c =
     let a = c.args.core.now in
-    let b = goto_of g.T.IndexStorage.number c.args.other.now in
+    let b = items_in g.T.IndexStorage.number c.args.other.now in
     let up : AreUpwards a = rw c.core.view_is at c.core.invariant in
     record {
       keys = keys_from_same b a c.requires.upwards up (λ p d. ((c.requires.items p d).1, (c.requires.items p d).0));
@@ -39,7 +39,7 @@ loop-k-preserved g c =
     let number = g.T.IndexStorage.number in
     let i = c.loop-k.invariant in
     let all = c.args.other.now.items.items in
-    let b = goto_of number c.args.other.now in
+    let b = items_in number c.args.other.now in
     let long = equally_long number (λ r. r.now) c.core.inside.items.items all _ c.core.view_is c.core.invariant c.requires.upwards c.requires.items in
     let below : c.loop-k.k < length all = omega (arith, long, c.core.inside.items.ok.0) in
     let f : (ℕ × ℕ) × List Bool = ((number c.index.result.now.0.0.0, number c.index.result.now.0.1.0), c.index.result.now.1.now) in

@@ -1,6 +1,6 @@
 use Rattle.std.proofs.Common.{ℕ, drop}
 use Rattle.lritems.specs.ItemsOf.{HaveBits}
-use Rattle.lritems.specs.Gotos.{goto_of}
+use Rattle.lritems.specs.Gotos.{items_in}
 use Rattle.lritems.specs.Merging.{HaveSameKeys}
 use Rattle.lritems.proofs.GotoItems.{items_shown}
 use Rattle.lritems.proofs.MergingUnderway.{IsMerging}
@@ -10,7 +10,7 @@ abbrev pub invariant-loop-k : goal.invariant-loop-k
 invariant-loop-k g l =
     let number = g.T.IndexStorage.number in
     let a = l.fn.core in
-    let b = goto_of number l.other in
+    let b = items_in number l.other in
     let left = items_shown number (λ r. r.now) (drop l.k l.other.items.items) in
     record {
       keys : HaveSameKeys b l.core;

@@ -3,7 +3,7 @@ use Rattle.std.proofs.lemmas.Bool.{false≢true}
 use Rattle.std.proofs.lemmas.List.{take_all}
 use Rattle.std.proofs.lemmas.List.Elements.{All-more}
 use Rattle.lrspec.specs.merging.WeakCompatibility.{SameItems, Clash}
-use Rattle.lritems.specs.Gotos.{goto_of}
+use Rattle.lritems.specs.Gotos.{items_in}
 use Rattle.lrplacing.specs.Construction.{core_at}
 use Rattle.lrplacing.specs.ChosenPlaces.{IsCompatible}
 use Rattle.lrplacing.proofs.DraftLists.{core_found, clash_more}
@@ -18,7 +18,7 @@ weakly_compatible-requires-clause-bits g c =
 
 pub loop-k-preserved : goal.loop-k-preserved
 loop-k-preserved g c =
-    let goto = goto_of g.T.IndexStorage.number c.args.goto.now in
+    let goto = items_in g.T.IndexStorage.number c.args.goto.now in
     let compatible = IsCompatible c.args.drafts.now goto in
     let i = c.loop-k.k-index in
     let k = get_or c.args.candidates.now i 0 in
@@ -35,7 +35,7 @@ loop-k-preserved g c =
 
 pub returns-then-weakly_compatible : goal.returns-then-weakly_compatible
 returns-then-weakly_compatible g c =
-    let compatible = IsCompatible c.args.drafts.now (goto_of g.T.IndexStorage.number c.args.goto.now) in
+    let compatible = IsCompatible c.args.drafts.now (items_in g.T.IndexStorage.number c.args.goto.now) in
     let i = c.loop-k.k-index in
     let k = get_or c.args.candidates.now i 0 in
     let below : k < length c.args.drafts.now = c.requires.below i 0 (omega arith) in

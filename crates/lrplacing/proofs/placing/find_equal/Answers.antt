@@ -2,7 +2,7 @@ use Rattle.std.proofs.Common.{sym, ◌∙◌, ◌<◌, get_or, length, arith}
 use Rattle.std.proofs.lemmas.Bool.{false≢true}
 use Rattle.std.proofs.lemmas.List.{take_all}
 use Rattle.std.proofs.lemmas.List.Elements.{All-more}
-use Rattle.lritems.specs.Gotos.{goto_of}
+use Rattle.lritems.specs.Gotos.{items_in}
 use Rattle.lrplacing.specs.ChosenPlaces.{IsEqual}
 use Rattle.lrplacing.proofs.DraftLists.{core_found}
 use Rattle.lrplacing.proofs.FirstOfList.{first_at}
@@ -10,7 +10,7 @@ use Rattle.lrplacing.proofs.placing.find_equal.Goals as goal
 
 pub loop-k-preserved : goal.loop-k-preserved
 loop-k-preserved g c =
-    let equal = IsEqual c.args.drafts.now (goto_of g.T.IndexStorage.number c.args.goto.now) in
+    let equal = IsEqual c.args.drafts.now (items_in g.T.IndexStorage.number c.args.goto.now) in
     let i = c.loop-k.k-index in
     let k = get_or c.args.candidates.now i 0 in
     let below : k < length c.args.drafts.now = c.requires.below i 0 (omega arith) in
@@ -20,7 +20,7 @@ loop-k-preserved g c =
 
 pub returns-then-is_equal : goal.returns-then-is_equal
 returns-then-is_equal g c =
-    let equal = IsEqual c.args.drafts.now (goto_of g.T.IndexStorage.number c.args.goto.now) in
+    let equal = IsEqual c.args.drafts.now (items_in g.T.IndexStorage.number c.args.goto.now) in
     let i = c.loop-k.k-index in
     let k = get_or c.args.candidates.now i 0 in
     let below : k < length c.args.drafts.now = c.requires.below i 0 (omega arith) in

@@ -1,6 +1,6 @@
 use Rattle.std.proofs.Common.{length-set}
 use Rattle.lrspec.specs.merging.WeakCompatibility.{SameItems, IsUnion}
-use Rattle.lritems.specs.Gotos.{goto_of}
+use Rattle.lritems.specs.Gotos.{items_in}
 use Rattle.lritems.specs.Merging.{HaveEquallyManyBits}
 use Rattle.lrplacing.specs.Construction.{TellsGrowth}
 use Rattle.lrplacing.proofs.DraftLists.{core_found, closed_found, core_put, closed_put, elsewhere, of_read, of_cores, edges_kept}
@@ -23,7 +23,7 @@ returns-clause-closed g c =
 
 pub merge-requires : goal.merge-requires
 merge-requires g c =
-    let goto = goto_of g.T.IndexStorage.number c.args.goto.now in
+    let goto = items_in g.T.IndexStorage.number c.args.goto.now in
     let read = of_read c.args.drafts.now.items c.args.k c.index_mut.result.now c.requires.below c.index_mut.ensures.value in
     record {
       items = read (λ a. SameItems a goto) c.requires.items;
@@ -44,7 +44,7 @@ returns-clause-edges g c =
 pub returns-clause-union : goal.returns-clause-union
 returns-clause-union g c =
     of_cores c.args.drafts.now.items c.args.k c.index_mut.result.now c.merge.new.self c.requires.below c.index_mut.ensures.value
-    (λ a b. IsUnion a (goto_of g.T.IndexStorage.number c.args.goto.now) b) c.merge.ensures.union
+    (λ a b. IsUnion a (items_in g.T.IndexStorage.number c.args.goto.now) b) c.merge.ensures.union
 
 pub returns-clause-grew : goal.returns-clause-grew
 returns-clause-grew g c =

@@ -1,6 +1,6 @@
 use Rattle.std.proofs.Common.{◌∙◌, ◌<◌, ◌≤◌, length, refl, sym, subst, arith}
 use Rattle.lrgrammar.specs.Symbols.{symbol_of}
-use Rattle.lritems.specs.Gotos.{goto_of}
+use Rattle.lritems.specs.Gotos.{items_in}
 use Rattle.lrplacing.specs.CandidatesOf.{IsFirstItem}
 use Rattle.lrplacing.specs.ChosenPlaces.{IsPlaceOf}
 use Rattle.lrplacing.specs.ChosenPlaces as choice
@@ -27,12 +27,12 @@ returns-in-Some-clause-placed g c =
     let below = first_among (λ k. k < length old) listed equal in
     let l = c.in_ok-link.ensures in
     put_places c.args.from (symbol_of number c.args.symbol) c.in-Some.k
-    (put_equal old (goto_of number c.args.goto.now) c.in-Some.k below equal.here) l.len l.stays l.edges
+    (put_equal old (items_in number c.args.goto.now) c.in-Some.k below equal.here) l.len l.stays l.edges
 
 pub returns-in-Some-clause-choice : goal.returns-in-Some-clause-choice
 returns-in-Some-clause-choice g c =
     let number = g.T.IndexStorage.number in
-    let goto = goto_of number c.args.goto.now in
+    let goto = items_in number c.args.goto.now in
     let old = c.args.drafts.now.items in
     let equal = rw c.as_slice.ensures.value at c.in-Some.ensures in
     at_each_first number (λ ks. IsPlaceOf old ks goto (length old) c.in-Some.k) c.args.candidates.now goto c.at-listed.result.now c.first_item.result c.unwrap-first.result
@@ -64,14 +64,14 @@ returns-in-Some-find_compatible-clause-placed g c =
     let m = c.merge_at-grew.ensures in
     let l = c.in_ok-link-2.ensures in
     put_places c.args.from (symbol_of number c.args.symbol) c.in-Some-find_compatible.k
-    (put_merged c.args.drafts.now.items c.merge_at-grew.new.drafts.items (goto_of number c.args.goto.now) c.in-Some-find_compatible.k found.0 found.1 m.len m.others m.edges m.union
+    (put_merged c.args.drafts.now.items c.merge_at-grew.new.drafts.items (items_in number c.args.goto.now) c.in-Some-find_compatible.k found.0 found.1 m.len m.others m.edges m.union
     m.fits m.closed)
     l.len l.stays l.edges
 
 pub returns-in-Some-find_compatible-clause-choice : goal.returns-in-Some-find_compatible-clause-choice
 returns-in-Some-find_compatible-clause-choice g c =
     let number = g.T.IndexStorage.number in
-    let goto = goto_of number c.args.goto.now in
+    let goto = items_in number c.args.goto.now in
     let old = c.args.drafts.now.items in
     let none_equal = rw c.as_slice.ensures.value at c.in_default.ensures in
     let compatible = rw c.as_slice-2.ensures.value at c.in-Some-find_compatible.ensures.first in
@@ -94,17 +94,17 @@ returns-clause-placed g c =
     let none = rw c.as_slice-2.ensures.value at c.in_default-find_compatible.ensures.compatible in
     let m = c.in_ok-k.ensures in
     let l = c.in_ok-link-3.ensures in
-    let first : IsFirstItem (goto_of number c.args.goto.now) (number c.unwrap-first.result.0.0) (number c.unwrap-first.result.1.0) =
-    first_found number (goto_of number c.args.goto.now) c.first_item.result c.unwrap-first.result c.first_item.ensures.least c.unwrap-first.ensures in
+    let first : IsFirstItem (items_in number c.args.goto.now) (number c.unwrap-first.result.0.0) (number c.unwrap-first.result.1.0) =
+    first_found number (items_in number c.args.goto.now) c.first_item.result c.unwrap-first.result c.first_item.ensures.least c.unwrap-first.ensures in
     put_places c.args.from (symbol_of number c.args.symbol) c.in_ok-k.k
-    (put_made c.args.drafts.now.items c.make.new.drafts.items (goto_of number c.args.goto.now) c.in_ok-k.k m.number m.len m.others (m.core ∙ c.in_ok-core.ensures) m.closed m.edges
+    (put_made c.args.drafts.now.items c.make.new.drafts.items (items_in number c.args.goto.now) c.in_ok-k.k m.number m.len m.others (m.core ∙ c.in_ok-core.ensures) m.closed m.edges
     (all_clash c.at-listed.result.now (number c.unwrap-first.result.0.0) (number c.unwrap-first.result.1.0) c.requires.candidates first c.at-listed.ensures none))
     l.len l.stays l.edges
 
 pub returns-clause-choice : goal.returns-clause-choice
 returns-clause-choice g c =
     let number = g.T.IndexStorage.number in
-    let goto = goto_of number c.args.goto.now in
+    let goto = items_in number c.args.goto.now in
     let old = c.args.drafts.now.items in
     let none_equal = rw c.as_slice.ensures.value at c.in_default.ensures in
     let none_compatible = rw c.as_slice-2.ensures.value at c.in_default-find_compatible.ensures.first in
@@ -118,14 +118,14 @@ returns-clause-candidates g c =
     let m = c.in_ok-k.ensures in
     let a = c.in_ok-add.ensures in
     let l = c.in_ok-link-3.ensures in
-    let first : IsFirstItem (goto_of number c.args.goto.now) (number c.unwrap-first.result.0.0) (number c.unwrap-first.result.1.0) =
-    first_found number (goto_of number c.args.goto.now) c.first_item.result c.unwrap-first.result c.first_item.ensures.least c.unwrap-first.ensures in
+    let first : IsFirstItem (items_in number c.args.goto.now) (number c.unwrap-first.result.0.0) (number c.unwrap-first.result.1.0) =
+    first_found number (items_in number c.args.goto.now) c.first_item.result c.unwrap-first.result c.first_item.ensures.least c.unwrap-first.ensures in
     candidates_kept l.len (λ j b. same_cores (l.stays j).core)
-    (candidates_made c.args.drafts.now.items c.make.new.drafts.items c.args.candidates.now c.add.new.self (goto_of number c.args.goto.now) (number c.unwrap-first.result.0.0) (number c.unwrap-first.result.1.0)
+    (candidates_made c.args.drafts.now.items c.make.new.drafts.items c.args.candidates.now c.add.new.self (items_in number c.args.goto.now) (number c.unwrap-first.result.0.0) (number c.unwrap-first.result.1.0)
     m.len (λ j b. others_core c.args.drafts.now.items c.make.new.drafts.items m.others j b) (m.core ∙ c.in_ok-core.ensures) first (rw m.number at a.here) a.others c.requires.candidates)
 
 pub unwrap-first-requires : goal.unwrap-first-requires
-unwrap-first-requires g c = some_first (goto_of g.T.IndexStorage.number c.args.goto.now) c.first_item.result c.requires.some c.first_item.ensures.none
+unwrap-first-requires g c = some_first (items_in g.T.IndexStorage.number c.args.goto.now) c.first_item.result c.requires.some c.first_item.ensures.none
 
 pub merge_at-grew-requires-clause-items : goal.merge_at-grew-requires-clause-items
 merge_at-grew-requires-clause-items g c =

@@ -1,6 +1,6 @@
 use Rattle.std.proofs.Common.{◌∙◌, ℕ, sym, ap, inl}
 use Rattle.std.proofs.lemmas.List.{map_more, take_all}
-use Rattle.lrrows.specs.StoredActions.{action_numbered, action_of}
+use Rattle.lrrows.specs.StoredActions.{action_numbered, stored_action}
 use Rattle.lrrows.proofs.ReducedRows.{found_again, found_more, found_contains, put_key, no_reduction}
 use Rattle.lrrows.proofs.rows.reduced.Goals as goal
 use Rattle.lrrows.proofs.rows.reduced.Goals.{then-number-last+in-Reduce+in_ok-insert, then-number-last+in_default, else-number-last}
@@ -13,7 +13,7 @@ loop-number-preserved g c =
     let more = map_more (λ (e : ℕ × ℕ). action_numbered e.1) c.args.row.now c.loop-number.number-index (0, 0) c.loop-number-test.true in
     elim c.if-number-last.branch [
       | then-number-last+in-Reduce+in_ok-insert w ↦
-          let is = sym w.action_of_number.ensures ∙ ap (action_of number) w.in-Reduce.is in
+          let is = sym w.action_of_number.ensures ∙ ap (stored_action number) w.in-Reduce.is in
           let put = put_key (λ q. number q.0) (λ a b. g.T.Ord.cmp a.0 b.0) (λ a b. ordered a.0 b.0) c.loop-number.found.keys w.in-Reduce.pidx in
           rw (w.found-is, w.last-is, more, w.in_ok-insert.ensures.keys) (record {
             found = found_more _ _ _ _ (number w.in-Reduce.pidx.0) is put before.found;

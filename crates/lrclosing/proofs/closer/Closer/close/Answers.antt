@@ -1,5 +1,5 @@
 use Rattle.std.proofs.Common.{◌≡◌, ◌∙◌, ◌++◌, length, take, drop, sym, arith}
-use Rattle.lrclosing.specs.Leads.{AreKeptRows, rows_of}
+use Rattle.lrclosing.specs.Leads.{AreKeptRows, rows_in}
 use Rattle.lrclosing.specs.Visits.{IsRuleToDo}
 use Rattle.lrclosing.proofs.ClosingUnderway.{end_underway}
 use Rattle.lrclosing.proofs.MarkedProductions.{below_of_bit}
@@ -13,7 +13,7 @@ returns-clause-closes g c =
     let todo = c.loop-place.self.todo in
     record {
       shaped = are_rows grm rows c.loop-place.invariant.is.rows;
-      closure = λ d w. end_underway grm _ d (rows_of rows) (IsRuleToDo grm todo) c.loop-place.invariant.underway (λ q h. c.in_default.ensures.none h.0 h.2) w;
+      closure = λ d w. end_underway grm _ d (rows_in rows) (IsRuleToDo grm todo) c.loop-place.invariant.underway (λ q h. c.in_default.ensures.none h.0 h.2) w;
       behind = c.loop-place.invariant.underway.behind;
     }
 

@@ -2,7 +2,7 @@ use Rattle.std.proofs.Common.{◌≤◌, [], length}
 use Rattle.lrspec.specs.grammars.Grammar as math
 use Rattle.lrclosing.specs.ItemsOf.{items_of}
 use Rattle.lrclosing.specs.Visits.{IsRuleToDo, IsUnderway, visits_left}
-use Rattle.lrclosing.specs.Leads.{rows_of}
+use Rattle.lrclosing.specs.Leads.{rows_in}
 use Rattle.lrclosing.specs.Closer.{IsClosing}
 use Rattle.lrclosing.proofs.closer.Closer.close.Given as goal
 
@@ -11,9 +11,9 @@ invariant-loop-place g l =
     let number = g.T.IndexStorage.number in
     record {
       is : IsClosing l.grm l.self;
-      underway : IsUnderway l.grm (items_of number l.given) (rows_of l.self.rows.items) (IsRuleToDo l.grm l.self.todo) [];
+      underway : IsUnderway l.grm (items_of number l.given) (rows_in l.self.rows.items) (IsRuleToDo l.grm l.self.todo) [];
       place : l.from ≤ length l.self.todo;
     }
 
 abbrev pub decreases-loop-place : goal.decreases-loop-place
-decreases-loop-place g l = visits_left (math.token_count l.grm) (rows_of l.self.rows.items) l.self.todo
+decreases-loop-place g l = visits_left (math.token_count l.grm) (rows_in l.self.rows.items) l.self.todo

@@ -1,4 +1,4 @@
-use Rattle.lrclosing.specs.Leads.{rows_of}
+use Rattle.lrclosing.specs.Leads.{rows_in}
 use Rattle.lrclosing.specs.Visits.{IsRuleToDo}
 use Rattle.lrclosing.proofs.ClosingUnderway.{begin_underway, next_given}
 use Rattle.lrclosing.proofs.ItemsInTurn.{left_here, none_left, item_in_turn}
@@ -9,7 +9,7 @@ use Rattle.lrclosing.proofs.closer.Closer.visit_given.Goals as goal
 pub loop-key-init : goal.loop-key-init
 loop-key-init g c = record {
   is = c.requires.is.is;
-  underway = begin_underway c.args.grm.now _ (rows_of c.args.self.now.rows.items) (IsRuleToDo c.args.grm.now c.args.self.now.todo)
+  underway = begin_underway c.args.grm.now _ (rows_in c.args.self.now.rows.items) (IsRuleToDo c.args.grm.now c.args.self.now.todo)
       (rows_clear c.args.self.now.rows.items c.requires.clear.clear) (λ q h. c.requires.is.done h.0 h.2);
 }
 

@@ -1,6 +1,6 @@
 use Rattle.std.proofs.Common.{◌≡◌, ◌∙◌, ◌<◌, ◌++◌, length, length-set, take, drop, sym, ap, arith}
 use Rattle.lrspec.specs.grammars.Grammar.{token_count}
-use Rattle.lrclosing.specs.Leads.{AreLeadsOf, AreKeptRows, rows_of}
+use Rattle.lrclosing.specs.Leads.{AreLeadsOf, AreKeptRows, rows_in}
 use Rattle.lrclosing.proofs.MarkedProductions.{below_of_bit}
 use Rattle.lrclosing.proofs.RowsWritten.{read_at, written_whole}
 use Rattle.lrclosing.proofs.VisitedLeads.{taken_underway}
@@ -67,7 +67,7 @@ returns-clause-left c = λ g s.
     let whole : take c.args.self.now.rows.len (c.visit_leads.new.rows ++ drop (length c.visit_leads.new.rows) c.args.self.now.rows.items) ≡ c.visit_leads.new.rows =
     written_whole c.args.self.now.rows.len c.args.self.now.rows.items c.visit_leads.new.rows (v.rows.len ∙ sym s.rows.len) c.args.self.now.rows.ok.0 in
     let most = rw (c.as_mut_slice.ensures.value, c.set.ensures.after) at v.left in
-    let fewer = left_by_taking (token_count g) c.args.place (rows_of c.args.self.now.rows.items) c.args.self.now.todo c.requires.todo in
+    let fewer = left_by_taking (token_count g) c.args.place (rows_in c.args.self.now.rows.items) c.args.self.now.todo c.requires.todo in
     rw whole (omega (arith, most, fewer))
 
 pub visit_leads-requires-clause-reached : goal.visit_leads-requires-clause-reached

@@ -1,5 +1,5 @@
 use Rattle.std.proofs.Common.{◌≡◌, ◌<◌, ◌≤◌, true, false, length}
-use Rattle.lrgrammar.specs.NullableBits.{HoldsNullable, IsClosedBelow}
+use Rattle.lrgrammar.specs.NullableBits.{HoldsNullable, IsClosedUnderBodiesBelow}
 use Rattle.lrbits.specs.Bits.{unset}
 use Rattle.lrgrammar.proofs.firsts.nullable.grow_nullable.Given as goal
 
@@ -9,5 +9,5 @@ invariant-loop-i g l = record {
   sound : HoldsNullable l.grm l.initial.known → HoldsNullable l.grm l.known;
   fewer : unset l.known ≤ unset l.initial.known;
   falls : l.grown ≡ true → unset l.known < unset l.initial.known;
-  done : l.grown ≡ false → IsClosedBelow l.grm l.known l.i;
+  done : l.grown ≡ false → IsClosedUnderBodiesBelow l.grm l.known l.i;
 }

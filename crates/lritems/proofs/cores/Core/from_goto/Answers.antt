@@ -1,6 +1,6 @@
 use Rattle.std.proofs.Common.{◌≡◌, refl, sym}
 use Rattle.lritems.specs.ItemsOf.{items_of}
-use Rattle.lritems.specs.Gotos.{goto_of}
+use Rattle.lritems.specs.Gotos.{items_in}
 use Rattle.lritems.proofs.GotoItems.{none_left, none_more, push_turn}
 use Rattle.lritems.proofs.cores.Core.from_goto.Goals as goal
 
@@ -16,7 +16,7 @@ pub invariant_of-result : goal.invariant_of-result
 invariant_of-result g c =
     let number = g.T.IndexStorage.number in
     let none = none_left number (λ r. r.now) c.deref-key-items.result.now c.loop-key.key-index c.loop-key-test.false in
-    let whole : items_of number c.loop-key.items.items ≡ goto_of number c.args.goto.now = none_more _ _ _ none c.loop-key.invariant in
+    let whole : items_of number c.loop-key.items.items ≡ items_in number c.args.goto.now = none_more _ _ _ none c.loop-key.invariant in
     rw whole c.requires
 
 pub returns : goal.returns

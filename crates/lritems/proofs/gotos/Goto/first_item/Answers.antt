@@ -1,6 +1,6 @@
 use Rattle.std.proofs.Common.{◌≡◌, [], sym, ap, ◌∙◌}
 use Rattle.std.specs.Prelude.{slice_get}
-use Rattle.lritems.specs.Gotos.{goto_of}
+use Rattle.lritems.specs.Gotos.{items_in}
 use Rattle.lritems.specs.LeastItem.{least_item}
 use Rattle.lritems.proofs.GotoItems.{first_found, first_there, none_found}
 use Rattle.lritems.proofs.gotos.Goto.first_item.Goals as goal
@@ -14,7 +14,7 @@ returns-in_err-key-clause-none g c =
 pub returns-in_err-key-clause-least : goal.returns-in_err-key-clause-least
 returns-in_err-key-clause-least g c =
     let v = rw c.in_err-key.was at c.first.ensures.value in
-    let none : goto_of g.T.IndexStorage.number c.args.self.now ≡ [] =
+    let none : items_in g.T.IndexStorage.number c.args.self.now ≡ [] =
     none_found g.T.IndexStorage.number (λ r. r.now) c.args.self.now.items.items (v ∙ ap (λ es. slice_get es 0) c.deref.ensures.value) in
     rw c.from_residual.ensures (ap least_item (sym none))
 

@@ -1,7 +1,7 @@
 use Rattle.std.proofs.Common.{◌≡◌, true, false, ap, sym, subst, refl, ◌∙◌, inl, inr}
 use Rattle.lrspec.specs.grammars.ItemSets.{LooksIn}
 use Rattle.lrspec.specs.merging.WeakCompatibility.{SameItems, IsUnion}
-use Rattle.lritems.specs.Gotos.{goto_of}
+use Rattle.lritems.specs.Gotos.{items_in}
 use Rattle.lritems.specs.Merging.{HaveEquallyManyBits, Gains}
 use Rattle.lrplacing.specs.Construction.{Draft}
 use Rattle.lrplacing.proofs.CoreGrowth.{of_equal, looks_of_agree}
@@ -15,7 +15,7 @@ returns-else-grew-clause-fits g c = λ n f. c.weakly_merge-grew.ensures.fits n (
 
 pub weakly_merge-grew-requires : goal.weakly_merge-grew-requires
 weakly_merge-grew-requires g c =
-    let goto = goto_of g.T.IndexStorage.number c.args.goto.now in
+    let goto = items_in g.T.IndexStorage.number c.args.goto.now in
     record {
       items = subst (λ (s : Draft). SameItems s.core goto) (sym c.self.view_is) c.requires.items;
       bits = subst (λ (s : Draft). HaveEquallyManyBits s.core goto) (sym c.self.view_is) c.requires.bits;
@@ -25,7 +25,7 @@ weakly_merge-grew-requires g c =
 pub returns-then-grew-clause-union : goal.returns-then-grew-clause-union
 returns-then-grew-clause-union g c =
     let old = ap (λ (s : Draft). s.core) c.self.view_is in
-    of_equal (λ a b. IsUnion a (goto_of g.T.IndexStorage.number c.args.goto.now) b) _ _ _ _ (sym old) c.unclose.ensures.core c.weakly_merge-grew.ensures.union
+    of_equal (λ a b. IsUnion a (items_in g.T.IndexStorage.number c.args.goto.now) b) _ _ _ _ (sym old) c.unclose.ensures.core c.weakly_merge-grew.ensures.union
 
 pub returns-then-grew-clause-closed : goal.returns-then-grew-clause-closed
 returns-then-grew-clause-closed g c =
@@ -40,7 +40,7 @@ returns-then-grew-clause-grew g c =
 pub returns-else-grew-clause-union : goal.returns-else-grew-clause-union
 returns-else-grew-clause-union g c =
     let old = ap (λ (s : Draft). s.core) c.self.view_is in
-    of_equal (λ a b. IsUnion a (goto_of g.T.IndexStorage.number c.args.goto.now) b) _ _ _ _ (sym old) refl c.weakly_merge-grew.ensures.union
+    of_equal (λ a b. IsUnion a (items_in g.T.IndexStorage.number c.args.goto.now) b) _ _ _ _ (sym old) refl c.weakly_merge-grew.ensures.union
 
 pub returns-else-grew-clause-closed : goal.returns-else-grew-clause-closed
 returns-else-grew-clause-closed g c =

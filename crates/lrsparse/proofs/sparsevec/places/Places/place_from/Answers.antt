@@ -2,7 +2,7 @@ use Rattle.std.proofs.Common.{◌≡◌, ◌≢◌, ◌↔◌, ◌⊎◌, ◌≤
 use Rattle.std.specs.List.{All, slice_get}
 use Rattle.std.proofs.Math.Seq.{take-append_seam}
 use Rattle.lrsparse.specs.Owned.{IsOwned, MeetsNone}
-use Rattle.lrsparse.specs.Places.{Fits}
+use Rattle.lrsparse.specs.Places.{FitsIn}
 use Rattle.lrsparse.proofs.ColumnsOfRow.{fits_row, least_within, last_there, column_to_last, none_there}
 use Rattle.lrsparse.proofs.EntriesOfRow.{column_at, columns_len}
 use Rattle.lrsparse.proofs.PlacedRow.{row_placed, others_kept, above_placed, owned_placed}
@@ -110,7 +110,7 @@ module _ (c : goal.After-self-3-1) where
   least_of : (d : ℕ) → d < c.least_displacement-displacement.result → MeetsNone c.args.self.now.owned.items c.args.columns.now d → ⊥
   least_of = rw c.as_slice.ensures.value at c.least_displacement-displacement.ensures.least
 
-  fits_there : Fits c.args.self.now.list.items c.args.entries.now c.least_displacement-displacement.result
+  fits_there : FitsIn c.args.self.now.list.items c.args.entries.now c.least_displacement-displacement.result
   fits_there = fits_row c.args.self.now.list.items c.args.self.now.owned.items c.requires.placed.owned c.args.entries.now c.least_displacement-displacement.result
       (rw (c.as_slice.ensures.value, c.requires.columns) at c.least_displacement-displacement.ensures.fits)
 

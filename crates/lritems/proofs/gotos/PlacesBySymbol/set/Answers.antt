@@ -1,6 +1,6 @@
 use Rattle.std.proofs.Common.{arith}
 use Rattle.lritems.proofs.GotoPlaces.{below_of_there, written_here, rule_apart, token_apart}
-use Rattle.lritems.proofs.gotos.Places.set.Goals as goal
+use Rattle.lritems.proofs.gotos.PlacesBySymbol.set.Goals as goal
 
 pub index_mut-requires : goal.index_mut-requires
 index_mut-requires g c =

@@ -1,7 +1,7 @@
 use Rattle.std.proofs.Common.{◌<◌, length, refl, sym, arith}
 use Rattle.std.proofs.lemmas.Option.{slice_get_read}
 use Rattle.lritems.proofs.GotoPlaces.{below_of_there}
-use Rattle.lritems.proofs.gotos.Places.at.Goals as goal
+use Rattle.lritems.proofs.gotos.PlacesBySymbol.at.Goals as goal
 
 pub index-requires : goal.index-requires
 index-requires g c =
