@@ -12,7 +12,7 @@ use Rattle.lrsparse.specs.Matrix.{Matrix}
 use Rattle.lrsparse.specs.Building.{so_far}
 use Rattle.lrrows.specs.StateRows.{action_row, goto_row}
 use Rattle.lrrows.specs.StoredActions.{action_numbered, goto_numbered, IsIndexed}
-use Rattle.lrrows.specs.StoredLists.{pairs_of, mixes_of}
+use Rattle.lrrows.specs.StoredLists.{stored_reduce_reduces, stored_shift_reduces}
 use Rattle.lrcells.specs.StoredTable.{table_of, lists_or_none, AreCells, AreGotos, AreKeptOfRows, AreKept}
 use Rattle.lrrows.specs.RowsOf.{AreRowsOf}
 use Rattle.lrrows.specs.declared.rows.Rows.{Rows}
@@ -24,7 +24,7 @@ use Rattle.lrspec.proofs.tables.ConflictEntries.{entries_in_range}
 
 -- both lists of conflicts by numbers
 abbrev pub lists_of_rows : {T : Type 0} → (T → ℕ) → Rows T → Lists
-lists_of_rows number r = record { reduce_reduce = pairs_of number r.reduce_reduce.items; shift_reduce = mixes_of number r.shift_reduce.items }
+lists_of_rows number r = record { reduce_reduce = stored_reduce_reduces number r.reduce_reduce.items; shift_reduce = stored_shift_reduces number r.shift_reduce.items }
 
 -- a table is kept of these rows: its matrices have their cells and gotos, and its conflicts are theirs
 pub record IsKeptOf {T : Type 0} (number : T → ℕ) (r : Rows T) (actions gotos : Matrix) (kept : Option Lists) : Type 0 where
@@ -46,7 +46,7 @@ module _ {T : Type 0} (number : T → ℕ) (r : Rows T) where
       → MatchOption kept ((r.reduce_reduce.items ≡ []) × (r.shift_reduce.items ≡ []))
       (λ c. ¬ ((r.reduce_reduce.items ≡ []) × (r.shift_reduce.items ≡ [])))
       → IfSome kept (λ c. c ≡ lists_of_rows number r) → lists_or_none kept ≡ lists_of_rows number r
-  lists_kept None (e, f) m = ap (λ xs. record { reduce_reduce = pairs_of number xs; shift_reduce = [] }) (sym e) ∙ ap (λ xs. record { reduce_reduce = pairs_of number r.reduce_reduce.items; shift_reduce = mixes_of number xs }) (sym f)
+  lists_kept None (e, f) m = ap (λ xs. record { reduce_reduce = stored_reduce_reduces number xs; shift_reduce = [] }) (sym e) ∙ ap (λ xs. record { reduce_reduce = stored_reduce_reduces number r.reduce_reduce.items; shift_reduce = stored_shift_reduces number xs }) (sym f)
   lists_kept (Some c) l m = m
 
   -- conflicts are kept where there are any

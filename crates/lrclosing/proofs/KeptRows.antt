@@ -20,8 +20,8 @@ read_above (z ∷ xs) ys d x e = read_above xs ys d x e
 -- the row of one rule is joined with that of another one above it
 pub joined_below :
     (rows xs ys : List Row) (to from : ℕ) (v w a b : Row) (t : List Bool) → rows ≡ xs ++ ys → length xs ≡ from → to < from → slice_get rows to ≡ Some v
-    → slice_get rows from ≡ Some w → t ≡ union (get_or xs to a).tokens (get_or ys 0 b).tokens
-    → set xs to (record { tokens = t; is_reached = (get_or xs to a).is_reached }) ++ ys ≡ set rows to (joined_row v w)
+    → slice_get rows from ≡ Some w → t ≡ union (get_or xs to a).ctx (get_or ys 0 b).ctx
+    → set xs to (record { ctx = t; is_reached = (get_or xs to a).is_reached }) ++ ys ≡ set rows to (joined_row v w)
 joined_below rows xs ys to from v w a b t e l h i j u =
     let within : to < length xs = omega arith in
     let one : get_or xs to a ≡ v = read_below xs ys to a v within (rw e at i) in
@@ -31,8 +31,8 @@ joined_below rows xs ys to from v w a b t e l h i j u =
 -- and with that of one below it
 pub joined_above :
     (rows xs ys : List Row) (to from : ℕ) (v w a b : Row) (t : List Bool) → rows ≡ xs ++ ys → length xs ≡ to → from < to → slice_get rows to ≡ Some v
-    → slice_get rows from ≡ Some w → t ≡ union (get_or ys 0 a).tokens (get_or xs from b).tokens
-    → xs ++ set ys 0 (record { tokens = t; is_reached = (get_or ys 0 a).is_reached }) ≡ set rows to (joined_row v w)
+    → slice_get rows from ≡ Some w → t ≡ union (get_or ys 0 a).ctx (get_or xs from b).ctx
+    → xs ++ set ys 0 (record { ctx = t; is_reached = (get_or ys 0 a).is_reached }) ≡ set rows to (joined_row v w)
 joined_above rows xs ys to from v w a b t e l h i j u =
     let within : from < length xs = omega arith in
     let two : get_or xs from b ≡ w = read_below xs ys from b w within (rw e at j) in
@@ -44,13 +44,13 @@ joined_above rows xs ys to from v w a b t e l h i j u =
 
 -- whether that changed it
 pub joined_changed :
-    (c : Bool) (x y v w : Row) (t : List Bool) → x ≡ v → y ≡ w → t ≡ union x.tokens y.tokens → (IsTrue c ↔ (t ≢ x.tokens)) → (IsTrue c ↔ (union v.tokens w.tokens ≢ v.tokens))
+    (c : Bool) (x y v w : Row) (t : List Bool) → x ≡ v → y ≡ w → t ≡ union x.ctx y.ctx → (IsTrue c ↔ (t ≢ x.ctx)) → (IsTrue c ↔ (union v.ctx w.ctx ≢ v.ctx))
 joined_changed c x y v w t e h u k = rw (u, e, h) at k
 
 pub changed_below :
     (c : Bool) (rows xs ys : List Row) (to from : ℕ) (v w a b : Row) (t : List Bool) → rows ≡ xs ++ ys → length xs ≡ from → to < from → slice_get rows to ≡ Some v
-    → slice_get rows from ≡ Some w → t ≡ union (get_or xs to a).tokens (get_or ys 0 b).tokens → (IsTrue c ↔ (t ≢ (get_or xs to a).tokens))
-    → (IsTrue c ↔ (union v.tokens w.tokens ≢ v.tokens))
+    → slice_get rows from ≡ Some w → t ≡ union (get_or xs to a).ctx (get_or ys 0 b).ctx → (IsTrue c ↔ (t ≢ (get_or xs to a).ctx))
+    → (IsTrue c ↔ (union v.ctx w.ctx ≢ v.ctx))
 changed_below c rows xs ys to from v w a b t e l h i j u k =
     let within : to < length xs = omega arith in
     let one : get_or xs to a ≡ v = read_below xs ys to a v within (rw e at i) in
@@ -59,8 +59,8 @@ changed_below c rows xs ys to from v w a b t e l h i j u k =
 
 pub changed_above :
     (c : Bool) (rows xs ys : List Row) (to from : ℕ) (v w a b : Row) (t : List Bool) → rows ≡ xs ++ ys → length xs ≡ to → from < to → slice_get rows to ≡ Some v
-    → slice_get rows from ≡ Some w → t ≡ union (get_or ys 0 a).tokens (get_or xs from b).tokens → (IsTrue c ↔ (t ≢ (get_or ys 0 a).tokens))
-    → (IsTrue c ↔ (union v.tokens w.tokens ≢ v.tokens))
+    → slice_get rows from ≡ Some w → t ≡ union (get_or ys 0 a).ctx (get_or xs from b).ctx → (IsTrue c ↔ (t ≢ (get_or ys 0 a).ctx))
+    → (IsTrue c ↔ (union v.ctx w.ctx ≢ v.ctx))
 changed_above c rows xs ys to from v w a b t e l h i j u k =
     let within : from < length xs = omega arith in
     let two : get_or xs from b ≡ w = read_below xs ys from b w within (rw e at j) in

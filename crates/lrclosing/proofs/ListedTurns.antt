@@ -82,13 +82,13 @@ row_item_is g rows p q r d v e i k z =
 -- that is its tokens, where the production is marked
 pub marked_row :
     (g : Grammar) (rs : List Row) (bits : List Bool) (q r : ℕ) (x : Row) → ArePutIn g (rows_in rs) bits → IsTrue (bit bits q) → IsProductionOf g q r
-    → slice_get rs r ≡ Some x → row_at (rows_in rs) r ≡ Some x.tokens
+    → slice_get rs r ≡ Some x → row_at (rows_in rs) r ≡ Some x.ctx
 marked_row g rs bits q r x a b i e =
     let put = (a.each q).0 b in
     let same : put.0 ≡ r = one_rule (slice_get g.productions q) r put.0 i put.1 in
     let there : IsSome (row_at (rows_in rs) r) = rw same at put.2 in
     let some : IsSome (row_in x) = rw (row_here rs r x e) at there in
-    row_here rs r x e ∙ some_tokens x.tokens x.is_reached some
+    row_here rs r x e ∙ some_tokens x.ctx x.is_reached some
 
 module _ {X : Type 0} (f : X → (ℕ × ℕ) × List Bool) where
   -- the item of a production with a row

@@ -127,9 +127,9 @@ module _ (g : Grammar) (f : Firsts) (of : AreFirstsOf g f) where
 
 -- what the walk ends with is what is passed on
 pub made_passed_on :
-    (g : Grammar) (f : Firsts) → AreFirstsOf g f → (y : List Symbol) (acc ahead : List Bool) → AreBodySymbols g y → length acc ≡ token_count g
-    → ahead ≡ passed f y acc → ArePassedOn g y None (Some acc) ahead
-made_passed_on g f of y acc ahead s e h = rw h (are_passed_on g f of y acc s e)
+    (g : Grammar) (f : Firsts) → AreFirstsOf g f → (y : List Symbol) (acc row : List Bool) → AreBodySymbols g y → length acc ≡ token_count g
+    → row ≡ passed f y acc → ArePassedOn g y None (Some acc) row
+made_passed_on g f of y acc row s e h = rw h (are_passed_on g f of y acc s e)
 
 -- with the own tokens of an item behind whose rule all is nullable
 pub with_own :

@@ -16,19 +16,19 @@ use Rattle.lrclosing.proofs.RowsWritten.{row_here, some_at, written_here, writte
 -- the tokens of a lead alone, where the row has those of the production or the lead doesn't pass them on
 led_alone :
     (g : Grammar) (a q : ℕ) (l : Lead) (v w : Row) → IsLeadOf g a q l → IsRow g v → IsRow g w → (IsTrue l.inherits → v ≡ w)
-    → ArePassedOn g (rest g q 1) (row_in w) (row_in v) (union v.tokens l.begins)
+    → ArePassedOn g (rest g q 1) (row_in w) (row_in v) (union v.ctx l.begins)
 led_alone g a q l v w h i j own =
-    let e : length l.begins ≡ length v.tokens = h.bits ∙ sym i.bits in
+    let e : length l.begins ≡ length v.ctx = h.bits ∙ sym i.bits in
     record {
-      len = length-union v.tokens l.begins ∙ i.bits;
-      kept = λ t k. union_left v.tokens l.begins t e (token_out v.tokens v.is_reached t k);
-      begins = λ t k. union_right v.tokens l.begins t e ((h.begins t).1 k);
+      len = length-union v.ctx l.begins ∙ i.bits;
+      kept = λ t k. union_left v.ctx l.begins t e (token_out v.ctx v.is_reached t k);
+      begins = λ t k. union_right v.ctx l.begins t e ((h.begins t).1 k);
       inherit = λ t n k.
           let same : v ≡ w = own (h.nullable.1 n) in
           let had : HasToken (row_in v) t = rw same k in
-          union_left v.tokens l.begins t e (token_out v.tokens v.is_reached t had);
-      from = λ t k. elim (union_from v.tokens l.begins t e k) [
-        | inl x ↦ inl (token_in v.tokens v.is_reached t i.empty x)
+          union_left v.ctx l.begins t e (token_out v.ctx v.is_reached t had);
+      from = λ t k. elim (union_from v.ctx l.begins t e k) [
+        | inl x ↦ inl (token_in v.ctx v.is_reached t i.empty x)
         | inr x ↦ inr (inl ((h.begins t).0 x))
       ];
     }
@@ -36,20 +36,20 @@ led_alone g a q l v w h i j own =
 -- and with those of the production
 led_joined :
     (g : Grammar) (a q : ℕ) (l : Lead) (v w : Row) → IsLeadOf g a q l → IsRow g v → IsRow g w → IsTrue l.inherits
-    → ArePassedOn g (rest g q 1) (row_in w) (row_in v) (union (union v.tokens l.begins) w.tokens)
+    → ArePassedOn g (rest g q 1) (row_in w) (row_in v) (union (union v.ctx l.begins) w.ctx)
 led_joined g a q l v w h i j y =
-    let e : length l.begins ≡ length v.tokens = h.bits ∙ sym i.bits in
-    let f : length w.tokens ≡ length (union v.tokens l.begins) = j.bits ∙ sym i.bits ∙ sym (length-union v.tokens l.begins) in
-    let u = union v.tokens l.begins in
+    let e : length l.begins ≡ length v.ctx = h.bits ∙ sym i.bits in
+    let f : length w.ctx ≡ length (union v.ctx l.begins) = j.bits ∙ sym i.bits ∙ sym (length-union v.ctx l.begins) in
+    let u = union v.ctx l.begins in
     record {
-      len = length-union u w.tokens ∙ length-union v.tokens l.begins ∙ i.bits;
-      kept = λ t k. union_left u w.tokens t f (union_left v.tokens l.begins t e (token_out v.tokens v.is_reached t k));
-      begins = λ t k. union_left u w.tokens t f (union_right v.tokens l.begins t e ((h.begins t).1 k));
-      inherit = λ t n k. union_right u w.tokens t f (token_out w.tokens w.is_reached t k);
-      from = λ t k. elim (union_from u w.tokens t f k) [
-        | inr x ↦ inr (inr (h.nullable.0 y, token_in w.tokens w.is_reached t j.empty x))
-        | inl x ↦ elim (union_from v.tokens l.begins t e x) [
-          | inl z ↦ inl (token_in v.tokens v.is_reached t i.empty z)
+      len = length-union u w.ctx ∙ length-union v.ctx l.begins ∙ i.bits;
+      kept = λ t k. union_left u w.ctx t f (union_left v.ctx l.begins t e (token_out v.ctx v.is_reached t k));
+      begins = λ t k. union_left u w.ctx t f (union_right v.ctx l.begins t e ((h.begins t).1 k));
+      inherit = λ t n k. union_right u w.ctx t f (token_out w.ctx w.is_reached t k);
+      from = λ t k. elim (union_from u w.ctx t f k) [
+        | inr x ↦ inr (inr (h.nullable.0 y, token_in w.ctx w.is_reached t j.empty x))
+        | inl x ↦ elim (union_from v.ctx l.begins t e x) [
+          | inl z ↦ inl (token_in v.ctx v.is_reached t i.empty z)
           | inr z ↦ inr (inl ((h.begins t).0 z))
         ]
       ];
@@ -57,14 +57,14 @@ led_joined g a q l v w h i j y =
 
 -- as the row that it was, whether it was reached or not
 pub as_row :
-    (g : Grammar) (y : List Symbol) (ctx : Option (List Bool)) (r : Row) (new : List Bool) → IsRow g r → ArePassedOn g y ctx (Some r.tokens) new
+    (g : Grammar) (y : List Symbol) (ctx : Option (List Bool)) (r : Row) (new : List Bool) → IsRow g r → ArePassedOn g y ctx (Some r.ctx) new
     → ArePassedOn g y ctx (row_in r) new
 as_row g y ctx r new i p = record {
   len = p.len;
-  kept = λ t k. p.kept t (token_out r.tokens r.is_reached t k);
+  kept = λ t k. p.kept t (token_out r.ctx r.is_reached t k);
   begins = p.begins;
   inherit = p.inherit;
-  from = λ t k. elim (p.from t k) [ inl z ↦ inl (token_in r.tokens r.is_reached t i.empty z) | inr z ↦ inr z ];
+  from = λ t k. elim (p.from t k) [ inl z ↦ inl (token_in r.ctx r.is_reached t i.empty z) | inr z ↦ inr z ];
 }
 
 -- a row that wasn't reached has grown
@@ -82,8 +82,8 @@ same_place rows b a v w h k e = let z : slice_get rows a ≡ Some v = rw e at h 
 -- what is written where the production's own tokens aren't passed on, or are those of the row
 pub put_alone :
     (g : Grammar) (a q : ℕ) (l : Lead) (rows : List Row) (x : Row) (u : List Bool) (c : Bool) → IsLeadOf g a q l → AreKeptRows g rows → a < length rows
-    → (IsTrue l.inherits → l.rule ≡ a) → u ≡ union (get_or rows l.rule x).tokens l.begins → (IsTrue c ↔ (u ≢ (get_or rows l.rule x).tokens))
-    → IsPut g q a l.rule (c || not (get_or rows l.rule x).is_reached) rows (set rows l.rule (record { tokens = u; is_reached = true }))
+    → (IsTrue l.inherits → l.rule ≡ a) → u ≡ union (get_or rows l.rule x).ctx l.begins → (IsTrue c ↔ (u ≢ (get_or rows l.rule x).ctx))
+    → IsPut g q a l.rule (c || not (get_or rows l.rule x).is_reached) rows (set rows l.rule (record { ctx = u; is_reached = true }))
 put_alone g a q l rows x u c h k below own e ch =
     let within : l.rule < length rows = omega (arith, h.rule, k.len) in
     let v = some_at rows l.rule within in
@@ -91,8 +91,8 @@ put_alone g a q l rows x u c h k below own e ch =
     let at : get_or rows l.rule x ≡ v.0 = get_or_from_slice_get rows l.rule v.0 x v.1 in
     let i : IsRow g v.0 = k.each l.rule v.0 v.1 in
     let j : IsRow g w.0 = k.each a w.0 w.1 in
-    let s : u ≡ union v.0.tokens l.begins = rw at at e in
-    let d : IsTrue c ↔ (u ≢ v.0.tokens) = rw at at ch in
+    let s : u ≡ union v.0.ctx l.begins = rw at at e in
+    let d : IsTrue c ↔ (u ≢ v.0.ctx) = rw at at ch in
     let same : IsTrue l.inherits → v.0 ≡ w.0 = λ y. same_place rows l.rule a v.0 w.0 v.1 w.1 (own y) in
     let p = led_alone g a q l v.0 w.0 h i j same in
     record {
@@ -100,41 +100,41 @@ put_alone g a q l rows x u c h k below own e ch =
       passed = rw (row_here rows a w.0 w.1, row_here rows l.rule v.0 v.1, s) p;
       written = refl;
       grown = rw (row_here rows l.rule v.0 v.1, at)
-          (grown_reached (token_count g) c v.0.is_reached v.0.tokens u (grown_union (token_count g) c v.0.tokens l.begins u s d) (rw s p.len));
+          (grown_reached (token_count g) c v.0.is_reached v.0.ctx u (grown_union (token_count g) c v.0.ctx l.begins u s d) (rw s p.len));
     }
 
 -- and where they are passed on
 pub put_joined :
     (g : Grammar) (a q : ℕ) (l : Lead) (rows new : List Row) (x : Row) (u : List Bool) (c d : Bool) → IsLeadOf g a q l → AreKeptRows g rows → a < length rows
-    → l.rule ≢ a → IsTrue l.inherits → u ≡ union (get_or rows l.rule x).tokens l.begins → (IsTrue c ↔ (u ≢ (get_or rows l.rule x).tokens))
-    → ((v w : Row) → slice_get (set rows l.rule (record { tokens = u; is_reached = true })) l.rule ≡ Some v
-    → slice_get (set rows l.rule (record { tokens = u; is_reached = true })) a ≡ Some w
-    → new ≡ set (set rows l.rule (record { tokens = u; is_reached = true })) l.rule (joined_row v w))
-    → ((v w : Row) → slice_get (set rows l.rule (record { tokens = u; is_reached = true })) l.rule ≡ Some v
-    → slice_get (set rows l.rule (record { tokens = u; is_reached = true })) a ≡ Some w
-    → (IsTrue d ↔ (union v.tokens w.tokens ≢ v.tokens)))
+    → l.rule ≢ a → IsTrue l.inherits → u ≡ union (get_or rows l.rule x).ctx l.begins → (IsTrue c ↔ (u ≢ (get_or rows l.rule x).ctx))
+    → ((v w : Row) → slice_get (set rows l.rule (record { ctx = u; is_reached = true })) l.rule ≡ Some v
+    → slice_get (set rows l.rule (record { ctx = u; is_reached = true })) a ≡ Some w
+    → new ≡ set (set rows l.rule (record { ctx = u; is_reached = true })) l.rule (joined_row v w))
+    → ((v w : Row) → slice_get (set rows l.rule (record { ctx = u; is_reached = true })) l.rule ≡ Some v
+    → slice_get (set rows l.rule (record { ctx = u; is_reached = true })) a ≡ Some w
+    → (IsTrue d ↔ (union v.ctx w.ctx ≢ v.ctx)))
     → IsPut g q a l.rule (d || (c || not (get_or rows l.rule x).is_reached)) rows new
 put_joined g a q l rows new x u c d h k below apart y e ch joined changed =
-    let mid : Row = record { tokens = u; is_reached = true } in
+    let mid : Row = record { ctx = u; is_reached = true } in
     let within : l.rule < length rows = omega (arith, h.rule, k.len) in
     let v = some_at rows l.rule within in
     let w = some_at rows a below in
     let at : get_or rows l.rule x ≡ v.0 = get_or_from_slice_get rows l.rule v.0 x v.1 in
     let i : IsRow g v.0 = k.each l.rule v.0 v.1 in
     let j : IsRow g w.0 = k.each a w.0 w.1 in
-    let s : u ≡ union v.0.tokens l.begins = rw at at e in
-    let f : IsTrue c ↔ (u ≢ v.0.tokens) = rw at at ch in
+    let s : u ≡ union v.0.ctx l.begins = rw at at e in
+    let f : IsTrue c ↔ (u ≢ v.0.ctx) = rw at at ch in
     let here : slice_get (set rows l.rule mid) l.rule ≡ Some mid = written_here rows l.rule mid within in
     let there : slice_get (set rows l.rule mid) a ≡ Some w.0 = written_there rows l.rule a mid (λ z. apart (sym z)) ∙ w.1 in
     let p = led_joined g a q l v.0 w.0 h i j y in
-    let first : HasGrown (token_count g) c (Some v.0.tokens) u = grown_union (token_count g) c v.0.tokens l.begins u s f in
-    let len : length u ≡ token_count g = ap length s ∙ length-union v.0.tokens l.begins ∙ i.bits in
+    let first : HasGrown (token_count g) c (Some v.0.ctx) u = grown_union (token_count g) c v.0.ctx l.begins u s f in
+    let len : length u ≡ token_count g = ap length s ∙ length-union v.0.ctx l.begins ∙ i.bits in
     record {
-      row = union u w.0.tokens;
+      row = union u w.0.ctx;
       passed = rw (row_here rows a w.0 w.1, row_here rows l.rule v.0 v.1, s) p;
       written = joined mid w.0 here there ∙ set_twice rows l.rule mid (joined_row mid w.0);
       grown = rw (row_here rows l.rule v.0 v.1, at)
-          (grown_before (token_count g) (c || not v.0.is_reached) d (row_in v.0) u (union u w.0.tokens)
-          (grown_reached (token_count g) c v.0.is_reached v.0.tokens u first len)
-          (grown_union (token_count g) d u w.0.tokens (union u w.0.tokens) refl (changed mid w.0 here there)));
+          (grown_before (token_count g) (c || not v.0.is_reached) d (row_in v.0) u (union u w.0.ctx)
+          (grown_reached (token_count g) c v.0.is_reached v.0.ctx u first len)
+          (grown_union (token_count g) d u w.0.ctx (union u w.0.ctx) refl (changed mid w.0 here there)));
     }

@@ -43,26 +43,26 @@ added_then I J K L M N old mid new a b split left right cut first second = recor
 }
 
 -- no production of a list is put in at first
-pub put_no_more : (ps : List ℕ) (ahead : List Bool) (a : Items) → ArePut (IsAmongFirst 0 ps) ahead a a
-put_no_more ps ahead a =
-    added_none (IsAmongFirst 0 ps) (λ q t. IsAmongFirst 0 ps q × IsTrue (bit ahead t)) a (among_none ps) (λ q t h. among_none ps q h.0)
+pub put_no_more : (ps : List ℕ) (ctx : List Bool) (a : Items) → ArePut (IsAmongFirst 0 ps) ctx a a
+put_no_more ps ctx a =
+    added_none (IsAmongFirst 0 ps) (λ q t. IsAmongFirst 0 ps q × IsTrue (bit ctx t)) a (among_none ps) (λ q t h. among_none ps q h.0)
 
 -- one production more
 pub put_this :
-    (ps : List ℕ) (i p : ℕ) (ahead : List Bool) (old mid new : Items) → ArePut (IsAmongFirst i ps) ahead old mid → ArePut (λ q. q ≡ p) ahead mid new
-    → i < length ps → get_or ps i 0 ≡ p → ArePut (IsAmongFirst (i + 1) ps) ahead old new
-put_this ps i p ahead old mid new a b l e =
-    added_then (IsAmongFirst i ps) (λ q. q ≡ p) (IsAmongFirst (i + 1) ps) (λ q t. IsAmongFirst i ps q × IsTrue (bit ahead t)) (λ q t. (q ≡ p) × IsTrue (bit ahead t))
-    (λ q t. IsAmongFirst (i + 1) ps q × IsTrue (bit ahead t)) old mid new a b
+    (ps : List ℕ) (i p : ℕ) (ctx : List Bool) (old mid new : Items) → ArePut (IsAmongFirst i ps) ctx old mid → ArePut (λ q. q ≡ p) ctx mid new
+    → i < length ps → get_or ps i 0 ≡ p → ArePut (IsAmongFirst (i + 1) ps) ctx old new
+put_this ps i p ctx old mid new a b l e =
+    added_then (IsAmongFirst i ps) (λ q. q ≡ p) (IsAmongFirst (i + 1) ps) (λ q t. IsAmongFirst i ps q × IsTrue (bit ctx t)) (λ q t. (q ≡ p) × IsTrue (bit ctx t))
+    (λ q t. IsAmongFirst (i + 1) ps q × IsTrue (bit ctx t)) old mid new a b
     (λ q h. among_next i ps p q e h) (λ q h. among_more i ps q h) (λ q h. among_here i ps p q l e h)
     (λ q t h. elim (among_next i ps p q e h.0) [ inl k ↦ inl (k, h.1) | inr k ↦ inr (k, h.1) ])
     (λ q t h. (among_more i ps q h.0, h.1)) (λ q t h. (among_here i ps p q l e h.0, h.1))
 
 -- all productions of the rule at last
 pub put_every :
-    (g : Grammar) (ps : List ℕ) (r n : ℕ) (ahead : List Bool) (old new : Items) → ps ≡ productions_of g r → length ps ≤ n
-    → ArePut (IsAmongFirst n ps) ahead old new → ArePut (λ q. IsProductionOf g q r) ahead old new
-put_every g ps r n ahead old new e l a = record {
+    (g : Grammar) (ps : List ℕ) (r n : ℕ) (ctx : List Bool) (old new : Items) → ps ≡ productions_of g r → length ps ≤ n
+    → ArePut (IsAmongFirst n ps) ctx old new → ArePut (λ q. IsProductionOf g q r) ctx old new
+put_every g ps r n ctx old new e l a = record {
   contains = a.contains;
   from_item = λ p d h. elim (a.from_item p d h) [ inl k ↦ inl k | inr k ↦ inr (k.0, production_among g ps r n p e k.1) ];
   from_look = λ p d t h. elim (a.from_look p d t h) [ inl k ↦ inl k | inr k ↦ inr (k.0, (production_among g ps r n p e k.1.0, k.1.1)) ];
@@ -154,8 +154,8 @@ pub bits_of_fits : (g : Grammar) (a : Items) → Fits g a → HaveBits (token_co
 bits_of_fits g a f p d v e = (f p d v e).bits
 
 pub fits_of_put :
-    (g : Grammar) (r : ℕ) (ahead : List Bool) (old new : Items) → Fits g old → ArePut (λ q. IsProductionOf g q r) ahead old new → HaveBits (token_count g) new → Fits g new
-fits_of_put g r ahead old new f m b p d v e =
+    (g : Grammar) (r : ℕ) (ctx : List Bool) (old new : Items) → Fits g old → ArePut (λ q. IsProductionOf g q r) ctx old new → HaveBits (token_count g) new → Fits g new
+fits_of_put g r ctx old new f m b p d v e =
     ⊎_elim
     (λ (h : HasItem old p d).
     let o = some_of (item_at old p d) h in

@@ -34,12 +34,12 @@ if_some v false h = cc
 
 pub row_by_bit : (rs : List Row) (a : ℕ) → IsTrue (bit (reached_of rs) a) → IsSome (row_at (rows_in rs) a)
 row_by_bit [] a h = cc
-row_by_bit (x ∷ rs) zero h = some_if x.tokens x.is_reached h
+row_by_bit (x ∷ rs) zero h = some_if x.ctx x.is_reached h
 row_by_bit (x ∷ rs) (suc a) h = row_by_bit rs a h
 
 pub bit_by_row : (rs : List Row) (a : ℕ) → IsSome (row_at (rows_in rs) a) → IsTrue (bit (reached_of rs) a)
 bit_by_row [] a h = cc
-bit_by_row (x ∷ rs) zero h = if_some x.tokens x.is_reached h
+bit_by_row (x ∷ rs) zero h = if_some x.ctx x.is_reached h
 bit_by_row (x ∷ rs) (suc a) h = bit_by_row rs a h
 
 pub below_of_row : (rs : List Row) (a : ℕ) → IsSome (row_at (rows_in rs) a) → a < length rs
@@ -59,7 +59,7 @@ was_reached v w false e = cc
 -- a bit that was set is set again
 set_again : (rs : List Row) (b : ℕ) (v : List Bool) → row_at (rows_in rs) b ≡ Some v → set (reached_of rs) b true ≡ reached_of rs
 set_again [] b v e = refl
-set_again (x ∷ rs) zero v e = ap (λ c. c ∷ reached_of rs) (was_reached x.tokens v x.is_reached e)
+set_again (x ∷ rs) zero v e = ap (λ c. c ∷ reached_of rs) (was_reached x.ctx v x.is_reached e)
 set_again (x ∷ rs) (suc b) v e = ap (λ l. x.is_reached ∷ l) (set_again rs b v e)
 
 -- what a lead writes, where the bit is set if that changed the row
@@ -67,10 +67,10 @@ pub reached_put :
     (g : Grammar) (q a b : ℕ) (c : Bool) (old new : List Row) (bits after : List Bool) → IsPut g q a b c old new → bits ≡ reached_of old → IsSetIf c b bits after
     → after ≡ reached_of new
 reached_put g q a b true old new bits after p e s =
-    let w : reached_of new ≡ set (reached_of old) b true = ap reached_of p.written ∙ reached_set old b (record { tokens = p.row; is_reached = true }) refl in
+    let w : reached_of new ≡ set (reached_of old) b true = ap reached_of p.written ∙ reached_set old b (record { ctx = p.row; is_reached = true }) refl in
     s ∙ ap (λ l. set l b true) e ∙ sym w
 reached_put g q a b false old new bits after p e s =
-    let w : reached_of new ≡ set (reached_of old) b true = ap reached_of p.written ∙ reached_set old b (record { tokens = p.row; is_reached = true }) refl in
+    let w : reached_of new ≡ set (reached_of old) b true = ap reached_of p.written ∙ reached_set old b (record { ctx = p.row; is_reached = true }) refl in
     s ∙ e ∙ sym (w ∙ set_again old b p.row p.grown)
 
 -- ---- rows that are cleared

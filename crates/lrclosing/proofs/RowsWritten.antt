@@ -70,14 +70,14 @@ kept_written g rs new b r k i e = rw e (record {
 })
 
 -- a row of a rule that is reached
-pub row_reached : (g : Grammar) (v : List Bool) → length v ≡ token_count g → IsRow g (record { tokens = v; is_reached = true })
+pub row_reached : (g : Grammar) (v : List Bool) → length v ≡ token_count g → IsRow g (record { ctx = v; is_reached = true })
 row_reached g v e = record { bits = e; empty = λ h. absurd cc }
 
-pub row_is_reached : (g : Grammar) (y : Row) → length y.tokens ≡ token_count g → y.is_reached ≡ true → IsRow g y
+pub row_is_reached : (g : Grammar) (y : Row) → length y.ctx ≡ token_count g → y.is_reached ≡ true → IsRow g y
 row_is_reached g y e h = record { bits = e; empty = λ k. let c : true ≡ false = sym h ∙ k in absurd cc }
 
 -- one of a rule that isn't
-pub row_not_reached : (g : Grammar) (v : List Bool) → v ≡ replicate (token_count g) false → IsRow g (record { tokens = v; is_reached = false })
+pub row_not_reached : (g : Grammar) (v : List Bool) → v ≡ replicate (token_count g) false → IsRow g (record { ctx = v; is_reached = false })
 row_not_reached g v e = record { bits = ap length e ∙ length-replicate (token_count g) false; empty = λ h. rw e (clear_bits (token_count g)) }
 
 -- one row more
@@ -110,7 +110,7 @@ bits_of x v false n e h = cc
 pub are_rows : (g : Grammar) (rs : List Row) → AreKeptRows g rs → AreRows g (rows_in rs)
 are_rows g rs k = record {
   rules = length_rows rs ∙ k.len;
-  bits = λ r v e. let x = row_there rs r v e in bits_of x.0.tokens v x.0.is_reached (token_count g) x.2 ((k.each r x.0 x.1).bits);
+  bits = λ r v e. let x = row_there rs r v e in bits_of x.0.ctx v x.0.is_reached (token_count g) x.2 ((k.each r x.0 x.1).bits);
 }
 
 not_reached : (x : List Bool) (b : Bool) → b ≡ false → (if b then Some x else None) ≡ None
@@ -120,7 +120,7 @@ not_reached x false e = refl
 -- rows that are clear are none
 pub rows_clear : (rs : List Row) → ((a : ℕ) (r : Row) → slice_get rs a ≡ Some r → r.is_reached ≡ false) → (a : ℕ) → row_at (rows_in rs) a ≡ None
 rows_clear [] c a = refl
-rows_clear (x ∷ rs) c zero = not_reached x.tokens x.is_reached (c zero x refl)
+rows_clear (x ∷ rs) c zero = not_reached x.ctx x.is_reached (c zero x refl)
 rows_clear (x ∷ rs) c (suc a) = rows_clear rs (λ k r h. c (suc k) r h) a
 
 -- a row that is there is its tokens

@@ -282,9 +282,9 @@ bits_beside rows b r n below f = ⊎_elim
 
 -- what is passed on to a row with no bit set is passed on to none
 pub passed_to_none :
-    (g : Grammar) (y : List Symbol) (ctx : Option (List Bool)) (n : ℕ) (v ahead : List Bool) → v ≡ replicate n false → ArePassedOn g y ctx (Some v) ahead
-    → ArePassedOn g y ctx None ahead
-passed_to_none g y ctx n v ahead e a = record {
+    (g : Grammar) (y : List Symbol) (ctx : Option (List Bool)) (n : ℕ) (v row : List Bool) → v ≡ replicate n false → ArePassedOn g y ctx (Some v) row
+    → ArePassedOn g y ctx None row
+passed_to_none g y ctx n v row e a = record {
   len = a.len;
   kept = λ t h. absurd h;
   begins = a.begins;

@@ -63,7 +63,7 @@ visited_put g q a l c old new todo after Left h k e p s =
     let m : ArePassedOn g h.is.0 (row_at (rows_in old) a) (row_at (rows_in old) l.rule) p.row = rw (behind_rule g q 0 l.rule 1 h.is one) at p.passed in
     let below : l.rule < length (rows_in old) = omega (arith, h.rule, k.len, length_rows old) in
     let bits : l.rule < length todo = omega (arith, h.rule, e) in
-    let w : rows_in new ≡ set (rows_in old) l.rule (Some p.row) = ap rows_in p.written ∙ rows_set old l.rule (record { tokens = p.row; is_reached = true }) in
+    let w : rows_in new ≡ set (rows_in old) l.rule (Some p.row) = ap rows_in p.written ∙ rows_set old l.rule (record { ctx = p.row; is_reached = true }) in
     rw w (visited g q 0 l.rule h.is.0 (row_at (rows_in old) a) (row_at (rows_in old) a) (rows_in old) p.row (λ x. IsRuleToDo g todo x ⊎ Left x)
     (λ x. IsRuleToDo g after x ⊎ Left x) h.is.1 below m
     (λ x y. elim y [ inl z ↦ inl (z.0, z.1, set_kept c l.rule todo after s z.0 z.2) | inr z ↦ inr z ])
@@ -113,7 +113,7 @@ pub leads_step :
     → IsLeadOf g a q l → ((p : ℕ) → IsLeadOf g a p l → IsPut g p a l.rule c rows new) → IsSetIf c l.rule todo after
     → AreVisited g a (λ p. IsRuleToDo g after p ⊎ IsLeft g a ls (k + 1) p) old new start after
 leads_step g a k q ls l c old rows new start todo after v e at h puts s = record {
-  rows = kept_written g rows new l.rule (record { tokens = put.row; is_reached = true }) v.rows (row_reached g put.row put.passed.len) put.written;
+  rows = kept_written g rows new l.rule (record { ctx = put.row; is_reached = true }) v.rows (row_reached g put.row put.passed.len) put.written;
   len = set_len c l.rule todo after s ∙ v.len;
   underway = λ b u.
       let now = v.underway b u in
@@ -127,7 +127,7 @@ leads_step g a k q ls l c old rows new start todo after v e at h puts s = record
       (λ p i. elim i [ inl z ↦ inr (inl z) | inr z ↦ elim (split p z) [ inl n ↦ inl n | inr n ↦ inr (inr n) ] ]);
   left =
       let w : rows_in new ≡ set (rows_in rows) l.rule (Some put.row) =
-      ap rows_in put.written ∙ rows_set rows l.rule (record { tokens = put.row; is_reached = true }) in
+      ap rows_in put.written ∙ rows_set rows l.rule (record { ctx = put.row; is_reached = true }) in
       let below : l.rule < length (rows_in rows) = omega (arith, h.rule, v.rows.len, length_rows rows) in
       let less : visits_left (token_count g) (set (rows_in rows) l.rule (Some put.row)) after ≤ visits_left (token_count g) (rows_in rows) todo =
       left_by_row c (token_count g) l.rule (rows_in rows) put.row todo after below put.grown (set_len c l.rule todo after s) (set_same c l.rule todo after s) in
@@ -187,18 +187,18 @@ taken_underway g b r rows todo h u =
 -- a given item stands before a rule, whose row is written
 pub visited_given :
     (g : Grammar) (p d b e i : ℕ) (ctx : List Bool) (old : List Row) (x y : Row) (todo after : List Bool) → IsBefore g p d (Rule b) → e ≡ d + 1 → i ≡ b
-    → slice_get old i ≡ Some x → ArePassedOn g (rest g p e) (Some ctx) (row_in x) y.tokens → y.is_reached ≡ true → i < length todo → after ≡ set todo i true
+    → slice_get old i ≡ Some x → ArePassedOn g (rest g p e) (Some ctx) (row_in x) y.ctx → y.is_reached ≡ true → i < length todo → after ≡ set todo i true
     → IsVisited g p d (Some ctx) (rows_in old) (rows_in (set old i y)) (IsRuleToDo g todo) (IsRuleToDo g after)
 visited_given g p d b e i ctx old x y todo after before next same at passed reached bits m =
     let here : slice_get old b ≡ Some x = rw same at at in
     let in_bits : b < length todo = omega (arith, bits, same) in
     let within : b < length old = slice_get_within old b x here in
     let below : b < length (rows_in old) = omega (arith, within, length_rows old) in
-    let put : ArePassedOn g before.0 (Some ctx) (row_at (rows_in old) b) y.tokens = rw (row_here old b x here) (rw (behind_rule g p d b e before next) at passed) in
-    let some : row_in y ≡ Some y.tokens = reached_row y.tokens y.is_reached reached in
-    let w : rows_in (set old i y) ≡ set (rows_in old) b (Some y.tokens) = rw (same, ← some) (rows_set old b y) in
+    let put : ArePassedOn g before.0 (Some ctx) (row_at (rows_in old) b) y.ctx = rw (row_here old b x here) (rw (behind_rule g p d b e before next) at passed) in
+    let some : row_in y ≡ Some y.ctx = reached_row y.ctx y.is_reached reached in
+    let w : rows_in (set old i y) ≡ set (rows_in old) b (Some y.ctx) = rw (same, ← some) (rows_set old b y) in
     let n : after ≡ set todo b true = rw same at m in
-    rw (w, n) (visited g p d b before.0 (Some ctx) (Some ctx) (rows_in old) y.tokens (IsRuleToDo g todo) (IsRuleToDo g (set todo b true)) before.1 below put
+    rw (w, n) (visited g p d b before.0 (Some ctx) (Some ctx) (rows_in old) y.ctx (IsRuleToDo g todo) (IsRuleToDo g (set todo b true)) before.1 below put
     (λ q h. (h.0, h.1, set_keeps todo b h.0 h.2))
     (λ q h. elim (set_from todo b h.0 h.2) [ inl z ↦ inr (rw z at h.1) | inr z ↦ inl (h.0, h.1, z) ])
     (λ q h. inr (b, h, set_here todo b in_bits))

@@ -39,7 +39,7 @@ AreLeadsByRule g vs =
 
 -- the row of a rule, none where the rule isn't reached
 abbrev pub row_in : Row → Option (List Bool)
-row_in r = if r.is_reached then Some r.tokens else None
+row_in r = if r.is_reached then Some r.ctx else None
 
 -- the rows of the rules
 abbrev pub rows_in : List Row → Rows
@@ -51,12 +51,12 @@ reached_of rs = map (λ r. r.is_reached) rs
 
 -- the row of a rule with the tokens of another one
 abbrev pub joined_row : Row → Row → Row
-joined_row v w = record { tokens = union v.tokens w.tokens; is_reached = v.is_reached }
+joined_row v w = record { ctx = union v.ctx w.ctx; is_reached = v.is_reached }
 
 -- the row of a rule has a bit for each token, none of which is set where the rule isn't reached
 pub record IsRow (g : Grammar) (r : Row) : Type 0 where
-  pub bits : length r.tokens ≡ token_count g
-  pub empty : r.is_reached ≡ false → HasNone r.tokens
+  pub bits : length r.ctx ≡ token_count g
+  pub empty : r.is_reached ≡ false → HasNone r.ctx
 
 -- a row for each rule of the grammar
 pub record AreKeptRows (g : Grammar) (rs : List Row) : Type 0 where
@@ -72,5 +72,5 @@ pub record AreClearRows (g : Grammar) (rs : List Row) : Type 0 where
 pub record IsPut (g : Grammar) (q a b : ℕ) (changed : Bool) (old new : List Row) : Type 0 where
   pub row : List Bool
   pub passed : ArePassedOn g (rest g q 1) (row_at (rows_in old) a) (row_at (rows_in old) b) row
-  pub written : new ≡ slice_set old b (record { tokens = row; is_reached = true })
+  pub written : new ≡ slice_set old b (record { ctx = row; is_reached = true })
   pub grown : HasGrown (token_count g) changed (row_at (rows_in old) b) row

@@ -56,9 +56,9 @@ pub record AreAdded
   pub items : (p : ℕ) → Item p → HasItem new p 0
   pub looks : (p t : ℕ) → Look p t → LooksIn new p 0 t
 
--- the productions of `Q` are added, each with the bits of `ahead`
+-- the productions of `Q` are added, each with the bits of `ctx`
 abbrev pub ArePut : (ℕ → Type 0) → List Bool → Items → Items → Type 0
-ArePut Q ahead old new = AreAdded Q (λ q t. Q q × IsTrue (bit ahead t)) old new
+ArePut Q ctx old new = AreAdded Q (λ q t. Q q × IsTrue (bit ctx t)) old new
 
 -- the rule of the production `p` has a row
 abbrev pub IsPutIn : Grammar → Rows → ℕ → Type 0

@@ -13,9 +13,9 @@ ghost use Rattle.lrclosing.specs.Leads.{AreLeadsOf, IsLeadOf, AreLeadsByRule, ro
 ghost use Rattle.lrclosing.specs.declared.closer.Row.{Row};
 ghost use Rattle.lrclosing.specs.Closer.{IsClosing, IsCloserOf, AreVisited};
 
-use crate::ahead::put_firsts;
 use crate::closing::next_set;
 use crate::items::{Ctx, rule_behind};
+use crate::passing::put_firsts;
 use lrgrammar::firsts::YaccFirsts;
 use lrgrammar::grammar::YaccGrammar;
 use lrgrammar::idx::{IndexStorage, PIdx, RIdx, SIdx, Symbol};
@@ -37,7 +37,7 @@ struct Lead {
 #[derive(Drop)]
 pub struct Row {
     /// One bit a token; none is set where the rule isn't reached.
-    pub(crate) tokens: Ctx,
+    pub(crate) ctx: Ctx,
     /// Whether the closure has the rule's productions at dot 0.
     pub(crate) is_reached: bool,
 }
@@ -110,19 +110,19 @@ fn join_row(rows: &mut [Row], to: usize, from: usize) -> bool
     requires to { to < length rows.old }
     requires from { from < length rows.old }
     requires bits { (v w : Row) → slice_get rows.old to ≡ Some v → slice_get rows.old from ≡ Some w
-        → length w.tokens ≡ length v.tokens }
+        → length w.ctx ≡ length v.ctx }
     ensures joined { (v w : Row) → slice_get rows.old to ≡ Some v → slice_get rows.old from ≡ Some w
         → rows.new ≡ slice_set rows.old to (joined_row v w) }
     ensures changed { (v w : Row) → slice_get rows.old to ≡ Some v
         → slice_get rows.old from ≡ Some w
-        → (IsTrue result ↔ (union v.tokens w.tokens ≢ v.tokens)) }
+        → (IsTrue result ↔ (union v.ctx w.ctx ≢ v.ctx)) }
 {
     if to < from {
         let (below, above) = rows.split_at_mut(from);
-        below[to].tokens.or(&above[0].tokens)
+        below[to].ctx.or(&above[0].ctx)
     } else {
         let (below, above) = rows.split_at_mut(to);
-        above[0].tokens.or(&below[from].tokens)
+        above[0].ctx.or(&below[from].ctx)
     }
 }
 
@@ -151,7 +151,7 @@ fn empty_rows<T: IndexStorage>(grm: &YaccGrammar<T>) -> Result<Vec<Row>, AllocEr
     let mut rows = Vec::with_capacity(grm.allocator(), rules)?;
     for _ in 0..rules {
         rows.push(Row {
-            tokens: no_tokens(grm)?,
+            ctx: no_tokens(grm)?,
             is_reached: false,
         })?;
     }
@@ -163,7 +163,7 @@ fn clear_row(row: &mut Row)
     ensures row { (g : math.Grammar) → IsRow g row.old → IsRow g row.new }
     ensures clear { row.new.is_reached ≡ false }
 {
-    row.tokens.set_all(false);
+    row.ctx.set_all(false);
     row.is_reached = false;
 }
 
@@ -194,13 +194,13 @@ fn put_ahead<T: IndexStorage>(
     requires row { IsRow grm.now row.old }
     requires bits { length ctx.now ≡ math.token_count grm.now }
     ensures passed { ArePassedOn grm.now (math.rest grm.now (T.number pidx.0) from) (Some ctx.now)
-        (row_in row.old) row.new.tokens }
+        (row_in row.old) row.new.ctx }
     ensures reached { row.new.is_reached ≡ true }
 {
     row.is_reached = true;
-    let begun = put_firsts(&mut row.tokens, grm, firsts, pidx, from);
+    let begun = put_firsts(&mut row.ctx, grm, firsts, pidx, from);
     if begun.is_nullable {
-        row.tokens.or(ctx);
+        row.ctx.or(ctx);
     }
 }
 
@@ -216,7 +216,7 @@ fn put_lead(rows: &mut [Row], lead: &Lead, from: usize) -> bool
     let row = &mut rows[lead.rule];
     let was = row.is_reached;
     row.is_reached = true;
-    let changed = row.tokens.or(&lead.begins) | !was;
+    let changed = row.ctx.or(&lead.begins) | !was;
     if lead.inherits && lead.rule != from {
         join_row(rows, lead.rule, from) | changed
     } else {

@@ -9,8 +9,8 @@ ghost use Rattle.lrclosing.specs.ItemsOf.{items_of};
 ghost use Rattle.lrclosing.specs.Rows.{row_at, AreClosingRows};
 ghost use Rattle.lrclosing.specs.Visits.{HasNone, AreMarked, AreMarkedIf, IsToDo, IsVisited, AreShaped, IsUnderway, visits_left};
 
-use crate::ahead::passed_on;
 use crate::items::{Ctx, Items, rule_behind};
+use crate::passing::passed_on;
 use crate::rows::with_rows;
 use lrgrammar::firsts::YaccFirsts;
 use lrgrammar::grammar::YaccGrammar;

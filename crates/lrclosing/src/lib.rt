@@ -2,9 +2,9 @@
 //! sets, a type over such maps, are in the crate above.
 #![tactic(auto)]
 
-mod ahead;
 pub mod closer;
 pub mod closing;
 pub mod items;
 pub mod listing;
+mod passing;
 mod rows;

@@ -54,7 +54,7 @@ fn push_from<'a, T: IndexStorage>(
     for place in productions.iter_set_bits(from..end) {
         let pidx = PIdx(T::from_usize(place).unwrap());
         let row = &rows[grm.prod_to_rule(pidx).0.to_usize()];
-        items.push(((pidx, zero), &row.tokens))?;
+        items.push(((pidx, zero), &row.ctx))?;
     }
     Ok(())
 }

@@ -13,18 +13,18 @@ use lrgrammar::vob::Vob;
 use std::alloc::AllocError;
 
 /// Adds lookaheads at dot 0 of a production.
-fn put<T: IndexStorage>(closed: &mut Items<T>, pidx: PIdx<T>, ahead: &Ctx) -> Result<(), AllocError>
-    requires { HaveBits (length ahead.now) (items_of T.number closed.old.entries) }
+fn put<T: IndexStorage>(closed: &mut Items<T>, pidx: PIdx<T>, ctx: &Ctx) -> Result<(), AllocError>
+    requires { HaveBits (length ctx.now) (items_of T.number closed.old.entries) }
     ensures bits { OnOk result
-        (HaveBits (length ahead.now) (items_of T.number closed.new.entries)) }
-    ensures put { OnOk result (ArePut (λ q. q ≡ T.number pidx.0) ahead.now
+        (HaveBits (length ctx.now) (items_of T.number closed.new.entries)) }
+    ensures put { OnOk result (ArePut (λ q. q ≡ T.number pidx.0) ctx.now
         (items_of T.number closed.old.entries) (items_of T.number closed.new.entries)) }
 {
     let key = (pidx, SIdx(T::from_usize(0).unwrap()));
-    let own = ahead.clone()?;
+    let own = ctx.clone()?;
     // One look-up for an item that isn't there, as most aren't.
     if let Some(mut old) = closed.insert(key, own)? {
-        old.or(ahead);
+        old.or(ctx);
         closed.insert(key, old)?;
     }
     Ok(())
@@ -35,17 +35,17 @@ fn put_all<T: IndexStorage>(
     closed: &mut Items<T>,
     grm: &YaccGrammar<T>,
     rule: RIdx<T>,
-    ahead: &Ctx,
+    ctx: &Ctx,
 ) -> Result<(), AllocError>
     requires rule { T.number rule.0 < length grm.now.rule_names }
-    requires bits { HaveBits (length ahead.now) (items_of T.number closed.old.entries) }
+    requires bits { HaveBits (length ctx.now) (items_of T.number closed.old.entries) }
     ensures bits { OnOk result
-        (HaveBits (length ahead.now) (items_of T.number closed.new.entries)) }
+        (HaveBits (length ctx.now) (items_of T.number closed.new.entries)) }
     ensures put { OnOk result (ArePut (λ q. math.IsProductionOf grm.now q (T.number rule.0))
-        ahead.now (items_of T.number closed.old.entries) (items_of T.number closed.new.entries)) }
+        ctx.now (items_of T.number closed.old.entries) (items_of T.number closed.new.entries)) }
 {
     for pidx in grm.rule_to_prods(rule) {
-        put(closed, *pidx, ahead)?;
+        put(closed, *pidx, ctx)?;
     }
     Ok(())
 }

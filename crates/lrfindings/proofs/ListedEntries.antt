@@ -8,7 +8,7 @@ use Rattle.lrgrammar.specs.declared.idx.PIdx.{PIdx}
 use Rattle.lrgrammar.specs.declared.idx.StIdx.{StIdx}
 use Rattle.lrgrammar.specs.declared.idx.TIdx.{TIdx}
 use Rattle.lrspec.specs.tables.Table.{Lists}
-use Rattle.lrrows.specs.StoredLists.{mix_of, mixes_of, pair_of, pairs_of}
+use Rattle.lrrows.specs.StoredLists.{stored_shift_reduce, stored_shift_reduces, stored_reduce_reduce, stored_reduce_reduces}
 use Rattle.lrfindings.specs.declared.conflicts.Entry.{Entry}
 use Rattle.lrfindings.specs.Listed.{Listing, told, listed, shift_listing, reduction_listing}
 
@@ -16,9 +16,9 @@ use Rattle.lrfindings.specs.Listed.{Listing, told, listed, shift_listing, reduct
 pub both_added :
     {T : Type 0} (number : T → ℕ) (k : Lists) (ms : List (TIdx T × PIdx T × StIdx T)) (ps : List (TIdx T × PIdx T × PIdx T × StIdx T))
     (old mid new : List Listing)
-    → mixes_of number ms ≡ k.shift_reduce → pairs_of number ps ≡ k.reduce_reduce
-    → mid ≡ old ++ map (λ c. shift_listing (mix_of number c)) ms
-    → new ≡ mid ++ map (λ c. reduction_listing (pair_of number c)) ps
+    → stored_shift_reduces number ms ≡ k.shift_reduce → stored_reduce_reduces number ps ≡ k.reduce_reduce
+    → mid ≡ old ++ map (λ c. shift_listing (stored_shift_reduce number c)) ms
+    → new ≡ mid ++ map (λ c. reduction_listing (stored_reduce_reduce number c)) ps
     → new ≡ old ++ listed k
 both_added number k ms ps old mid new i j e f =
     rw (
@@ -26,9 +26,9 @@ both_added number k ms ps old mid new i j e f =
       e,
       ← i,
       ← j,
-      map-map shift_listing (mix_of number) ms,
-      map-map reduction_listing (pair_of number) ps,
-      append_assoc old (map (λ c. shift_listing (mix_of number c)) ms) (map (λ c. reduction_listing (pair_of number c)) ps),
+      map-map shift_listing (stored_shift_reduce number) ms,
+      map-map reduction_listing (stored_reduce_reduce number) ps,
+      append_assoc old (map (λ c. shift_listing (stored_shift_reduce number c)) ms) (map (λ c. reduction_listing (stored_reduce_reduce number c)) ps),
     ) refl
 
 -- entries stay those of a list when they are sorted

@@ -4,7 +4,7 @@ ghost use Rattle.std.specs.Prelude.{◌≡◌, ◌++◌, map, Contains, IsTrue, 
 ghost use Rattle.std.specs.List.Sorted.{IsPermutation};
 ghost use Rattle.lrspec.specs.tables.Table.{lists_of};
 ghost use Rattle.lrfindings.specs.Listed.{told, listed, shift_listing, reduction_listing};
-ghost use Rattle.lrrows.specs.StoredLists.{mix_of, pair_of};
+ghost use Rattle.lrrows.specs.StoredLists.{stored_shift_reduce, stored_reduce_reduce};
 
 use lrgrammar::idx::{IndexStorage, PIdx, StIdx, TIdx};
 use lrtable::StateTable;
@@ -55,7 +55,7 @@ pub(crate) fn place_of(file: &FileGrammar, production: usize) -> usize {
 
 /// The entry of a shift/reduce conflict: token, production and state.
 fn shift_entry<T: IndexStorage>(file: &FileGrammar, conflict: (TIdx<T>, PIdx<T>, StIdx<T>)) -> Entry
-    ensures { told result ≡ shift_listing (mix_of T.number conflict) }
+    ensures { told result ≡ shift_listing (stored_shift_reduce T.number conflict) }
 {
     let (token, production, state) = conflict;
     let production = usize::from(production);
@@ -73,7 +73,7 @@ fn reduction_entry<T: IndexStorage>(
     file: &FileGrammar,
     conflict: (TIdx<T>, PIdx<T>, PIdx<T>, StIdx<T>),
 ) -> Entry
-    ensures { told result ≡ reduction_listing (pair_of T.number conflict) }
+    ensures { told result ≡ reduction_listing (stored_reduce_reduce T.number conflict) }
 {
     let (token, production, other, state) = conflict;
     let production = usize::from(production);
@@ -86,15 +86,15 @@ fn reduction_entry<T: IndexStorage>(
     }
 }
 
-/// Adds the conflicts with shifts.
-fn push_shifts<T: IndexStorage>(
+/// Adds the shift/reduce conflicts.
+fn push_shift_reduce<T: IndexStorage>(
     entries: &mut Vec<Entry>,
     file: &FileGrammar,
     conflicts: &[(TIdx<T>, PIdx<T>, StIdx<T>)],
 ) -> Result<(), AllocError>
     ensures { OnOk result (map told entries.new.items
         ≡ map told entries.old.items
-        ++ map (λ c. shift_listing (mix_of T.number c)) conflicts.now) }
+        ++ map (λ c. shift_listing (stored_shift_reduce T.number c)) conflicts.now) }
 {
     for conflict in conflicts {
         entries.push(shift_entry(file, *conflict))?;
@@ -102,15 +102,15 @@ fn push_shifts<T: IndexStorage>(
     Ok(())
 }
 
-/// Adds the conflicts between reductions.
-fn push_reductions<T: IndexStorage>(
+/// Adds the reduce/reduce conflicts.
+fn push_reduce_reduce<T: IndexStorage>(
     entries: &mut Vec<Entry>,
     file: &FileGrammar,
     conflicts: &[(TIdx<T>, PIdx<T>, PIdx<T>, StIdx<T>)],
 ) -> Result<(), AllocError>
     ensures { OnOk result (map told entries.new.items
         ≡ map told entries.old.items
-        ++ map (λ c. reduction_listing (pair_of T.number c)) conflicts.now) }
+        ++ map (λ c. reduction_listing (stored_reduce_reduce T.number c)) conflicts.now) }
 {
     for conflict in conflicts {
         entries.push(reduction_entry(file, *conflict))?;
@@ -127,8 +127,8 @@ fn push_conflicts<T: IndexStorage>(
     ensures { OnOk result (map told entries.new.items
         ≡ map told entries.old.items ++ listed conflicts.now) }
 {
-    push_shifts(entries, file, conflicts.sr_conflicts().as_slice())?;
-    push_reductions(entries, file, conflicts.rr_conflicts().as_slice())?;
+    push_shift_reduce(entries, file, conflicts.sr_conflicts().as_slice())?;
+    push_reduce_reduce(entries, file, conflicts.rr_conflicts().as_slice())?;
     Ok(())
 }
 

@@ -41,10 +41,10 @@ impl<T: IndexStorage> Core<T> {
         ensures fits { IfOk result (Fits grm.now) }
     {
         let alloc = grm.allocator();
-        let mut looks = Vob::from_elem(alloc, false, usize::from(grm.tokens_len()))?;
-        looks.set(usize::from(grm.eof_token_idx()), true);
+        let mut ctx = Vob::from_elem(alloc, false, usize::from(grm.tokens_len()))?;
+        ctx.set(usize::from(grm.eof_token_idx()), true);
         let mut items = Vec::with_capacity(alloc, 1)?;
-        items.push(((grm.start_prod(), SIdx(T::from_usize(0).unwrap())), looks))?;
+        items.push(((grm.start_prod(), SIdx(T::from_usize(0).unwrap())), ctx))?;
         Ok(Core { items })
     }
 
@@ -54,8 +54,8 @@ impl<T: IndexStorage> Core<T> {
         ensures { IfOk result (λ c. c ≡ items_in T.number goto.now) }
     {
         let mut items = Vec::with_capacity(alloc, goto.items.len())?;
-        for (key, looks) in &goto.items {
-            items.push((*key, Ctx::clone(looks)?))?;
+        for (key, ctx) in &goto.items {
+            items.push((*key, Ctx::clone(ctx)?))?;
         }
         Ok(Core { items })
     }

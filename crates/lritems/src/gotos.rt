@@ -25,14 +25,14 @@ pub struct Goto<'a, T: IndexStorage> {
 /// Whether an item of a goto is an item of an item set, with the same lookaheads.
 fn is_same_item<T: IndexStorage>(
     mine: &(PIdx<T>, SIdx<T>),
-    looks: &Ctx,
+    own: &Ctx,
     key: &(PIdx<T>, SIdx<T>),
     ctx: &Ctx,
 ) -> bool
     ensures { IsTrue result
-        ↔ (item_of T.number mine.now looks.now ≡ item_of T.number key.now ctx.now) }
+        ↔ (item_of T.number mine.now own.now ≡ item_of T.number key.now ctx.now) }
 {
-    mine == key && looks == ctx
+    mine == key && own == ctx
 }
 
 impl<'a, T: IndexStorage> Goto<'a, T> {
@@ -67,9 +67,9 @@ impl<'a, T: IndexStorage> Goto<'a, T> {
             return false;
         }
         for k in 0..self.items.len() {
-            let (mine, looks) = &self.items[k];
+            let (mine, own) = &self.items[k];
             let (key, ctx) = &core.items[k];
-            if !is_same_item(mine, looks, key, ctx) {
+            if !is_same_item(mine, own, key, ctx) {
                 return false;
             }
         }
@@ -216,8 +216,8 @@ pub fn to_itemset<T: IndexStorage>(
     ensures { IfOk result (λ s. set_of T.number s ≡ listed_of T.number items.now) }
 {
     let mut made = BTreeMap::new(alloc);
-    for (key, looks) in items {
-        let copy = Ctx::clone(looks)?;
+    for (key, ctx) in items {
+        let copy = Ctx::clone(ctx)?;
         made.insert(*key, copy)?;
     }
     Ok(Itemset { items: made })

@@ -1,7 +1,7 @@
 //! The entries of a table's lists of conflicts.
 
 ghost use Rattle.std.specs.Prelude.{◌≡◌, ◌++◌, map, IfOk, OnOk};
-ghost use Rattle.lrrows.specs.StoredLists.{mix_of, pair_of};
+ghost use Rattle.lrrows.specs.StoredLists.{stored_shift_reduce, stored_reduce_reduce};
 ghost use Rattle.lrambiguity.specs.StoredMoves.{move_of};
 ghost use Rattle.lrreasons.specs.Entries.{ShiftReduce, ReduceReduce, entries_of, entry_of, other_of};
 
@@ -23,7 +23,7 @@ pub(crate) fn other_move<T: IndexStorage>(conflict: &Conflict<T>) -> Move<T>
 
 /// The entry of a shift/reduce conflict: token, production and state.
 fn shift_entry<T: IndexStorage>(entry: (TIdx<T>, PIdx<T>, StIdx<T>)) -> Conflict<T>
-    ensures { entry_of T.number result ≡ ShiftReduce (mix_of T.number entry) }
+    ensures { entry_of T.number result ≡ ShiftReduce (stored_shift_reduce T.number entry) }
 {
     let (token, production, state) = entry;
     Conflict {
@@ -36,7 +36,7 @@ fn shift_entry<T: IndexStorage>(entry: (TIdx<T>, PIdx<T>, StIdx<T>)) -> Conflict
 
 /// The entry of a reduce/reduce conflict: token, both productions, and state.
 fn reduction_entry<T: IndexStorage>(entry: (TIdx<T>, PIdx<T>, PIdx<T>, StIdx<T>)) -> Conflict<T>
-    ensures { entry_of T.number result ≡ ReduceReduce (pair_of T.number entry) }
+    ensures { entry_of T.number result ≡ ReduceReduce (stored_reduce_reduce T.number entry) }
 {
     let (token, production, other, state) = entry;
     Conflict {
@@ -47,14 +47,14 @@ fn reduction_entry<T: IndexStorage>(entry: (TIdx<T>, PIdx<T>, PIdx<T>, StIdx<T>)
     }
 }
 
-/// Adds the conflicts with shifts.
-fn push_shifts<T: IndexStorage>(
+/// Adds the shift/reduce conflicts.
+fn push_shift_reduce<T: IndexStorage>(
     entries: &mut Vec<Conflict<T>>,
     conflicts: &[(TIdx<T>, PIdx<T>, StIdx<T>)],
 ) -> Result<(), AllocError>
     ensures { OnOk result (map (entry_of T.number) entries.new.items
         ≡ map (entry_of T.number) entries.old.items
-        ++ map (λ e. ShiftReduce (mix_of T.number e)) conflicts.now) }
+        ++ map (λ e. ShiftReduce (stored_shift_reduce T.number e)) conflicts.now) }
 {
     for conflict in conflicts {
         entries.push(shift_entry(*conflict))?;
@@ -62,14 +62,14 @@ fn push_shifts<T: IndexStorage>(
     Ok(())
 }
 
-/// Adds the conflicts between reductions.
-fn push_reductions<T: IndexStorage>(
+/// Adds the reduce/reduce conflicts.
+fn push_reduce_reduce<T: IndexStorage>(
     entries: &mut Vec<Conflict<T>>,
     conflicts: &[(TIdx<T>, PIdx<T>, PIdx<T>, StIdx<T>)],
 ) -> Result<(), AllocError>
     ensures { OnOk result (map (entry_of T.number) entries.new.items
         ≡ map (entry_of T.number) entries.old.items
-        ++ map (λ e. ReduceReduce (pair_of T.number e)) conflicts.now) }
+        ++ map (λ e. ReduceReduce (stored_reduce_reduce T.number e)) conflicts.now) }
 {
     for conflict in conflicts {
         entries.push(reduction_entry(*conflict))?;
@@ -85,7 +85,7 @@ pub(crate) fn entries<T: IndexStorage>(
     ensures { IfOk result (λ v. map (entry_of T.number) v.items ≡ entries_of conflicts.now) }
 {
     let mut entries = Vec::new(alloc);
-    push_shifts(&mut entries, conflicts.sr_conflicts().as_slice())?;
-    push_reductions(&mut entries, conflicts.rr_conflicts().as_slice())?;
+    push_shift_reduce(&mut entries, conflicts.sr_conflicts().as_slice())?;
+    push_reduce_reduce(&mut entries, conflicts.rr_conflicts().as_slice())?;
     Ok(entries)
 }

@@ -4,7 +4,7 @@ pub mod KeptNumbers
 pub mod ReductionsOf
 pub mod CompleteTurns
 pub mod LeastReductions
-pub mod LeastContests
+pub mod LeastAcceptReduce
 -- cells, gotos and conflicts of one state
 pub mod RowTurns
 pub mod LeastListed
@@ -12,8 +12,8 @@ pub mod FilledPlaces
 pub mod EdgeTargets
 pub mod GotoEntries
 pub mod LookingTokens
-pub mod ContestSteps
-pub mod ContestsOfState
+pub mod ConflictSteps
+pub mod ReduceReduceOfState
 -- rows, state after state
 pub mod FirstLooking
 pub mod IndexedRows

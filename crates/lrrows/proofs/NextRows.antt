@@ -17,16 +17,16 @@ use Rattle.lrsparse.specs.declared.builder.MatrixBuilder.{MatrixBuilder}
 use Rattle.lrsparse.specs.Building.{so_far, empty_of, IsBuilt}
 use Rattle.lrsparse.specs.Entries.{row_with}
 use Rattle.lrrows.specs.declared.rows.Rows.{Rows}
-use Rattle.lrrows.specs.Contests.{reduce_reduce_by}
+use Rattle.lrrows.specs.ReduceReduce.{reduce_reduce_by}
 use Rattle.lrrows.specs.ReducingRows.{ReducesByOne}
 use Rattle.lrrows.specs.RowsOf.{HasCell, ReduceByOne, AreRowsOf}
 use Rattle.lrrows.specs.StateRows.{action_row, goto_row, complete_items, first_at, least_reductions, reduce_reduce_at, shift_reduce_at}
 use Rattle.lrrows.specs.StoredActions.{action_number, action_numbered, goto_number}
 use Rattle.lrgrammar.specs.StoredGrammar.{numbers_of}
-use Rattle.lrrows.specs.StoredLists.{pairs_of, mixes_of}
+use Rattle.lrrows.specs.StoredLists.{stored_reduce_reduces, stored_shift_reduces}
 use Rattle.lrrows.proofs.KeptNumbers.{numbered_action}
 use Rattle.lrrows.proofs.LeastReductions.{least_is}
-use Rattle.lrrows.proofs.ContestsOfState.{reduce_reduce_is}
+use Rattle.lrrows.proofs.ReduceReduceOfState.{reduce_reduce_is}
 
 -- a matrix has this row more
 pub record IsRowMore (old new : MatrixBuilder) (row : List ℕ) : Type 0 where
@@ -121,11 +121,11 @@ least_listed g h s a cs ls upwards fits closed items listed =
     ∙ least_is g (closed_of h s) upwards fits
 
 -- the reduce/reduce conflicts of the state, by what is listed of its closed state
-pub contests_listed :
+pub reduce_reduce_listed :
     (g : Grammar) (h : Graph) (s : ℕ) (a : Items) (cs : List (ℕ × List Bool)) (ls : List (Option ℕ))
     → AreUpwards (closed_of h s) → Fits g (closed_of h s) → a ≡ closed_of h s → cs ≡ complete_items g a
     → ls ≡ least_reductions g (closed_of h s) → reduce_reduce_by ls s cs ≡ reduce_reduce_at g h s
-contests_listed g h s a cs ls upwards fits closed items least =
+reduce_reduce_listed g h s a cs ls upwards fits closed items least =
     ap (λ z. reduce_reduce_by ls s z) (items ∙ ap (complete_items g) closed)
     ∙ ap (λ z. reduce_reduce_by z s (complete_items g (closed_of h s))) least ∙ reduce_reduce_is g h s upwards fits
 
@@ -145,8 +145,8 @@ module _ {T : Type 0} (number : T → ℕ) (g : Grammar) (h : Graph) where
       → AreAllWith (λ p. Contains (map action_numbered (action_row g h n)) (Reduce p)) (numbers_of number ps.items)
       → new.reduce_only.items ≡ old.reduce_only.items ++ b ∷ []
       → IsTrue b ↔ ReducesByOne (map action_numbered (action_row g h n))
-      → pairs_of number new.reduce_reduce.items ≡ pairs_of number old.reduce_reduce.items ++ reduce_reduce_at g h n
-      → mixes_of number new.shift_reduce.items ≡ mixes_of number old.shift_reduce.items ++ shift_reduce_at g h n
+      → stored_reduce_reduces number new.reduce_reduce.items ≡ stored_reduce_reduces number old.reduce_reduce.items ++ reduce_reduce_at g h n
+      → stored_shift_reduces number new.shift_reduce.items ≡ stored_shift_reduces number old.shift_reduce.items ++ shift_reduce_at g h n
       → AreRowsOf number g h (n + 1) new
   next_rows n old new ps b rows actions gotos core reduced only alone pairs mixes =
       let cell = cells_are g h n in
@@ -165,6 +165,6 @@ module _ {T : Type 0} (number : T → ℕ) (g : Grammar) (h : Graph) where
             rows.count rows.reduces (reduced_cells g h n (numbers_of number ps.items) (rw cell at reduced)));
         counted = ap length only ∙ length_push old.reduce_only.items b ∙ ap (λ k. k + 1) rows.counted;
         only = rw only (pushed_each (λ s (c : Bool). IsTrue c ↔ ReduceByOne g h s) old.reduce_only.items b n rows.counted rows.only one);
-        reduce_reduce = flat_more (reduce_reduce_at g h) n (pairs_of number old.reduce_reduce.items) (pairs_of number new.reduce_reduce.items) rows.reduce_reduce pairs;
-        shift_reduce = flat_more (shift_reduce_at g h) n (mixes_of number old.shift_reduce.items) (mixes_of number new.shift_reduce.items) rows.shift_reduce mixes;
+        reduce_reduce = flat_more (reduce_reduce_at g h) n (stored_reduce_reduces number old.reduce_reduce.items) (stored_reduce_reduces number new.reduce_reduce.items) rows.reduce_reduce pairs;
+        shift_reduce = flat_more (shift_reduce_at g h) n (stored_shift_reduces number old.shift_reduce.items) (stored_shift_reduces number new.shift_reduce.items) rows.shift_reduce mixes;
       }

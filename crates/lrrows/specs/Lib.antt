@@ -2,6 +2,6 @@
 pub mod StoredActions
 pub mod StoredLists
 pub mod StateRows
-pub mod Contests
+pub mod ReduceReduce
 pub mod ReducingRows
 pub mod RowsOf

@@ -11,7 +11,7 @@ use Rattle.lrspec.specs.tables.Rows.{AreAllWith}
 use Rattle.lrsparse.specs.Building.{so_far, empty_of, IsBuilt}
 use Rattle.lrrows.specs.StateRows.{action_row, goto_row, reduce_reduce_at, shift_reduce_at}
 use Rattle.lrgrammar.specs.StoredGrammar.{numbers_of}
-use Rattle.lrrows.specs.StoredLists.{pairs_of, mixes_of}
+use Rattle.lrrows.specs.StoredLists.{stored_reduce_reduces, stored_shift_reduces}
 use Rattle.lrrows.specs.declared.rows.Rows.{Rows}
 
 -- the state has a cell with the action
@@ -41,9 +41,9 @@ pub record AreRowsOf {T : Type 0} (number : T → ℕ) (g : Grammar) (h : Graph)
   pub counted : length r.reduce_only.items ≡ n
   pub only : (s : ℕ) (d : Bool) → s < n
       → IsTrue (slice_index_or r.reduce_only.items s d) ↔ ReduceByOne g h s
-  pub reduce_reduce : pairs_of number r.reduce_reduce.items
+  pub reduce_reduce : stored_reduce_reduces number r.reduce_reduce.items
       ≡ flat_map (reduce_reduce_at g h) (range_with_len 0 n)
-  pub shift_reduce : mixes_of number r.shift_reduce.items
+  pub shift_reduce : stored_shift_reduces number r.shift_reduce.items
       ≡ flat_map (shift_reduce_at g h) (range_with_len 0 n)
 
 -- in most cells of the rows 0 stands

@@ -33,8 +33,8 @@ abbrev pub least_reductions : Grammar → Items → List (Option ℕ)
 least_reductions g a = map (λ t. first_of (reductions g a t)) (range_with_len 0 (token_count g))
 
 -- the least production by which an item set reduces at the end of the text, where it accepts there
-abbrev pub least_contest : Grammar → Items → Option ℕ
-least_contest g a =
+abbrev pub least_accept_reduce : Grammar → Items → Option ℕ
+least_accept_reduce g a =
     if accepts_at g a (end_token g) then first_of (reductions g a (end_token g)) else None
 
 -- the numbers of the cells of the state, token by token
@@ -46,14 +46,15 @@ abbrev pub goto_row : Grammar → Graph → ℕ → List ℕ
 goto_row g h s = map (λ r. goto_number (edge h s (Rule r))) (range_with_len 0 (length g.rule_names))
 
 -- the reduce/reduce conflicts of the state with the other production `q`, by token
-abbrev pub contests_of : Grammar → Graph → ℕ → ℕ → List (ℕ × ℕ × ℕ × ℕ)
-contests_of g h s q =
+abbrev pub reduce_reduce_with : Grammar → Graph → ℕ → ℕ → List (ℕ × ℕ × ℕ × ℕ)
+reduce_reduce_with g h s q =
     filter_map (λ t. reduce_reduce_entry (reductions g (closed_of h s) t) s q t)
     (range_with_len 0 (token_count g))
 
 -- the reduce/reduce conflicts of the state, by other production and then token
 abbrev pub reduce_reduce_at : Grammar → Graph → ℕ → List (ℕ × ℕ × ℕ × ℕ)
-reduce_reduce_at g h s = flat_map (contests_of g h s) (range_with_len 0 (length g.productions))
+reduce_reduce_at g h s =
+    flat_map (reduce_reduce_with g h s) (range_with_len 0 (length g.productions))
 
 -- the shift/reduce conflicts of the state, by token
 abbrev pub shift_reduce_at : Grammar → Graph → ℕ → List (ℕ × ℕ × ℕ)

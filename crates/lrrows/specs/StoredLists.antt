@@ -5,12 +5,13 @@ use Rattle.lrgrammar.specs.declared.idx.StIdx.{StIdx}
 use Rattle.lrgrammar.specs.declared.idx.TIdx.{TIdx}
 
 -- an entry of the list of reduce/reduce conflicts, by numbers
-abbrev pub pair_of : {T : Type 0} → (T → ℕ) → TIdx T × PIdx T × PIdx T × StIdx T → ℕ × ℕ × ℕ × ℕ
-pair_of number e = (number e.0.0, number e.1.0, number e.2.0, number e.3.0)
+abbrev pub stored_reduce_reduce :
+    {T : Type 0} → (T → ℕ) → TIdx T × PIdx T × PIdx T × StIdx T → ℕ × ℕ × ℕ × ℕ
+stored_reduce_reduce number e = (number e.0.0, number e.1.0, number e.2.0, number e.3.0)
 
 -- an entry of the list of shift/reduce conflicts, by numbers
-abbrev pub mix_of : {T : Type 0} → (T → ℕ) → TIdx T × PIdx T × StIdx T → ℕ × ℕ × ℕ
-mix_of number e = (number e.0.0, number e.1.0, number e.2.0)
+abbrev pub stored_shift_reduce : {T : Type 0} → (T → ℕ) → TIdx T × PIdx T × StIdx T → ℕ × ℕ × ℕ
+stored_shift_reduce number e = (number e.0.0, number e.1.0, number e.2.0)
 
 -- productions by their numbers
 abbrev pub least_of : {T : Type 0} → (T → ℕ) → List (Option (PIdx T)) → List (Option ℕ)
@@ -21,9 +22,10 @@ abbrev pub targets_of : {T : Type 0} → (T → ℕ) → List (Option (StIdx T))
 targets_of number us = map (option_map (λ u. number u.0)) us
 
 -- both lists by numbers
-abbrev pub pairs_of :
+abbrev pub stored_reduce_reduces :
     {T : Type 0} → (T → ℕ) → List (TIdx T × PIdx T × PIdx T × StIdx T) → List (ℕ × ℕ × ℕ × ℕ)
-pairs_of number es = map (pair_of number) es
+stored_reduce_reduces number es = map (stored_reduce_reduce number) es
 
-abbrev pub mixes_of : {T : Type 0} → (T → ℕ) → List (TIdx T × PIdx T × StIdx T) → List (ℕ × ℕ × ℕ)
-mixes_of number es = map (mix_of number) es
+abbrev pub stored_shift_reduces :
+    {T : Type 0} → (T → ℕ) → List (TIdx T × PIdx T × StIdx T) → List (ℕ × ℕ × ℕ)
+stored_shift_reduces number es = map (stored_shift_reduce number) es

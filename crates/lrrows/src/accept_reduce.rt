@@ -6,7 +6,7 @@ ghost use Rattle.lrspec.specs.merging.Graph.{IsGraphOf};
 ghost use Rattle.lrspec.specs.tables.Table.{AcceptsAndReduces};
 ghost use Rattle.lrspec.specs.tables.Conflicts.{IsLeastAcceptReduce};
 ghost use Rattle.lritems.specs.ItemsOf.{set_of};
-ghost use Rattle.lrrows.specs.StateRows.{least_contest};
+ghost use Rattle.lrrows.specs.StateRows.{least_accept_reduce};
 
 use crate::completes::{accepted, completes, least_at};
 use lrgrammar::grammar::YaccGrammar;
@@ -23,7 +23,7 @@ fn accept_reduce_at<T: IndexStorage>(
     requires fits { Fits grm.now (set_of T.number closed.now) }
     requires upwards { AreUpwards (set_of T.number closed.now) }
     ensures { IfOk result (λ o. option_map (λ p. T.number p.0) o
-        ≡ least_contest grm.now (set_of T.number closed.now)) }
+        ≡ least_accept_reduce grm.now (set_of T.number closed.now)) }
 {
     let end = usize::from(grm.eof_token_idx());
     if !accepted(grm, closed).is_some_and(|ctx| ctx.get(end)) {

@@ -5,7 +5,7 @@ pub mod accept_reduce;
 pub mod action;
 mod cells;
 mod completes;
-mod contests;
+mod conflicts;
 pub mod numbers;
 mod places;
 pub mod rows;

@@ -13,7 +13,7 @@ ghost use Rattle.lrgrammar.specs.StoredGrammar.{numbers_of};
 use crate::action::Action;
 use crate::cells::{make_actions, make_gotos};
 use crate::completes::{accepted, completes, least_by_token};
-use crate::contests::{push_reduce_reduce, push_shift_reduce};
+use crate::conflicts::{push_reduce_reduce, push_shift_reduce};
 use crate::numbers::action_of_number;
 use lrgrammar::grammar::YaccGrammar;
 use lrgrammar::idx::{IndexStorage, PIdx, StIdx, TIdx};

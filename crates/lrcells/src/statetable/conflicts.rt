@@ -6,7 +6,7 @@ ghost use Rattle.std.specs.String.{string_bytes};
 ghost use Rattle.lrspec.specs.grammars.Grammar as math;
 ghost use Rattle.lrspec.specs.texts.PrintedTexts as printed;
 ghost use Rattle.lrspec.specs.texts.PrintedTexts.{conflicts_text, reduce_reduce_text, shift_reduce_text};
-ghost use Rattle.lrrows.specs.StoredLists.{pair_of, pairs_of, mix_of, mixes_of};
+ghost use Rattle.lrrows.specs.StoredLists.{stored_reduce_reduce, stored_reduce_reduces, stored_shift_reduce, stored_shift_reduces};
 ghost use Rattle.lrspec.specs.tables.Conflicts.{AreEntriesOf};
 
 use lrgrammar::grammar::YaccGrammar;
@@ -27,11 +27,11 @@ impl<T: IndexStorage> Model for Conflicts<T> {
 
     ghost Value = { Lists };
 
-    ghost use Rattle.lrrows.specs.StoredLists.{pairs_of, mixes_of};
+    ghost use Rattle.lrrows.specs.StoredLists.{stored_reduce_reduces, stored_shift_reduces};
 
     ghost view = { λ c. record {
-      reduce_reduce = pairs_of T.number c.reduce_reduce.items;
-      shift_reduce = mixes_of T.number c.shift_reduce.items;
+      reduce_reduce = stored_reduce_reduces T.number c.reduce_reduce.items;
+      shift_reduce = stored_shift_reduces T.number c.shift_reduce.items;
     } };
 }
 
@@ -44,7 +44,7 @@ fn reduce_reduce_line<T: IndexStorage>(
     requires taken { T.number conflict.1.0 < length grm.now.productions }
     requires other { T.number conflict.2.0 < length grm.now.productions }
     ensures { IfOk result (λ s. string_bytes s
-        ≡ printed.reduce_reduce_line grm.now (pair_of T.number conflict)) }
+        ≡ printed.reduce_reduce_line grm.now (stored_reduce_reduce T.number conflict)) }
 {
     let (token, taken, other, state) = conflict;
     let state = usize::from(state);
@@ -64,7 +64,7 @@ fn shift_reduce_line<T: IndexStorage>(
     requires token { T.number conflict.0.0 < math.token_count grm.now }
     requires prod { T.number conflict.1.0 < length grm.now.productions }
     ensures { IfOk result (λ s. string_bytes s
-        ≡ printed.shift_reduce_line grm.now (mix_of T.number conflict)) }
+        ≡ printed.shift_reduce_line grm.now (stored_shift_reduce T.number conflict)) }
 {
     let (token, prod, state) = conflict;
     let state = usize::from(state);
@@ -83,8 +83,8 @@ impl<T: IndexStorage> Conflicts<T> {
             ((reduce_reduce.items ≡ []) × (shift_reduce.items ≡ []))
             (λ _. ¬ ((reduce_reduce.items ≡ []) × (shift_reduce.items ≡ []))) }
         ensures lists { IfSome result (λ c. c ≡ record {
-          reduce_reduce = pairs_of T.number reduce_reduce.items;
-          shift_reduce = mixes_of T.number shift_reduce.items;
+          reduce_reduce = stored_reduce_reduces T.number reduce_reduce.items;
+          shift_reduce = stored_shift_reduces T.number shift_reduce.items;
         }) }
     {
         if reduce_reduce.is_empty() && shift_reduce.is_empty() {
@@ -99,14 +99,15 @@ impl<T: IndexStorage> Conflicts<T> {
     /// The reduce/reduce conflicts: token, the production that the table takes, another one, and state; by state, then other
     /// production, then token.
     pub fn rr_conflicts(&self) -> slice::Iter<'_, (TIdx<T>, PIdx<T>, PIdx<T>, StIdx<T>)>
-        ensures entries { pairs_of T.number (iter_rest result) ≡ self.now.reduce_reduce }
+        ensures entries { stored_reduce_reduces T.number (iter_rest result)
+            ≡ self.now.reduce_reduce }
     {
         self.reduce_reduce.iter()
     }
 
     /// The shift/reduce conflicts: token, production and state; by state, then token. The table shifts.
     pub fn sr_conflicts(&self) -> slice::Iter<'_, (TIdx<T>, PIdx<T>, StIdx<T>)>
-        ensures entries { mixes_of T.number (iter_rest result) ≡ self.now.shift_reduce }
+        ensures entries { stored_shift_reduces T.number (iter_rest result) ≡ self.now.shift_reduce }
     {
         self.shift_reduce.iter()
     }

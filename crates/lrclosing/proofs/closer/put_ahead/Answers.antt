@@ -11,7 +11,7 @@ returns-then-begun-clause-passed g c =
     let put = c.put_firsts-begun.ensures in
     rw c.or.ensures.after
     (as_row grm y (Some c.args.ctx.now) c.args.row.now _ c.requires.row
-    (with_own grm y c.args.ctx.now (Some c.args.row.now.tokens) _ c.requires.bits (put.nullable.0 c.if-begun.true) put.put))
+    (with_own grm y c.args.ctx.now (Some c.args.row.now.ctx) _ c.requires.bits (put.nullable.0 c.if-begun.true) put.put))
 
 pub returns-else-begun-clause-passed : goal.returns-else-begun-clause-passed
 returns-else-begun-clause-passed g c =
@@ -19,5 +19,5 @@ returns-else-begun-clause-passed g c =
     let y = rest grm (g.T.IndexStorage.number c.args.pidx.0) c.args.from in
     let put = c.put_firsts-begun.ensures in
     as_row grm y (Some c.args.ctx.now) c.args.row.now _ c.requires.row
-    (without_own grm y (Some c.args.ctx.now) (Some c.args.row.now.tokens) _
+    (without_own grm y (Some c.args.ctx.now) (Some c.args.row.now.ctx) _
     (λ t m h. let e : true ≡ false = sym (put.nullable.1 m) ∙ c.if-begun.false in cc) put.put)

@@ -29,6 +29,6 @@ join_row-requires-clause-bits c = λ v w h k.
     let within : to < length rows = omega (arith, is.rule, kept.len) in
     let row = get_or rows to c.index-rows-lead.result in
     let old = kept.each to row (read_at rows to c.index-rows-lead.result row refl within) in
-    let new : Row = record { tokens = c.or.new.self; is_reached = true } in
+    let new : Row = record { ctx = c.or.new.self; is_reached = true } in
     let written = kept_written g rows _ to new kept (row_is_reached g new (c.or.ensures.len ∙ old.bits) refl) refl in
     (written.each c.args.from w k).bits ∙ sym (written.each to v h).bits

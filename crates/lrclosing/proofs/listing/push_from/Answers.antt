@@ -59,7 +59,7 @@ loop-place-preserved g c =
       added =
           row_pushed (λ e. ((number e.0.0.0, number e.0.1.0), e.1.now)) (row_of_production grm (rows_in rs)) _ _ _ c.in-Some.place _ _ _ c.in-Some.ensures.steps
           c.in_ok-push.ensures.items
-          (row_item_is grm (rows_in rs) c.in-Some.place p r (number c.unwrap.result) row.tokens place c.prod_to_rule.ensures.rule
+          (row_item_is grm (rows_in rs) c.in-Some.place p r (number c.unwrap.result) row.ctx place c.prod_to_rule.ensures.rule
           (marked_row grm rs c.args.productions.now p r row c.requires.productions marked c.prod_to_rule.ensures.rule at) dot)
           c.loop-place.invariant.added;
     }

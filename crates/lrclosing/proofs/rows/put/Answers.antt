@@ -17,7 +17,7 @@ returns-in_ok-insert-clause-bits g c =
     let then = item_there number g.T.Ord.cmp law c.insert.new.self.entries c.insert-in-Some.new.self.entries (c.args.pidx, record { 0 = c.unwrap.result }) (Some c.or.new.self) c.in_ok-insert.ensures.updates.0 in
     let before = item_here number g.T.Ord.cmp law c.args.closed.now.entries (c.args.pidx, record { 0 = c.unwrap.result }) in
     let after = item_here number g.T.Ord.cmp law c.insert-in-Some.new.self.entries (c.args.pidx, record { 0 = c.unwrap.result }) in
-    put_bits (number c.args.pidx.0) (number c.unwrap.result) c.args.ahead.now _ _
+    put_bits (number c.args.pidx.0) (number c.unwrap.result) c.args.ctx.now _ _
     (sym after ∙ c.in_ok-insert.ensures.updates.1 ∙ rw (← before, ← c.in_ok-old.ensures.old, c.in-Some.is, c.or.ensures.after) refl)
     (λ i e f. then i e f ∙ first i e f) c.requires
 
@@ -30,7 +30,7 @@ returns-in_ok-insert-clause-put g c =
     let then = item_there number g.T.Ord.cmp law c.insert.new.self.entries c.insert-in-Some.new.self.entries (c.args.pidx, record { 0 = c.unwrap.result }) (Some c.or.new.self) c.in_ok-insert.ensures.updates.0 in
     let before = item_here number g.T.Ord.cmp law c.args.closed.now.entries (c.args.pidx, record { 0 = c.unwrap.result }) in
     let after = item_here number g.T.Ord.cmp law c.insert-in-Some.new.self.entries (c.args.pidx, record { 0 = c.unwrap.result }) in
-    put_one (number c.args.pidx.0) (number c.unwrap.result) zero c.args.ahead.now _ _
+    put_one (number c.args.pidx.0) (number c.unwrap.result) zero c.args.ctx.now _ _
     (sym after ∙ c.in_ok-insert.ensures.updates.1 ∙ rw (← before, ← c.in_ok-old.ensures.old, c.in-Some.is, c.or.ensures.after) refl)
     (λ i e f. then i e f ∙ first i e f) c.requires
 
@@ -41,7 +41,7 @@ returns-in_default-clause-bits g c =
     let none = none_unless c.in_ok-old.field-0 c.in_default.not-Some in
     let before = item_here number g.T.Ord.cmp law c.args.closed.now.entries (c.args.pidx, record { 0 = c.unwrap.result }) in
     let after = item_here number g.T.Ord.cmp law c.insert.new.self.entries (c.args.pidx, record { 0 = c.unwrap.result }) in
-    put_bits (number c.args.pidx.0) (number c.unwrap.result) c.args.ahead.now _ _
+    put_bits (number c.args.pidx.0) (number c.unwrap.result) c.args.ctx.now _ _
     (sym after ∙ c.in_ok-old.ensures.updates.1 ∙ rw (← before, ← c.in_ok-old.ensures.old, none, c.in_ok-own.ensures.cases) refl)
     (item_there number g.T.Ord.cmp law c.args.closed.now.entries c.insert.new.self.entries (c.args.pidx, record { 0 = c.unwrap.result }) (Some c.in_ok-own.own) c.in_ok-old.ensures.updates.0)
     c.requires
@@ -54,7 +54,7 @@ returns-in_default-clause-put g c =
     let none = none_unless c.in_ok-old.field-0 c.in_default.not-Some in
     let before = item_here number g.T.Ord.cmp law c.args.closed.now.entries (c.args.pidx, record { 0 = c.unwrap.result }) in
     let after = item_here number g.T.Ord.cmp law c.insert.new.self.entries (c.args.pidx, record { 0 = c.unwrap.result }) in
-    put_one (number c.args.pidx.0) (number c.unwrap.result) zero c.args.ahead.now _ _
+    put_one (number c.args.pidx.0) (number c.unwrap.result) zero c.args.ctx.now _ _
     (sym after ∙ c.in_ok-old.ensures.updates.1 ∙ rw (← before, ← c.in_ok-old.ensures.old, none, c.in_ok-own.ensures.cases) refl)
     (item_there number g.T.Ord.cmp law c.args.closed.now.entries c.insert.new.self.entries (c.args.pidx, record { 0 = c.unwrap.result }) (Some c.in_ok-own.own) c.in_ok-old.ensures.updates.0)
     c.requires

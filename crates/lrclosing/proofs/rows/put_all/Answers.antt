@@ -16,12 +16,12 @@ loop-pidx-preserved g c =
     let at : get_or ps i 0 ≡ number c.pidx-item.result.0 = number_at (λ p. number p.0) xs i c.pidx-item.result c.loop-pidx-test.true c.pidx-item.is in
     record {
       bits = c.in_ok-put.ensures.bits;
-      put = put_this ps i (number c.pidx-item.result.0) c.args.ahead.now _ _ _ c.loop-pidx.invariant.put c.in_ok-put.ensures.put lt at;
+      put = put_this ps i (number c.pidx-item.result.0) c.args.ctx.now _ _ _ c.loop-pidx.invariant.put c.in_ok-put.ensures.put lt at;
     }
 
 pub returns-clause-put : goal.returns-clause-put
 returns-clause-put g c =
     let number = g.T.IndexStorage.number in
     let xs = c.rule_to_prods-pidx-items.result.now in
-    put_every c.args.grm.now (map (λ p. number p.0) xs) (number c.args.rule.0) c.loop-pidx.pidx-index c.args.ahead.now _ _ c.rule_to_prods-pidx-items.ensures.prods
+    put_every c.args.grm.now (map (λ p. number p.0) xs) (number c.args.rule.0) c.loop-pidx.pidx-index c.args.ctx.now _ _ c.rule_to_prods-pidx-items.ensures.prods
     (end_mapped (λ p. number p.0) xs c.loop-pidx.pidx-index c.loop-pidx-test.false) c.loop-pidx.invariant.put

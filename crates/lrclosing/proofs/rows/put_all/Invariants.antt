@@ -9,6 +9,6 @@ invariant-loop-pidx g l =
     let number = g.T.IndexStorage.number in
     let ps = map (λ p. number p.0) l.pidx-items in
     record {
-      bits : HaveBits (length l.ahead) (items_of number l.closed.entries);
-      put : ArePut (IsAmongFirst l.pidx-index ps) l.ahead (items_of number l.fn.closed.entries) (items_of number l.closed.entries);
+      bits : HaveBits (length l.ctx) (items_of number l.closed.entries);
+      put : ArePut (IsAmongFirst l.pidx-index ps) l.ctx (items_of number l.fn.closed.entries) (items_of number l.closed.entries);
     }

@@ -10,7 +10,7 @@ returns-clause-core g c =
     let start =
     one_start c.args.grm.now (items_of number c.push.new.self.items) _ _ _ _ _ _ c.tokens_len.ensures.shape (ap (items_of number) one) c.start_prod.ensures
     (rw c.unwrap.ensures at c.from_usize.ensures).1 (c.from-2.ensures ∙ c.eof_token_idx.ensures) (c.from.ensures ∙ c.tokens_len.ensures.value)
-    c.in_ok-looks.ensures.bits c.set.ensures.after in
+    c.in_ok-ctx.ensures.bits c.set.ensures.after in
     start.0
 
 pub returns-clause-fits : goal.returns-clause-fits
@@ -20,5 +20,5 @@ returns-clause-fits g c =
     let start =
     one_start c.args.grm.now (items_of number c.push.new.self.items) _ _ _ _ _ _ c.tokens_len.ensures.shape (ap (items_of number) one) c.start_prod.ensures
     (rw c.unwrap.ensures at c.from_usize.ensures).1 (c.from-2.ensures ∙ c.eof_token_idx.ensures) (c.from.ensures ∙ c.tokens_len.ensures.value)
-    c.in_ok-looks.ensures.bits c.set.ensures.after in
+    c.in_ok-ctx.ensures.bits c.set.ensures.after in
     start.1

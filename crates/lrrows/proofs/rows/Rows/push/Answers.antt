@@ -5,7 +5,7 @@ use Rattle.lrrows.specs.StateRows.{action_row, goto_row}
 use Rattle.lrrows.specs.StoredActions.{IsIndexed, action_numbered}
 use Rattle.lrrows.proofs.EntryActions.{each_entry, all_there, by_one_there}
 use Rattle.lrrows.proofs.IndexedRows.{indexed_action_row}
-use Rattle.lrrows.proofs.NextRows.{row_more, least_listed, contests_listed, listed_len, next_rows}
+use Rattle.lrrows.proofs.NextRows.{row_more, least_listed, reduce_reduce_listed, listed_len, next_rows}
 use Rattle.lrrows.proofs.rows.Rows.push.Goals as goal
 
 pub completes-requires : goal.completes-requires
@@ -86,7 +86,7 @@ returns-clause-rows g c =
     let closed = c.closed_state-closed.ensures in
     let fits = c.requires.graph.closures.fit_closed s c.requires.below in
     let least = least_listed grm h s _ _ _ closed.upwards fits closed.items c.in_ok-complete.ensures.items (rw c.as_slice.ensures.value at c.in_ok-least.ensures) in
-    let contests = contests_listed grm h s _ _ _ closed.upwards fits closed.items c.in_ok-complete.ensures.items least in
+    let entries = reduce_reduce_listed grm h s _ _ _ closed.upwards fits closed.items c.in_ok-complete.ensures.items least in
     let made = c.in_ok-make_actions.ensures in
     let edges = c.in_ok-make_gotos.ensures in
     let more = c.in_ok-push_entries.ensures in
@@ -101,17 +101,17 @@ returns-clause-rows g c =
     let one = rw c.as_slice-row.ensures.value at c.reduces_by_one.ensures in
     let same = rw made.row at (by_one_there (token_count grm) _ made.entries) in
     on_ok_weaker c.push_shift_reduce.result
-    (λ mixes.
+    (λ listed.
     next_rows number grm h s old _ c.in_ok-reduces.reduces c.reduces_by_one.result c.requires.rows
     actions gotos c.in_ok-push-2.ensures.items (rw made.row at (all_there (token_count grm) _ made.entries _ reduces))
     c.in_ok-push.ensures.items (λ b. same.0 (one.0 b), λ r. one.1 (same.1 r))
-    (rw (c.as_slice-5.ensures.value, c.as_slice-6.ensures.value, contests) at c.in_ok-push_reduce_reduce.ensures.entries) mixes)
+    (rw (c.as_slice-5.ensures.value, c.as_slice-6.ensures.value, entries) at c.in_ok-push_reduce_reduce.ensures.entries) listed)
     c.push_shift_reduce.ensures.entries
 
 pub returns-clause-zeros : goal.returns-clause-zeros
 returns-clause-zeros g c =
     on_ok_weaker c.push_shift_reduce.result
-    (λ mixes. record {
+    (λ listed. record {
       actions = c.in_ok-push_entries.ensures.empty ∙ c.requires.zeros.actions;
       gotos = c.in_ok-push_entries-2.ensures.empty ∙ c.requires.zeros.gotos;
     })

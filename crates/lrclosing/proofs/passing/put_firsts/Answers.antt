@@ -6,7 +6,7 @@ use Rattle.lrgrammar.specs.Symbols.{symbol_of}
 use Rattle.lrclosing.proofs.SymbolsBehindDots.{symbols_behind, sliced, left_at, left_none, within_body}
 use Rattle.lrclosing.proofs.PassedOn.{turn_past, turn_stop, turn_token, turn_end, made_passed_on, grown_union, grown_set, grown_then, grown_before}
 use Rattle.lrclosing.proofs.NullableRests.{null_past, null_stop, null_at_token, null_end}
-use Rattle.lrclosing.proofs.ahead.put_firsts.Goals as goal
+use Rattle.lrclosing.proofs.passing.put_firsts.Goals as goal
 
 pub loop-symbol-init : goal.loop-symbol-init
 loop-symbol-init g c =

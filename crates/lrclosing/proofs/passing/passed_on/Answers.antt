@@ -4,7 +4,7 @@ use Rattle.lrspec.specs.grammars.Grammar.{token_count, rest}
 use Rattle.lrclosing.proofs.PassedOn.{made_grown}
 use Rattle.std.specs.Option.{option_copied}
 use Rattle.lrclosing.proofs.VisitedItems.{passed_to_none}
-use Rattle.lrclosing.proofs.ahead.passed_on.Goals as goal
+use Rattle.lrclosing.proofs.passing.passed_on.Goals as goal
 
 pub returns-in_ok-made-in-None-clause-changed : goal.returns-in_ok-made-in-None-clause-changed
 returns-in_ok-made-in-None-clause-changed g c = rw c.in-None.is (made_grown (token_count c.args.grm.now) c.pass_on.new.row c.pass_on.ensures.passed.len)

@@ -5,7 +5,7 @@ use Rattle.lrspec.specs.grammars.First.{AllNullable}
 use Rattle.lrgrammar.specs.Symbols.{symbol_of}
 use Rattle.lrclosing.specs.Rows.{HasGrown}
 use Rattle.lrclosing.proofs.PassedOn.{passed}
-use Rattle.lrclosing.proofs.ahead.put_firsts.Given as goal
+use Rattle.lrclosing.proofs.passing.put_firsts.Given as goal
 
 abbrev pub invariant-loop-symbol : goal.invariant-loop-symbol
 invariant-loop-symbol g l =

@@ -14,12 +14,12 @@ use Rattle.lrspec.specs.tables.Conflicts.{IsLeastAcceptReduce}
 use Rattle.lrspec.proofs.grammars.ListMembers.{Among}
 use Rattle.lrspec.proofs.tables.CellFacts.{looks_in_from_test, test_from_looks_in, among_reductions, reduction_looks, least_of_first}
 use Rattle.lrspec.proofs.tables.MachineStacks.{look_fits}
-use Rattle.lrrows.specs.StateRows.{first_of, least_contest}
+use Rattle.lrrows.specs.StateRows.{first_of, least_accept_reduce}
 use Rattle.lrrows.proofs.NumbersInTurn.{InTurn, turns_begin, turn_at, turn_taken, turns_end}
 
 -- the least production by which the state reduces where it accepts, or none where it doesn't
-abbrev pub IsContestOf : Grammar → Graph → ℕ → Option ℕ → Type 0
-IsContestOf g h s o =
+abbrev pub IsAcceptReduceOf : Grammar → Graph → ℕ → Option ℕ → Type 0
+IsAcceptReduceOf g h s o =
     MatchOption o ((p : ℕ) → AcceptsAndReduces g h s p → ⊥) (λ p. AcceptsAndReduces g h s p × ((q : ℕ) → AcceptsAndReduces g h s q → p ≤ q))
 
 -- one of the first `n` states accepts and reduces by the production
@@ -27,8 +27,8 @@ abbrev pub OneBelow : Grammar → Graph → ℕ → ℕ → Type 0
 OneBelow g h n p = (s : ℕ) × (s < n) × AcceptsAndReduces g h s p
 
 -- the least production by which one of the first `n` states reduces where it accepts, or none where none does
-abbrev pub IsContestBelow : Grammar → Graph → ℕ → Option ℕ → Type 0
-IsContestBelow g h n o = MatchOption o ((p : ℕ) → OneBelow g h n p → ⊥) (λ p. OneBelow g h n p × ((q : ℕ) → OneBelow g h n q → p ≤ q))
+abbrev pub IsAcceptReduceBelow : Grammar → Graph → ℕ → Option ℕ → Type 0
+IsAcceptReduceBelow g h n o = MatchOption o ((p : ℕ) → OneBelow g h n p → ⊥) (λ p. OneBelow g h n p × ((q : ℕ) → OneBelow g h n q → p ≤ q))
 
 -- `r` is the lesser of both numbers, or `p` where that is the only one
 abbrev pub IsLesser : Option ℕ → ℕ → ℕ → Type 0
@@ -55,19 +55,19 @@ module _ {T : Type 0} (number : T → ℕ) (cmp : T → T → Ordering) (partial
 
 module _ (g : Grammar) (h : Graph) (m : IsGraphOf g h) where
   -- a production that a state reduces by at the end of the text is among its reductions there
-  among_contest : (s p : ℕ) → AcceptsAndReduces g h s p → Among p (reductions g (closed_of h s) (end_token g))
-  among_contest s p k =
+  among_accept_reduce : (s p : ℕ) → AcceptsAndReduces g h s p → Among p (reductions g (closed_of h s) (end_token g))
+  among_accept_reduce s p k =
       let (below, token) = look_fits (closed_of h s) p (length (body_of g p)) (end_token g) (m.closures.fit_closed s k.below) k.reduces in
       among_reductions g (closed_of h s) (end_token g) p below k.differ k.reduces
 
   -- by whether it accepts, and its reductions
-  contest_by :
+  accept_reduce_by :
       (s : ℕ) (b : Bool) (ps : List ℕ) → s < length h → accepts_at g (closed_of h s) (end_token g) ≡ b
-      → reductions g (closed_of h s) (end_token g) ≡ ps → IsContestOf g h s (cond b (first_of ps) None)
-  contest_by s false ps l a r =
+      → reductions g (closed_of h s) (end_token g) ≡ ps → IsAcceptReduceOf g h s (cond b (first_of ps) None)
+  accept_reduce_by s false ps l a r =
       λ p k. let t = test_from_looks_in (closed_of h s) g.start_production (length (body_of g g.start_production)) (end_token g) k.accepts in cc
-  contest_by s true [] l a r = λ p k. rw r at (among_contest s p k)
-  contest_by s true (p ∷ ps) l a r =
+  accept_reduce_by s true [] l a r = λ p k. rw r at (among_accept_reduce s p k)
+  accept_reduce_by s true (p ∷ ps) l a r =
       let (n, look) = reduction_looks g (closed_of h s) (end_token g) p (rw r (inl refl)) in (
         record {
           below = l;
@@ -75,20 +75,20 @@ module _ (g : Grammar) (h : Graph) (m : IsGraphOf g h) where
           accepts = looks_in_from_test (closed_of h s) g.start_production (length (body_of g g.start_production)) (end_token g) a;
           reduces = look;
         },
-        λ q k. least_of_first g (closed_of h s) (end_token g) p q ps r (rw r at (among_contest s q k)),
+        λ q k. least_of_first g (closed_of h s) (end_token g) p q ps r (rw r at (among_accept_reduce s q k)),
       )
 
-  -- the contest of a state
-  pub contest_is : (s : ℕ) → s < length h → IsContestOf g h s (least_contest g (closed_of h s))
-  contest_is s l = contest_by s (accepts_at g (closed_of h s) (end_token g)) (reductions g (closed_of h s) (end_token g)) l refl refl
+  -- the least one of a state
+  pub accept_reduce_is : (s : ℕ) → s < length h → IsAcceptReduceOf g h s (least_accept_reduce g (closed_of h s))
+  accept_reduce_is s l = accept_reduce_by s (accepts_at g (closed_of h s) (end_token g)) (reductions g (closed_of h s) (end_token g)) l refl refl
 
   -- as it is found by an item set that is the closed state
-  pub contest_found : (s : ℕ) (a : Items) (o : Option ℕ) → s < length h → a ≡ closed_of h s → o ≡ least_contest g a → IsContestOf g h s o
-  contest_found s a o l e f = rw (f, e) (contest_is s l)
+  pub accept_reduce_found : (s : ℕ) (a : Items) (o : Option ℕ) → s < length h → a ≡ closed_of h s → o ≡ least_accept_reduce g a → IsAcceptReduceOf g h s o
+  accept_reduce_found s a o l e f = rw (f, e) (accept_reduce_is s l)
 
 -- the states left are to be asked, and the others have been
-abbrev pub IsContestBefore : Grammar → Graph → Option ℕ → List ℕ → Type 0
-IsContestBefore g h o left = InTurn (λ n. IsContestBelow g h n o) (length h) left
+abbrev pub IsAcceptReduceBefore : Grammar → Graph → Option ℕ → List ℕ → Type 0
+IsAcceptReduceBefore g h o left = InTurn (λ n. IsAcceptReduceBelow g h n o) (length h) left
 
 module _ (g : Grammar) (h : Graph) where
   -- one of the states up to `n` is before it, or is it
@@ -100,50 +100,50 @@ module _ (g : Grammar) (h : Graph) where
   still_one n p (s, l, k) = (s, omega (arith, l), k)
 
   -- a state that doesn't accept and reduce leaves the least
-  contest_kept : (n : ℕ) (o : Option ℕ) → IsContestBelow g h n o → IsContestOf g h n None → IsContestBelow g h (n + 1) o
-  contest_kept n None b k = λ p i. elim (one_more n p i) [ inl j ↦ b p j | inr j ↦ k p j ]
-  contest_kept n (Some p) b k = (still_one n p b.0, λ q i. elim (one_more n q i) [ inl j ↦ b.1 q j | inr j ↦ absurd (k q j) ])
+  accept_reduce_kept : (n : ℕ) (o : Option ℕ) → IsAcceptReduceBelow g h n o → IsAcceptReduceOf g h n None → IsAcceptReduceBelow g h (n + 1) o
+  accept_reduce_kept n None b k = λ p i. elim (one_more n p i) [ inl j ↦ b p j | inr j ↦ k p j ]
+  accept_reduce_kept n (Some p) b k = (still_one n p b.0, λ q i. elim (one_more n q i) [ inl j ↦ b.1 q j | inr j ↦ absurd (k q j) ])
 
   -- of one that does, the lesser of its least and the one before is the least
-  contest_more :
-      (n : ℕ) (o : Option ℕ) (p r : ℕ) → IsContestBelow g h n o → IsContestOf g h n (Some p) → IsLesser o p r → IsContestBelow g h (n + 1) (Some r)
-  contest_more n None p r b k e =
+  accept_reduce_more :
+      (n : ℕ) (o : Option ℕ) (p r : ℕ) → IsAcceptReduceBelow g h n o → IsAcceptReduceOf g h n (Some p) → IsLesser o p r → IsAcceptReduceBelow g h (n + 1) (Some r)
+  accept_reduce_more n None p r b k e =
       (rw e (n, omega arith, k.0), λ q i. elim (one_more n q i) [ inl j ↦ absurd (b q j) | inr j ↦ rw e (k.1 q j) ])
-  contest_more n (Some o) p r b k (l, m, e) = (
+  accept_reduce_more n (Some o) p r b k (l, m, e) = (
     elim e [ inl i ↦ rw i (n, omega arith, k.0) | inr i ↦ rw i (still_one n o b.0) ],
     λ q i. elim (one_more n q i) [ inl j ↦ omega (arith, m, b.1 q j) | inr j ↦ omega (arith, l, k.1 q j) ],
   )
 
   -- before the first state there is none
-  pub no_contest_yet : (left : List ℕ) → left ≡ range_with_len 0 (length h) → IsContestBefore g h None left
-  no_contest_yet left e = turns_begin _ (length h) left e (λ p (s, l, k). omega (arith, l))
+  pub no_accept_reduce_yet : (left : List ℕ) → left ≡ range_with_len 0 (length h) → IsAcceptReduceBefore g h None left
+  no_accept_reduce_yet left e = turns_begin _ (length h) left e (λ p (s, l, k). omega (arith, l))
 
   -- the next state is one of the graph
-  pub next_asked : (o : Option ℕ) (left : List ℕ) (x : ℕ) (xs : List ℕ) → left ≡ x ∷ xs → IsContestBefore g h o left → x < length h
+  pub next_asked : (o : Option ℕ) (left : List ℕ) (x : ℕ) (xs : List ℕ) → left ≡ x ∷ xs → IsAcceptReduceBefore g h o left → x < length h
   next_asked o left x xs e b = (turn_at _ (length h) left x xs e b).0
 
   -- once a state is asked that doesn't accept and reduce
   pub asked_in_vain :
-      (o : Option ℕ) (left : List ℕ) (x : ℕ) (xs : List ℕ) → left ≡ x ∷ xs → IsContestBefore g h o left → IsContestOf g h x None
-      → IsContestBefore g h o xs
+      (o : Option ℕ) (left : List ℕ) (x : ℕ) (xs : List ℕ) → left ≡ x ∷ xs → IsAcceptReduceBefore g h o left → IsAcceptReduceOf g h x None
+      → IsAcceptReduceBefore g h o xs
   asked_in_vain o left x xs e b k =
-      turn_taken _ (λ n. IsContestBelow g h n o) (length h) left x xs e b (contest_kept x o (turn_at _ (length h) left x xs e b).1 k)
+      turn_taken _ (λ n. IsAcceptReduceBelow g h n o) (length h) left x xs e b (accept_reduce_kept x o (turn_at _ (length h) left x xs e b).1 k)
 
   -- once one is asked that does
   pub asked :
-      (o : Option ℕ) (p r : ℕ) (left : List ℕ) (x : ℕ) (xs : List ℕ) → left ≡ x ∷ xs → IsContestBefore g h o left → IsContestOf g h x (Some p)
-      → IsLesser o p r → IsContestBefore g h (Some r) xs
+      (o : Option ℕ) (p r : ℕ) (left : List ℕ) (x : ℕ) (xs : List ℕ) → left ≡ x ∷ xs → IsAcceptReduceBefore g h o left → IsAcceptReduceOf g h x (Some p)
+      → IsLesser o p r → IsAcceptReduceBefore g h (Some r) xs
   asked o p r left x xs e b k m =
-      turn_taken _ (λ n. IsContestBelow g h n (Some r)) (length h) left x xs e b (contest_more x o p r (turn_at _ (length h) left x xs e b).1 k m)
+      turn_taken _ (λ n. IsAcceptReduceBelow g h n (Some r)) (length h) left x xs e b (accept_reduce_more x o p r (turn_at _ (length h) left x xs e b).1 k m)
 
-  contest_told :
-      {X : Type 0} (f : X → ℕ) (o : Option X) → IsContestBelow g h (length h) (option_map f o)
+  accept_reduce_told :
+      {X : Type 0} (f : X → ℕ) (o : Option X) → IsAcceptReduceBelow g h (length h) (option_map f o)
       → MatchOption o ((s p : ℕ) → AcceptsAndReduces g h s p → ⊥) (λ p. IsLeastAcceptReduce g h (f p))
-  contest_told f None b = λ s p k. b p (s, k.below, k)
-  contest_told f (Some p) b = record { some = (b.0.0, b.0.2); least = λ s q k. b.1 q (s, k.below, k) }
+  accept_reduce_told f None b = λ s p k. b p (s, k.below, k)
+  accept_reduce_told f (Some p) b = record { some = (b.0.0, b.0.2); least = λ s q k. b.1 q (s, k.below, k) }
 
   -- once all are asked
   pub all_asked :
-      {X : Type 0} (f : X → ℕ) (o : Option X) (left : List ℕ) → left ≡ [] → IsContestBefore g h (option_map f o) left
+      {X : Type 0} (f : X → ℕ) (o : Option X) (left : List ℕ) → left ≡ [] → IsAcceptReduceBefore g h (option_map f o) left
       → MatchOption o ((s p : ℕ) → AcceptsAndReduces g h s p → ⊥) (λ p. IsLeastAcceptReduce g h (f p))
-  all_asked f o left e b = contest_told f o (turns_end _ (length h) left e b)
+  all_asked f o left e b = accept_reduce_told f o (turns_end _ (length h) left e b)

@@ -4,15 +4,15 @@ use Rattle.std.specs.List.{filter_map, flat_map}
 use Rattle.lrspec.specs.texts.PrintedTexts.{set_bits}
 
 -- the entry for the token `t` in the state `s`: the least production, and `q`, another one
-abbrev pub contest : Option ℕ → ℕ → ℕ → ℕ → Option (ℕ × ℕ × ℕ × ℕ)
-contest None q s t = None
-contest (Some p) q s t = if p == q then None else Some (t, p, q, s)
+abbrev pub reduce_reduce_by_least : Option ℕ → ℕ → ℕ → ℕ → Option (ℕ × ℕ × ℕ × ℕ)
+reduce_reduce_by_least None q s t = None
+reduce_reduce_by_least (Some p) q s t = if p == q then None else Some (t, p, q, s)
 
 -- the conflicts of a complete item with the least productions, by token
-abbrev pub contests_by : List (Option ℕ) → ℕ → ℕ × List Bool → List (ℕ × ℕ × ℕ × ℕ)
-contests_by least s c =
-    filter_map (λ t. contest (slice_index_or least t None) c.0 s t) (set_bits c.1)
+abbrev pub reduce_reduce_by_item : List (Option ℕ) → ℕ → ℕ × List Bool → List (ℕ × ℕ × ℕ × ℕ)
+reduce_reduce_by_item least s c =
+    filter_map (λ t. reduce_reduce_by_least (slice_index_or least t None) c.0 s t) (set_bits c.1)
 
 -- the conflicts of all complete items
 abbrev pub reduce_reduce_by : List (Option ℕ) → ℕ → List (ℕ × List Bool) → List (ℕ × ℕ × ℕ × ℕ)
-reduce_reduce_by least s cs = flat_map (contests_by least s) cs
+reduce_reduce_by least s cs = flat_map (reduce_reduce_by_item least s) cs

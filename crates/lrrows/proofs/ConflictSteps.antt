@@ -15,15 +15,15 @@ use Rattle.lrspec.specs.texts.PrintedTexts.{set_bits}
 use Rattle.lrspec.proofs.grammars.ListMembers.{Among, from_filter, below_from_range}
 use Rattle.lrgrammar.specs.Bits.{places, set_places}
 use Rattle.lrrows.specs.StateRows.{first_of}
-use Rattle.lrrows.specs.Contests.{contest}
+use Rattle.lrrows.specs.ReduceReduce.{reduce_reduce_by_least}
 
 -- the entry for the token `t` in the state `s`, where `q` is the other production
-abbrev pub contest_on : List (Option ℕ) → ℕ → ℕ → ℕ → Option (ℕ × ℕ × ℕ × ℕ)
-contest_on least s q t = contest (get_or least t None) q s t
+abbrev pub reduce_reduce_on : List (Option ℕ) → ℕ → ℕ → ℕ → Option (ℕ × ℕ × ℕ × ℕ)
+reduce_reduce_on least s q t = reduce_reduce_by_least (get_or least t None) q s t
 
 -- the entry for the token `t` in the state `s`, if it shifts and reduces there and is listed
-abbrev pub mix_on : Grammar → Graph → ℕ → ℕ → Option (ℕ × ℕ × ℕ)
-mix_on g h s t = shift_reduce_entry g (reductions g (closed_of h s) t) (edge h s (Token t)) s t
+abbrev pub shift_reduce_on : Grammar → Graph → ℕ → ℕ → Option (ℕ × ℕ × ℕ)
+shift_reduce_on g h s t = shift_reduce_entry g (reductions g (closed_of h s) t) (edge h s (Token t)) s t
 
 -- numbers that come one after the other are below what all are below
 pub next_below : (n t : ℕ) (ts us : List ℕ) → ts ≡ t ∷ us → ((u : ℕ) → Among u ts → u < n) → t < n
@@ -61,33 +61,33 @@ module _ {X Y : Type 0} where
   added_none f x xs ys zs e h = rw e at h
 
 module _ {P E : Type 0} (number : P → ℕ) (shown : E → ℕ × ℕ × ℕ × ℕ) where
-  contest_at :
+  reduce_reduce_at_token :
       (least : List (Option P)) (s q t : ℕ) (o : Option P) (r : Option E) → t < length least → o ≡ get_or least t o
-      → option_map shown r ≡ contest (option_map number o) q s t → contest_on (map (option_map number) least) s q t ≡ option_map shown r
-  contest_at least s q t o r l k h =
+      → option_map shown r ≡ reduce_reduce_by_least (option_map number o) q s t → reduce_reduce_on (map (option_map number) least) s q t ≡ option_map shown r
+  reduce_reduce_at_token least s q t o r l k h =
       let here : get_or (map (option_map number) least) t None ≡ option_map number o = get_or-map (option_map number) least t o None l ∙ ap (option_map number) (sym k) in
-      ap (λ x. contest x q s t) here ∙ sym h
+      ap (λ x. reduce_reduce_by_least x q s t) here ∙ sym h
 
   -- the entry for the next token is added
-  pub contest_added :
+  pub reduce_reduce_added :
       (least : List (Option P)) (s q t : ℕ) (ts us : List ℕ) (o : Option P) (r : Option E) (e : E) (old new : List E) (zs : List (ℕ × ℕ × ℕ × ℕ))
-      → ts ≡ t ∷ us → t < length least → o ≡ get_or least t o → option_map shown r ≡ contest (option_map number o) q s t → r ≡ Some e
-      → new ≡ old ++ e ∷ [] → map shown old ++ filter_map (contest_on (map (option_map number) least) s q) ts ≡ zs
-      → map shown new ++ filter_map (contest_on (map (option_map number) least) s q) us ≡ zs
-  contest_added least s q t ts us o r e old new zs i l k h m n w =
-      let f = contest_on (map (option_map number) least) s q in
-      let here : f t ≡ Some (shown e) = contest_at least s q t o r l k h ∙ ap (option_map shown) m in
+      → ts ≡ t ∷ us → t < length least → o ≡ get_or least t o → option_map shown r ≡ reduce_reduce_by_least (option_map number o) q s t → r ≡ Some e
+      → new ≡ old ++ e ∷ [] → map shown old ++ filter_map (reduce_reduce_on (map (option_map number) least) s q) ts ≡ zs
+      → map shown new ++ filter_map (reduce_reduce_on (map (option_map number) least) s q) us ≡ zs
+  reduce_reduce_added least s q t ts us o r e old new zs i l k h m n w =
+      let f = reduce_reduce_on (map (option_map number) least) s q in
+      let here : f t ≡ Some (shown e) = reduce_reduce_at_token least s q t o r l k h ∙ ap (option_map shown) m in
       rw (n, map-append shown old (e ∷ [])) (added_one f t us (shown e) (map shown old) zs here (rw i at w))
 
   -- or there is none
-  pub contest_passed :
+  pub reduce_reduce_passed :
       (least : List (Option P)) (s q t : ℕ) (ts us : List ℕ) (o : Option P) (r : Option E) (old : List E) (zs : List (ℕ × ℕ × ℕ × ℕ))
-      → ts ≡ t ∷ us → t < length least → o ≡ get_or least t o → option_map shown r ≡ contest (option_map number o) q s t → r ≡ None
-      → map shown old ++ filter_map (contest_on (map (option_map number) least) s q) ts ≡ zs
-      → map shown old ++ filter_map (contest_on (map (option_map number) least) s q) us ≡ zs
-  contest_passed least s q t ts us o r old zs i l k h m w =
-      let f = contest_on (map (option_map number) least) s q in
-      let here : f t ≡ None = contest_at least s q t o r l k h ∙ ap (option_map shown) m in
+      → ts ≡ t ∷ us → t < length least → o ≡ get_or least t o → option_map shown r ≡ reduce_reduce_by_least (option_map number o) q s t → r ≡ None
+      → map shown old ++ filter_map (reduce_reduce_on (map (option_map number) least) s q) ts ≡ zs
+      → map shown old ++ filter_map (reduce_reduce_on (map (option_map number) least) s q) us ≡ zs
+  reduce_reduce_passed least s q t ts us o r old zs i l k h m w =
+      let f = reduce_reduce_on (map (option_map number) least) s q in
+      let here : f t ≡ None = reduce_reduce_at_token least s q t o r l k h ∙ ap (option_map shown) m in
       added_none f t us (map shown old) zs here (rw i at w)
 
 range_more : (a n : ℕ) → range_with_len a (n + 1) ≡ range_with_len a n ++ (a + n) ∷ []
@@ -104,18 +104,18 @@ kept_more f t =
 
 module _ {E Y : Type 0} (shown : E → Y) where
   -- what the token gives is added
-  pub mix_added :
+  pub shift_reduce_added :
       (f : ℕ → Option Y) (t : ℕ) (r : Option E) (e : E) (old new : List E) (zs : List Y) → option_map shown r ≡ f t → r ≡ Some e
       → new ≡ old ++ e ∷ [] → map shown old ≡ zs ++ filter_map f (range_with_len 0 t) → map shown new ≡ zs ++ filter_map f (range_with_len 0 (t + 1))
-  mix_added f t r e old new zs h m n w =
+  shift_reduce_added f t r e old new zs h m n w =
       let here : f t ≡ Some (shown e) = sym h ∙ ap (option_map shown) m in
       rw (n, map-append shown old (e ∷ []), w, kept_more f t, here) (append_assoc zs (filter_map f (range_with_len 0 t)) (shown e ∷ []))
 
   -- or it gives nothing
-  pub mix_passed :
+  pub shift_reduce_passed :
       (f : ℕ → Option Y) (t : ℕ) (r : Option E) (old new : List E) (zs : List Y) → option_map shown r ≡ f t → r ≡ None
       → new ≡ old → map shown old ≡ zs ++ filter_map f (range_with_len 0 t) → map shown new ≡ zs ++ filter_map f (range_with_len 0 (t + 1))
-  mix_passed f t r old new zs h m n w =
+  shift_reduce_passed f t r old new zs h m n w =
       let here : f t ≡ None = sym h ∙ ap (option_map shown) m in
       rw (n, w, kept_more f t, here) (ap (λ xs. zs ++ xs) (sym (append-nil (filter_map f (range_with_len 0 t)))))
 

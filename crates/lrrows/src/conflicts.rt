@@ -6,8 +6,8 @@ ghost use Rattle.lrspec.specs.grammars.Grammar as math;
 ghost use Rattle.lrspec.specs.merging.Graph.{closed_of, edge};
 ghost use Rattle.lrspec.specs.tables.Table.{shift_reduce_entry};
 ghost use Rattle.lrrows.specs.StateRows.{first_of, least_reductions, shift_reduce_at};
-ghost use Rattle.lrrows.specs.Contests.{contest, contests_by, reduce_reduce_by};
-ghost use Rattle.lrrows.specs.StoredLists.{pair_of, mix_of, pairs_of, mixes_of, least_of};
+ghost use Rattle.lrrows.specs.ReduceReduce.{reduce_reduce_by_least, reduce_reduce_by_item, reduce_reduce_by};
+ghost use Rattle.lrrows.specs.StoredLists.{stored_reduce_reduce, stored_shift_reduce, stored_reduce_reduces, stored_shift_reduces, least_of};
 
 use lrgrammar::grammar::YaccGrammar;
 use lrgrammar::idx::{IndexStorage, PIdx, StIdx, Symbol, TIdx};
@@ -16,15 +16,15 @@ use lritems::itemset::Ctx;
 use std::alloc::AllocError;
 
 /// The entry for the token, where `least` is the least production by which the state reduces there, and `pidx` another one.
-fn contest_on<T: IndexStorage>(
+fn reduce_reduce_on<T: IndexStorage>(
     least: Option<PIdx<T>>,
     stidx: StIdx<T>,
     pidx: PIdx<T>,
     token: usize,
 ) -> Option<(TIdx<T>, PIdx<T>, PIdx<T>, StIdx<T>)>
     requires token { token ≤ T.MAX }
-    ensures entry { option_map (pair_of T.number) result
-        ≡ contest (option_map (λ p. T.number p.0) least)
+    ensures entry { option_map (stored_reduce_reduce T.number) result
+        ≡ reduce_reduce_by_least (option_map (λ p. T.number p.0) least)
         (T.number pidx.0) (T.number stidx.0) token }
 {
     let first = least?;
@@ -35,7 +35,7 @@ fn contest_on<T: IndexStorage>(
 }
 
 /// Adds the reduce/reduce conflicts of the state in which `pidx` is the other production, a token after the other.
-fn push_contests<T: IndexStorage>(
+fn push_reduce_reduce_with<T: IndexStorage>(
     conflicts: &mut Vec<(TIdx<T>, PIdx<T>, PIdx<T>, StIdx<T>)>,
     stidx: StIdx<T>,
     least: &[Option<PIdx<T>>],
@@ -44,13 +44,13 @@ fn push_contests<T: IndexStorage>(
 ) -> Result<(), AllocError>
     requires bits { length ctx.now ≡ length least.now }
     requires tokens { length least.now ≤ T.MAX }
-    ensures entries { OnOk result (pairs_of T.number conflicts.new.items
-        ≡ pairs_of T.number conflicts.old.items
-        ++ contests_by (least_of T.number least.now) (T.number stidx.0)
+    ensures entries { OnOk result (stored_reduce_reduces T.number conflicts.new.items
+        ≡ stored_reduce_reduces T.number conflicts.old.items
+        ++ reduce_reduce_by_item (least_of T.number least.now) (T.number stidx.0)
         (T.number pidx.0, ctx.now)) }
 {
     for token in ctx.iter_set_bits(0..ctx.len()) {
-        if let Some(entry) = contest_on(least[token], stidx, pidx, token) {
+        if let Some(entry) = reduce_reduce_on(least[token], stidx, pidx, token) {
             conflicts.push(entry)?;
         }
     }
@@ -66,20 +66,20 @@ pub(crate) fn push_reduce_reduce<T: IndexStorage>(
 ) -> Result<(), AllocError>
     requires bits { All (λ c. length c.1.now ≡ length least.now) completes.now }
     requires tokens { length least.now ≤ T.MAX }
-    ensures entries { OnOk result (pairs_of T.number conflicts.new.items
-        ≡ pairs_of T.number conflicts.old.items
+    ensures entries { OnOk result (stored_reduce_reduces T.number conflicts.new.items
+        ≡ stored_reduce_reduces T.number conflicts.old.items
         ++ reduce_reduce_by (least_of T.number least.now) (T.number stidx.0)
         (map (λ c. (T.number c.0.0, c.1.now)) completes.now)) }
 {
     for (pidx, ctx) in completes {
-        push_contests(conflicts, stidx, least, *pidx, ctx)?;
+        push_reduce_reduce_with(conflicts, stidx, least, *pidx, ctx)?;
     }
     Ok(())
 }
 
 /// The entry for the token, where `least` is the least production by which the state reduces there: if the state shifts the
 /// token, and the token or the production has no precedence.
-fn mix_on<T: IndexStorage>(
+fn shift_reduce_on<T: IndexStorage>(
     grm: &YaccGrammar<T>,
     sg: &StateGraph<T>,
     stidx: StIdx<T>,
@@ -89,7 +89,7 @@ fn mix_on<T: IndexStorage>(
     requires token { T.number tidx.0 < math.token_count grm.now }
     requires prod { IfSome least (λ p. T.number p.0 < length grm.now.productions) }
     ensures entry { (rs : List ℕ) → option_map (λ p. T.number p.0) least ≡ first_of rs
-        → option_map (mix_of T.number) result
+        → option_map (stored_shift_reduce T.number) result
         ≡ shift_reduce_entry grm.now rs
         (edge sg.now (T.number stidx.0) (math.Token (T.number tidx.0)))
         (T.number stidx.0) (T.number tidx.0) }
@@ -113,13 +113,13 @@ pub(crate) fn push_shift_reduce<T: IndexStorage>(
 ) -> Result<(), AllocError>
     requires least { least_of T.number least.now
         ≡ least_reductions grm.now (closed_of sg.now (T.number stidx.0)) }
-    ensures entries { OnOk result (mixes_of T.number conflicts.new.items
-        ≡ mixes_of T.number conflicts.old.items
+    ensures entries { OnOk result (stored_shift_reduces T.number conflicts.new.items
+        ≡ stored_shift_reduces T.number conflicts.old.items
         ++ shift_reduce_at grm.now sg.now (T.number stidx.0)) }
 {
     for token in 0..usize::from(grm.tokens_len()) {
         let tidx = TIdx(T::from_usize(token).unwrap());
-        if let Some(entry) = mix_on(grm, sg, stidx, tidx, least[token]) {
+        if let Some(entry) = shift_reduce_on(grm, sg, stidx, tidx, least[token]) {
             conflicts.push(entry)?;
         }
     }

@@ -3,7 +3,7 @@ use Rattle.std.specs.Prelude.{not}
 use Rattle.std.specs.Option.{option_copied}
 use Rattle.lrspec.specs.grammars.Grammar as math
 use Rattle.lrclosing.proofs.PassedOn.{with_own, without_own, grown_union, grown_before}
-use Rattle.lrclosing.proofs.ahead.pass_on.Goals as goal
+use Rattle.lrclosing.proofs.passing.pass_on.Goals as goal
 
 was_set : (b : Bool) → not b ≡ false → b ≡ true
 was_set true e = refl

@@ -10,8 +10,8 @@ use Rattle.lrspec.specs.merging.Graph.{Graph, closed_of}
 use Rattle.lrspec.specs.tables.Table.{bit_or_none, reductions, reduce_reduce_entry}
 use Rattle.lrspec.proofs.grammars.ListMembers.{Among, least_first, among_from_test, test_from_among, below_from_range}
 use Rattle.lrspec.proofs.tables.CellFacts.{looks_in_from_test, test_from_looks_in, among_reductions, reduction_looks}
-use Rattle.lrrows.specs.StateRows.{first_of, complete_items, least_reductions, contests_of, reduce_reduce_at}
-use Rattle.lrrows.specs.Contests.{contest, contests_by, reduce_reduce_by}
+use Rattle.lrrows.specs.StateRows.{first_of, complete_items, least_reductions, reduce_reduce_with, reduce_reduce_at}
+use Rattle.lrrows.specs.ReduceReduce.{reduce_reduce_by_least, reduce_reduce_by_item, reduce_reduce_by}
 use Rattle.lrrows.proofs.ReductionsOf.{complete_of, complete_listed, complete_upwards, given_by, walked}
 
 not_true : (b : Bool) → (b ≡ true → ⊥) → b ≡ false
@@ -32,7 +32,7 @@ either_way false x = refl
 entry_is :
     (rs : List ℕ) (q s t : ℕ) (b : Bool) → (b ≡ true → Among q rs) → (Among q rs → b ≡ true)
     → ((p x : ℕ) (ps : List ℕ) → rs ≡ p ∷ ps → Among x ps → p < x)
-    → reduce_reduce_entry rs s q t ≡ cond b (contest (first_of rs) q s t) None
+    → reduce_reduce_entry rs s q t ≡ cond b (reduce_reduce_by_least (first_of rs) q s t) None
 entry_is [] q s t b there back up = either_way b None
 entry_is (p ∷ ps) q s t b there back up =
     ⊎_elim
@@ -68,15 +68,15 @@ module _ {X Y : Type 0} where
 by_bits :
     (least : List (Option ℕ)) (first : ℕ → Option ℕ) (n s q : ℕ) (o : Option (List Bool))
     → ((v : List Bool) → o ≡ Some v → length v ≡ n) → ((t : ℕ) → t < n → get_or least t None ≡ first t)
-    → filter_map (λ t. cond (bit_or_none o t) (contest (first t) q s t) None) (range_with_len 0 n) ≡ given_by (contests_by least s) q o
+    → filter_map (λ t. cond (bit_or_none o t) (reduce_reduce_by_least (first t) q s t) None) (range_with_len 0 n) ≡ given_by (reduce_reduce_by_item least s) q o
 by_bits least first n s q None long are = nothing_given _ (range_with_len 0 n) (λ t. refl)
 by_bits least first n s q (Some v) long are =
     let same : length v ≡ n = long v refl in
     let alike =
-    filter_map_alike (λ t. cond (get_or v t false) (contest (first t) q s t) None)
-    (λ t. cond (get_or v t false) (contest (get_or least t None) q s t) None) (range_with_len 0 n)
-    (λ t i. ap (λ x. cond (get_or v t false) (contest x q s t) None) (sym (are t (below_from_range n t i)))) in
-    rw same (alike ∙ sym (filter_map_filter (λ t. contest (get_or least t None) q s t) (λ t. get_or v t false) (range_with_len 0 n)))
+    filter_map_alike (λ t. cond (get_or v t false) (reduce_reduce_by_least (first t) q s t) None)
+    (λ t. cond (get_or v t false) (reduce_reduce_by_least (get_or least t None) q s t) None) (range_with_len 0 n)
+    (λ t i. ap (λ x. cond (get_or v t false) (reduce_reduce_by_least x q s t) None) (sym (are t (below_from_range n t i)))) in
+    rw same (alike ∙ sym (filter_map_filter (λ t. reduce_reduce_by_least (get_or least t None) q s t) (λ t. get_or v t false) (range_with_len 0 n)))
 
 bit_parts : (b : Bool) (o : Option (List Bool)) (t : ℕ) → bit_or_none (cond b None o) t ≡ true → (b ≡ false) × (bit_or_none o t ≡ true)
 bit_parts true o t e = absurd (false≢true e)
@@ -98,14 +98,14 @@ bit_of_among g a q t i =
     rw (ne_eqb q g.start_production n) (test_from_looks_in a q (length (body_of g q)) t k)
 
 -- the conflicts of a state with one production, by its complete item
-contests_are :
+reduce_reduce_are :
     (g : Grammar) (h : Graph) (s q : ℕ) → Fits g (closed_of h s) → q < length g.productions
-    → contests_of g h s q ≡ given_by (contests_by (least_reductions g (closed_of h s)) s) q (complete_of g (closed_of h s) q)
-contests_are g h s q fits l =
+    → reduce_reduce_with g h s q ≡ given_by (reduce_reduce_by_item (least_reductions g (closed_of h s)) s) q (complete_of g (closed_of h s) q)
+reduce_reduce_are g h s q fits l =
     let a = closed_of h s in
     let first : ℕ → Option ℕ = λ t. first_of (reductions g a t) in
     let n = token_count g in
-    filter_map_alike (λ t. reduce_reduce_entry (reductions g a t) s q t) (λ t. cond (bit_or_none (complete_of g a q) t) (contest (first t) q s t) None)
+    filter_map_alike (λ t. reduce_reduce_entry (reductions g a t) s q t) (λ t. cond (bit_or_none (complete_of g a q) t) (reduce_reduce_by_least (first t) q s t) None)
     (range_with_len 0 n)
     (λ t i. entry_is (reductions g a t) q s t (bit_or_none (complete_of g a q) t) (among_by_bit g a q t l) (bit_of_among g a q t)
     (λ p x ps e j. least_first _ 0 (length g.productions) p x ps e j))
@@ -121,5 +121,5 @@ reduce_reduce_is g h s up fits =
     let a = closed_of h s in
     let n = length g.productions in
     sym
-    (walked (contests_of g h s) (contests_by (least_reductions g a) s) 0 n n (complete_items g a) (omega arith) (complete_upwards g a up fits)
-    (λ q l m. rw (complete_listed g a q) (contests_are g h s q fits m)))
+    (walked (reduce_reduce_with g h s) (reduce_reduce_by_item (least_reductions g a) s) 0 n n (complete_items g a) (omega arith) (complete_upwards g a up fits)
+    (λ q l m. rw (complete_listed g a q) (reduce_reduce_are g h s q fits m)))
