@@ -1,15 +1,14 @@
 -- the items of a goto that isn't made
-use Rattle.std.proofs.Common.{Ordering, ◌≡◌, ℕ, zero, suc, ◌+◌, ◌<◌, ◌≤◌, Bool, true, false, not, ◌&&◌, List, [], ◌∷◌, ◌++◌, None, Some, map, drop, length, get_or, refl, sym, ap, ◌∙◌, append_assoc, append-nil, add-one, drop-cons, arith, inl, inr}
-use Rattle.std.specs.Prelude.{slice_get, IsTrue, ◌↔◌}
+use Rattle.std.proofs.Common.{Ordering, ◌≡◌, ℕ, zero, suc, ◌+◌, ◌<◌, ◌≤◌, Bool, true, false, not, ◌&&◌, List, [], ◌∷◌, ◌++◌, Some, map, drop, length, get_or, refl, sym, ap, ◌∙◌, append_assoc, append-nil, add-one, drop-cons, arith, inl, inr}
+use Rattle.std.specs.Prelude.{IsTrue, ◌↔◌}
 use Rattle.std.specs.BTreeMap.{insert_entry}
 use Rattle.std.specs.Ordering.{nat_cmp}
 use Rattle.std.proofs.lemmas.Bool.{and_from, and_parts}
 use Rattle.std.proofs.lemmas.List.{length-map, map-append, drop_all}
-use Rattle.lrspec.specs.grammars.ItemSets.{Items, item_at, HasItem, AreUpwards}
+use Rattle.lrspec.specs.grammars.ItemSets.{Items, item_at, AreUpwards}
 use Rattle.lrspec.proofs.grammars.ListMembers.{Among}
 use Rattle.lritems.specs.ItemsOf.{items_of, Agree}
-use Rattle.lritems.specs.LeastItem.{least_item}
-use Rattle.lritems.proofs.ItemsAscending.{ascending_from_upwards, first_here, first_is_least, before_middle, inserted_last, same_from_agree}
+use Rattle.lritems.proofs.ItemsAscending.{ascending_from_upwards, before_middle, inserted_last, same_from_agree}
 use Rattle.lrclosing.proofs.AscendingItems.{item_from_among}
 use Rattle.lrclosing.proofs.ItemKeys.{Key, key_cmp}
 
@@ -86,31 +85,6 @@ pub none_more : (a left whole : Items) → left ≡ [] → a ++ left ≡ whole �
 none_more a left whole e h = sym (append-nil a) ∙ (rw e at h)
 
 module _ {T R : Type 0} (number : T → ℕ) (shows : R → List Bool) where
-  -- where there is no first one there is none
-  pub none_found : (es : List (Key T × R)) → None ≡ slice_get es 0 → items_shown number shows es ≡ []
-  none_found [] h = refl
-  none_found (e ∷ es) h = cc
-
-  -- the first is there
-  pub first_there :
-      (es : List (Key T × R)) (e : Key T × R) → Some e ≡ slice_get es 0 → HasItem (items_shown number shows es) (number e.0.0.0) (number e.0.1.0)
-  first_there [] e h = cc
-  first_there (f ∷ es) e h =
-      let s : Some e ≡ Some f = h in
-      let same : e ≡ f = cc in
-      let item : (ℕ × ℕ) × List Bool = ((number f.0.0.0, number f.0.1.0), shows f.1) in
-      rw (same, first_here item (items_shown number shows es)) refl
-
-  -- the first is the least
-  pub first_found :
-      (es : List (Key T × R)) (e : Key T × R) → Some e ≡ slice_get es 0 → AreUpwards (items_shown number shows es)
-      → Some (number e.0.0.0, number e.0.1.0) ≡ least_item (items_shown number shows es)
-  first_found [] e h u = cc
-  first_found (f ∷ es) e h u =
-      let s : Some e ≡ Some f = h in
-      let same : e ≡ f = cc in
-      rw same (first_is_least ((number f.0.0.0, number f.0.1.0), shows f.1) (items_shown number shows es) (ascending_from_upwards (items_shown number shows (f ∷ es)) u))
-
   -- one item more at the end
   pub pushed_shown :
       (es fs : List (Key T × R)) (k : Key T) (r : R) → fs ≡ es ++ (k, r) ∷ []

@@ -9,8 +9,6 @@ use Rattle.std.proofs.lemmas.List.Quantifiers.{all_pairs_push}
 use Rattle.lrspec.specs.grammars.ItemSets.{Items, item_at, HasItem, Precedes, AreUpwards}
 use Rattle.lrspec.specs.merging.WeakCompatibility.{Apart}
 use Rattle.lritems.specs.ItemsOf.{items_of, Agree}
-use Rattle.lritems.specs.LeastItem.{least_item}
-use Rattle.lritems.proofs.LeastItems.{IsUpTo, least_of_is}
 use Rattle.lrclosing.proofs.ItemKeys.{Key, key_cmp, apart_test}
 use Rattle.lrclosing.proofs.AscendingItems.{test_itself}
 pub use Rattle.lrclosing.proofs.AscendingItems.{AllBehind, AreAscending, ascending_from_upwards, apart_before, first_here}
@@ -122,20 +120,6 @@ same_from_agree (e ∷ es) (f ∷ fs) h k g =
             let q : e.0.0 ≡ p = grind (arith, nat_tests) in
             let r : e.0.1 ≡ d = grind (arith, nat_tests) in
             rw (← q, ← r) (absent_behind es e.0 h.0 ∙ sym none)
-
--- the first item is the least
-pub first_is_least : (e : (ℕ × ℕ) × List Bool) (es : Items) → AreAscending (e ∷ es) → Some e.0 ≡ least_item (e ∷ es)
-first_is_least e es h = least_of_is (e ∷ es) e.0 record {
-  there = rw (first_here e es) refl;
-  up_to = λ p d i. elim (first_or_rest e.0.0 e.0.1 e.1 es p d i) [
-    | inl s ↦ inr (sym s.0, omega (arith, s.1))
-    | inr j ↦ up_to (p, d) (behind_from_has es e.0 p d h.0 j)
-  ];
-}
-  where
-    up_to : (k : ℕ × ℕ) → Precedes e.0 k → IsUpTo e.0 k.0 k.1
-    up_to k (inl i) = inl i
-    up_to k (inr i) = inr (i.0, omega (arith, i.1))
 
 -- a key behind all others is put at the end of a map
 module _ {T : Type 0} (number : T → ℕ) (cmp : T → T → Ordering) (ordered : (x y : T) → cmp x y ≡ nat_cmp (number x) (number y)) where

@@ -13,7 +13,7 @@ pub mod ComparedPlaces
 pub mod PassingPairs
 pub mod MergedPlace
 pub mod MergingUnderway
-pub mod LeastItems
+pub mod SameFingerprints
 -- items that come upwards
 pub mod ItemsUpwards
 pub mod ItemsAscending

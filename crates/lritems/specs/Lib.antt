@@ -4,4 +4,4 @@ pub mod ItemsOf
 pub mod Gotos
 -- merging
 pub mod Merging
-pub mod LeastItem
+pub mod Fingerprints

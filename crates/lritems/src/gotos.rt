@@ -5,7 +5,6 @@ ghost use Rattle.lrspec.specs.grammars.Grammar as math;
 ghost use Rattle.lrspec.specs.grammars.ItemSets.{Fits, HasItem, AreUpwards};
 ghost use Rattle.lrgrammar.specs.Symbols.{symbol_of};
 ghost use Rattle.lritems.specs.ItemsOf.{set_of, listed_of, Agree};
-ghost use Rattle.lritems.specs.LeastItem.{least_item};
 ghost use Rattle.lritems.specs.Gotos.{AreGotosOf, item_of, items_in, gotos_of, noted_at, HasPlaceFor, ArePlacesFor, ArePlacesOf, HasGotoOn, HasGotoAt, IsMadeReady, IsPutAt};
 
 use crate::cores::Core;
@@ -43,19 +42,6 @@ impl<'a, T: IndexStorage> Goto<'a, T> {
         Goto {
             items: Vec::new(alloc),
         }
-    }
-
-    /// The first item, which is the least by production and then dot.
-    pub fn first_item(&self) -> Option<(PIdx<T>, SIdx<T>)>
-        requires { AreUpwards (items_in T.number self.now) }
-        ensures none { IfNone result (items_in T.number self.now ≡ []) }
-        ensures there { IfSome result (λ k.
-            HasItem (items_in T.number self.now) (T.number k.0.0) (T.number k.1.0)) }
-        ensures least { option_map (λ k. (T.number k.0.0, T.number k.1.0)) result
-            ≡ least_item (items_in T.number self.now) }
-    {
-        let (key, _looks) = self.items.first()?;
-        Some(*key)
     }
 
     /// Whether the core has the items of the goto and no others, with the same lookaheads.

@@ -3,6 +3,7 @@
 #![tactic(auto)]
 
 pub mod cores;
+pub mod fingerprints;
 pub mod gotos;
 pub mod itemset;
 pub mod merging;

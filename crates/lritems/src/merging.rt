@@ -1,30 +1,18 @@
 //! Weak compatibility of cores with gotos, and merging.
 
-ghost use Rattle.std.specs.Prelude.{◌≡◌, ◌≢◌, ℕ, ◌<◌, Bool, List, true, false, [], length, Some, slice_get, slice_set, IfNone, IfSome, option_map, IsTrue, IsSomeAnd, ◌↔◌};
+ghost use Rattle.std.specs.Prelude.{◌≡◌, ◌≢◌, ℕ, ◌<◌, Bool, List, true, false, length, Some, slice_get, slice_set, IsTrue, IsSomeAnd, ◌↔◌};
 ghost use Rattle.lrspec.specs.grammars.Grammar.{Grammar};
-ghost use Rattle.lrspec.specs.grammars.ItemSets.{HasItem, Fits, AreUpwards};
+ghost use Rattle.lrspec.specs.grammars.ItemSets.{Fits, AreUpwards};
 ghost use Rattle.lrspec.specs.merging.WeakCompatibility.{SameItems, IsWeaklyCompatible, Clash, IsUnion};
 ghost use Rattle.lrbits.specs.Bits.{union};
 ghost use Rattle.lritems.specs.ItemsOf.{Agree};
-ghost use Rattle.lritems.specs.LeastItem.{least_item};
 ghost use Rattle.lritems.specs.Gotos.{items_in};
 ghost use Rattle.lritems.specs.Merging.{HaveEquallyManyBits, HaveSameKeys, BitsPass, BitsClash, PassesWithLater, Gains};
 
 use crate::cores::Core;
 use crate::gotos::Goto;
 use crate::itemset::Ctx;
-use lrgrammar::idx::{IndexStorage, PIdx, SIdx};
-
-/// The first item, which is the least by production and then dot. Cores with the same items have the same one.
-pub fn first_item<T: IndexStorage>(core: &Core<T>) -> Option<(PIdx<T>, SIdx<T>)>
-    ensures none { IfNone result (core.now ≡ []) }
-    ensures there { IfSome result (λ k. HasItem core.now (T.number k.0.0) (T.number k.1.0)) }
-    ensures least { option_map (λ k. (T.number k.0.0, T.number k.1.0)) result
-        ≡ least_item core.now }
-{
-    let (key, _ctx) = core.items.first()?;
-    Some(*key)
-}
+use lrgrammar::idx::IndexStorage;
 
 /// Whether a goto has the items of a core and no others, in the same order, whatever their lookaheads.
 fn has_same_items<T: IndexStorage>(a: &Core<T>, b: &Goto<T>) -> bool

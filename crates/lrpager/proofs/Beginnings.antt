@@ -1,15 +1,14 @@
 -- the start state alone: what holds of it, and of the states that a construction ends with
-use Rattle.std.proofs.Common.{◌≡◌, ℕ, ◌≤◌, false, List, [], ◌∷◌, ◌++◌, length, Some, refl, ap, ◌∙◌, arith}
+use Rattle.std.proofs.Common.{◌≡◌, ◌≢◌, ℕ, ◌≤◌, false, List, [], ◌∷◌, ◌++◌, length, Some, refl, ap, ◌∙◌, arith}
 use Rattle.lrspec.specs.grammars.Grammar.{Symbol, Grammar, IsGrammar}
-use Rattle.lrspec.specs.grammars.ItemSets.{Items, HasItem}
-use Rattle.lrspec.specs.grammars.StartState.{IsStartCore}
+use Rattle.lrspec.specs.grammars.ItemSets.{Items, AreUpwards}
 use Rattle.lrspec.proofs.merging.ReachedStates.{item_of_rooted, moved_symbol}
 use Rattle.lrplacing.specs.Construction.{Draft, edge_from}
 use Rattle.lrplacing.specs.Counts.{unclosed, weight}
 use Rattle.lrplacing.specs.Invariant.{Holds, HasGotos}
 use Rattle.lrpager.specs.Closing.{start_states, StartsWith}
-use Rattle.lrplacing.specs.CandidatesOf.{StatesByItem, listed_at, IsFirstItem, AreCandidates}
-use Rattle.lrspec.specs.merging.WeakCompatibility.{Apart}
+use Rattle.lrplacing.specs.CandidatesOf.{StatesByFingerprint, listed_at, AreCandidates}
+use Rattle.lritems.specs.Fingerprints.{fingerprint_of}
 use Rattle.lrpager.proofs.ClosedStates.{start_holds, start_gotos}
 use Rattle.lrplacing.proofs.CountFacts.{start_counts}
 use Rattle.lrplacing.proofs.CandidateLists.{candidates_made}
@@ -38,17 +37,13 @@ draft_alone ss new d core none is a b e =
     ∙ ap (λ x. record { core = core; is_closed = x; edges = d.edges } ∷ []) b
     ∙ ap (λ x. record { core = core; is_closed = false; edges = x } ∷ []) e
 
--- the start core has an item
-pub start_item : {g : Grammar} {a : Items} → IsStartCore g a → (p : ℕ) × (d : ℕ) × HasItem a p d
-start_item {g} s = (g.start_production, 0, (s.item g.start_production 0).1 (refl, refl))
-
--- the start state is listed at its first item
+-- the start state is listed at its fingerprint
 pub start_candidates :
-    (core : Items) (ds : StatesByItem) (p d : ℕ) → IsFirstItem core p d → listed_at ds p d ≡ 0 ∷ [] → ((q e : ℕ) → Apart p d q e → listed_at ds q e ≡ [])
-    → AreCandidates (start_states core) ds
-start_candidates core ds p d first here there =
-    candidates_made [] (start_states core) [] ds core p d refl (λ j b. absurd (omega arith)) refl first here there
-    (record { below = λ q e k h. absurd (omega (arith, h.1)); listed = λ k q e b f. absurd (omega arith); upwards = λ q e k b. absurd (omega arith) })
+    (core : Items) (ds : StatesByFingerprint) → AreUpwards core → listed_at ds (fingerprint_of core) ≡ 0 ∷ []
+    → ((n : ℕ) → n ≢ fingerprint_of core → listed_at ds n ≡ []) → AreCandidates (start_states core) ds
+start_candidates core ds up here there =
+    candidates_made [] (start_states core) [] ds core refl (λ j b. absurd (omega arith)) refl up here there
+    (record { below = λ n k h. absurd (omega (arith, h.1)); listed = λ k a b u s. absurd (omega arith); upwards = λ n k b. absurd (omega arith) })
 
 -- edges out of one state lead to one state by one symbol only
 pub one_symbol :

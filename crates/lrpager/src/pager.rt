@@ -29,8 +29,8 @@ use lrgrammar::grammar::YaccGrammar;
 use lrgrammar::idx::IndexStorage;
 use lrgraphs::{BuildError, StateGraph};
 use lritems::cores::Core;
+use lritems::fingerprints::core_fingerprint;
 use lritems::gotos::{PlacesBySymbol, gotos};
-use lritems::merging::first_item;
 use lrplacing::candidates::Candidates;
 use lrplacing::draft::Draft;
 use lrplacing::placing::place_all;
@@ -89,7 +89,7 @@ fn next_unclosed<T: IndexStorage>(drafts: &[Draft<T>], from: usize) -> Option<us
 /// Closes a state, and places its gotos. Where that grows its own core, it is to be closed again.
 fn close<T: IndexStorage>(
     drafts: &mut Vec<Draft<T>>,
-    candidates: &mut Candidates<T>,
+    candidates: &mut Candidates,
     tools: &mut Tools,
     i: usize,
     grm: &YaccGrammar<T>,
@@ -125,7 +125,7 @@ fn close<T: IndexStorage>(
 /// Closes states and places their gotos until all states are closed, and answers how often a state was closed.
 fn construct<T: IndexStorage>(
     drafts: &mut Vec<Draft<T>>,
-    candidates: &mut Candidates<T>,
+    candidates: &mut Candidates,
     tools: &mut Tools,
     grm: &YaccGrammar<T>,
     firsts: &YaccFirsts<T>,
@@ -161,16 +161,14 @@ fn construct<T: IndexStorage>(
 }
 
 /// The start state, which is to be closed, and the candidates with it.
-fn begin<T: IndexStorage>(
-    grm: &YaccGrammar<T>,
-) -> Result<(Vec<Draft<T>>, Candidates<T>), AllocError>
+fn begin<T: IndexStorage>(grm: &YaccGrammar<T>) -> Result<(Vec<Draft<T>>, Candidates), AllocError>
     ensures start { IfOk result (λ b. StartsWith grm.now b.0.items) }
     ensures candidates { IfOk result (λ b. AreCandidates b.0.items b.1) }
 {
     let alloc = grm.allocator();
     let core = Core::of_start(grm)?;
     let mut candidates = Candidates::new(alloc);
-    candidates.add(first_item(&core).unwrap(), 0)?;
+    candidates.add(core_fingerprint(&core), 0)?;
     let mut drafts = Vec::new(alloc);
     drafts.push(Draft::new(alloc, core))?;
     Ok((drafts, candidates))

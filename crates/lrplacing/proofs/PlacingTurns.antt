@@ -1,9 +1,9 @@
 -- what the placing of one goto leaves for the next ones
-use Rattle.std.proofs.Common.{◌≡◌, ℕ, ◌<◌, ◌≤◌, false, ◌&&◌, List, [], ◌∷◌, None, length, refl, ap, ◌∙◌, inl, inr, arith}
+use Rattle.std.proofs.Common.{◌≡◌, ℕ, ◌<◌, ◌≤◌, List, [], ◌∷◌, None, length, refl, ap, ◌∙◌, inl, inr, arith}
 use Rattle.std.specs.Prelude.{◌==◌}
 use Rattle.std.proofs.lemmas.Bool.{cases_Bool, and_right}
 use Rattle.lrspec.specs.grammars.Grammar.{Symbol, Grammar, token_count}
-use Rattle.lrspec.specs.grammars.ItemSets.{Items, HasItem, Fits}
+use Rattle.lrspec.specs.grammars.ItemSets.{Items, Fits}
 use Rattle.lrspec.proofs.grammars.ListMembers.{Among}
 use Rattle.lrspec.specs.merging.Graph.{same_symbol}
 use Rattle.lrplacing.specs.Construction.{Draft, core_at, edge_from, Grows, PlacesOne}
@@ -19,11 +19,7 @@ use Rattle.lrplacing.proofs.PlacedGotos as placed
 use Rattle.lrplacing.proofs.PlacedStates.{places_holds, may_be_placed_kept}
 use Rattle.lrplacing.proofs.ChainGrowth.{chain_of_states, places_chain}
 
--- a goto that may be placed has an item
-pub item_of_goto : {g : Grammar} {ss : List Draft} {from : ℕ} {x : Symbol} {a : Items} → MayBePlaced g ss from x a → (p : ℕ) × (d : ℕ) × HasItem a p d
-item_of_goto m = let w = m.sharing.1.some in (m.sharing.1.cores w.0 w.1).some
-
--- and as many bits as each core
+-- a goto that may be placed has as many bits as each core
 pub bits_of_goto :
     {g : Grammar} {ss : List Draft} {from : ℕ} {x : Symbol} {a : Items} → Holds g ss → MayBePlaced g ss from x a
     → (k : ℕ) → k < length ss → HaveEquallyManyBits (core_at ss k) a

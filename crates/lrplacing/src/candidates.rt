@@ -1,34 +1,32 @@
-//! States by the first item of their cores.
+//! States by the fingerprints of their cores.
 
-ghost use Rattle.std.specs.Prelude.{◌≡◌, ℕ, [], ◌∷◌, ◌++◌, OnOk};
-ghost use Rattle.lrspec.specs.merging.WeakCompatibility.{Apart};
+ghost use Rattle.std.specs.Prelude.{◌≡◌, ◌≢◌, ℕ, [], ◌∷◌, ◌++◌, OnOk};
 
-use lrgrammar::idx::{IndexStorage, PIdx, SIdx};
 use std::alloc::{AllocError, Global};
 use std::collections::BTreeMap;
 use std::marker::Model;
 
-/// The states that can take a goto in, by their first item: only a core with the same items can, and such a core has the
-/// same first item. So a goto is compared with few states, all of which were made by the symbol before that item's dot.
+/// The states that can take a goto in, by their fingerprints: only a core with the same items can, and such a core has the
+/// same fingerprint. So a goto is compared with few states, most of which have its items.
 #[derive(Drop)]
-pub struct Candidates<T: IndexStorage> {
+pub struct Candidates {
     alloc: Global,
-    lists: BTreeMap<(PIdx<T>, SIdx<T>), Vec<usize>>,
+    lists: BTreeMap<u64, Vec<usize>>,
 }
 
-impl<T: IndexStorage> Model for Candidates<T> {
+impl Model for Candidates {
     ghost use Rattle.lrplacing.specs.CandidatesOf as plain;
 
-    ghost Value = { plain.StatesByItem };
+    ghost Value = { plain.StatesByFingerprint };
 
-    ghost view = { λ c. plain.states_by_item T.number c.lists.entries };
+    ghost view = { λ c. plain.states_by_fingerprint c.lists.entries };
 }
 
-impl<T: IndexStorage> Candidates<T> {
+impl Candidates {
     ghost use Rattle.lrplacing.specs.CandidatesOf.{listed_at};
 
     /// No states.
-    pub fn new(alloc: Global) -> Candidates<T>
+    pub fn new(alloc: Global) -> Candidates
         ensures { result ≡ [] }
     {
         Candidates {
@@ -37,25 +35,24 @@ impl<T: IndexStorage> Candidates<T> {
         }
     }
 
-    /// The states with the first item, in order of making.
-    pub(crate) fn at(&self, first: (PIdx<T>, SIdx<T>)) -> &[usize]
-        ensures { result.now ≡ listed_at self.now (T.number first.0.0) (T.number first.1.0) }
+    /// The states with the fingerprint, in order of making.
+    pub(crate) fn at(&self, fingerprint: u64) -> &[usize]
+        ensures { result.now ≡ listed_at self.now fingerprint }
     {
-        match self.lists.get(&first) {
+        match self.lists.get(&fingerprint) {
             Some(list) => list.as_slice(),
             None => &[],
         }
     }
 
-    /// Adds a state with the first item.
-    pub fn add(&mut self, first: (PIdx<T>, SIdx<T>), state: usize) -> Result<(), AllocError>
-        ensures here { OnOk result (listed_at self.new (T.number first.0.0) (T.number first.1.0)
-            ≡ listed_at self.old (T.number first.0.0) (T.number first.1.0) ++ state ∷ []) }
-        ensures others { OnOk result ((p d : ℕ)
-            → Apart (T.number first.0.0) (T.number first.1.0) p d
-            → listed_at self.new p d ≡ listed_at self.old p d) }
+    /// Adds a state with the fingerprint.
+    pub fn add(&mut self, fingerprint: u64, state: usize) -> Result<(), AllocError>
+        ensures here { OnOk result (listed_at self.new fingerprint
+            ≡ listed_at self.old fingerprint ++ state ∷ []) }
+        ensures others { OnOk result ((n : ℕ) → n ≢ fingerprint
+            → listed_at self.new n ≡ listed_at self.old n) }
     {
-        match self.lists.get_mut(&first) {
+        match self.lists.get_mut(&fingerprint) {
             Some(list) => {
                 list.push(state)?;
                 Ok(())
@@ -63,7 +60,7 @@ impl<T: IndexStorage> Candidates<T> {
             None => {
                 let mut list = Vec::new(self.alloc);
                 list.push(state)?;
-                self.lists.insert(first, list)?;
+                self.lists.insert(fingerprint, list)?;
                 Ok(())
             }
         }

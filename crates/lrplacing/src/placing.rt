@@ -4,16 +4,17 @@ ghost use Rattle.std.specs.Prelude.{◌≡◌, ◌≢◌, ℕ, true, false, IsTr
 ghost use Rattle.std.specs.List.{All};
 ghost use Rattle.lrspec.specs.grammars.Grammar as math;
 ghost use Rattle.lrspec.specs.grammars.Grammar.{Grammar};
-ghost use Rattle.lrspec.specs.grammars.ItemSets.{HasItem, Fits, AreUpwards};
+ghost use Rattle.lrspec.specs.grammars.ItemSets.{Fits, AreUpwards};
 ghost use Rattle.lrspec.specs.merging.WeakCompatibility.{SameItems, IsWeaklyCompatible, Clash, IsUnion};
 ghost use Rattle.lrspec.specs.merging.Graph.{same_symbol};
 ghost use Rattle.lrgrammar.specs.Symbols.{symbol_of};
 ghost use Rattle.lrplacing.specs.Construction.{core_at, closed_at, edge_from, with_closed, closed_unless, TellsGrowth, Stays, IsUnclosedIfGrown, PlacesOne, PlacesAll};
 ghost use Rattle.lrplacing.specs.Invariant.{MayBePlaced, AllMayBePlaced, Holds};
 ghost use Rattle.lrspec.specs.merging.Chains.{HasChainOf};
-ghost use Rattle.lrplacing.specs.CandidatesOf.{AreCandidates, IsFirstItem, listed_at};
+ghost use Rattle.lrplacing.specs.CandidatesOf.{AreCandidates, listed_at};
 ghost use Rattle.lrplacing.specs.ChosenPlaces.{HoldsOfNone, IsFirstWith, IsEqual, IsCompatible, IsPlaceOf};
 ghost use Rattle.lrplacing.specs.Refusals.{IsLargeOnly};
+ghost use Rattle.lritems.specs.Fingerprints.{fingerprint_of};
 ghost use Rattle.lritems.specs.Gotos.{items_in, gotos_of, AllUpwards, AreOnDistinctSymbols};
 ghost use Rattle.lritems.specs.Merging.{HaveEquallyManyBits};
 
@@ -23,6 +24,7 @@ use lrgrammar::grammar::YaccGrammar;
 use lrgrammar::idx::{IndexStorage, Symbol};
 use lrgraphs::BuildError;
 use lritems::cores::Core;
+use lritems::fingerprints::goto_fingerprint;
 use lritems::gotos::Goto;
 use lritems::merging::weakly_compatible;
 use std::alloc::AllocError;
@@ -162,7 +164,7 @@ impl Placed {
 /// closed again, where one before it that is only weakly compatible would grow.
 fn place<T: IndexStorage>(
     drafts: &mut Vec<Draft<T>>,
-    candidates: &mut Candidates<T>,
+    candidates: &mut Candidates,
     from: usize,
     symbol: Symbol<T>,
     goto: &Goto<T>,
@@ -170,7 +172,6 @@ fn place<T: IndexStorage>(
     requires from { from < length drafts.old.items }
     requires most { length drafts.old.items ≤ T.MAX }
     requires free { edge_from drafts.old.items from (symbol_of T.number symbol) ≡ None }
-    requires some { (p : ℕ) × (d : ℕ) × HasItem (items_in T.number goto.now) p d }
     requires upwards { AreUpwards (items_in T.number goto.now) }
     requires bits { (k : ℕ) → k < length drafts.old.items
         → HaveEquallyManyBits (core_at drafts.old.items k) (items_in T.number goto.now) }
@@ -179,15 +180,15 @@ fn place<T: IndexStorage>(
         (items_in T.number goto.now) r.state drafts.new.items) }
     ensures grew { IfOk result (λ r. r.state < length drafts.old.items → TellsGrowth r.grew
         (core_at drafts.old.items r.state) (core_at drafts.new.items r.state)) }
-    ensures choice { IfOk result (λ r. (p d : ℕ) → IsFirstItem (items_in T.number goto.now) p d
-        → IsPlaceOf drafts.old.items (listed_at candidates.old p d) (items_in T.number goto.now)
-        (length drafts.old.items) r.state) }
+    ensures choice { IfOk result (λ r. IsPlaceOf drafts.old.items
+        (listed_at candidates.old (fingerprint_of (items_in T.number goto.now)))
+        (items_in T.number goto.now) (length drafts.old.items) r.state) }
     ensures most { OnOk result (length drafts.new.items ≤ T.MAX) }
     ensures candidates { OnOk result (AreCandidates drafts.new.items candidates.new) }
     ensures refused { IfErr result (IsLargeOnly (T.MAX ≤ length drafts.old.items)) }
 {
-    let first = goto.first_item().unwrap();
-    let listed = candidates.at(first);
+    let fingerprint = goto_fingerprint(goto);
+    let listed = candidates.at(fingerprint);
     if let Some(k) = find_equal(drafts.as_slice(), listed, goto) {
         link(drafts, from, symbol, k)?;
         return Ok(Placed {
@@ -202,7 +203,7 @@ fn place<T: IndexStorage>(
     }
     let core = Core::from_goto(*drafts.allocator(), goto)?;
     let k = make(drafts, core)?;
-    candidates.add(first, k)?;
+    candidates.add(fingerprint, k)?;
     link(drafts, from, symbol, k)?;
     Ok(Placed {
         state: k,
@@ -215,7 +216,7 @@ fn place<T: IndexStorage>(
 /// those of what the state's core closes to.
 pub fn place_all<T: IndexStorage>(
     drafts: &mut Vec<Draft<T>>,
-    candidates: &mut Candidates<T>,
+    candidates: &mut Candidates,
     _grm: &YaccGrammar<T>,
     from: usize,
     gotos: Vec<(Symbol<T>, Goto<T>)>,

@@ -1,29 +1,24 @@
 use Rattle.std.proofs.Common.{◌∙◌, ◌<◌, ◌≤◌, length, refl, sym, subst, arith}
 use Rattle.lrgrammar.specs.Symbols.{symbol_of}
 use Rattle.lritems.specs.Gotos.{items_in}
-use Rattle.lrplacing.specs.CandidatesOf.{IsFirstItem}
-use Rattle.lrplacing.specs.ChosenPlaces.{IsPlaceOf}
 use Rattle.lrplacing.specs.ChosenPlaces as choice
 use Rattle.lrplacing.specs.Construction.{TellsGrowth}
 use Rattle.lrplacing.proofs.CoreGrowth.{of_equal, not_grown}
-use Rattle.lrplacing.proofs.CandidateLists.{all_below, all_clash, candidates_kept, candidates_made, same_cores, merged_items, others_core, some_first, first_found, at_each_first}
+use Rattle.lrplacing.proofs.CandidateLists.{all_below, all_clash, candidates_kept, candidates_made, same_cores, merged_items, others_core}
 use Rattle.lrplacing.proofs.FirstOfList.{first_among}
 use Rattle.lrplacing.proofs.PlacingFacts.{edges_from, put_places, put_equal, put_merged, put_made}
 use Rattle.lrplacing.proofs.placing.place.Goals as goal
 
 pub find_equal-requires-clause-below : goal.find_equal-requires-clause-below
 find_equal-requires-clause-below g c =
-    let number = g.T.IndexStorage.number in
-    rw c.as_slice.ensures.value
-    (all_below c.at-listed.result.now (number c.unwrap-first.result.0.0) (number c.unwrap-first.result.1.0) c.requires.candidates c.at-listed.ensures)
+    rw c.as_slice.ensures.value (all_below c.at-listed.result.now c.goto_fingerprint-fingerprint.result c.requires.candidates c.at-listed.ensures)
 
 pub returns-in-Some-clause-placed : goal.returns-in-Some-clause-placed
 returns-in-Some-clause-placed g c =
     let number = g.T.IndexStorage.number in
     let old = c.args.drafts.now.items in
     let equal = rw c.as_slice.ensures.value at c.in-Some.ensures in
-    let listed =
-    all_below c.at-listed.result.now (number c.unwrap-first.result.0.0) (number c.unwrap-first.result.1.0) c.requires.candidates c.at-listed.ensures in
+    let listed = all_below c.at-listed.result.now c.goto_fingerprint-fingerprint.result c.requires.candidates c.at-listed.ensures in
     let below = first_among (λ k. k < length old) listed equal in
     let l = c.in_ok-link.ensures in
     put_places c.args.from (symbol_of number c.args.symbol) c.in-Some.k
@@ -31,12 +26,8 @@ returns-in-Some-clause-placed g c =
 
 pub returns-in-Some-clause-choice : goal.returns-in-Some-clause-choice
 returns-in-Some-clause-choice g c =
-    let number = g.T.IndexStorage.number in
-    let goto = items_in number c.args.goto.now in
-    let old = c.args.drafts.now.items in
     let equal = rw c.as_slice.ensures.value at c.in-Some.ensures in
-    at_each_first number (λ ks. IsPlaceOf old ks goto (length old) c.in-Some.k) c.args.candidates.now goto c.at-listed.result.now c.first_item.result c.unwrap-first.result
-    c.first_item.ensures.least c.unwrap-first.ensures c.at-listed.ensures (choice.IsPlaceOf.equal equal)
+    rw (← c.goto_fingerprint-fingerprint.ensures, ← c.at-listed.ensures) (choice.IsPlaceOf.equal equal)
 
 pub returns-in-Some-clause-candidates : goal.returns-in-Some-clause-candidates
 returns-in-Some-clause-candidates g c =
@@ -45,9 +36,7 @@ returns-in-Some-clause-candidates g c =
 
 pub find_compatible-requires-clause-below : goal.find_compatible-requires-clause-below
 find_compatible-requires-clause-below g c =
-    let number = g.T.IndexStorage.number in
-    rw c.as_slice-2.ensures.value
-    (all_below c.at-listed.result.now (number c.unwrap-first.result.0.0) (number c.unwrap-first.result.1.0) c.requires.candidates c.at-listed.ensures)
+    rw c.as_slice-2.ensures.value (all_below c.at-listed.result.now c.goto_fingerprint-fingerprint.result c.requires.candidates c.at-listed.ensures)
 
 pub find_compatible-requires-clause-bits : goal.find_compatible-requires-clause-bits
 find_compatible-requires-clause-bits g c = rw c.as_slice-2.ensures.value c.requires.bits
@@ -70,13 +59,9 @@ returns-in-Some-find_compatible-clause-placed g c =
 
 pub returns-in-Some-find_compatible-clause-choice : goal.returns-in-Some-find_compatible-clause-choice
 returns-in-Some-find_compatible-clause-choice g c =
-    let number = g.T.IndexStorage.number in
-    let goto = items_in number c.args.goto.now in
-    let old = c.args.drafts.now.items in
     let none_equal = rw c.as_slice.ensures.value at c.in_default.ensures in
     let compatible = rw c.as_slice-2.ensures.value at c.in-Some-find_compatible.ensures.first in
-    at_each_first number (λ ks. IsPlaceOf old ks goto (length old) c.in-Some-find_compatible.k) c.args.candidates.now goto c.at-listed.result.now c.first_item.result c.unwrap-first.result
-    c.first_item.ensures.least c.unwrap-first.ensures c.at-listed.ensures (choice.IsPlaceOf.compatible none_equal compatible)
+    rw (← c.goto_fingerprint-fingerprint.ensures, ← c.at-listed.ensures) (choice.IsPlaceOf.compatible none_equal compatible)
 
 pub returns-in-Some-find_compatible-clause-candidates : goal.returns-in-Some-find_compatible-clause-candidates
 returns-in-Some-find_compatible-clause-candidates g c =
@@ -94,23 +79,16 @@ returns-clause-placed g c =
     let none = rw c.as_slice-2.ensures.value at c.in_default-find_compatible.ensures.compatible in
     let m = c.in_ok-k.ensures in
     let l = c.in_ok-link-3.ensures in
-    let first : IsFirstItem (items_in number c.args.goto.now) (number c.unwrap-first.result.0.0) (number c.unwrap-first.result.1.0) =
-    first_found number (items_in number c.args.goto.now) c.first_item.result c.unwrap-first.result c.first_item.ensures.least c.unwrap-first.ensures in
     put_places c.args.from (symbol_of number c.args.symbol) c.in_ok-k.k
     (put_made c.args.drafts.now.items c.make.new.drafts.items (items_in number c.args.goto.now) c.in_ok-k.k m.number m.len m.others (m.core ∙ c.in_ok-core.ensures) m.closed m.edges
-    (all_clash c.at-listed.result.now (number c.unwrap-first.result.0.0) (number c.unwrap-first.result.1.0) c.requires.candidates first c.at-listed.ensures none))
+    (all_clash c.at-listed.result.now c.requires.candidates c.requires.upwards (rw c.goto_fingerprint-fingerprint.ensures at c.at-listed.ensures) none))
     l.len l.stays l.edges
 
 pub returns-clause-choice : goal.returns-clause-choice
 returns-clause-choice g c =
-    let number = g.T.IndexStorage.number in
-    let goto = items_in number c.args.goto.now in
-    let old = c.args.drafts.now.items in
     let none_equal = rw c.as_slice.ensures.value at c.in_default.ensures in
     let none_compatible = rw c.as_slice-2.ensures.value at c.in_default-find_compatible.ensures.first in
-    rw c.in_ok-k.ensures.number
-    (at_each_first number (λ ks. IsPlaceOf old ks goto (length old) (length old)) c.args.candidates.now goto c.at-listed.result.now c.first_item.result c.unwrap-first.result
-    c.first_item.ensures.least c.unwrap-first.ensures c.at-listed.ensures (choice.IsPlaceOf.made none_equal none_compatible))
+    rw (c.in_ok-k.ensures.number, ← c.goto_fingerprint-fingerprint.ensures, ← c.at-listed.ensures) (choice.IsPlaceOf.made none_equal none_compatible)
 
 pub returns-clause-candidates : goal.returns-clause-candidates
 returns-clause-candidates g c =
@@ -118,14 +96,10 @@ returns-clause-candidates g c =
     let m = c.in_ok-k.ensures in
     let a = c.in_ok-add.ensures in
     let l = c.in_ok-link-3.ensures in
-    let first : IsFirstItem (items_in number c.args.goto.now) (number c.unwrap-first.result.0.0) (number c.unwrap-first.result.1.0) =
-    first_found number (items_in number c.args.goto.now) c.first_item.result c.unwrap-first.result c.first_item.ensures.least c.unwrap-first.ensures in
     candidates_kept l.len (λ j b. same_cores (l.stays j).core)
-    (candidates_made c.args.drafts.now.items c.make.new.drafts.items c.args.candidates.now c.add.new.self (items_in number c.args.goto.now) (number c.unwrap-first.result.0.0) (number c.unwrap-first.result.1.0)
-    m.len (λ j b. others_core c.args.drafts.now.items c.make.new.drafts.items m.others j b) (m.core ∙ c.in_ok-core.ensures) first (rw m.number at a.here) a.others c.requires.candidates)
-
-pub unwrap-first-requires : goal.unwrap-first-requires
-unwrap-first-requires g c = some_first (items_in g.T.IndexStorage.number c.args.goto.now) c.first_item.result c.requires.some c.first_item.ensures.none
+    (candidates_made c.args.drafts.now.items c.make.new.drafts.items c.args.candidates.now c.add.new.self (items_in number c.args.goto.now) m.len
+    (λ j b. others_core c.args.drafts.now.items c.make.new.drafts.items m.others j b) (m.core ∙ c.in_ok-core.ensures) c.requires.upwards
+    (rw (m.number, c.goto_fingerprint-fingerprint.ensures) at a.here) (rw c.goto_fingerprint-fingerprint.ensures at a.others) c.requires.candidates)
 
 pub merge_at-grew-requires-clause-items : goal.merge_at-grew-requires-clause-items
 merge_at-grew-requires-clause-items g c =

@@ -5,11 +5,8 @@ use Rattle.lrplacing.specs.Refusals.{IsLargeOnly}
 use Rattle.lrplacing.specs.Construction as plain
 use Rattle.lrplacing.proofs.ClosedLater.{length_unless, core_unless, still_unclosed, placed_turn}
 use Rattle.lrplacing.proofs.PlacedCores.{length_grown}
-use Rattle.lrplacing.proofs.PlacingTurns.{item_of_goto, bits_of_goto, held_on, still_may_be_placed, still_free, chain_of_most, large_by}
+use Rattle.lrplacing.proofs.PlacingTurns.{bits_of_goto, held_on, still_may_be_placed, still_free, chain_of_most, large_by}
 use Rattle.lrplacing.proofs.placing.place_all.Goals as goal
-
-pub place-requires-clause-some : goal.place-requires-clause-some
-place-requires-clause-some g c = let e = c.in-Some.ensures.steps.0 in item_of_goto (rw e at c.loop-symbol.invariant.gotos).0
 
 pub place-requires-clause-bits : goal.place-requires-clause-bits
 place-requires-clause-bits g c k b =
