@@ -20,6 +20,7 @@ pub mod PutLeads
 pub mod VisitsLeft
 pub mod ClosingUnderway
 pub mod VisitedLeads
+pub mod ReachedPlaces
 -- the items of a closure in their order
 pub mod AscendingItems
 pub mod ItemsInTurn

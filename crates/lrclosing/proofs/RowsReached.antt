@@ -13,12 +13,13 @@ use Rattle.lrclosing.specs.Rows.{row_at}
 use Rattle.lrclosing.specs.Leads.{rows_in, reached_of, IsPut}
 use Rattle.lrclosing.proofs.MarkedProductions.{below_of_bit}
 use Rattle.lrclosing.proofs.RowsWritten.{written_here, written_there}
+use Rattle.lrclosing.proofs.VisitedItems.{clear_bits}
 use Rattle.lrclosing.proofs.VisitedLeads.{IsSetIf}
 
 pub length_reached : (rs : List Row) → length (reached_of rs) ≡ length rs
 length_reached rs = length-map rs (λ r. r.is_reached)
 
-bit_reached : (rs : List Row) (a : ℕ) (r : Row) → slice_get rs a ≡ Some r → bit (reached_of rs) a ≡ r.is_reached
+pub bit_reached : (rs : List Row) (a : ℕ) (r : Row) → slice_get rs a ≡ Some r → bit (reached_of rs) a ≡ r.is_reached
 bit_reached [] a r e = cc
 bit_reached (x ∷ rs) zero r e = ap (λ (y : Row). y.is_reached) (same_Some x r e)
 bit_reached (x ∷ rs) (suc a) r e = bit_reached rs a r e
@@ -62,16 +63,11 @@ set_again [] b v e = refl
 set_again (x ∷ rs) zero v e = ap (λ c. c ∷ reached_of rs) (was_reached x.ctx v x.is_reached e)
 set_again (x ∷ rs) (suc b) v e = ap (λ l. x.is_reached ∷ l) (set_again rs b v e)
 
--- what a lead writes, where the bit is set if that changed the row
-pub reached_put :
-    (g : Grammar) (q a b : ℕ) (c : Bool) (old new : List Row) (bits after : List Bool) → IsPut g q a b c old new → bits ≡ reached_of old → IsSetIf c b bits after
-    → after ≡ reached_of new
-reached_put g q a b true old new bits after p e s =
-    let w : reached_of new ≡ set (reached_of old) b true = ap reached_of p.written ∙ reached_set old b (record { ctx = p.row; is_reached = true }) refl in
-    s ∙ ap (λ l. set l b true) e ∙ sym w
-reached_put g q a b false old new bits after p e s =
-    let w : reached_of new ≡ set (reached_of old) b true = ap reached_of p.written ∙ reached_set old b (record { ctx = p.row; is_reached = true }) refl in
-    s ∙ e ∙ sym (w ∙ set_again old b p.row p.grown)
+-- what a lead writes sets the bit if that changed the row
+pub reached_put : (g : Grammar) (q a b : ℕ) (c : Bool) (old new : List Row) → IsPut g q a b c old new → IsSetIf c b (reached_of old) (reached_of new)
+reached_put g q a b true old new p = ap reached_of p.written ∙ reached_set old b (record { ctx = p.row; is_reached = true }) refl
+reached_put g q a b false old new p =
+    ap reached_of p.written ∙ reached_set old b (record { ctx = p.row; is_reached = true }) refl ∙ set_again old b p.row p.grown
 
 -- ---- rows that are cleared
 
@@ -107,3 +103,7 @@ none_reached rs left e h a r at = not_true r.is_reached (λ t. let k : Among a [
 pub reached_clear : (rs : List Row) → ((a : ℕ) (r : Row) → slice_get rs a ≡ Some r → r.is_reached ≡ false) → reached_of rs ≡ replicate (length rs) false
 reached_clear [] c = refl
 reached_clear (x ∷ rs) c = ap (λ b. b ∷ reached_of rs) (c 0 x refl) ∙ ap (λ l. false ∷ l) (reached_clear rs (λ a r h. c (suc a) r h))
+
+-- then no bit is set
+pub no_bits : (rs : List Row) → ((a : ℕ) (r : Row) → slice_get rs a ≡ Some r → r.is_reached ≡ false) → (a : ℕ) → IsTrue (bit (reached_of rs) a) → ⊥
+no_bits rs c a h = clear_bits (length rs) a (rw (reached_clear rs c) at h)

@@ -18,7 +18,7 @@ room_set k (x ∷ rows) (suc b) o h = let r = room_set k rows b o (omega arith) 
 fewer : (m n l c x : ℕ) → m < n → c ≤ l → m * (l + 1) + c ≤ n * (l + 1) + x
 fewer m n l c x h e = let p : suc m * (l + 1) ≤ n * (l + 1) = mul-le-mul_right (l + 1) h in omega (arith, p, e)
 
-set_count_le : (v : List Bool) → set_count v ≤ length v
+pub set_count_le : (v : List Bool) → set_count v ≤ length v
 set_count_le [] = omega arith
 set_count_le (true ∷ v) = omega (arith, set_count_le v)
 set_count_le (false ∷ v) = omega (arith, set_count_le v)

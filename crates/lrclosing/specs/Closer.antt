@@ -1,18 +1,42 @@
 -- a closer as plain data
-use Rattle.std.specs.Prelude.{◌≡◌, ℕ, ◌≤◌, Bool, List, [], length, ◌⊎◌}
+use Rattle.std.specs.Prelude.{◌≡◌, ℕ, ◌≤◌, Bool, IsTrue, List, [], Some, length, slice_get, vec_capacity, ◌⊎◌}
+use Rattle.std.specs.List.{Contains}
+use Rattle.std.specs.declared.alloc.Global.{Global}
+use Rattle.std.specs.declared.vec.Vec.{Vec}
 use Rattle.lrspec.specs.grammars.Grammar.{Grammar, token_count, IsProductionOf}
 use Rattle.lrspec.specs.grammars.ItemSets.{Items}
-use Rattle.lrclosing.specs.Visits.{HasNone, IsRuleToDo, IsUnderway, visits_left}
+use Rattle.lrbits.specs.Bits.{bit}
+use Rattle.lrclosing.specs.Visits.{HasNone, IsRuleToDo, IsUnderway, set_count, visits_left}
 use Rattle.lrclosing.specs.Leads.{AreLeadsByRule, AreKeptRows, rows_in, reached_of}
 use Rattle.lrclosing.specs.declared.closer.Row.{Row}
 use Rattle.lrclosing.specs.declared.closer.Closer.{Closer}
+
+-- the list has the places of the set bits, each once, and room for all places
+pub record AreReached (bits : List Bool) (ks : Vec ℕ Global) : Type 0 where
+  pub each : (a : ℕ) → Contains ks.items a → IsTrue (bit bits a)
+  pub all : (a : ℕ) → IsTrue (bit bits a) → Contains ks.items a
+  pub count : length ks.items ≡ set_count bits
+  pub room : length bits ≤ vec_capacity ks
+
+-- what is set in `todo` is set in `bits`
+abbrev pub AreWithin : List Bool → List Bool → Type 0
+AreWithin todo bits = (a : ℕ) → IsTrue (bit todo a) → IsTrue (bit bits a)
+
+-- none of the listed rules from the place `from` on is to be done
+abbrev pub NoneToDoFrom : List ℕ → List Bool → ℕ → Type 0
+NoneToDoFrom ks todo from = (k a : ℕ) → from ≤ k → slice_get ks k ≡ Some a → IsTrue (bit todo a) → ⊥
+
+-- the rule that is listed at the place is to be done
+abbrev pub IsPlaceToDo : List ℕ → List Bool → ℕ → Type 0
+IsPlaceToDo ks todo k = (a : ℕ) × (slice_get ks k ≡ Some a) × IsTrue (bit todo a)
 
 -- the closer is one of the grammar
 pub record IsClosing (g : Grammar) (c : Closer) : Type 0 where
   pub leads_len : length c.leads.items ≡ length g.rule_names
   pub leads : AreLeadsByRule g c.leads.items
   pub rows : AreKeptRows g c.rows.items
-  pub reached : c.reached ≡ reached_of c.rows.items
+  pub reached : AreReached (reached_of c.rows.items) c.reached
+  pub within : AreWithin c.todo (reached_of c.rows.items)
   pub todo_len : length c.todo ≡ length g.rule_names
 
 -- the closer is one of the grammar, between two closings

@@ -1,6 +1,7 @@
 //! Closings by rows that stay from one closing to the next: for each rule the lookaheads of its productions.
 
-ghost use Rattle.std.specs.Prelude.{◌≡◌, ◌≢◌, ℕ, ◌<◌, ◌≤◌, ◌↔◌, IsTrue, false, true, length, IfOk, slice_get, slice_set, replicate, None, Some, []};
+ghost use Rattle.std.specs.Prelude.{◌≡◌, ◌≢◌, ℕ, ◌<◌, ◌≤◌, ◌↔◌, ◌∷◌, ◌++◌, IsTrue, false, true, if◌then◌else◌, length, IfOk, MatchOption, slice_get, slice_set, replicate, None, Some, [], vec_capacity};
+ghost use Rattle.std.specs.List.{All};
 ghost use Rattle.lrspec.specs.grammars.Grammar as math;
 ghost use Rattle.lrspec.specs.grammars.First.{AllNullable};
 ghost use Rattle.lrspec.specs.grammars.ItemSets.{Items as MathItems, IsBefore, Fits, FitsAt, AreUpwards};
@@ -11,9 +12,8 @@ ghost use Rattle.lrclosing.specs.Rows.{ArePassedOn, AreClosingRows};
 ghost use Rattle.lrclosing.specs.Visits.{IsRuleToDo, IsVisited, IsUnderway, visits_left};
 ghost use Rattle.lrclosing.specs.Leads.{AreLeadsOf, IsLeadOf, AreLeadsByRule, row_in, rows_in, reached_of, joined_row, IsRow, AreKeptRows, AreClearRows, IsPut};
 ghost use Rattle.lrclosing.specs.declared.closer.Row.{Row};
-ghost use Rattle.lrclosing.specs.Closer.{IsClosing, IsCloserOf, AreVisited};
+ghost use Rattle.lrclosing.specs.Closer.{AreReached, AreWithin, NoneToDoFrom, IsPlaceToDo, IsClosing, IsCloserOf, AreVisited};
 
-use crate::closing::next_set;
 use crate::items::{Ctx, rule_behind};
 use crate::passing::put_firsts;
 use lrgrammar::firsts::YaccFirsts;
@@ -49,8 +49,8 @@ pub struct Closer {
     leads: Vec<Vec<Lead>>,
     /// By rule.
     pub(crate) rows: Vec<Row>,
-    /// One bit a rule, set where its row is reached.
-    pub(crate) reached: Vob,
+    /// The rules whose rows are reached, in the order in which they were reached first. It has room for all rules.
+    pub(crate) reached: Vec<usize>,
     /// One bit a rule, set where its row has changed since it was last passed on.
     todo: Vob,
 }
@@ -168,15 +168,27 @@ fn clear_row(row: &mut Row)
 }
 
 /// Takes from the rows that are reached what an earlier closing gave them, so that none is.
-fn clear_rows(rows: &mut [Row], reached: &mut Vob)
-    requires { reached.old ≡ reached_of rows.old }
+fn clear_rows(rows: &mut [Row], reached: &mut Vec<usize>)
+    requires { AreReached (reached_of rows.old) reached.old }
     ensures clear { (g : math.Grammar) → AreKeptRows g rows.old → AreClearRows g rows.new }
-    ensures reached { reached.new ≡ reached_of rows.new }
+    ensures reached { AreReached (reached_of rows.new) reached.new }
 {
-    for place in reached.iter_set_bits(0..reached.len()) {
-        clear_row(&mut rows[place]);
+    for place in reached.as_slice() {
+        clear_row(&mut rows[*place]);
     }
-    reached.set_all(false);
+    reached.clear();
+}
+
+/// Puts a rule behind those that are reached, unless its row was reached already.
+fn reach(reached: &mut Vec<usize>, place: usize, was_reached: bool)
+    requires { was_reached ≡ false → length reached.old.items < vec_capacity reached.old }
+    ensures items { reached.new.items
+        ≡ if was_reached then reached.old.items else reached.old.items ++ place ∷ [] }
+    ensures capacity { vec_capacity reached.new ≡ vec_capacity reached.old }
+{
+    if !was_reached {
+        reached.push_reserved(place);
+    }
 }
 
 /// Sets in the row of the rule before place `from` what an item passes on to it.
@@ -225,21 +237,56 @@ fn put_lead(rows: &mut [Row], lead: &Lead, from: usize) -> bool
 }
 
 /// Passes on what all productions of a rule look at, by their leads.
-fn visit_leads(rows: &mut [Row], reached: &mut Vob, todo: &mut Vob, leads: &[Lead], from: usize)
+fn visit_leads(
+    rows: &mut [Row],
+    reached: &mut Vec<usize>,
+    todo: &mut Vob,
+    leads: &[Lead],
+    from: usize,
+)
     requires shape { (g : math.Grammar) × AreLeadsOf g from leads.now × AreKeptRows g rows.old }
     requires from { from < length rows.old }
     requires todo { length todo.old ≡ length rows.old }
-    requires reached { reached.old ≡ reached_of rows.old }
+    requires reached { AreReached (reached_of rows.old) reached.old }
+    requires within { AreWithin todo.old (reached_of rows.old) }
     ensures visited { (g : math.Grammar) → AreLeadsOf g from leads.now → AreKeptRows g rows.old
         → AreVisited g from (IsRuleToDo g todo.new) rows.old rows.new todo.old todo.new }
-    ensures reached { reached.new ≡ reached_of rows.new }
+    ensures reached { AreReached (reached_of rows.new) reached.new }
+    ensures within { AreWithin todo.new (reached_of rows.new) }
 {
     for lead in leads {
+        let was_reached = rows[lead.rule].is_reached;
         if put_lead(rows, lead, from) {
-            reached.set(lead.rule, true);
+            reach(reached, lead.rule, was_reached);
             todo.set(lead.rule, true);
         }
     }
+}
+
+/// The first place in the list, from a place on, of a rule that is to be done.
+fn first_to_do(reached: &[usize], todo: &Vob, from: usize) -> Option<usize>
+    requires { All (λ a. a < length todo.now) reached.now }
+    ensures { MatchOption result (NoneToDoFrom reached.now todo.now from)
+        (IsPlaceToDo reached.now todo.now) }
+{
+    for k in from..reached.len() {
+        if todo.get(reached[k]) {
+            return Some(k);
+        }
+    }
+    None
+}
+
+/// The first place in the list, from a place on, of a rule that is to be done, or else the first of all.
+fn next_to_do(reached: &[usize], todo: &Vob, from: usize) -> Option<usize>
+    requires { All (λ a. a < length todo.now) reached.now }
+    ensures { MatchOption result (NoneToDoFrom reached.now todo.now 0)
+        (IsPlaceToDo reached.now todo.now) }
+{
+    if let Some(k) = first_to_do(reached, todo, from) {
+        return Some(k);
+    }
+    first_to_do(reached, todo, 0)
 }
 
 impl Closer {
@@ -254,7 +301,7 @@ impl Closer {
         let leads = leads_by_rule(grm, firsts)?;
         let rows = empty_rows(grm)?;
         let rules = grm.rules_len().0.to_usize();
-        let reached = Vob::from_elem(grm.allocator(), false, rules)?;
+        let reached = Vec::with_capacity(grm.allocator(), rules)?;
         let todo = Vob::from_elem(grm.allocator(), false, rules)?;
         Ok(Closer {
             leads,
@@ -283,6 +330,7 @@ impl Closer {
     {
         if let Some(rule) = rule_behind(grm, pidx, dot) {
             let place = rule.0.to_usize();
+            let was_reached = self.rows[place].is_reached;
             put_ahead(
                 &mut self.rows[place],
                 grm,
@@ -291,7 +339,7 @@ impl Closer {
                 dot.0.to_usize() + 1,
                 ctx,
             );
-            self.reached.set(place, true);
+            reach(&mut self.reached, place, was_reached);
             self.todo.set(place, true);
         }
     }
@@ -357,9 +405,10 @@ impl Closer {
         clear_rows(self.rows.as_mut_slice(), &mut self.reached);
         self.visit_given(grm, firsts, given);
         let mut from = 0;
-        while let Some(place) = next_set(&self.todo, from, self.todo.len()) {
+        while let Some(k) = next_to_do(self.reached.as_slice(), &self.todo, from) {
+            let place = self.reached[k];
             self.visit_rule(place);
-            from = place + 1;
+            from = k + 1;
         }
     }
 }

@@ -25,10 +25,9 @@ fn productions_with_rows<T: IndexStorage>(
     requires { IsCloserOf grm.now closer.now }
     ensures { IfOk result (ArePutIn grm.now (rows_in closer.now.rows.items)) }
 {
-    let reached = &closer.reached;
     let mut productions = Vob::from_elem(grm.allocator(), false, grm.prods_len().0.to_usize())?;
-    for place in reached.iter_set_bits(0..reached.len()) {
-        mark(&mut productions, grm, RIdx(T::from_usize(place).unwrap()));
+    for place in closer.reached.as_slice() {
+        mark(&mut productions, grm, RIdx(T::from_usize(*place).unwrap()));
     }
     Ok(productions)
 }

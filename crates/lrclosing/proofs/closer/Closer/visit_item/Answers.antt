@@ -1,7 +1,9 @@
-use Rattle.std.proofs.Common.{◌≡◌, ◌+◌, ◌<◌, ◌∙◌, true, length, set, length-set, ap, sym, refl, arith}
+use Rattle.std.proofs.Common.{◌≡◌, ◌+◌, ◌<◌, ◌∙◌, length, length-set, ap, refl, arith}
 use Rattle.lrspec.specs.grammars.Grammar.{body_of}
 use Rattle.lrspec.proofs.grammars.BodyFacts.{below_of_drop, symbol_at_dot}
-use Rattle.lrclosing.proofs.RowsReached.{length_reached, reached_set}
+use Rattle.lrclosing.specs.Leads.{reached_of}
+use Rattle.lrclosing.proofs.ReachedPlaces.{reached_more, reached_room, within_set}
+use Rattle.lrclosing.proofs.RowsReached.{bit_reached, length_reached, reached_set}
 use Rattle.lrclosing.proofs.RowsWritten.{read_at, kept_written, row_is_reached}
 use Rattle.lrclosing.proofs.VisitedItems.{visited_nothing}
 use Rattle.lrclosing.proofs.VisitedLeads.{visited_given}
@@ -31,13 +33,6 @@ pub set-requires : goal.set-requires
 set-requires g c =
     let number = g.T.IndexStorage.number in
     let below = (symbol_at_dot c.in-Some.ensures.shape (number c.args.pidx.0) (number c.args.dot.0) _ c.in-Some.ensures.found).1 in
-    let bits : length c.args.self.now.reached ≡ length c.args.self.now.rows.items = ap length c.requires.is.reached ∙ length_reached c.args.self.now.rows.items in
-    omega (arith, below, c.to_usize-place.ensures.number, c.requires.is.rows.len, bits)
-
-pub set-requires-in-Some : goal.set-requires-in-Some
-set-requires-in-Some g c =
-    let number = g.T.IndexStorage.number in
-    let below = (symbol_at_dot c.in-Some.ensures.shape (number c.args.pidx.0) (number c.args.dot.0) _ c.in-Some.ensures.found).1 in
     omega (arith, below, c.to_usize-place.ensures.number, c.requires.is.todo_len)
 
 pub returns-in-Some-clause-is : goal.returns-in-Some-clause-is
@@ -46,9 +41,22 @@ returns-in-Some-clause-is g c = record {
   leads = c.requires.is.leads;
   rows = kept_written c.args.grm.now c.args.self.now.rows.items _ c.to_usize-place.result c.put_ahead.new.row c.requires.is.rows
       (row_is_reached c.args.grm.now c.put_ahead.new.row c.put_ahead.ensures.passed.len c.put_ahead.ensures.reached) refl;
-  reached = c.set.ensures.after ∙ ap (λ v. set v c.to_usize-place.result true) c.requires.is.reached
-      ∙ sym (reached_set c.args.self.now.rows.items c.to_usize-place.result c.put_ahead.new.row c.put_ahead.ensures.reached);
-  todo_len = ap length c.set-in-Some.ensures.after ∙ length-set c.args.self.now.todo c.to_usize-place.result _ ∙ c.requires.is.todo_len;
+  reached =
+      let i = c.to_usize-place.result in
+      let rs = c.args.self.now.rows.items in
+      let below = (symbol_at_dot c.in-Some.ensures.shape (g.T.IndexStorage.number c.args.pidx.0) (g.T.IndexStorage.number c.args.dot.0) _ c.in-Some.ensures.found).1 in
+      let here : i < length rs = omega (arith, below, c.to_usize-place.ensures.number, c.requires.is.rows.len) in
+      let is = bit_reached rs i c.index.result.now (read_at rs i _ c.index.result.now c.index.ensures here) in
+      rw (reached_set rs i c.put_ahead.new.row c.put_ahead.ensures.reached)
+      (reached_more _ (reached_of rs) i c.args.self.now.reached c.reach.new.reached c.requires.is.reached (omega (arith, here, length_reached rs)) is
+      c.reach.ensures.items c.reach.ensures.capacity);
+  within =
+      let i = c.to_usize-place.result in
+      let rs = c.args.self.now.rows.items in
+      let below = (symbol_at_dot c.in-Some.ensures.shape (g.T.IndexStorage.number c.args.pidx.0) (g.T.IndexStorage.number c.args.dot.0) _ c.in-Some.ensures.found).1 in
+      let bits : i < length (reached_of rs) = omega (arith, below, c.to_usize-place.ensures.number, c.requires.is.rows.len, length_reached rs) in
+      rw (reached_set rs i c.put_ahead.new.row c.put_ahead.ensures.reached, c.set.ensures.after) (within_set c.args.self.now.todo (reached_of rs) i bits c.requires.is.within);
+  todo_len = ap length c.set.ensures.after ∙ length-set c.args.self.now.todo c.to_usize-place.result _ ∙ c.requires.is.todo_len;
 }
 
 pub returns-in-Some-clause-visited : goal.returns-in-Some-clause-visited
@@ -62,9 +70,23 @@ returns-in-Some-clause-visited g c =
     let bits : i < length c.args.self.now.todo = omega (arith, below, c.to_usize-place.ensures.number, c.requires.is.todo_len) in
     let e : c.to_usize.result + 1 ≡ d + 1 = omega (arith, c.to_usize.ensures.number) in
     visited_given c.args.grm.now p d (number c.in-Some.rule.0) (c.to_usize.result + 1) i c.args.ctx.now c.args.self.now.rows.items c.index_mut.result.now c.put_ahead.new.row
-    c.args.self.now.todo c.set-in-Some.new.self c.in-Some.ensures.found e c.to_usize-place.ensures.number
+    c.args.self.now.todo c.set.new.self c.in-Some.ensures.found e c.to_usize-place.ensures.number
     (read_at c.args.self.now.rows.items i _ c.index_mut.result.now c.index_mut.ensures.value within) c.put_ahead.ensures.passed c.put_ahead.ensures.reached bits
-    c.set-in-Some.ensures.after
+    c.set.ensures.after
 
 pub returns-in_default-clause-visited : goal.returns-in_default-clause-visited
 returns-in_default-clause-visited g c = visited_nothing _ _ _ _ _ _ c.in_default.ensures.none
+
+pub reach-requires : goal.reach-requires
+reach-requires g c = λ e.
+    let i = c.to_usize-place.result in
+    let rs = c.args.self.now.rows.items in
+    let below = (symbol_at_dot c.in-Some.ensures.shape (g.T.IndexStorage.number c.args.pidx.0) (g.T.IndexStorage.number c.args.dot.0) _ c.in-Some.ensures.found).1 in
+    let here : i < length rs = omega (arith, below, c.to_usize-place.ensures.number, c.requires.is.rows.len) in
+    reached_room (reached_of rs) i c.args.self.now.reached c.requires.is.reached (omega (arith, here, length_reached rs))
+    (bit_reached rs i c.index.result.now (read_at rs i _ c.index.result.now c.index.ensures here) ∙ e)
+
+pub index-requires : goal.index-requires
+index-requires g c =
+    let below = (symbol_at_dot c.in-Some.ensures.shape (g.T.IndexStorage.number c.args.pidx.0) (g.T.IndexStorage.number c.args.dot.0) _ c.in-Some.ensures.found).1 in
+    omega (arith, below, c.to_usize-place.ensures.number, c.requires.is.rows.len, c.args.self.now.rows.ok)

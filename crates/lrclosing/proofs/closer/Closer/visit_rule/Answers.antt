@@ -1,7 +1,8 @@
 use Rattle.std.proofs.Common.{◌≡◌, ◌∙◌, ◌<◌, ◌++◌, length, length-set, take, drop, sym, ap, arith}
 use Rattle.lrspec.specs.grammars.Grammar.{token_count}
-use Rattle.lrclosing.specs.Leads.{AreLeadsOf, AreKeptRows, rows_in}
+use Rattle.lrclosing.specs.Leads.{AreLeadsOf, AreKeptRows, rows_in, reached_of}
 use Rattle.lrclosing.proofs.MarkedProductions.{below_of_bit}
+use Rattle.lrclosing.proofs.ReachedPlaces.{within_taken}
 use Rattle.lrclosing.proofs.RowsWritten.{read_at, written_whole}
 use Rattle.lrclosing.proofs.VisitedLeads.{taken_underway}
 use Rattle.lrclosing.proofs.VisitsLeft.{left_by_taking}
@@ -40,6 +41,7 @@ returns-clause-is c = λ g s.
       leads = s.leads;
       rows = rw whole v.rows;
       reached = rw whole c.visit_leads.ensures.reached;
+      within = rw whole c.visit_leads.ensures.within;
       todo_len = v.len ∙ ap length c.set.ensures.after ∙ length-set c.args.self.now.todo c.args.place _ ∙ s.todo_len;
     }
 
@@ -72,3 +74,8 @@ returns-clause-left c = λ g s.
 
 pub visit_leads-requires-clause-reached : goal.visit_leads-requires-clause-reached
 visit_leads-requires-clause-reached c = rw c.as_mut_slice.ensures.value c.requires.shape.1.reached
+
+pub visit_leads-requires-clause-within : goal.visit_leads-requires-clause-within
+visit_leads-requires-clause-within c =
+    let s = c.requires.shape.1 in
+    rw (c.as_mut_slice.ensures.value, c.set.ensures.after) (within_taken c.args.self.now.todo (reached_of c.args.self.now.rows.items) c.args.place c.requires.todo s.within)
