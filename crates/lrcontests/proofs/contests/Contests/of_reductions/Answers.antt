@@ -14,67 +14,32 @@ use Rattle.lrcontests.proofs.contests.Contests.of_reductions.Goals as goal
 pub complete-requires : goal.complete-requires
 complete-requires g c =
     let number = g.T.IndexStorage.number in
-    let grm = c.self.inside.grm.now in
-    let graph = c.self.inside.graph.now in
-    let t = number c.args.token.0 in
-    let p = number c.args.pidx.0 in
-    let q = number c.args.other.0 in
-    let s = number c.args.stidx.0 in
-    let listed : Contains (reduce_reduce_of grm graph) (t, p, q, s) = rw (← c.self.view_is) at c.requires.listed in
-    let below = pair_below grm graph c.self.invariant.0 t p q s listed in
-    below.1
+    (pair_below c.self.inside.grm.now c.self.inside.graph.now c.self.invariant.0 (number c.args.token.0) (number c.args.pidx.0) (number c.args.other.0)
+    (number c.args.stidx.0) (rw (← c.self.view_is) at c.requires.listed)).1
 
 pub complete-requires-2 : goal.complete-requires-2
 complete-requires-2 g c =
     let number = g.T.IndexStorage.number in
-    let grm = c.self.inside.grm.now in
-    let graph = c.self.inside.graph.now in
-    let t = number c.args.token.0 in
-    let p = number c.args.pidx.0 in
-    let q = number c.args.other.0 in
-    let s = number c.args.stidx.0 in
-    let listed : Contains (reduce_reduce_of grm graph) (t, p, q, s) = rw (← c.self.view_is) at c.requires.listed in
-    let below = pair_below grm graph c.self.invariant.0 t p q s listed in
-    below.2
+    (pair_below c.self.inside.grm.now c.self.inside.graph.now c.self.invariant.0 (number c.args.token.0) (number c.args.pidx.0) (number c.args.other.0)
+    (number c.args.stidx.0) (rw (← c.self.view_is) at c.requires.listed)).2
 
 pub shortest_reason-requires-clause-state : goal.shortest_reason-requires-clause-state
 shortest_reason-requires-clause-state g c =
     let number = g.T.IndexStorage.number in
-    let grm = c.self.inside.grm.now in
-    let graph = c.self.inside.graph.now in
-    let t = number c.args.token.0 in
-    let p = number c.args.pidx.0 in
-    let q = number c.args.other.0 in
-    let s = number c.args.stidx.0 in
-    let listed : Contains (reduce_reduce_of grm graph) (t, p, q, s) = rw (← c.self.view_is) at c.requires.listed in
-    let below = pair_below grm graph c.self.invariant.0 t p q s listed in
-    below.0
+    (pair_below c.self.inside.grm.now c.self.inside.graph.now c.self.invariant.0 (number c.args.token.0) (number c.args.pidx.0) (number c.args.other.0)
+    (number c.args.stidx.0) (rw (← c.self.view_is) at c.requires.listed)).0
 
 pub shortest_reason-requires-clause-token : goal.shortest_reason-requires-clause-token
 shortest_reason-requires-clause-token g c =
     let number = g.T.IndexStorage.number in
-    let grm = c.self.inside.grm.now in
-    let graph = c.self.inside.graph.now in
-    let t = number c.args.token.0 in
-    let p = number c.args.pidx.0 in
-    let q = number c.args.other.0 in
-    let s = number c.args.stidx.0 in
-    let listed : Contains (reduce_reduce_of grm graph) (t, p, q, s) = rw (← c.self.view_is) at c.requires.listed in
-    let below = pair_below grm graph c.self.invariant.0 t p q s listed in
-    below.3
+    (pair_below c.self.inside.grm.now c.self.inside.graph.now c.self.invariant.0 (number c.args.token.0) (number c.args.pidx.0) (number c.args.other.0)
+    (number c.args.stidx.0) (rw (← c.self.view_is) at c.requires.listed)).3
 
 pub shortest_reason-requires-in-loop-number-clause-state : goal.shortest_reason-requires-in-loop-number-clause-state
 shortest_reason-requires-in-loop-number-clause-state g c =
     let number = g.T.IndexStorage.number in
-    let grm = c.self.inside.grm.now in
-    let graph = c.self.inside.graph.now in
-    let t = number c.args.token.0 in
-    let p = number c.args.pidx.0 in
-    let q = number c.args.other.0 in
-    let s = number c.args.stidx.0 in
-    let listed : Contains (reduce_reduce_of grm graph) (t, p, q, s) = rw (← c.self.view_is) at c.requires.listed in
-    let below = pair_below grm graph c.self.invariant.0 t p q s listed in
-    below.0
+    (pair_below c.self.inside.grm.now c.self.inside.graph.now c.self.invariant.0 (number c.args.token.0) (number c.args.pidx.0) (number c.args.other.0)
+    (number c.args.stidx.0) (rw (← c.self.view_is) at c.requires.listed)).0
 
 pub returns-in-Some-clause-contest : goal.returns-in-Some-clause-contest
 returns-in-Some-clause-contest g c =
