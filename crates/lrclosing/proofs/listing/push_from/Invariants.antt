@@ -1,5 +1,5 @@
 -- the set places that are left give what is to be added yet
-use Rattle.std.proofs.Common.{◌≡◌, ℕ, ◌++◌}
+use Rattle.std.proofs.Common.{◌≡◌, ℕ, ◌+◌, ◌<◌, ◌++◌}
 use Rattle.std.specs.Prelude.{IsTrue}
 use Rattle.std.specs.List.{flat_map}
 use Rattle.lrspec.proofs.grammars.ListMembers.{Among}
@@ -14,8 +14,8 @@ abbrev pub invariant-loop-place : goal.invariant-loop-place
 invariant-loop-place g l =
     let number = g.T.IndexStorage.number in
     record {
-      set : (q : ℕ) → Among q l.place-iterator → IsTrue (bit l.productions q);
+      set : (k : ℕ) → Among k l.place-iterator → (l.productions.from + k < l.end) × IsTrue (bit l.productions.bits k);
       added :
-          listed_of number l.items.items ++ flat_map (row_of_production l.grm (rows_in l.rows)) l.place-iterator
+          listed_of number l.items.items ++ flat_map (λ k. row_of_production l.grm (rows_in l.rows) (l.productions.from + k)) l.place-iterator
           ≡ listed_of number l.fn.items.items ++ row_items l.grm (rows_in l.rows) l.from l.end;
     }

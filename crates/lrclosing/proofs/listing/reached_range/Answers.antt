@@ -1,24 +1,27 @@
-use Rattle.std.proofs.Common.{◌≡◌, ◌<◌, ◌∙◌, length, get_or, arith}
+use Rattle.std.proofs.Common.{◌≡◌, ◌<◌, length, get_or, arith, inl}
 use Rattle.std.specs.Option.{IsSome}
 use Rattle.std.proofs.lemmas.List.{drop_all}
 use Rattle.lrspec.proofs.grammars.ListMembers.{among_from_contains, contains_from_among}
 use Rattle.lrclosing.specs.Rows.{row_at}
 use Rattle.lrclosing.specs.Leads.{rows_in}
 use Rattle.lrclosing.proofs.ListedTurns.{number_kept}
-use Rattle.lrclosing.proofs.ProductionsWithRows.{marked_none, marked_next, marked_every}
+use Rattle.lrclosing.proofs.ProductionsWithRows.{range_next, range_every}
 use Rattle.lrclosing.proofs.ReachedPlaces.{left_here}
 use Rattle.lrclosing.proofs.RowsReached.{row_by_bit, bit_by_row, below_of_row}
 use Rattle.lrclosing.proofs.SetPlaces.{first_among}
-use Rattle.lrclosing.proofs.listing.productions_with_rows.Goals as goal
+use Rattle.lrclosing.proofs.listing.reached_range.Goals as goal
 
 pub loop-place-init : goal.loop-place-init
 loop-place-init g c =
     let rs = c.args.closer.now.rows.items in
     let is = c.requires.is.reached in
     let value = c.as_slice-place-items.ensures.value in
-    marked_none c.args.grm.now (rows_in rs) _ c.to_usize.result _ c.in_ok-productions.ensures.bits (c.to_usize.ensures.number ∙ c.prods_len.ensures.value)
-    (λ a h. rw value (among_from_contains a _ (is.all a (bit_by_row rs a h))))
-    (λ a h. row_by_bit rs a (is.each a (contains_from_among a _ (rw value at h))))
+    record {
+      has = λ q r i h. inl (rw value (among_from_contains r _ (is.all r (bit_by_row rs r h))));
+      some = λ r h. row_by_bit rs r (is.each r (contains_from_among r _ (rw value at h)));
+      first = omega (arith, c.to_usize.ensures.number, c.prods_len.ensures.value);
+      last = λ h. h;
+    }
 
 pub unwrap-requires : goal.unwrap-requires
 unwrap-requires g c =
@@ -29,8 +32,8 @@ unwrap-requires g c =
     let below : get_or rules i 0 < length c.args.grm.now.rule_names = omega (arith, below_of_row rs (get_or rules i 0) some, c.requires.is.rows.len) in
     number_kept _ _ g.T.IndexStorage.MAX (get_or rules i 0) (length c.args.grm.now.rule_names) c.from_usize.ensures below c.prods_len.ensures.sizes.rules
 
-pub mark-requires-clause-rule : goal.mark-requires-clause-rule
-mark-requires-clause-rule g c =
+pub with_productions-range-requires : goal.with_productions-range-requires
+with_productions-range-requires g c =
     let rs = c.args.closer.now.rows.items in
     let rules = c.as_slice-place-items.result.now in
     let i = c.loop-place.place-index in
@@ -43,13 +46,17 @@ loop-place-preserved g c =
     let rules = c.as_slice-place-items.result.now in
     let i = c.loop-place.place-index in
     let place : g.T.IndexStorage.number c.unwrap.result ≡ get_or rules i 0 = (rw c.unwrap.ensures at c.from_usize.ensures).1 in
-    marked_next c.args.grm.now (rows_in c.args.closer.now.rows.items) (get_or rules i 0) _ _ _ _ (left_here rules i 0 c.loop-place-test.true)
-    (rw place at c.mark.ensures) c.loop-place.invariant
+    let w = rw place at c.with_productions-range.ensures in
+    range_next c.args.grm.now (rows_in c.args.closer.now.rows.items) (get_or rules i 0) _ _ c.loop-place.range c.with_productions-range.result
+    (left_here rules i 0 c.loop-place-test.true) w.has w.kept w.first w.last c.loop-place.invariant
 
-pub returns : goal.returns
-returns g c =
-    marked_every c.args.grm.now (rows_in c.args.closer.now.rows.items) _ _
+pub returns-clause-has : goal.returns-clause-has
+returns-clause-has g c =
+    range_every c.args.grm.now (rows_in c.args.closer.now.rows.items) _ c.loop-place.range
     (drop_all c.loop-place.place-index c.as_slice-place-items.result.now c.loop-place-test.false) c.loop-place.invariant
 
-pub mark-requires-clause-productions : goal.mark-requires-clause-productions
-mark-requires-clause-productions g c = c.loop-place.invariant.len
+pub returns-clause-first : goal.returns-clause-first
+returns-clause-first g c = c.loop-place.invariant.first
+
+pub returns-clause-last : goal.returns-clause-last
+returns-clause-last g c = c.loop-place.invariant.last
