@@ -11,6 +11,10 @@ pub mod WalkSteps
 pub mod StoredSteps
 pub mod BuiltTrees
 pub mod BuiltRows
-pub mod VisitsBack
+-- writing trees
+pub mod PieceTexts
+pub mod WrittenNodes
+pub mod StoredPieces
+pub mod PieceSteps
 -- lines
 pub mod ParsedLines

@@ -8,4 +8,8 @@ pub mod Walks
 pub mod StoredWalks
 pub mod Built
 pub mod TreesOf
+-- writing trees
+pub mod Pieces
+pub mod StoredPieces
+-- parsing
 pub mod ParsedTexts

@@ -4,7 +4,6 @@ use Rattle.lrgrammar.specs.declared.idx.PIdx.{PIdx}
 use Rattle.lrgrammar.specs.StoredGrammar.{numbers_of}
 use Rattle.lrspec.specs.grammars.Grammar.{Rule, Grammar, body_of}
 use Rattle.lrspec.specs.grammars.Trees.{Tree, IsTree, order}
-use Rattle.lrspec.specs.texts.TreeTexts.{IsPrintable}
 
 -- a tree for the start rule, of these productions in order
 pub record IsTreeOf (g : Grammar) (rs : List ℕ) (t : Tree) : Type 0 where
@@ -16,10 +15,6 @@ pub record IsTreeOf (g : Grammar) (rs : List ℕ) (t : Tree) : Type 0 where
 -- there is such a tree
 abbrev pub HasTreeOf : {T : Type 0} → (T → ℕ) → Grammar → List (PIdx T) → Type 0
 HasTreeOf number g ps = (t : Tree) × IsTreeOf g (numbers_of number ps) t
-
--- there is one that can be printed
-abbrev pub HasPrintableTreeOf : {T : Type 0} → (T → ℕ) → Grammar → List (PIdx T) → Type 0
-HasPrintableTreeOf number g ps = (t : Tree) × IsTreeOf g (numbers_of number ps) t × IsPrintable g t
 
 -- of such trees the fact holds
 abbrev pub IsOfTree : {T : Type 0} → (T → ℕ) → Grammar → List (PIdx T) → (Tree → Type 0) → Type 0

@@ -4,6 +4,7 @@
 mod building;
 mod lines;
 mod parsing;
+mod pieces;
 mod texts;
 mod trees;
 mod visits;

@@ -1,11 +1,10 @@
 //! The texts of trees.
 
-ghost use Rattle.std.specs.Prelude.{◌≡◌, ◌<◌, ◌++◌, true, map, codes, All, OnOk};
+ghost use Rattle.std.specs.Prelude.{◌≡◌, ◌<◌, ◌++◌, codes, OnOk};
 ghost use Rattle.std.specs.String.{string_bytes};
 ghost use Rattle.lrspec.specs.grammars.Grammar.{end_token};
 ghost use Rattle.lrspec.specs.texts.PrintedTexts.{token_text};
-ghost use Rattle.lrtable.specs.Labels.{AreLabels};
-ghost use Rattle.lrtree.specs.Visits.{IsVisitOf, gap_unless, visit_text, visits_text};
+ghost use Rattle.lrtree.specs.Visits.{IsVisitOf, gap_unless, visit_text};
 ghost use Rattle.lrtree.specs.StoredVisits.{visit_of};
 
 use crate::visits::Visit;
@@ -38,46 +37,6 @@ pub(crate) fn push_visit<T: IndexStorage>(
     }
 }
 
-/// Adds what a visit adds to the text of a tree, by the labels of the grammar's productions.
-fn push_labelled<T: IndexStorage>(
-    grm: &YaccGrammar<T>,
-    labels: &[String],
-    visit: Visit<T>,
-    is_first: bool,
-    text: &mut String,
-) -> Result<(), AllocError>
-    requires labels { AreLabels grm.now labels.now }
-    requires visit { IsVisitOf grm.now (visit_of T.number visit) }
-    ensures { OnOk result (string_bytes text.new
-        ≡ string_bytes text.old ++ visit_text grm.now is_first (visit_of T.number visit)) }
-{
-    match visit {
-        Visit::Enter(pidx) => push_enter(labels[pidx.0.to_usize()].as_str(), is_first, text),
-        _ => push_visit(grm, visit, is_first, text),
-    }
-}
-
-/// Adds what visits one after another add to the text of a tree, which begins with them, by the labels of the grammar's
-/// productions.
-pub(crate) fn push_visits<T: IndexStorage>(
-    grm: &YaccGrammar<T>,
-    labels: &[String],
-    visits: &[Visit<T>],
-    text: &mut String,
-) -> Result<(), AllocError>
-    requires labels { AreLabels grm.now labels.now }
-    requires visits { All (λ v. IsVisitOf grm.now (visit_of T.number v)) visits.now }
-    ensures { OnOk result (string_bytes text.new
-        ≡ string_bytes text.old ++ visits_text grm.now true (map (visit_of T.number) visits.now)) }
-{
-    let mut is_first = true;
-    for visit in visits {
-        push_labelled(grm, labels, *visit, is_first, text)?;
-        is_first = visit.is_enter();
-    }
-    Ok(())
-}
-
 /// Adds a space, unless what follows is the first of its node.
 fn push_gap(is_first: bool, text: &mut String) -> Result<(), AllocError>
     ensures { OnOk result (string_bytes text.new ≡ string_bytes text.old ++ gap_unless is_first) }
@@ -96,7 +55,7 @@ fn push_enter(label: &str, is_first: bool, text: &mut String) -> Result<(), Allo
 }
 
 /// Adds a token's name between quotes.
-fn push_token<T: IndexStorage>(
+pub(crate) fn push_token<T: IndexStorage>(
     grm: &YaccGrammar<T>,
     tidx: TIdx<T>,
     text: &mut String,

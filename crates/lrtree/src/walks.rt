@@ -1,12 +1,10 @@
 //! Walks over the tree of an accepted text, from its last token to its first.
 
-ghost use Rattle.std.specs.Prelude.{◌≡◌, ◌<◌, List, map, IfOk, IsSome};
+ghost use Rattle.std.specs.Prelude.{◌<◌, List, IfOk, IsSome};
 ghost use Rattle.lrtree.specs.Visits as math;
-ghost use Rattle.lrtree.specs.Visits.{tree_visits};
-ghost use Rattle.lrtree.specs.StoredVisits.{visit_of};
 ghost use Rattle.lrtree.specs.Walks.{tree_visits_back, Remains};
 ghost use Rattle.lrtree.specs.StoredWalks.{open_of, left_of, weight_of, HasRemaining, Follows};
-ghost use Rattle.lrtree.specs.TreesOf.{HasTreeOf, IsOfTree};
+ghost use Rattle.lrtree.specs.TreesOf.{IsOfTree};
 
 use crate::visits::Visit;
 use lrgrammar::grammar::YaccGrammar;
@@ -83,23 +81,4 @@ impl<T: IndexStorage> Walk<T> {
             }
         }
     }
-}
-
-/// What is come by in the tree of these productions, from its first token to its last.
-pub(crate) fn visits_of<T: IndexStorage>(
-    alloc: Global,
-    grm: &YaccGrammar<T>,
-    productions: Vec<PIdx<T>>,
-) -> Result<Vec<Visit<T>>, AllocError>
-    requires { HasTreeOf T.number grm.now productions.items }
-    ensures { IfOk result (λ v. IsOfTree T.number grm.now productions.items (λ t.
-        map (visit_of T.number) v.items ≡ tree_visits t)) }
-{
-    let mut visits = Vec::new(alloc);
-    let mut walk = Walk::new(alloc, grm, productions)?;
-    while let Some(visit) = walk.next(grm)? {
-        visits.push(visit)?;
-    }
-    visits.as_mut_slice().reverse();
-    Ok(visits)
 }
