@@ -1,4 +1,5 @@
--- steps, texts with two trees, and entries that a table lists
+-- steps, texts with two trees and what is shown of them, and entries that a table lists
 pub mod Steps
 pub mod Ambiguities
+pub mod ShownTexts
 pub mod Entries

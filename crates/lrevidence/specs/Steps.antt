@@ -1,5 +1,5 @@
 -- steps by which trees are put together
-use Rattle.std.specs.Prelude.{List, map}
+use Rattle.std.specs.Prelude.{ℕ, List, Bool, true, false, map, count_by}
 use Rattle.lrambiguity.specs.Moves.{Move, Shift, Reduce}
 use Rattle.lrevidence.specs.declared.steps.Step.{Step}
 use Rattle.lrevidence.specs.declared.steps.Step.TheVariants as code
@@ -11,3 +11,11 @@ move_by (code.Reduce p) = Reduce p
 
 abbrev pub moves_by : List Step → List Move
 moves_by ss = map move_by ss
+
+abbrev pub is_shift : Step → Bool
+is_shift code.Shift = true
+is_shift (code.Reduce p) = false
+
+-- how many symbols become leaves
+abbrev pub shifts : List Step → ℕ
+shifts ss = count_by is_shift ss

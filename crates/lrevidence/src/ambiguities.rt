@@ -6,6 +6,7 @@ ghost use Rattle.lrambiguity.specs.StoredMoves.{moves_stored};
 ghost use Rattle.lrambiguity.specs.StoredAmbiguities.{IsAmbiguity};
 ghost use Rattle.lrevidence.specs.Steps.{moves_by};
 ghost use Rattle.lrevidence.specs.Ambiguities.{HasTwoTrees};
+ghost use Rattle.lrevidence.specs.ShownTexts.{start_of_text, shown_dot};
 
 use crate::names::start_of;
 use crate::steps::{TwoTrees, steps_of};
@@ -18,7 +19,8 @@ use std::alloc::{AllocError, Global};
 /// A text with two trees, which part at a conflict.
 #[derive(Debug, Drop)]
 pub struct Ambiguity {
-    /// The tokens, with the one behind all of the file's.
+    /// The tokens by the grammar: with the one that ends a text, and, where the file has several start rules, with the one that
+    /// chooses its own, which comes first. `text_of` tells those of the file.
     pub tokens: Vec<usize>,
     /// Both its trees.
     pub trees: TwoTrees,
@@ -27,14 +29,18 @@ pub struct Ambiguity {
 }
 
 impl Ambiguity {
-    /// The start rule from which the text is derived, where the file has several.
-    pub fn start(&self, file: &FileGrammar) -> Option<PartSymbol> {
+    /// The start rule from which the text is derived, where the file has several: the one that its first token chooses.
+    pub fn start(&self, file: &FileGrammar) -> Option<PartSymbol>
+        ensures { result ≡ start_of_text file.now self.now.tokens.items }
+    {
         let first = self.tokens.first().copied();
         start_of(file, first.map(PartSymbol::Token))
     }
 
-    /// How many tokens of the file stand before the dot.
-    pub fn dot(&self, file: &FileGrammar) -> usize {
+    /// How many tokens of the file stand before the dot: not that of the start rule, which comes first where there are several.
+    pub fn dot(&self, file: &FileGrammar) -> usize
+        ensures { result ≡ shown_dot file.now self.now }
+    {
         let dot = self.trees.dot();
         match self.start(file) {
             Some(_) => dot.saturating_sub(1),

@@ -2,7 +2,7 @@
 
 ghost use Rattle.std.specs.Prelude.{◌≡◌, map, IfOk};
 ghost use Rattle.lrambiguity.specs.StoredMoves.{move_of, moves_stored};
-ghost use Rattle.lrevidence.specs.Steps.{move_by, moves_by};
+ghost use Rattle.lrevidence.specs.Steps.{move_by, moves_by, shifts};
 
 use lrambiguity::Move;
 use lrgrammar::idx::IndexStorage;
@@ -31,7 +31,9 @@ pub struct TwoTrees {
 
 impl TwoTrees {
     /// How many symbols stand before the dot.
-    pub fn dot(&self) -> usize {
+    pub fn dot(&self) -> usize
+        ensures { result ≡ shifts self.now.before.items }
+    {
         self.before
             .iter()
             .filter(|step| **step == Step::Shift)
