@@ -1,5 +1,6 @@
 -- texts with two trees
-use Rattle.std.specs.Prelude.{◌≢◌, List, ◌++◌, IfSome}
+use Rattle.std.specs.Prelude.{◌≢◌, List, ◌++◌, All, IfSome}
+use Rattle.std.specs.Option.{ForSome}
 use Rattle.lrspec.specs.grammars.Grammar.{Grammar}
 use Rattle.lrspec.specs.grammars.Trees.{Tree}
 use Rattle.lrambiguity.specs.Moves.{IsTreeBy}
@@ -20,3 +21,10 @@ pub record HasTwoTrees (g : Grammar) (a : Ambiguity) : Type 0 where
 -- a text that is told of an entry has two trees
 abbrev pub IsProved : Grammar → Evidence → Type 0
 IsProved g e = IfSome e.ambiguity (HasTwoTrees g)
+
+-- the same, without saying which trees these are
+abbrev pub IsShown : Grammar → Ambiguity → Type 0
+IsShown g a = ∥ HasTwoTrees g a ∥₁
+
+abbrev pub AreShown : Grammar → List Evidence → Type 0
+AreShown g evidence = All (λ e. ForSome e.ambiguity (IsShown g)) evidence

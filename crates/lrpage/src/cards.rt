@@ -1,9 +1,13 @@
 //! Conflicts, each as a card that opens.
 
+ghost use Rattle.std.specs.Prelude.{IfSome};
+ghost use Rattle.std.specs.Option.{ForSome};
+ghost use Rattle.lrevidence.specs.Ambiguities.{AreShown, IsShown};
+
 use crate::escapes::push_name;
 use crate::pages::{Card, Page, push_count};
 use crate::symbols::DOT;
-use lrevidence::{Evidence, Example, Outlook, Step, list_of, start_of, text_of};
+use lrevidence::{Ambiguity, Evidence, Example, Outlook, Step, list_of, start_of, text_of};
 use lrfindings::Entry;
 use lrgrammar::idx::IndexStorage;
 use std::alloc::AllocError;
@@ -42,9 +46,24 @@ impl<T: IndexStorage> Page<'_, T> {
         Ok(())
     }
 
+    /// The first of the entries that has a text with two trees, by its place, and the text.
+    fn first_text<'e>(&self, meeting: &'e [Evidence]) -> Option<(usize, &'e Ambiguity)>
+        requires proved { AreShown self.now.found.now.grm meeting.now }
+        ensures { IfSome result (λ told. IsShown self.now.found.now.grm told.1.now) }
+    {
+        for (place, evidence) in meeting.iter().enumerate() {
+            if let Some(ambiguity) = &evidence.ambiguity {
+                return Some((place, ambiguity));
+            }
+        }
+        None
+    }
+
     /// Adds whether a text with two trees is known.
-    fn push_tag(&self, page: &mut String, is_ambiguous: bool) -> Result<(), AllocError> {
-        if is_ambiguous {
+    fn push_tag(&self, page: &mut String, text: Option<&Ambiguity>) -> Result<(), AllocError>
+        requires proved { IfSome text (λ a. IsShown self.now.found.now.grm a.now) }
+    {
+        if text.is_some() {
             return page.push_str(" <span class=\"tag proved\">ambiguous (proved)</span>");
         }
         if self.steps > 0 {
@@ -107,15 +126,19 @@ impl<T: IndexStorage> Page<'_, T> {
     }
 
     /// Adds what is known of an entry, where it was looked for.
-    fn push_known(&self, page: &mut String, evidence: &Evidence) -> Result<(), AllocError> {
+    fn push_known(&self, page: &mut String, evidence: &Evidence) -> Result<(), AllocError>
+        requires proved { ForSome evidence.now.ambiguity (IsShown self.now.found.now.grm) }
+    {
         if self.steps == 0 {
             return Ok(());
         }
-        match (&evidence.ambiguity, &evidence.example) {
-            (Some(ambiguity), _) => self.push_ambiguity(page, &evidence.entry, ambiguity),
-            (None, Some(example)) => self.push_example(page, &evidence.entry, example),
-            (None, None) => Ok(()),
+        if let Some(ambiguity) = &evidence.ambiguity {
+            return self.push_ambiguity(page, &evidence.entry, ambiguity);
         }
+        if let Some(example) = &evidence.example {
+            return self.push_example(page, &evidence.entry, example);
+        }
+        Ok(())
     }
 
     /// Adds what is known of the entries at other tokens than that at a place.
@@ -124,7 +147,9 @@ impl<T: IndexStorage> Page<'_, T> {
         page: &mut String,
         meeting: &[Evidence],
         first: usize,
-    ) -> Result<(), AllocError> {
+    ) -> Result<(), AllocError>
+        requires proved { AreShown self.now.found.now.grm meeting.now }
+    {
         let count = meeting.len().saturating_sub(1);
         if count == 0 || self.steps == 0 {
             return Ok(());
@@ -137,7 +162,7 @@ impl<T: IndexStorage> Page<'_, T> {
                 page.push_str("<details class=\"more\"><summary>at <code>")?;
                 self.push_token(page, evidence.entry.token)?;
                 page.push_str("</code>")?;
-                self.push_tag(page, evidence.ambiguity.is_some())?;
+                self.push_tag(page, evidence.ambiguity.as_ref())?;
                 page.push_str("</summary>\n")?;
                 self.push_known(page, evidence)?;
                 page.push_str("</details>\n")?;
@@ -147,9 +172,10 @@ impl<T: IndexStorage> Page<'_, T> {
     }
 
     /// Adds what is known of entries at which the same meets: of one that has a text, if there is any, and then of the others.
-    fn push_all_known(&self, page: &mut String, meeting: &[Evidence]) -> Result<(), AllocError> {
-        let with_text = meeting.iter().position(|it| it.ambiguity.is_some());
-        let first = with_text.unwrap_or(0);
+    fn push_all_known(&self, page: &mut String, meeting: &[Evidence]) -> Result<(), AllocError>
+        requires proved { AreShown self.now.found.now.grm meeting.now }
+    {
+        let first = self.first_text(meeting).map_or(0, |told| told.0);
         if let Some(evidence) = meeting.get(first) {
             self.push_known(page, evidence)?;
         }
@@ -157,20 +183,17 @@ impl<T: IndexStorage> Page<'_, T> {
     }
 
     /// Adds the card of that number, which is counted from 1.
-    fn push_card(
-        &self,
-        page: &mut String,
-        number: usize,
-        card: &Card<'_>,
-    ) -> Result<(), AllocError> {
+    fn push_card(&self, page: &mut String, number: usize, card: &Card<'_>) -> Result<(), AllocError>
+        requires proved { AreShown self.now.found.now.grm card.now.meeting.now }
+    {
         let open = if number <= OPEN { " open" } else { "" };
         write!(
             page,
             "<details class=\"part\" id=\"c{number}\"{open}><summary>"
         )?;
         self.push_heading(page, card.meeting)?;
-        let is_ambiguous = card.meeting.iter().any(|it| it.ambiguity.is_some());
-        self.push_tag(page, is_ambiguous)?;
+        let text = self.first_text(card.meeting).map(|told| told.1);
+        self.push_tag(page, text)?;
         page.push_str("</summary>\n")?;
         self.push_places(page, card.marks.as_slice())?;
         self.push_all_known(page, card.meeting)?;

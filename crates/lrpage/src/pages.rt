@@ -1,5 +1,8 @@
 //! The page, from its head to its end.
 
+ghost use Rattle.std.specs.Prelude.{◌≡◌, ⊤, All};
+ghost use Rattle.lrevidence.specs.Ambiguities.{AreShown};
+
 use crate::escapes::push_name;
 use crate::grammars::is_of_file;
 use crate::script::SCRIPT;
@@ -53,7 +56,7 @@ pub struct Card<'a> {
 }
 
 /// What a page is made of.
-#[derive(Clone, Copy)]
+#[derive(Copy)]
 pub struct Page<'a, T: IndexStorage> {
     /// The file.
     pub source: &'a Source<'a>,
@@ -69,6 +72,18 @@ pub struct Page<'a, T: IndexStorage> {
     pub cards: &'a [Card<'a>],
     /// How many steps a search for a text with two trees could take; with 0 nothing is told of texts.
     pub steps: usize,
+    /// Each text that is shown as one with two trees has them.
+    pub ghost proved: { All (λ card. AreShown found.now.grm card.meeting.now) cards.now },
+}
+
+impl<T: IndexStorage> Clone for Page<'_, T> {
+    ghost is_clone = { λ x y. y ≡ x };
+
+    ghost is_infallible = { λ _. ⊤ };
+
+    fn clone(&self) -> Result<Self, AllocError> {
+        Ok(*self)
+    }
 }
 
 impl<T: IndexStorage> Page<'_, T> {

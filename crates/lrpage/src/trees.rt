@@ -1,5 +1,7 @@
 //! Texts with two trees, as the script draws them.
 
+ghost use Rattle.lrevidence.specs.Ambiguities.{IsShown};
+
 use crate::pages::Page;
 use crate::symbols::DOT;
 use lrevidence::{Ambiguity, Step, TwoTrees, text_of};
@@ -139,7 +141,9 @@ impl<T: IndexStorage> Page<'_, T> {
         page: &mut String,
         entry: &Entry,
         ambiguity: &Ambiguity,
-    ) -> Result<(), AllocError> {
+    ) -> Result<(), AllocError>
+        requires proved { IsShown self.now.found.now.grm ambiguity.now }
+    {
         page.push_str("<p>This text")?;
         self.push_start(page, ambiguity.start(self.file))?;
         page.push_str(" has two trees (proved):</p>\n<p class=\"text\">")?;

@@ -1,2 +1,3 @@
--- conflicts that are left open
+-- conflicts that are left open, and entries that are told in groups
 mod LeftOpenEntries
+mod Groups

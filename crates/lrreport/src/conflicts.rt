@@ -1,12 +1,13 @@
 //! Conflicts, each with the places of the productions that meet in it.
 
-ghost use Rattle.std.specs.Prelude.{◌≡◌, IfOk};
+ghost use Rattle.std.specs.Prelude.{◌≡◌, All, IfOk, IfSome};
 ghost use Rattle.std.specs.List.{flat_map};
+ghost use Rattle.lrevidence.specs.Ambiguities.{HasTwoTrees, IsProved};
 ghost use Rattle.lrreport.specs.LeftOpen.{AreLeftOpen};
 
 use crate::options::Options;
 use lrdiagnostics::{Layout, Mark, Source, Style, Teller, comma_words};
-use lrevidence::{Evidence, name_of_rule, token_name};
+use lrevidence::{Ambiguity, Evidence, name_of_rule, token_name};
 use lrfindings::{Entry, Findings, is_among};
 use lrgrammar::grammar::PartSymbol;
 use lrgrammar::idx::{IndexStorage, StIdx};
@@ -147,8 +148,30 @@ impl<'a, T: IndexStorage> Checked<'a, T> {
         Ok(marks)
     }
 
+    /// The text with two trees of the first of the entries that has one, but for those at a token, and its entry's token.
+    pub(crate) fn first_text<'e>(
+        &self,
+        meeting: &'e [Evidence],
+        but: Option<usize>,
+    ) -> Option<(usize, &'e Ambiguity)>
+        requires proved { All (IsProved self.now.found.now.grm) meeting.now }
+        ensures { IfSome result (λ told. HasTwoTrees self.now.found.now.grm told.1.now) }
+    {
+        for evidence in meeting {
+            let token = evidence.entry.token;
+            if let Some(ambiguity) = &evidence.ambiguity {
+                if Some(token) != but {
+                    return Some((token, ambiguity));
+                }
+            }
+        }
+        None
+    }
+
     /// Adds a conflict: entries at which the same meets in the same state, and what is known of them.
-    fn push_meeting(&self, text: &mut String, meeting: &[Evidence]) -> Result<(), AllocError> {
+    fn push_meeting(&self, text: &mut String, meeting: &[Evidence]) -> Result<(), AllocError>
+        requires proved { All (IsProved self.now.found.now.grm) meeting.now }
+    {
         let alloc = *text.allocator();
         let entries = entries_of(alloc, meeting)?;
         self.push_heading(text, "conflict", entries.as_slice())?;
@@ -220,11 +243,15 @@ impl<'a, T: IndexStorage> Checked<'a, T> {
     }
 
     /// Adds the conflicts: the first ones, so many at the most, and how many there are besides.
-    pub(crate) fn push_conflicts(&self, text: &mut String, most: usize) -> Result<(), AllocError> {
+    pub(crate) fn push_conflicts(&self, text: &mut String, most: usize) -> Result<(), AllocError>
+        requires proved { All (IsProved self.now.found.now.grm) self.now.evidence.now }
+    {
         let tells_all = self.options.tells_all;
         let meetings = meetings(*text.allocator(), self.evidence, tells_all)?;
-        for meeting in meetings.iter().take(most) {
-            self.push_meeting(text, meeting)?;
+        for (place, meeting) in meetings.iter().enumerate() {
+            if place < most {
+                self.push_meeting(text, meeting)?;
+            }
         }
         push_more(text, meetings.len().saturating_sub(most))
     }

@@ -1,7 +1,11 @@
 //! What there is to tell of a file, as a line of JSON.
 
-ghost use Rattle.std.specs.Prelude.{◌≡◌, IfOk};
+ghost use Rattle.std.specs.Prelude.{◌≡◌, ◌⊎◌, All, IfOk, IfSome, IsSome, IsTrue};
+ghost use Rattle.std.specs.List.{flat_map};
 ghost use Rattle.std.specs.String.{string_bytes};
+ghost use Rattle.lrspec.specs.tables.Recognition.{IsUnambiguous};
+ghost use Rattle.lrfindings.specs.declared.verdicts.Verdict.TheVariants.{Unambiguous};
+ghost use Rattle.lrevidence.specs.Ambiguities.{HasTwoTrees, IsProved};
 ghost use Rattle.json.specs.Lex.{tokens};
 ghost use Rattle.json.specs.Print.{print};
 
@@ -12,7 +16,7 @@ use crate::objects::{
 };
 use crate::trees::alternatives;
 use lrdiagnostics::Source;
-use lrevidence::{Evidence, body_of, names_of};
+use lrevidence::{Ambiguity, Evidence, body_of, names_of};
 use lrfindings::{Entry, Settled, Verdict, Winner};
 use lrgrammar::idx::{IndexStorage, StIdx, TIdx};
 use lrtable::Action;
@@ -157,13 +161,19 @@ pub(crate) fn json_of_findings<T: IndexStorage>(
     warnings: &[Fault],
     expected: Expected,
     verdict: Verdict,
-) -> Result<String, AllocError> {
+) -> Result<String, AllocError>
+    requires proved { All (IsProved checked.found.now.grm) checked.evidence.now }
+    requires settled { All (IsProved checked.found.now.grm) checked.settled.now }
+    requires unambiguous { verdict ≡ Unambiguous → IsUnambiguous checked.found.now.grm }
+{
     let tells_grammar = checked.options.tells_grammar;
     let counts = verdict.counts();
     let mut object = object_of_file(alloc, checked.source, checked.file, warnings, tells_grammar)?;
-    let is_ambiguous = checked.evidence.iter().any(|it| it.ambiguity.is_some());
-    object.verdict = word_of(verdict, is_ambiguous);
-    object.proved = is_ambiguous || verdict == Verdict::Unambiguous;
+    let shown = checked
+        .first_text(checked.evidence, None)
+        .map(|told| told.1);
+    object.verdict = word_of(verdict, shown.is_some());
+    object.proved = checked.is_proved(verdict, shown);
     object.shift_reduce = Some(counts.shift_reduce);
     object.reduce_reduce = Some(counts.reduce_reduce);
     object.expected = numbers_of(expected);
@@ -177,6 +187,18 @@ pub(crate) fn json_of_findings<T: IndexStorage>(
 }
 
 impl<'a, T: IndexStorage> Checked<'a, T> {
+    /// Whether it is proved of the grammar that it is ambiguous, which a text shows, or that it is not.
+    fn is_proved(&self, verdict: Verdict, shown: Option<&Ambiguity>) -> bool
+        requires shown { IfSome shown (λ a. HasTwoTrees self.now.found.now.grm a.now) }
+        requires unambiguous { verdict ≡ Unambiguous → IsUnambiguous self.now.found.now.grm }
+        ensures { IsTrue result → IsSome shown.entry ⊎ IsUnambiguous self.now.found.now.grm }
+    {
+        match verdict {
+            Verdict::Unambiguous => true,
+            _ => shown.is_some(),
+        }
+    }
+
     /// The names of the symbols of a production.
     fn body(&self, alloc: Global, production: usize) -> Result<Vec<&'a str>, AllocError> {
         names_of(alloc, self.file, body_of(self.file, production))
@@ -252,7 +274,9 @@ impl<'a, T: IndexStorage> Checked<'a, T> {
         first: &Evidence,
         meeting: &[Evidence],
         alternatives: &[usize],
-    ) -> Result<ConflictObject<'a>, AllocError> {
+    ) -> Result<ConflictObject<'a>, AllocError>
+        requires proved { All (IsProved self.now.found.now.grm) meeting.now }
+    {
         let entry = first.entry;
         let entries = entries_of(alloc, meeting)?;
         Ok(ConflictObject {
@@ -277,18 +301,31 @@ impl<'a, T: IndexStorage> Checked<'a, T> {
         })
     }
 
+    /// What is known of the conflicts, in groups, in each of which the same meets in the same state, and the table does the same;
+    /// each entry by itself where all are told.
+    fn alike(&self, alloc: Global) -> Result<Vec<&'a [Evidence]>, AllocError>
+        ensures { IfOk result (λ groups.
+            flat_map (λ group. group.now) groups.items ≡ self.now.evidence.now) }
+    {
+        self.evidence
+            .chunk_by(|one, other| {
+                !self.options.tells_all
+                    && one.entry.meets_like(&other.entry)
+                    && self.chosen(&one.entry) == self.chosen(&other.entry)
+            })
+            .collect(alloc)
+    }
+
     /// The conflicts, in the order of the file: each entry by itself where all are told.
     fn conflict_objects(
         &self,
         alloc: Global,
         alternatives: &[usize],
-    ) -> Result<Vec<ConflictObject<'a>>, AllocError> {
+    ) -> Result<Vec<ConflictObject<'a>>, AllocError>
+        requires proved { All (IsProved self.now.found.now.grm) self.now.evidence.now }
+    {
         let mut objects = Vec::new(alloc);
-        for meeting in self.evidence.chunk_by(|one, other| {
-            !self.options.tells_all
-                && one.entry.meets_like(&other.entry)
-                && self.chosen(&one.entry) == self.chosen(&other.entry)
-        }) {
+        for meeting in &self.alike(alloc)? {
             if let Some(first) = meeting.first() {
                 objects.push(self.conflict_object(alloc, first, meeting, alternatives)?)?;
             }
@@ -301,7 +338,9 @@ impl<'a, T: IndexStorage> Checked<'a, T> {
         &self,
         alloc: Global,
         alternatives: &[usize],
-    ) -> Result<Vec<SettledObject<'a>>, AllocError> {
+    ) -> Result<Vec<SettledObject<'a>>, AllocError>
+        requires proved { All (IsProved self.now.found.now.grm) self.now.settled.now }
+    {
         let mut objects = Vec::new(alloc);
         for meeting in self
             .found

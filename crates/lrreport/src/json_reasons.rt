@@ -1,5 +1,8 @@
 //! What is known of conflicts, as JSON.
 
+ghost use Rattle.std.specs.Prelude.{All};
+ghost use Rattle.lrevidence.specs.Ambiguities.{HasTwoTrees, IsProved};
+
 use crate::conflicts::Checked;
 use crate::objects::{AfterObject, AmbiguityObject, ItemObject, OutlookObject};
 use crate::trees::tree_value;
@@ -16,7 +19,9 @@ impl<'a, T: IndexStorage> Checked<'a, T> {
         alloc: Global,
         ambiguity: &Ambiguity,
         alternatives: &[usize],
-    ) -> Result<AmbiguityObject<'a>, AllocError> {
+    ) -> Result<AmbiguityObject<'a>, AllocError>
+        requires proved { HasTwoTrees self.now.found.now.grm ambiguity.now }
+    {
         let (one, other) = Tree::both(alloc, self.file, &ambiguity.trees)?;
         Ok(AmbiguityObject {
             rule: match ambiguity.form.one.last() {
@@ -42,13 +47,15 @@ impl<'a, T: IndexStorage> Checked<'a, T> {
         alloc: Global,
         meeting: &[Evidence],
         alternatives: &[usize],
-    ) -> Result<Option<AmbiguityObject<'a>>, AllocError> {
-        for evidence in meeting {
-            if let Some(ambiguity) = &evidence.ambiguity {
-                return Ok(Some(self.ambiguity_object(alloc, ambiguity, alternatives)?));
+    ) -> Result<Option<AmbiguityObject<'a>>, AllocError>
+        requires proved { All (IsProved self.now.found.now.grm) meeting.now }
+    {
+        match self.first_text(meeting, None) {
+            Some((_, ambiguity)) => {
+                Ok(Some(self.ambiguity_object(alloc, ambiguity, alternatives)?))
             }
+            None => Ok(None),
         }
-        Ok(None)
     }
 
     /// How a text goes on.

@@ -1,5 +1,8 @@
 //! What is known of conflicts, as notes under their places.
 
+ghost use Rattle.std.specs.Prelude.{All, IfSome, IsSome, IsTrue};
+ghost use Rattle.lrevidence.specs.Ambiguities.{HasTwoTrees, IsProved};
+
 use crate::conflicts::Checked;
 use crate::drawings::push_drawing;
 use crate::texts::{from_start, labels, list_words, shortened, text_words, tree_words};
@@ -102,6 +105,13 @@ impl Labels {
     }
 }
 
+/// Whether each of the entries has a text with two trees.
+fn have_texts(meeting: &[Evidence]) -> bool
+    ensures { IsTrue result → All (λ evidence. IsSome evidence.ambiguity) meeting.now }
+{
+    meeting.iter().all(|it| it.ambiguity.is_some())
+}
+
 impl<T: IndexStorage> Checked<'_, T> {
     /// Notes under places of such marks.
     fn notes(&self, marks: &[Mark]) -> Notes {
@@ -154,7 +164,9 @@ impl<T: IndexStorage> Checked<'_, T> {
         text: &mut String,
         notes: Notes,
         ambiguity: &Ambiguity,
-    ) -> Result<(), AllocError> {
+    ) -> Result<(), AllocError>
+        requires proved { HasTwoTrees self.now.found.now.grm ambiguity.now }
+    {
         let alloc = *text.allocator();
         let from = from_start(alloc, self.file, ambiguity.start(self.file))?;
         let told = format!(in alloc; "ambiguous (proved): this text{from} has two trees")?;
@@ -168,7 +180,9 @@ impl<T: IndexStorage> Checked<'_, T> {
         text: &mut String,
         notes: Notes,
         ambiguity: &Ambiguity,
-    ) -> Result<(), AllocError> {
+    ) -> Result<(), AllocError>
+        requires proved { HasTwoTrees self.now.found.now.grm ambiguity.now }
+    {
         let alloc = *text.allocator();
         let words = text_words(alloc, self.file, ambiguity)?;
         notes.push_shown(text, words.as_slice())?;
@@ -182,7 +196,9 @@ impl<T: IndexStorage> Checked<'_, T> {
         notes: Notes,
         token: usize,
         ambiguity: &Ambiguity,
-    ) -> Result<(), AllocError> {
+    ) -> Result<(), AllocError>
+        requires proved { HasTwoTrees self.now.found.now.grm ambiguity.now }
+    {
         let alloc = *text.allocator();
         let name = self.token_name(token);
         let mut words = Vec::new(alloc);
@@ -219,35 +235,41 @@ impl<T: IndexStorage> Checked<'_, T> {
         notes.push(text, words.as_slice())
     }
 
-    /// Adds what is known of the other entries than one that has a text.
+    /// Adds that each of the entries has a text, where they are more than two.
+    fn push_each(
+        &self,
+        text: &mut String,
+        notes: Notes,
+        meeting: &[Evidence],
+    ) -> Result<(), AllocError>
+        requires proved { All (IsProved self.now.found.now.grm) meeting.now }
+        requires each { All (λ evidence. IsSome evidence.ambiguity) meeting.now }
+    {
+        if meeting.len() > 2 {
+            let told = "so it is at each other token (proved; --all shows the texts)";
+            notes.push_text(text, told)?;
+        }
+        Ok(())
+    }
+
+    /// Adds what is known of the other entries than the first that has a text, which is one at that token.
     fn push_others(
         &self,
         text: &mut String,
         notes: Notes,
         meeting: &[Evidence],
-        first: &Evidence,
-    ) -> Result<(), AllocError> {
-        let with_text = meeting.iter().filter(|it| it.ambiguity.is_some()).count();
-        if with_text < meeting.len() {
+        first: usize,
+    ) -> Result<(), AllocError>
+        requires proved { All (IsProved self.now.found.now.grm) meeting.now }
+    {
+        if have_texts(meeting) {
+            self.push_each(text, notes, meeting)?;
+        } else {
             self.push_unknown(text, notes, meeting)?;
-        } else if with_text > 2 {
-            notes.push_text(
-                text,
-                "so it is at each other token (proved; --all shows the texts)",
-            )?;
         }
-        if with_text == 2 {
-            let other = meeting.iter().find(|it| it.ambiguity.is_some()
-                && it.entry.token != first.entry.token);
-            if let Some(
-                Evidence {
-                    entry,
-                    ambiguity: Some(ambiguity),
-                    ..
-                },
-            ) = other
-            {
-                self.push_also(text, notes, entry.token, ambiguity)?;
+        if meeting.iter().filter(|it| it.ambiguity.is_some()).count() == 2 {
+            if let Some((token, ambiguity)) = self.first_text(meeting, Some(first)) {
+                self.push_also(text, notes, token, ambiguity)?;
             }
         }
         Ok(())
@@ -311,13 +333,12 @@ impl<T: IndexStorage> Checked<'_, T> {
         text: &mut String,
         notes: Notes,
         meeting: &[Evidence],
-    ) -> Result<(), AllocError> {
-        let with_text = meeting.iter().find(|it| it.ambiguity.is_some());
-        if let Some(first) = with_text {
-            if let Some(ambiguity) = &first.ambiguity {
-                self.push_ambiguity(text, notes, ambiguity)?;
-                return self.push_others(text, notes, meeting, first);
-            }
+    ) -> Result<(), AllocError>
+        requires proved { All (IsProved self.now.found.now.grm) meeting.now }
+    {
+        if let Some((token, ambiguity)) = self.first_text(meeting, None) {
+            self.push_ambiguity(text, notes, ambiguity)?;
+            return self.push_others(text, notes, meeting, token);
         }
         if let Some(
             Evidence {
@@ -338,7 +359,9 @@ impl<T: IndexStorage> Checked<'_, T> {
         text: &mut String,
         marks: &[Mark],
         meeting: &[Evidence],
-    ) -> Result<(), AllocError> {
+    ) -> Result<(), AllocError>
+        requires proved { All (IsProved self.now.found.now.grm) meeting.now }
+    {
         let mut lines = String::new(*text.allocator());
         let notes = self.notes(marks);
         if self.options.steps > 0 {
@@ -359,7 +382,9 @@ impl<T: IndexStorage> Checked<'_, T> {
         why: &str,
         kept: &str,
         ambiguity: Option<&Ambiguity>,
-    ) -> Result<(), AllocError> {
+    ) -> Result<(), AllocError>
+        requires proved { IfSome ambiguity (λ a. HasTwoTrees self.now.found.now.grm a.now) }
+    {
         let alloc = *text.allocator();
         let mut lines = String::new(alloc);
         let notes = self.notes(marks);

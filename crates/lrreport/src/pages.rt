@@ -1,5 +1,8 @@
 //! The page that shows what was found in the grammar of a file.
 
+ghost use Rattle.std.specs.Prelude.{◌≡◌, All, IfOk};
+ghost use Rattle.lrevidence.specs.Ambiguities.{IsProved};
+
 use crate::conflicts::{Checked, entries_of, meetings};
 use lrevidence::Evidence;
 use lrfindings::Verdict;
@@ -21,7 +24,9 @@ fn joined(alloc: Global, words: &[String]) -> Result<String, AllocError> {
 
 impl<T: IndexStorage> Checked<'_, T> {
     /// The card of entries at which the same meets.
-    fn card<'a>(&self, alloc: Global, meeting: &'a [Evidence]) -> Result<Card<'a>, AllocError> {
+    fn card<'a>(&self, alloc: Global, meeting: &'a [Evidence]) -> Result<Card<'a>, AllocError>
+        ensures { IfOk result (λ card. card.meeting.now ≡ meeting.now) }
+    {
         let entries = entries_of(alloc, meeting)?;
         let help = self.help_words(alloc, meeting)?;
         Ok(Card {
@@ -37,7 +42,9 @@ impl<T: IndexStorage> Checked<'_, T> {
         alloc: Global,
         verdict: Verdict,
         line: &str,
-    ) -> Result<String, AllocError> {
+    ) -> Result<String, AllocError>
+        requires proved { All (IsProved self.now.found.now.grm) self.now.evidence.now }
+    {
         let mut cards = Vec::new(alloc);
         for meeting in &meetings(alloc, self.evidence, false)? {
             cards.push(self.card(alloc, meeting)?)?;

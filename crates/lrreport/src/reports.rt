@@ -10,7 +10,7 @@ ghost use Rattle.lrgrammar.specs.TextErrors.{IsGrammarOf};
 ghost use Rattle.lrfindings.specs.declared.verdicts.Verdict.TheVariants.{Unambiguous};
 ghost use Rattle.lrfindings.specs.Listed.{told, listed};
 ghost use Rattle.lrfindings.specs.Verdicts.{status_of};
-ghost use Rattle.lrevidence.specs.Ambiguities.{IsProved};
+ghost use Rattle.lrevidence.specs.Ambiguities.{HasTwoTrees, IsProved};
 ghost use Rattle.lrevidence.specs.Entries.{AreListedIn};
 ghost use Rattle.lrreport.specs.declared.options.Output.TheVariants.{Grammar};
 ghost use Rattle.lrreport.specs.LeftOpen.{AreLeftOpen};
@@ -19,7 +19,6 @@ ghost use Rattle.lrreport.specs.Conclusions.{IsConcluded};
 use crate::conflicts::{Checked, left_open};
 use crate::json_lines::{json_of_faults, json_of_findings, json_of_refusal};
 use crate::options::{Options, Output};
-use crate::verdicts::{Told, verdict_line};
 use lrdiagnostics::{Layout, Source, TOLD, Teller, Weight, messages_of};
 use lrevidence::{Ambiguity, Effort, Evidence, evidence_for, first_text};
 use lrfindings::{Entry, FindError, Findings, Settled, Verdict, find, small_text};
@@ -186,6 +185,8 @@ fn known_of<T: IndexStorage>(
     ensures left { IfOk result (λ k. AreLeftOpen found.now.conflicts.items found.now.closed.items
         found.now.opened.items (map (λ e. e.entry) k.evidence.items)) }
     ensures proved { IfOk result (λ k. All (IsProved found.now.grm) k.evidence.items) }
+    ensures settled { IfOk result (λ k. All (IsProved found.now.grm) k.settled.items) }
+    ensures decided { IfOk result (λ k. IfSome k.decided (HasTwoTrees found.now.grm)) }
 {
     let (entries, effort) = (left_open(alloc, found)?, effort_of(options));
     let evidence = evidence_for(alloc, file, found, entries.as_slice(), effort)?;
@@ -215,7 +216,12 @@ fn lines_on_findings<T: IndexStorage>(
     known: &Known,
     verdict: Verdict,
     options: Options,
-) -> Result<String, AllocError> {
+) -> Result<String, AllocError>
+    requires proved { All (IsProved found.now.grm) known.now.evidence.items }
+    requires settled { All (IsProved found.now.grm) known.now.settled.items }
+    requires decided { IfSome known.now.decided (HasTwoTrees found.now.grm) }
+    requires unambiguous { verdict ≡ Unambiguous → IsUnambiguous found.now.grm }
+{
     let expected = options.beside(read.expected);
     let checked = Checked {
         source: read.source,
@@ -243,12 +249,7 @@ fn lines_on_findings<T: IndexStorage>(
             checked.push_settled(&mut text, most)?;
         }
     }
-    let told = Told {
-        evidence: checked.evidence,
-        settled: found.settled.len(),
-        is_ambiguous_without: known.decided.is_some(),
-    };
-    let line = verdict_line(alloc, read.source.name, verdict, told, options)?;
+    let line = checked.verdict_line(alloc, verdict, known.decided.as_ref(), options)?;
     let layout = Layout::new(options.is_plain || options.output == Output::Summary);
     layout.push_line(&mut text, line.as_str(), 4)?;
     Ok(text)
@@ -262,7 +263,11 @@ fn page_on_findings<T: IndexStorage>(
     known: &Known,
     verdict: Verdict,
     options: Options,
-) -> Result<Option<String>, AllocError> {
+) -> Result<Option<String>, AllocError>
+    requires proved { All (IsProved found.now.grm) known.now.evidence.items }
+    requires decided { IfSome known.now.decided (HasTwoTrees found.now.grm) }
+    requires unambiguous { verdict ≡ Unambiguous → IsUnambiguous found.now.grm }
+{
     if !options.makes_page {
         return Ok(None);
     }
@@ -277,16 +282,11 @@ fn page_on_findings<T: IndexStorage>(
             ..options
         },
     };
-    let told = Told {
-        evidence: checked.evidence,
-        settled: found.settled.len(),
-        is_ambiguous_without: known.decided.is_some(),
-    };
     let summary = Options {
         output: Output::Summary,
         ..options
     };
-    let line = verdict_line(alloc, read.source.name, verdict, told, summary)?;
+    let line = checked.verdict_line(alloc, verdict, known.decided.as_ref(), summary)?;
     Ok(Some(checked.page(alloc, verdict, line.as_str())?))
 }
 

@@ -1,5 +1,8 @@
 //! What precedences settle, each with the places of the productions that meet, and why.
 
+ghost use Rattle.std.specs.Prelude.{All, IfSome};
+ghost use Rattle.lrevidence.specs.Ambiguities.{HasTwoTrees, IsProved};
+
 use crate::conflicts::{Checked, DONE, push_more};
 use lrdiagnostics::push_shown;
 use lrevidence::Ambiguity;
@@ -129,7 +132,10 @@ impl<'a, T: IndexStorage> Checked<'a, T> {
     }
 
     /// A text with two trees that part at one of the entries, where one is found.
-    pub(crate) fn decided(&self, entries: &[Entry]) -> Option<&'a Ambiguity> {
+    pub(crate) fn decided(&self, entries: &[Entry]) -> Option<&'a Ambiguity>
+        requires proved { All (IsProved self.now.found.now.grm) self.now.settled.now }
+        ensures { IfSome result (λ a. HasTwoTrees self.now.found.now.grm a.now) }
+    {
         for entry in entries {
             if let Ok(at) = self.settled.binary_search_by_key(entry, |it| it.entry) {
                 if let Some(ambiguity) = &self.settled[at].ambiguity {
@@ -161,7 +167,9 @@ impl<'a, T: IndexStorage> Checked<'a, T> {
     }
 
     /// Adds what is settled.
-    fn push_settling(&self, text: &mut String, settling: &Settling) -> Result<(), AllocError> {
+    fn push_settling(&self, text: &mut String, settling: &Settling) -> Result<(), AllocError>
+        requires proved { All (IsProved self.now.found.now.grm) self.now.settled.now }
+    {
         let entries = settling.entries.as_slice();
         let Some(first) = entries.first() else {
             return Ok(());
@@ -186,7 +194,9 @@ impl<'a, T: IndexStorage> Checked<'a, T> {
     }
 
     /// Adds what precedences settle: the first ones, so many at the most, and how many there are besides.
-    pub(crate) fn push_settled(&self, text: &mut String, most: usize) -> Result<(), AllocError> {
+    pub(crate) fn push_settled(&self, text: &mut String, most: usize) -> Result<(), AllocError>
+        requires proved { All (IsProved self.now.found.now.grm) self.now.settled.now }
+    {
         let settlings = self.settlings(*text.allocator())?;
         for settling in settlings.iter().take(most) {
             self.push_settling(text, settling)?;

@@ -3,6 +3,12 @@ use Rattle.lrreport.proofs.reports.report_on_findings.Goals as goal
 pub known_of-requires-clause-listed : goal.known_of-requires-clause-listed
 known_of-requires-clause-listed g c = rw (← c.requires.table.reduce_reduce, ← c.requires.table.shift_reduce) c.requires.conflicts
 
+pub lines_on_findings-requires-clause-unambiguous : goal.lines_on_findings-requires-clause-unambiguous
+lines_on_findings-requires-clause-unambiguous g c = λ told. c.requires.unambiguous (c.beside-verdict.ensures told)
+
+pub page_on_findings-requires-clause-unambiguous : goal.page_on_findings-requires-clause-unambiguous
+page_on_findings-requires-clause-unambiguous g c = λ told. c.requires.unambiguous (c.beside-verdict.ensures told)
+
 pub returns-clause-proved : goal.returns-clause-proved
 returns-clause-proved g c = record {
   max = g.T.IndexStorage.MAX;

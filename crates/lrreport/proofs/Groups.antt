@@ -1,0 +1,58 @@
+-- entries that are told in groups: what holds of each holds of those of each group
+use Rattle.std.proofs.Common.{◌≡◌, ℕ, ◌<◌, ◌≤◌, List, [], ◌∷◌, ◌++◌, length, map, take, get_or, sym, ap, subst, ◌∙◌}
+use Rattle.std.proofs.Math.Seq.{take-append_seam, drop-append_seam}
+use Rattle.std.proofs.lemmas.List.{take_all}
+use Rattle.std.proofs.lemmas.List.Elements.{All-nil, All-cons, All-head, All-tail, All-take, All-drop}
+use Rattle.std.proofs.lemmas.List.Elements.{All-same, All-map, All-weaker}
+use Rattle.std.specs.List.{All, flat_map}
+use Rattle.lrspec.specs.grammars.Grammar.{Grammar}
+use Rattle.lrevidence.specs.declared.evidence.Evidence.{Evidence}
+use Rattle.lrevidence.specs.Ambiguities.{IsProved, AreShown}
+
+module _ {X Y : Type 0} (P : X → Type 0) (f : Y → X) where
+  of_images : (ys : List Y) → All P (map f ys) → All (λ y. P (f y)) ys
+  of_images [] each = All-nil (λ y. P (f y))
+  of_images (y ∷ ys) each =
+      let first = All-head P (f y) (map f ys) each in
+      All-cons (λ z. P (f z)) y ys first (of_images ys (All-tail P (f y) (map f ys) each))
+
+module _ {A X : Type 0} (P : X → Type 0) (items : A → List X) where
+  parted : (one others : List X) → All P (one ++ others) → All P one × All P others
+  parted one others each = (
+    rw (take-append_seam one others) at (All-take P (length one) (one ++ others) each),
+    rw (drop-append_seam one others) at (All-drop P (length one) (one ++ others) each),
+  )
+
+  joined : (groups : List A) → All P (flat_map items groups) → All (λ group. All P (items group)) groups
+  joined [] each = All-nil (λ group. All P (items group))
+  joined (first ∷ groups) each =
+      let (front, behind) = parted (items first) (flat_map items groups) each in
+      All-cons (λ group. All P (items group)) first groups front (joined groups behind)
+
+  module _ (groups : List A) (all : List X) (are : flat_map items groups ≡ all) (each : All P all) where
+    in_groups : All (λ group. All P (items group)) groups
+    in_groups = joined groups (All-same P (flat_map items groups) all are each)
+
+    pub in_group :
+        (i : ℕ) (group : A) → i < length groups → group ≡ get_or groups i group → All P (items group)
+    in_group i group inside is = subst (λ it. All P (items it)) (sym is) (in_groups i group inside)
+
+    -- where something else tells of the same groups
+    pub in_told :
+        {B : Type 0} (told : B → List X) (those : List B) (i : ℕ) → length groups ≤ i
+        → map told those ≡ map items (take i groups) → All (λ one. All P (told one)) those
+    in_told told those i past are_those =
+        let same = are_those ∙ ap (map items) (take_all i groups past) in
+        let images = All-map (All P) items groups in_groups in
+        of_images (All P) told those (All-same (All P) (map told those) (map items groups) same images)
+
+-- what is proved of entries may be shown
+shown : (g : Grammar) (evidence : List Evidence) → All (IsProved g) evidence → AreShown g evidence
+shown g evidence proved k d inside a is = let known = rw is at (proved k d inside) in ∣ known ∣₁
+
+pub all_shown :
+    {B : Type 0} (g : Grammar) (told : B → List Evidence) (those : List B)
+    → All (λ one. All (IsProved g) (told one)) those → All (λ one. AreShown g (told one)) those
+all_shown g told those proved =
+    let may_be_shown = λ (one : _) (each : All (IsProved g) (told one)). shown g (told one) each in
+    All-weaker (λ one. All (IsProved g) (told one)) (λ one. AreShown g (told one)) may_be_shown those proved
