@@ -88,7 +88,8 @@ fn mark_from<T: IndexStorage>(bits: &mut Vob, from: usize, grm: &YaccGrammar<T>,
     requires rule { T.number rule.0 < length grm.now.rule_names }
     requires within { (q : ℕ) → math.IsProductionOf grm.now q (T.number rule.0)
         → (from ≤ q) × (q < from + length bits.old) }
-    ensures { AreMarked (λ k. math.IsProductionOf grm.now (from + k) (T.number rule.0)) bits.old bits.new }
+    ensures { AreMarked (λ k. math.IsProductionOf grm.now (from + k) (T.number rule.0))
+        bits.old bits.new }
 {
     for pidx in grm.rule_to_prods(rule) {
         bits.set(pidx.0.to_usize() - from, true);
@@ -140,7 +141,8 @@ fn push_from<'a, T: IndexStorage>(
 ) -> Result<(), AllocError>
     requires sizes { IsWithin T.MAX grm.now }
     requires rows { AreKeptRows grm.now rows.now }
-    requires productions { ArePutIn grm.now (rows_in rows.now) productions.now.from productions.now.bits }
+    requires productions { ArePutIn grm.now (rows_in rows.now)
+        productions.now.from productions.now.bits }
     requires order { from ≤ end }
     requires end { end ≤ length grm.now.productions }
     ensures { OnOk result (listed_of T.number items.new.items
@@ -168,7 +170,8 @@ fn push_closed<'a, T: IndexStorage>(
     requires fits { Fits grm.now (items_of T.number given.now) }
     requires upwards { AreUpwards (items_of T.number given.now) }
     requires rows { AreKeptRows grm.now rows.now }
-    requires productions { ArePutIn grm.now (rows_in rows.now) productions.now.from productions.now.bits }
+    requires productions { ArePutIn grm.now (rows_in rows.now)
+        productions.now.from productions.now.bits }
     ensures { OnOk result (listed_of T.number items.new.items
         ≡ listed_of T.number items.old.items
         ++ listed_items grm.now (rows_in rows.now) 0 (items_of T.number given.now)) }
