@@ -6,20 +6,15 @@ import subprocess
 ENDINGS = {".y", ".yy", ".ypp"}
 
 
-def measured(words, printed, **more):
-    """The status of a call, its seconds of processor time and its megabytes at the most; what it prints goes to that file, and
-    its faults unless another place is named for them."""
+def called(words, printed, **more):
+    """The status of a call and its seconds of processor time; what it prints goes to that file, and its faults unless another
+    place is named for them."""
     with open(printed, "wb") as output:
         streams = {"stdin": subprocess.DEVNULL, "stdout": output, "stderr": subprocess.STDOUT}
         child = subprocess.Popen(words, **(streams | more))
         _, status, usage = os.wait4(child.pid, 0)
     child.returncode = os.waitstatus_to_exitcode(status)
-    return child.returncode, usage.ru_utime + usage.ru_stime, usage.ru_maxrss / 1024
-
-
-def called(words, printed, **more):
-    """The status of a call and its seconds of processor time, likewise."""
-    return measured(words, printed, **more)[:2]
+    return child.returncode, usage.ru_utime + usage.ru_stime
 
 
 def ratio(one, other):
