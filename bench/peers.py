@@ -34,6 +34,8 @@ CALLS = {
     "bison": ["bison", "-Wnone", "-fsyntax-only", "-Flr.type=ielr", "grammar.yy"],
     "menhir": ["menhir", "--interpret", "--unused-tokens", "grammar.mly"],
 }
+QUOTED = re.compile("'[^']*'|\"[^\"]*\"")
+SYMBOL = re.compile(QUOTED.pattern + r"|\S+")
 
 
 class Grammar:
@@ -41,12 +43,12 @@ class Grammar:
 
     def __init__(self, text):
         head, rules = text.split("\n%%\n", 1)
-        names = [name for name in re.findall("'[^']*'", head) if name != "'$end'"]
+        names = [name for name in QUOTED.findall(head) if name != "'$end'"]
         self.names = {name: f"T{place}" for place, name in enumerate(names)}
         self.rules = {}
         for rule in rules.split("\n    ;\n")[:-1]:
-            name, bodies = rule.split(":", 1)
-            self.rules[name] = [re.findall(r"'[^']*'|[^\s']+", body) for body in bodies.split("\n    |")]
+            name, bodies = rule.split(":", 1)  # A rule can come in parts.
+            self.rules.setdefault(name, []).extend(SYMBOL.findall(body) for body in bodies.split("\n    |"))
         self.names |= {name: f"r{place}" for place, name in enumerate(self.rules)} | {"'$end'": ""}
 
     def productions(self):
