@@ -2,7 +2,8 @@
 use Rattle.std.specs.Prelude.{ℕ, ◌+◌, ◌<◌, ◌^◌, length}
 use Rattle.std.specs.List.{All}
 use Rattle.lrsparse.specs.Matrix.{Matrix}
-use Rattle.lrsparse.specs.Places.{AreStarts, IsPlaced, rows_from}
+use Rattle.lrsparse.specs.Places.{IsPlaced, rows_from}
+use Rattle.lrsparse.specs.Starts.{AreStarts}
 use Rattle.lrsparse.specs.declared.builder.MatrixBuilder.{MatrixBuilder}
 
 -- the matrix of the rows so far

@@ -3,4 +3,5 @@ pub mod Matrix
 pub mod Entries
 pub mod Places
 pub mod Owned
+pub mod Starts
 pub mod Building

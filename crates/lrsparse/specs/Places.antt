@@ -2,15 +2,9 @@
 use Rattle.std.specs.Prelude.{◌≡◌, ◌↔◌, ℕ, ◌+◌, ◌*◌, ◌<◌, ◌≤◌, ◌==◌, if◌then◌else◌, Option, None, Some, IsSome, IfSome}
 use Rattle.std.specs.Prelude.{List, [], ◌∷◌, ◌++◌, length, map, slice_index_or}
 use Rattle.std.specs.List.{All, range_with_len}
-use Rattle.std.specs.BTreeMap.{BTreeMap, get}
-use Rattle.std.specs.Cmp.Lexicographic.{slice_cmp}
-use Rattle.std.specs.Ordering.{nat_cmp}
-use Rattle.std.specs.declared.cmp.Ordering.{Ordering}
-use Rattle.std.specs.declared.vec.Vec.{Vec}
-use Rattle.std.specs.declared.alloc.Global.{Global}
 use Rattle.lrsparse.specs.declared.sparsevec.places.Entry.{Entry}
 use Rattle.lrsparse.specs.declared.sparsevec.places.Places.{Places}
-use Rattle.lrsparse.specs.Owned.{IsOwned, AreOwned, MeetsNone}
+use Rattle.lrsparse.specs.Owned.{IsOwned, AreOwned}
 
 -- no row owns the place
 abbrev pub IsFree : List (Option Entry) → ℕ → Type 0
@@ -31,16 +25,6 @@ pub record IsPlaced (row : ℕ) (places : Places) : Type 0 where
       → IsOwned places.owned.items place ↔ IsSome (slice_index_or places.list.items place None)
   pub words : 64 * length places.owned.items ≤ length places.list.items + 64
   pub full : AreOwned places.owned.items (64 * places.full)
-
--- lists of columns by the order of maps
-abbrev pub columns_cmp : Vec ℕ Global → Vec ℕ Global → Ordering
-columns_cmp a b = slice_cmp nat_cmp a.items b.items
-
--- where the search for a row of the same columns may begin: at each displacement below, some of them meets an owned place
-abbrev pub AreStarts : BTreeMap (Vec ℕ Global) ℕ → List ℕ → Type 0
-AreStarts starts words =
-    (columns : Vec ℕ Global) (d k : ℕ)
-    → get columns_cmp starts columns ≡ Some d → k < d → ¬ (MeetsNone words columns.items k)
 
 -- the number that the row has in a place: the empty one where it doesn't own it
 abbrev pub number_of : ℕ → ℕ → Option Entry → ℕ

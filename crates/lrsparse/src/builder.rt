@@ -6,14 +6,14 @@ ghost use Rattle.lrsparse.specs.Entries.{row_with, AreEntries};
 
 use crate::sparsevec::SparseVec;
 use crate::sparsevec::places::{Places, place_row};
+use crate::sparsevec::starts::Starts;
 use std::alloc::{AllocError, Global};
-use std::collections::BTreeMap;
 
 /// The rows of a matrix so far, each of which is placed when it comes: no list has all of their cells.
 #[derive(Drop)]
 pub struct MatrixBuilder {
     places: Places,
-    starts: BTreeMap<Vec<usize>, usize>,
+    starts: Starts,
     displacements: Vec<usize>,
     empty: usize,
     cols: usize,
@@ -28,7 +28,7 @@ impl MatrixBuilder {
     {
         MatrixBuilder {
             places: Places::new(alloc),
-            starts: BTreeMap::new(alloc),
+            starts: Starts::new(alloc),
             displacements: Vec::new(alloc),
             empty,
             cols,

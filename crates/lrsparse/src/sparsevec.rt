@@ -5,6 +5,7 @@ ghost use Rattle.lrsparse.specs.Matrix.{value_at, HasRows};
 
 mod owned;
 pub(crate) mod places;
+pub(crate) mod starts;
 #[cfg(test)]
 mod tests;
 

@@ -8,7 +8,7 @@ ghost use Rattle.lrsparse.specs.Owned.{IsOwned, AreOwned, MeetsNone};
 pub(crate) const WORD: usize = 64;
 
 /// The word, whose places nobody owns past the last one.
-fn word_at(words: &[u64], index: usize) -> u64
+pub(crate) fn word_at(words: &[u64], index: usize) -> u64
     ensures { result ≡ slice_index words.now index }
 {
     words.get(index).copied().unwrap_or(0)

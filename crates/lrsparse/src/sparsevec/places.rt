@@ -5,11 +5,12 @@ ghost use Rattle.std.specs.List.{All};
 ghost use Rattle.std.specs.List.Sorted.{IsStrictlyIncreasing};
 ghost use Rattle.lrsparse.specs.Owned.{IsOwned, AreOwned, MeetsNone};
 ghost use Rattle.lrsparse.specs.Entries.{columns_in, row_with, AreEntries};
-ghost use Rattle.lrsparse.specs.Places.{AreStarts, FitsIn, IsPlaced, number_at, row_of};
+ghost use Rattle.lrsparse.specs.Places.{FitsIn, IsPlaced, number_at, row_of};
+ghost use Rattle.lrsparse.specs.Starts.{AreStarts};
 
 use crate::sparsevec::owned::{WORD, full_words, least_displacement, own_columns};
+use crate::sparsevec::starts::{Starts, set_of};
 use std::alloc::{AllocError, Global};
-use std::collections::BTreeMap;
 
 /// An entry of a matrix: its number, and the row in which it stands, which owns its place.
 #[derive(Clone, Copy)]
@@ -142,11 +143,10 @@ impl Places {
 }
 
 /// Places the row of these entries, which then stand in the list, at the least displacement at which none of them meets an
-/// owned place, and answers that. By their columns the starts say where the last row of these columns stands: none is below
-/// that. The error says that memory was refused.
+/// owned place, and answers that. The search for it begins where the starts say. The error says that memory was refused.
 pub(crate) fn place_row(
     places: &mut Places,
-    starts: &mut BTreeMap<Vec<usize>, usize>,
+    starts: &mut Starts,
     row: usize,
     entries: &[(usize, usize)],
 ) -> Result<usize, AllocError>
@@ -165,9 +165,11 @@ pub(crate) fn place_row(
     ensures within { IfOk result (λ d. d ≤ length places.old.list.items) }
 {
     let columns = columns_of(*places.list.allocator(), entries)?;
-    let known = starts.get(&columns).copied().unwrap_or(0);
-    let start = known.max(places.behind_full(columns.as_slice()));
+    let set = set_of(*places.list.allocator(), columns.as_slice())?;
+    let start = starts
+        .before(&set)
+        .max(places.behind_full(columns.as_slice()));
     let displacement = places.place_from(start, row, entries, columns.as_slice())?;
-    starts.insert(columns, displacement)?;
+    starts.note(set, displacement)?;
     Ok(displacement)
 }

@@ -1,0 +1,20 @@
+-- where the search for a row of some columns may begin; sets of columns are the bits of words
+use Rattle.std.specs.Prelude.{ℕ, ◌+◌, ◌<◌, List}
+use Rattle.std.specs.List.{All}
+use Rattle.lrsparse.specs.declared.sparsevec.starts.Starts.{Starts}
+use Rattle.lrsparse.specs.Owned.{IsOwned}
+
+-- at the displacement none of these columns meets an owned place
+abbrev pub SetMeetsNone : List ℕ → List ℕ → ℕ → Type 0
+SetMeetsNone words columns displacement =
+    (c : ℕ) → IsOwned columns c → ¬ (IsOwned words (displacement + c))
+
+-- at each displacement below this one some of these columns meets an owned place
+abbrev pub FitNowhereBelow : List ℕ → List ℕ → ℕ → Type 0
+FitNowhereBelow words columns displacement =
+    (k : ℕ) → k < displacement → ¬ (SetMeetsNone words columns k)
+
+-- the columns of each start fit nowhere below its displacement
+abbrev pub AreStarts : Starts → List ℕ → Type 0
+AreStarts starts words =
+    All (λ s. FitNowhereBelow words s.columns.items s.displacement) starts.all.items
