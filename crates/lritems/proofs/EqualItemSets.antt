@@ -22,13 +22,13 @@ module _
     {T : Type 0} (number : T → ℕ) (cmp : T → T → Ordering) (ordered : (x y : T) → cmp x y ≡ nat_cmp (number x) (number y))
     (inj : (x y : T) → number x ≡ number y → x ≡ y) (total : IsTotalOrder cmp)
   where
-    key_total : IsTotalOrder (key_cmp cmp)
+    pub key_total : IsTotalOrder (key_cmp cmp)
     key_total = then_total (on_total (λ k. k.0.0) total) (on_total (λ k. k.1.0) total)
 
     part : (x y : T) → cmp x y ≡ Equal → x ≡ y
     part x y e = inj x y (exact_unsigned (number x) (number y) (sym (ordered x y) ∙ e))
 
-    key_exact : CmpEqualImpliesEq (key_cmp cmp)
+    pub key_exact : CmpEqualImpliesEq (key_cmp cmp)
     key_exact =
         let p : T → PIdx T = λ x. record { 0 = x } in
         let s : T → SIdx T = λ x. record { 0 = x } in

@@ -1,16 +1,14 @@
 -- the items of a goto that isn't made
-use Rattle.std.proofs.Common.{Ordering, ◌≡◌, ℕ, zero, suc, ◌+◌, ◌<◌, ◌≤◌, Bool, true, false, not, ◌&&◌, List, [], ◌∷◌, ◌++◌, Some, map, drop, length, get_or, refl, sym, ap, ◌∙◌, append_assoc, append-nil, add-one, drop-cons, arith, inl, inr}
+use Rattle.std.proofs.Common.{◌≡◌, ℕ, zero, suc, ◌+◌, ◌<◌, ◌≤◌, Bool, true, false, not, ◌&&◌, List, [], ◌∷◌, ◌++◌, Some, map, drop, length, get_or, refl, sym, ap, ◌∙◌, append_assoc, append-nil, add-one, drop-cons, arith, inl, inr}
 use Rattle.std.specs.Prelude.{IsTrue, ◌↔◌}
-use Rattle.std.specs.BTreeMap.{insert_entry}
-use Rattle.std.specs.Ordering.{nat_cmp}
 use Rattle.std.proofs.lemmas.Bool.{and_from, and_parts}
 use Rattle.std.proofs.lemmas.List.{length-map, map-append, drop_all}
 use Rattle.lrspec.specs.grammars.ItemSets.{Items, item_at, AreUpwards}
 use Rattle.lrspec.proofs.grammars.ListMembers.{Among}
 use Rattle.lritems.specs.ItemsOf.{items_of, Agree}
-use Rattle.lritems.proofs.ItemsAscending.{ascending_from_upwards, before_middle, inserted_last, same_from_agree}
+use Rattle.lritems.proofs.ItemsAscending.{ascending_from_upwards, same_from_agree}
 use Rattle.lrclosing.proofs.AscendingItems.{item_from_among}
-use Rattle.lrclosing.proofs.ItemKeys.{Key, key_cmp}
+use Rattle.lrclosing.proofs.ItemKeys.{Key}
 
 -- items whose lookaheads are shown by `shows`
 abbrev pub items_shown : {T R : Type 0} → (T → ℕ) → (R → List Bool) → List (Key T × R) → Items
@@ -61,16 +59,6 @@ same_turn P c d e f s h = (λ p. let j : f ∷ c ≡ e ∷ d = h.0 p in cc, λ t
 -- a walk in step is at others
 pub other_turn : {X : Type 0} (a b c d : List X) (e f : X) → (e ≡ f → ⊥) → ((a ≡ b) ↔ (f ∷ c ≡ e ∷ d)) → a ≡ b → ⊥
 other_turn a b c d e f n h i = let j : f ∷ c ≡ e ∷ d = h.0 i in n cc
-
--- the next item, put into a map of those before it
-pub put_next :
-    {T : Type 0} (number : T → ℕ) (cmp : T → T → Ordering) (ordered : (x y : T) → cmp x y ≡ nat_cmp (number x) (number y)) (es : List (Key T × List Bool)) (k : Key T) (v : List Bool)
-    (left all : Items) → AreUpwards all → items_of number es ++ ((number k.0.0, number k.1.0), v) ∷ left ≡ all
-    → items_of number (insert_entry (key_cmp cmp) es k v) ++ left ≡ all
-put_next number cmp ordered es k v left all u h =
-    let item : (ℕ × ℕ) × List Bool = ((number k.0.0, number k.1.0), v) in
-    let before = before_middle (items_of number es) left item (rw h (ascending_from_upwards all u)) in
-    rw (inserted_last number cmp ordered es k v before, append_assoc) h
 
 -- the next item, pushed behind those before it
 pub push_next :
@@ -128,14 +116,3 @@ module _ {T R : Type 0} (number : T → ℕ) (shows : R → List Bool) where
       → items_of number fs ++ items_shown number shows (drop (i + 1) all) ≡ whole
   push_turn es fs all i e v whole l s b p h =
       push_next number es fs e.0 v (items_shown number shows (drop (i + 1) all)) whole p (rw b (rw (left_shown all i e l s) at h))
-
-  -- the item at hand, put into a map of those before it
-  module _ (cmp : T → T → Ordering) (ordered : (x y : T) → cmp x y ≡ nat_cmp (number x) (number y)) where
-    pub put_turn :
-        (es : List (Key T × List Bool)) (all : List (Key T × R)) (i : ℕ) (e : Key T × R) (v : List Bool) → AreUpwards (items_shown number shows all) → i < length all
-        → e ≡ get_or all i e → v ≡ shows e.1 → items_of number es ++ items_shown number shows (drop i all) ≡ items_shown number shows all
-        → items_of number (insert_entry (key_cmp cmp) es e.0 v) ++ items_shown number shows (drop (i + 1) all) ≡ items_shown number shows all
-    put_turn es all i e v u l s b h =
-        rw b
-        (put_next number cmp ordered es e.0 (shows e.1) (items_shown number shows (drop (i + 1) all)) (items_shown number shows all) u
-        (rw (left_shown all i e l s) at h))

@@ -1,15 +1,12 @@
 -- items that come upwards, one behind another
-use Rattle.std.proofs.Common.{Ordering, ◌≡◌, ℕ, zero, suc, ◌<◌, Bool, true, false, cond, ◌&&◌, List, [], ◌∷◌, ◌++◌, None, Some, length, get_or, refl, sym, ap, ◌∙◌, arith, inl, inr}
+use Rattle.std.proofs.Common.{◌≡◌, ℕ, zero, suc, ◌<◌, Bool, true, false, cond, ◌&&◌, List, [], ◌∷◌, ◌++◌, None, Some, length, get_or, refl, sym, ap, ◌∙◌, arith, inl, inr}
 use Rattle.std.specs.Prelude.{◌==◌}
-use Rattle.std.specs.BTreeMap.{insert_entry}
-use Rattle.std.specs.declared.cmp.Ordering.TheVariants.{Greater}
-use Rattle.std.specs.Ordering.{nat_cmp, ordering_then}
 use Rattle.std.proofs.lemmas.Bool.Decides.{nat_tests}
 use Rattle.std.proofs.lemmas.List.Quantifiers.{all_pairs_push}
 use Rattle.lrspec.specs.grammars.ItemSets.{Items, item_at, HasItem, Precedes, AreUpwards}
 use Rattle.lrspec.specs.merging.WeakCompatibility.{Apart}
-use Rattle.lritems.specs.ItemsOf.{items_of, Agree}
-use Rattle.lrclosing.proofs.ItemKeys.{Key, key_cmp, apart_test}
+use Rattle.lritems.specs.ItemsOf.{Agree}
+use Rattle.lrclosing.proofs.ItemKeys.{apart_test}
 use Rattle.lrclosing.proofs.AscendingItems.{test_itself}
 pub use Rattle.lrclosing.proofs.AscendingItems.{AllBehind, AreAscending, ascending_from_upwards, apart_before, first_here}
 use Rattle.lrclosing.proofs.WalksOverItems.{first_or_rest}
@@ -50,15 +47,6 @@ pushed_here (e ∷ es) p d v b = rw (apart_test p d e.0.0 e.0.1 (apart_before e.
 pub pushed_others : (a : Items) (p d : ℕ) (v : List Bool) (i j : ℕ) → Apart p d i j → item_at (a ++ ((p, d), v) ∷ []) i j ≡ item_at a i j
 pushed_others [] p d v i j f = rw (apart_test i j p d (λ s t. f (sym s) (sym t))) refl
 pushed_others (e ∷ es) p d v i j f = ap (λ o. cond ((i == e.0.0) && (j == e.0.1)) (Some e.1) o) (pushed_others es p d v i j f)
-
--- an item in the midst of items that come upwards is behind those before it
-pub before_middle : (a b : Items) (x : (ℕ × ℕ) × List Bool) → AreAscending (a ++ x ∷ b) → AllBefore a x.0
-before_middle [] b x h = tt
-before_middle (e ∷ es) b x h = (middle es h.0, before_middle es b x h.1)
-  where
-    middle : (c : Items) → AllBehind e.0 (c ++ x ∷ b) → Precedes e.0 x.0
-    middle [] i = i.0
-    middle (f ∷ c) i = middle c i.1
 
 -- what comes behind an item is not it
 absent_behind : (a : Items) (k : ℕ × ℕ) → AllBehind k a → item_at a k.0 k.1 ≡ None
@@ -120,18 +108,3 @@ same_from_agree (e ∷ es) (f ∷ fs) h k g =
             let q : e.0.0 ≡ p = grind (arith, nat_tests) in
             let r : e.0.1 ≡ d = grind (arith, nat_tests) in
             rw (← q, ← r) (absent_behind es e.0 h.0 ∙ sym none)
-
--- a key behind all others is put at the end of a map
-module _ {T : Type 0} (number : T → ℕ) (cmp : T → T → Ordering) (ordered : (x y : T) → cmp x y ≡ nat_cmp (number x) (number y)) where
-  greater : (j k : ℕ × ℕ) → Precedes j k → ordering_then (nat_cmp k.0 j.0) (nat_cmp k.1 j.1) ≡ Greater
-  greater j k (inl h) = grind (arith, nat_tests)
-  greater j k (inr h) = grind (arith, nat_tests)
-
-  key_greater : (j k : Key T) → Precedes (number j.0.0, number j.1.0) (number k.0.0, number k.1.0) → key_cmp cmp k j ≡ Greater
-  key_greater j k h = rw (ordered k.0.0 j.0.0, ordered k.1.0 j.1.0) (greater (number j.0.0, number j.1.0) (number k.0.0, number k.1.0) h)
-
-  pub inserted_last :
-      (es : List (Key T × List Bool)) (k : Key T) (v : List Bool) → AllBefore (items_of number es) (number k.0.0, number k.1.0)
-      → items_of number (insert_entry (key_cmp cmp) es k v) ≡ items_of number es ++ ((number k.0.0, number k.1.0), v) ∷ []
-  inserted_last [] k v b = refl
-  inserted_last (e ∷ es) k v b = rw (key_greater e.0 k b.0) (ap (λ a. ((number e.0.0.0, number e.0.1.0), e.1) ∷ a) (inserted_last es k v b.1))

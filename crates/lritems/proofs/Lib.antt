@@ -1,6 +1,7 @@
 -- item sets, and their lookaheads
 pub mod ChangedItems
 pub mod EqualItemSets
+pub mod ListedMaps
 -- gotos
 pub mod GotoUnderway
 pub mod SymbolTests

@@ -72,11 +72,9 @@ impl<T: IndexStorage> Core<T> {
     pub fn into_itemset(self, alloc: Global) -> Result<Itemset<T>, AllocError>
         ensures { IfOk result (λ s. set_of T.number s ≡ self) }
     {
-        let mut items = BTreeMap::new(alloc);
-        for (key, ctx) in self.items {
-            items.insert(key, ctx)?;
-        }
-        Ok(Itemset { items })
+        Ok(Itemset {
+            items: BTreeMap::from_iter(alloc, self.items)?,
+        })
     }
 
     /// The items.

@@ -193,7 +193,8 @@ pub fn gotos<'a, T: IndexStorage>(
     Ok(gotos)
 }
 
-/// The items as an item set. The error says that memory was refused.
+/// The items as an item set, which is made at once: its nodes are full, where inserting one item behind the other leaves them
+/// half empty. The error says that memory was refused.
 pub fn to_itemset<T: IndexStorage>(
     alloc: Global,
     items: &[((PIdx<T>, SIdx<T>), &Ctx)],
@@ -201,10 +202,11 @@ pub fn to_itemset<T: IndexStorage>(
     requires { AreUpwards (listed_of T.number items.now) }
     ensures { IfOk result (λ s. set_of T.number s ≡ listed_of T.number items.now) }
 {
-    let mut made = BTreeMap::new(alloc);
+    let mut pairs = Vec::with_capacity(alloc, items.len())?;
     for (key, ctx) in items {
-        let copy = Ctx::clone(ctx)?;
-        made.insert(*key, copy)?;
+        pairs.push((*key, Ctx::clone(ctx)?))?;
     }
-    Ok(Itemset { items: made })
+    Ok(Itemset {
+        items: BTreeMap::from_iter(alloc, pairs)?,
+    })
 }

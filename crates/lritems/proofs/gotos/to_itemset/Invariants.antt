@@ -6,4 +6,4 @@ use Rattle.lritems.proofs.gotos.to_itemset.Given as goal
 abbrev pub invariant-loop-key : goal.invariant-loop-key
 invariant-loop-key g l =
     let number = g.T.IndexStorage.number in
-    items_of number l.made.entries ++ items_shown number (λ r. r.now) (drop l.key-index l.items) ≡ listed_of number l.items
+    items_of number l.pairs.items ++ items_shown number (λ r. r.now) (drop l.key-index l.items) ≡ listed_of number l.items
