@@ -7,7 +7,7 @@ use Rattle.lrplacing.specs.Construction.{Draft, edge_from}
 use Rattle.lrplacing.specs.Counts.{unclosed, weight}
 use Rattle.lrplacing.specs.Invariant.{Holds, HasGotos}
 use Rattle.lrpager.specs.Closing.{start_states, StartsWith}
-use Rattle.lrplacing.specs.CandidatesOf.{StatesByFingerprint, listed_at, AreCandidates}
+use Rattle.lrplacing.specs.CandidatesOf.{CandidateLists, listed_at, AreCandidates}
 use Rattle.lritems.specs.Fingerprints.{fingerprint_of}
 use Rattle.lrpager.proofs.ClosedStates.{start_holds, start_gotos}
 use Rattle.lrplacing.proofs.CountFacts.{start_counts}
@@ -39,7 +39,7 @@ draft_alone ss new d core none is a b e =
 
 -- the start state is listed at its fingerprint
 pub start_candidates :
-    (core : Items) (ds : StatesByFingerprint) → AreUpwards core → listed_at ds (fingerprint_of core) ≡ 0 ∷ []
+    (core : Items) (ds : CandidateLists) → AreUpwards core → listed_at ds (fingerprint_of core) ≡ 0 ∷ []
     → ((n : ℕ) → n ≢ fingerprint_of core → listed_at ds n ≡ []) → AreCandidates (start_states core) ds
 start_candidates core ds up here there =
     candidates_made [] (start_states core) [] ds core refl (λ j b. absurd (omega arith)) refl up here there

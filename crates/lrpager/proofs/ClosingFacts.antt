@@ -7,7 +7,7 @@ use Rattle.lrspec.specs.merging.Graph.{edge_at}
 use Rattle.lrplacing.specs.Construction.{Draft, core_at, closed_at, edge_from, with_closed, Stays, PlacesAll}
 use Rattle.lrplacing.specs.Counts.{unclosed, weight}
 use Rattle.lrplacing.specs.Invariant.{Holds, HasGotos, AllMayBePlaced}
-use Rattle.lrplacing.specs.CandidatesOf.{StatesByFingerprint, AreCandidates}
+use Rattle.lrplacing.specs.CandidatesOf.{CandidateLists, AreCandidates}
 use Rattle.lritems.specs.Gotos.{AreGotosOf}
 use Rattle.lrpager.specs.Closing.{Closes, ClosesTo}
 use Rattle.lrplacing.proofs.DraftLists.{core_found, stays_put, edge_put}
@@ -46,7 +46,7 @@ is_cleared old i s t l at core closed none = record {
 }
 
 -- candidates are those that they were where a state's edges are dropped
-pub candidates_cleared : {old new : List Draft} {i : ℕ} {cs : StatesByFingerprint} → IsCleared old i new → AreCandidates old cs → AreCandidates new cs
+pub candidates_cleared : {old new : List Draft} {i : ℕ} {cs : CandidateLists} → IsCleared old i new → AreCandidates old cs → AreCandidates new cs
 candidates_cleared c h = candidates_kept c.length_is (λ j b. same_cores (c.stays j).core) h
 
 -- a state that has no edges any more and is noted as closed
@@ -74,7 +74,7 @@ closes_to {g} {old} {new} {i} {core} {c} l was same cleared closure fits gotos =
 }
 
 -- candidates are those that they were where a state is noted as closed
-pub candidates_with : (ss : List Draft) (i : ℕ) {cs : StatesByFingerprint} → AreCandidates ss cs → AreCandidates (with_closed ss i) cs
+pub candidates_with : (ss : List Draft) (i : ℕ) {cs : CandidateLists} → AreCandidates ss cs → AreCandidates (with_closed ss i) cs
 candidates_with ss i h = candidates_kept (length_with ss i) (λ j b. same_cores (core_with ss i j)) h
 
 module _

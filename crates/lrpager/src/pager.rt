@@ -167,7 +167,7 @@ fn begin<T: IndexStorage>(grm: &YaccGrammar<T>) -> Result<(Vec<Draft<T>>, Candid
 {
     let alloc = grm.allocator();
     let core = Core::of_start(grm)?;
-    let mut candidates = Candidates::new(alloc);
+    let mut candidates = Candidates::new(alloc)?;
     candidates.add(core_fingerprint(&core), 0)?;
     let mut drafts = Vec::new(alloc);
     drafts.push(Draft::new(alloc, core))?;

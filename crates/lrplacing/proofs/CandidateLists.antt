@@ -10,17 +10,17 @@ use Rattle.std.proofs.lemmas.Bool.{cases_lt, cases_eq}
 use Rattle.lrspec.specs.grammars.ItemSets.{Items, AreUpwards}
 use Rattle.lrspec.specs.merging.WeakCompatibility.{SameItems, Clash, IsUnion}
 use Rattle.lrplacing.specs.Construction.{Draft, draft_core, core_at}
-use Rattle.lrplacing.specs.CandidatesOf.{StatesByFingerprint, listed_at, AreCandidates}
+use Rattle.lrplacing.specs.CandidatesOf.{CandidateLists, listed_at, AreCandidates}
 use Rattle.lritems.specs.Fingerprints.{fingerprint_of}
 use Rattle.lritems.proofs.SameFingerprints.{same_fingerprint}
 
 -- all that are listed are states
-pub all_below : {ss : List Draft} {cs : StatesByFingerprint} (ks : List ℕ) (n : ℕ) → AreCandidates ss cs → ks ≡ listed_at cs n → All (λ k. k < length ss) ks
+pub all_below : {ss : List Draft} {cs : CandidateLists} (ks : List ℕ) (n : ℕ) → AreCandidates ss cs → ks ≡ listed_at cs n → All (λ k. k < length ss) ks
 all_below {ss} {cs} ks n c e = rw e (λ k x l. c.below n _ (All-contains_itself (listed_at cs n) k x l))
 
 -- where what is listed at a goto's fingerprint clashes with it, every state with its items does
 pub all_clash :
-    {ss : List Draft} {cs : StatesByFingerprint} {goto : Items} (ks : List ℕ) → AreCandidates ss cs → AreUpwards goto → ks ≡ listed_at cs (fingerprint_of goto)
+    {ss : List Draft} {cs : CandidateLists} {goto : Items} (ks : List ℕ) → AreCandidates ss cs → AreUpwards goto → ks ≡ listed_at cs (fingerprint_of goto)
     → All (λ k. SameItems (core_at ss k) goto → Clash (core_at ss k) goto) ks
     → (j : ℕ) → j < length ss → SameItems (core_at ss j) goto → Clash (core_at ss j) goto
 all_clash {ss} {cs} {goto} ks c u e all j l s =
@@ -51,7 +51,7 @@ same_then a b c s t p d = (λ h. (t p d).0 ((s p d).0 h), λ h. (s p d).1 ((t p 
 
 -- states that keep their items keep their places in the lists
 pub candidates_kept :
-    {old new : List Draft} {cs : StatesByFingerprint} → length new ≡ length old → ((j : ℕ) → j < length old → SameItems (core_at old j) (core_at new j))
+    {old new : List Draft} {cs : CandidateLists} → length new ≡ length old → ((j : ℕ) → j < length old → SameItems (core_at old j) (core_at new j))
     → AreCandidates old cs → AreCandidates new cs
 candidates_kept {old} {new} l s c = record {
   below = λ n k h. rw l (c.below n k h);
@@ -77,7 +77,7 @@ the_one n = (0, omega arith, refl)
 
 -- a state that was made is added at its fingerprint
 module _
-    (old new : List Draft) (cs ds : StatesByFingerprint) (goto : Items) (longer : length new ≡ length old + 1)
+    (old new : List Draft) (cs ds : CandidateLists) (goto : Items) (longer : length new ≡ length old + 1)
     (others : (j : ℕ) → j < length old → core_at new j ≡ core_at old j) (core : core_at new (length old) ≡ goto) (up : AreUpwards goto)
     (here : listed_at ds (fingerprint_of goto) ≡ listed_at cs (fingerprint_of goto) ++ length old ∷ [])
     (there : (n : ℕ) → n ≢ fingerprint_of goto → listed_at ds n ≡ listed_at cs n) (c : AreCandidates old cs)

@@ -1,5 +1,5 @@
 -- lists of states by the fingerprints of their cores, as plain data
-use Rattle.std.specs.Prelude.{ℕ, ◌<◌, ◌==◌, List, [], ◌∷◌, map, length, if◌then◌else◌}
+use Rattle.std.specs.Prelude.{ℕ, ◌<◌, ◌==◌, List, [], ◌∷◌, map, length, if◌then◌else◌, ◌%◌, slice_index_or}
 use Rattle.std.specs.List.{Contains}
 use Rattle.std.specs.List.Sorted.{IsStrictlyIncreasing}
 use Rattle.std.specs.declared.vec.Vec.{Vec}
@@ -18,13 +18,21 @@ abbrev pub states_by_fingerprint : List (ℕ × Vec ℕ Global) → StatesByFing
 states_by_fingerprint es = map (λ e. (e.0, e.1.items)) es
 
 -- the states listed at a fingerprint
-abbrev pub listed_at : StatesByFingerprint → ℕ → List ℕ
-listed_at [] n = []
-listed_at (e ∷ cs) n = if n == e.0 then e.1 else listed_at cs n
+abbrev pub listed_in : StatesByFingerprint → ℕ → List ℕ
+listed_in [] n = []
+listed_in (e ∷ cs) n = if n == e.0 then e.1 else listed_in cs n
+
+-- such lists, in as many parts as fingerprints have remainders
+abbrev pub CandidateLists : Type 0
+CandidateLists = List StatesByFingerprint
+
+-- the states listed at a fingerprint, in the part of its remainder
+abbrev pub listed_at : CandidateLists → ℕ → List ℕ
+listed_at parts n = listed_in (slice_index_or parts (n % 1024) []) n
 
 -- the lists have each state, at the fingerprint of what has its core's items, and nothing but
 -- states, in order of making
-pub record AreCandidates (ss : List Draft) (cs : StatesByFingerprint) : Type 0 where
+pub record AreCandidates (ss : List Draft) (cs : CandidateLists) : Type 0 where
   pub below : (n k : ℕ) → Contains (listed_at cs n) k → k < length ss
   pub listed :
       (k : ℕ) (a : Items) → k < length ss → AreUpwards a → SameItems (core_at ss k) a

@@ -12,7 +12,7 @@ use std::collections::BTreeMap;
 
 /// How many rows are looked at for the next one, those that came last: states that were made one after another are alike, and
 /// more rows would take more time than they save.
-const LAST: usize = 128;
+const LAST: usize = 64;
 
 /// A set of columns, as the bits of words, and the displacement that the last row of these columns has: below it none fits.
 #[derive(Drop)]

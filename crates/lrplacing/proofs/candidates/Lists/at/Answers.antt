@@ -1,6 +1,6 @@
 use Rattle.std.proofs.Common.{◌∙◌}
 use Rattle.lrplacing.proofs.CandidateFacts.{list_here}
-use Rattle.lrplacing.proofs.candidates.Candidates.at.Goals as goal
+use Rattle.lrplacing.proofs.candidates.Lists.at.Goals as goal
 
 pub returns-in-Some : goal.returns-in-Some
 returns-in-Some c =

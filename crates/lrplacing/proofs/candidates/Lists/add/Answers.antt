@@ -1,6 +1,6 @@
 use Rattle.std.proofs.Common.{sym, ap, ◌∙◌, ◌++◌, ◌∷◌, [], Some, refl}
 use Rattle.lrplacing.proofs.CandidateFacts.{list_here, lists_there}
-use Rattle.lrplacing.proofs.candidates.Candidates.add.Goals as goal
+use Rattle.lrplacing.proofs.candidates.Lists.add.Goals as goal
 
 pub returns-in_ok-push-in-Some-clause-here : goal.returns-in_ok-push-in-Some-clause-here
 returns-in_ok-push-in-Some-clause-here c =
