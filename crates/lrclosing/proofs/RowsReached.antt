@@ -5,14 +5,14 @@ use Rattle.std.specs.Option.{IsSome}
 use Rattle.std.proofs.lemmas.Bool.{cases_eq}
 use Rattle.std.proofs.lemmas.List.{length-map}
 use Rattle.std.proofs.lemmas.Option.{same_Some}
-use Rattle.lrspec.specs.grammars.Grammar.{Grammar}
 use Rattle.lrspec.proofs.grammars.ListMembers.{Among}
 use Rattle.lrbits.specs.Bits.{bit}
+use Rattle.lrclosing.specs.declared.closer.Lead.{Lead}
 use Rattle.lrclosing.specs.declared.closer.Row.{Row}
 use Rattle.lrclosing.specs.Rows.{row_at}
-use Rattle.lrclosing.specs.Leads.{rows_in, reached_of, IsPut}
+use Rattle.lrclosing.specs.Leads.{rows_in, reached_of, led_row, IsLed}
 use Rattle.lrclosing.proofs.MarkedProductions.{below_of_bit}
-use Rattle.lrclosing.proofs.RowsWritten.{written_here, written_there}
+use Rattle.lrclosing.proofs.RowsWritten.{row_here, written_here, written_there}
 use Rattle.lrclosing.proofs.VisitedItems.{clear_bits}
 use Rattle.lrclosing.proofs.VisitedLeads.{IsSetIf}
 
@@ -64,10 +64,11 @@ set_again (x ∷ rs) zero v e = ap (λ c. c ∷ reached_of rs) (was_reached x.ct
 set_again (x ∷ rs) (suc b) v e = ap (λ l. x.is_reached ∷ l) (set_again rs b v e)
 
 -- what a lead writes sets the bit if that changed the row
-pub reached_put : (g : Grammar) (q a b : ℕ) (c : Bool) (old new : List Row) → IsPut g q a b c old new → IsSetIf c b (reached_of old) (reached_of new)
-reached_put g q a b true old new p = ap reached_of p.written ∙ reached_set old b (record { ctx = p.row; is_reached = true }) refl
-reached_put g q a b false old new p =
-    ap reached_of p.written ∙ reached_set old b (record { ctx = p.row; is_reached = true }) refl ∙ set_again old b p.row p.grown
+pub reached_led : (l : Lead) (a : ℕ) (c : Bool) (old new : List Row) → IsLed l a c old new → IsSetIf c l.rule (reached_of old) (reached_of new)
+reached_led l a true old new p = ap reached_of p.written ∙ reached_set old l.rule (led_row l p.row p.own) refl
+reached_led l a false old new p =
+    ap reached_of p.written ∙ reached_set old l.rule (led_row l p.row p.own) refl
+    ∙ set_again old l.rule (led_row l p.row p.own).ctx (row_here old l.rule p.row p.row_is ∙ p.grown)
 
 -- ---- rows that are cleared
 

@@ -52,7 +52,7 @@ written_there (z ∷ xs) zero (suc a) x n = refl
 written_there (z ∷ xs) (suc b) zero x n = refl
 written_there (z ∷ xs) (suc b) (suc a) x n = written_there xs b a x (λ e. n (ap suc e))
 
-written_cases : {X : Type 0} (xs : List X) (b a : ℕ) (x y : X) → slice_get (set xs b x) a ≡ Some y → (x ≡ y) ⊎ (slice_get xs a ≡ Some y)
+pub written_cases : {X : Type 0} (xs : List X) (b a : ℕ) (x y : X) → slice_get (set xs b x) a ≡ Some y → (x ≡ y) ⊎ (slice_get xs a ≡ Some y)
 written_cases [] b a x y e = cc
 written_cases (z ∷ xs) zero zero x y e = inl (same_Some x y e)
 written_cases (z ∷ xs) zero (suc a) x y e = inr e

@@ -10,10 +10,11 @@ use Rattle.lrclosing.specs.declared.closer.Row.{Row}
 use Rattle.lrclosing.specs.declared.closer.Lead.{Lead}
 use Rattle.lrclosing.specs.Rows.{row_at, ArePassedOn, HasGrown}
 use Rattle.lrclosing.specs.Visits.{IsRuleToDo, IsVisited, IsUnderway, visits_left}
-use Rattle.lrclosing.specs.Leads.{row_in, rows_in, IsLeadOf, AreLeadsOf, AreKeptRows, IsPut}
+use Rattle.lrclosing.specs.Leads.{row_in, rows_in, IsLeadOf, AreLeadsOf, AreKeptRows, IsLed}
 use Rattle.lrclosing.specs.Closer.{AreVisited}
 use Rattle.lrclosing.proofs.PassedOn.{set_keeps, set_here, set_from}
 use Rattle.lrclosing.proofs.VisitedItems.{behind_rule, visited, passed_nothing}
+use Rattle.lrclosing.proofs.PutLeads.{IsPut, put_by_lead}
 use Rattle.lrclosing.proofs.VisitsLeft.{left_by_row}
 use Rattle.lrclosing.proofs.ClosingUnderway.{next_productions, fewer_underway}
 use Rattle.lrclosing.proofs.RowsWritten.{row_here, rows_set, length_rows, kept_written, row_reached}
@@ -110,9 +111,9 @@ leads_start g a ls rows todo m k = record {
 pub leads_step :
     (g : Grammar) (a k q : ℕ) (ls : List Lead) (l : Lead) (c : Bool) (old rows new : List Row) (start todo after : List Bool)
     → AreVisited g a (λ p. IsRuleToDo g todo p ⊎ IsLeft g a ls k p) old rows start todo → length todo ≡ length g.rule_names → slice_get ls k ≡ Some l
-    → IsLeadOf g a q l → ((p : ℕ) → IsLeadOf g a p l → IsPut g p a l.rule c rows new) → IsSetIf c l.rule todo after
+    → IsLeadOf g a q l → IsLed l a c rows new → IsSetIf c l.rule todo after
     → AreVisited g a (λ p. IsRuleToDo g after p ⊎ IsLeft g a ls (k + 1) p) old new start after
-leads_step g a k q ls l c old rows new start todo after v e at h puts s = record {
+leads_step g a k q ls l c old rows new start todo after v e at h led s = record {
   rows = kept_written g rows new l.rule (record { ctx = put.row; is_reached = true }) v.rows (row_reached g put.row put.passed.len) put.written;
   len = set_len c l.rule todo after s ∙ v.len;
   underway = λ b u.
@@ -121,7 +122,7 @@ leads_step g a k q ls l c old rows new start todo after v e at h puts s = record
       next_productions g b (rows_in rows) (rows_in new) (λ p. IsRuleToDo g todo p ⊎ IsLeft g a ls k p) (λ p. IsRuleToDo g todo p ⊎ IsLeft g a ls (k + 1) p)
       (λ p. IsRuleToDo g after p ⊎ IsLeft g a ls (k + 1) p) (λ p. IsLeadOf g a p l) q a [] now h.is_production (now.put_in q a (inr here) h.is_production)
       (λ p i. i.is_production)
-      (λ p i. (visited_put g p a l c rows new todo after (IsLeft g a ls (k + 1)) i v.rows e (puts p i) s).passed)
+      (λ p i. (visited_put g p a l c rows new todo after (IsLeft g a ls (k + 1)) i v.rows e (put_by_lead g p a l c rows new i v.rows led) s).passed)
       (visited_put g q a l c rows new todo after (IsLeft g a ls (k + 1)) h v.rows e put s)
       (λ p i. elim i [ inl z ↦ inl z | inr z ↦ inr (more p z) ])
       (λ p i. elim i [ inl z ↦ inr (inl z) | inr z ↦ elim (split p z) [ inl n ↦ inl n | inr n ↦ inr (inr n) ] ]);
@@ -136,7 +137,7 @@ leads_step g a k q ls l c old rows new start todo after v e at h puts s = record
 }
   where
     put : IsPut g q a l.rule c rows new
-    put = puts q h
+    put = put_by_lead g q a l c rows new h v.rows led
 
     low : k ≤ k
     low = omega arith

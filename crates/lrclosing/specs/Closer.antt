@@ -1,13 +1,15 @@
 -- a closer as plain data
-use Rattle.std.specs.Prelude.{◌≡◌, ℕ, ◌≤◌, Bool, IsTrue, List, [], Some, length, slice_get, vec_capacity, ◌⊎◌}
-use Rattle.std.specs.List.{Contains}
+use Rattle.std.specs.Prelude.{◌≡◌, ℕ, ◌<◌, ◌≤◌, Bool, IsTrue, List, [], Some, length, slice_get, vec_capacity, ◌⊎◌}
+use Rattle.std.specs.List.{All, Contains}
 use Rattle.std.specs.declared.alloc.Global.{Global}
 use Rattle.std.specs.declared.vec.Vec.{Vec}
 use Rattle.lrspec.specs.grammars.Grammar.{Grammar, token_count, IsProductionOf}
 use Rattle.lrspec.specs.grammars.ItemSets.{Items}
 use Rattle.lrbits.specs.Bits.{bit}
 use Rattle.lrclosing.specs.Visits.{HasNone, IsRuleToDo, IsUnderway, set_count, visits_left}
-use Rattle.lrclosing.specs.Leads.{AreLeadsByRule, AreKeptRows, rows_in, reached_of}
+use Rattle.lrclosing.specs.Rows.{Rows}
+use Rattle.lrclosing.specs.Leads.{AreLeadsByRule, AreKeptRows, IsLeadFor, rows_in, reached_of}
+use Rattle.lrclosing.specs.declared.closer.Lead.{Lead}
 use Rattle.lrclosing.specs.declared.closer.Row.{Row}
 use Rattle.lrclosing.specs.declared.closer.Closer.{Closer}
 
@@ -29,6 +31,21 @@ NoneToDoFrom ks todo from = (k a : ℕ) → from ≤ k → slice_get ks k ≡ So
 -- the rule that is listed at the place is to be done
 abbrev pub IsPlaceToDo : List ℕ → List Bool → ℕ → Type 0
 IsPlaceToDo ks todo k = (a : ℕ) × (slice_get ks k ≡ Some a) × IsTrue (bit todo a)
+
+-- by rule, the rows of the last closing
+abbrev pub rows_of : Closer → Rows
+rows_of c = rows_in c.rows.items
+
+-- the closer has by rule leads for its rows, a row, and whether that is to be done; and it lists those that are reached,
+-- to which belong those that are to be done
+pub record IsWhole (c : Closer) : Type 0 where
+  pub leads_len : length c.leads.items ≡ length c.rows.items
+  pub todo_len : length c.todo ≡ length c.rows.items
+  pub leads :
+      (a : ℕ) (v : Vec Lead Global) → slice_get c.leads.items a ≡ Some v
+      → All (IsLeadFor c.rows.items) v.items
+  pub reached : AreReached (reached_of c.rows.items) c.reached
+  pub within : AreWithin c.todo (reached_of c.rows.items)
 
 -- the closer is one of the grammar
 pub record IsClosing (g : Grammar) (c : Closer) : Type 0 where
@@ -58,3 +75,13 @@ pub record AreVisited
   pub left :
       visits_left (token_count g) (rows_in new) after ≤ visits_left (token_count g)
       (rows_in old) todo
+
+-- the closer is still one of the grammar; the closure on whose way it was is still to come, by fewer visits
+pub record IsNearer (g : Grammar) (old new : Closer) : Type 0 where
+  pub is : IsClosing g new
+  pub underway :
+      (a : Items) → IsUnderway g a (rows_of old) (IsRuleToDo g old.todo) []
+      → IsUnderway g a (rows_of new) (IsRuleToDo g new.todo) []
+  pub left :
+      visits_left (token_count g) (rows_of new) new.todo
+      < visits_left (token_count g) (rows_of old) old.todo

@@ -7,7 +7,7 @@ use Rattle.lrspec.specs.grammars.Grammar.{Rule, Grammar, token_count, rest, IsPr
 use Rattle.lrspec.specs.grammars.First.{AllNullable, Begins}
 use Rattle.lrspec.specs.grammars.ItemSets.{IsBefore}
 use Rattle.lrbits.specs.Bits.{bit, union}
-use Rattle.lrclosing.specs.Rows.{Rows, row_at, ArePassedOn, HasGrown}
+use Rattle.lrclosing.specs.Rows.{Rows, HasGrown}
 use Rattle.lrclosing.specs.Visits.{HasNone}
 use Rattle.lrclosing.specs.declared.closer.Lead.{Lead}
 use Rattle.lrclosing.specs.declared.closer.Row.{Row}
@@ -68,9 +68,23 @@ pub record AreClearRows (g : Grammar) (rs : List Row) : Type 0 where
   pub are : AreKeptRows g rs
   pub clear : (a : ℕ) (r : Row) → slice_get rs a ≡ Some r → r.is_reached ≡ false
 
--- the row of the rule `b` is written, with what the production `q` of the rule `a` passes on to it
-pub record IsPut (g : Grammar) (q a b : ℕ) (changed : Bool) (old new : List Row) : Type 0 where
-  pub row : List Bool
-  pub passed : ArePassedOn g (rest g q 1) (row_at (rows_in old) a) (row_at (rows_in old) b) row
-  pub written : new ≡ slice_set old b (record { ctx = row; is_reached = true })
-  pub grown : HasGrown (token_count g) changed (row_at (rows_in old) b) row
+-- the rule of the lead has a row, and each row has as many bits as the lead
+pub record IsLeadFor (rs : List Row) (l : Lead) : Type 0 where
+  pub rule : l.rule < length rs
+  pub bits : (a : ℕ) (r : Row) → slice_get rs a ≡ Some r → length r.ctx ≡ length l.begins
+
+-- what the lead makes of the row `v` of its rule, where `w` is that of the rule that it is from
+abbrev pub led_row : Lead → Row → Row → Row
+led_row l v w = record {
+  ctx = if l.inherits then union (union v.ctx l.begins) w.ctx else union v.ctx l.begins;
+  is_reached = true;
+}
+
+-- the row of the lead's rule is written, with what the lead, which is from the rule `a`, makes of it
+pub record IsLed (l : Lead) (a : ℕ) (changed : Bool) (old new : List Row) : Type 0 where
+  pub row : Row
+  pub own : Row
+  pub row_is : slice_get old l.rule ≡ Some row
+  pub own_is : slice_get old a ≡ Some own
+  pub written : new ≡ slice_set old l.rule (led_row l row own)
+  pub grown : HasGrown (length l.begins) changed (row_in row) (led_row l row own).ctx

@@ -3,16 +3,15 @@
 ghost use Rattle.std.specs.Prelude.{◌≡◌, ◌≢◌, ℕ, ◌<◌, ◌≤◌, ◌↔◌, ◌∷◌, ◌++◌, IsTrue, false, true, if◌then◌else◌, length, IfOk, MatchOption, slice_get, slice_set, replicate, None, Some, [], vec_capacity};
 ghost use Rattle.std.specs.List.{All};
 ghost use Rattle.lrspec.specs.grammars.Grammar as math;
-ghost use Rattle.lrspec.specs.grammars.First.{AllNullable};
-ghost use Rattle.lrspec.specs.grammars.ItemSets.{Items as MathItems, IsBefore, Fits, FitsAt, AreUpwards};
+ghost use Rattle.lrspec.specs.grammars.ItemSets.{IsBefore, Fits, FitsAt, AreUpwards};
 ghost use Rattle.lrbits.specs.Bits.{bit, union};
 ghost use Rattle.lrgrammar.specs.Firsts.{AreFirstsOf};
 ghost use Rattle.lrclosing.specs.ItemsOf.{items_of};
 ghost use Rattle.lrclosing.specs.Rows.{ArePassedOn, AreClosingRows};
-ghost use Rattle.lrclosing.specs.Visits.{IsRuleToDo, IsVisited, IsUnderway, visits_left};
-ghost use Rattle.lrclosing.specs.Leads.{AreLeadsOf, IsLeadOf, AreLeadsByRule, row_in, rows_in, reached_of, joined_row, IsRow, AreKeptRows, AreClearRows, IsPut};
+ghost use Rattle.lrclosing.specs.Visits.{IsRuleToDo, IsVisited, IsUnderway};
+ghost use Rattle.lrclosing.specs.Leads.{AreLeadsOf, IsLeadOf, AreLeadsByRule, row_in, reached_of, joined_row, IsRow, AreKeptRows, AreClearRows, IsLeadFor, IsLed};
 ghost use Rattle.lrclosing.specs.declared.closer.Row.{Row};
-ghost use Rattle.lrclosing.specs.Closer.{AreReached, AreWithin, NoneToDoFrom, IsPlaceToDo, IsClosing, IsCloserOf, AreVisited};
+ghost use Rattle.lrclosing.specs.Closer.{AreReached, AreWithin, NoneToDoFrom, IsPlaceToDo, IsWhole, IsClosing, IsNearer, IsCloserOf, AreVisited, rows_of};
 
 use crate::items::{Ctx, rule_behind};
 use crate::passing::put_firsts;
@@ -219,11 +218,9 @@ fn put_ahead<T: IndexStorage>(
 /// Sets in the row of the rule of a lead what the lead passes on to it from that of another rule, and says whether that
 /// changed it.
 fn put_lead(rows: &mut [Row], lead: &Lead, from: usize) -> bool
-    requires shape { (g : math.Grammar) × (q : ℕ) × IsLeadOf g from q lead.now
-        × AreKeptRows g rows.old }
+    requires lead { IsLeadFor rows.old lead.now }
     requires from { from < length rows.old }
-    ensures { (g : math.Grammar) (q : ℕ) → IsLeadOf g from q lead.now → AreKeptRows g rows.old
-        → IsPut g q from lead.now.rule result rows.old rows.new }
+    ensures { IsLed lead.now from result rows.old rows.new }
 {
     let row = &mut rows[lead.rule];
     let was = row.is_reached;
@@ -236,7 +233,8 @@ fn put_lead(rows: &mut [Row], lead: &Lead, from: usize) -> bool
     }
 }
 
-/// Passes on what all productions of a rule look at, by their leads.
+/// Passes on what all productions of a rule look at, by their leads. It is given no grammar: it holds for each whose leads
+/// and rows these are.
 fn visit_leads(
     rows: &mut [Row],
     reached: &mut Vec<usize>,
@@ -244,7 +242,7 @@ fn visit_leads(
     leads: &[Lead],
     from: usize,
 )
-    requires shape { (g : math.Grammar) × AreLeadsOf g from leads.now × AreKeptRows g rows.old }
+    requires leads { All (IsLeadFor rows.old) leads.now }
     requires from { from < length rows.old }
     requires todo { length todo.old ≡ length rows.old }
     requires reached { AreReached (reached_of rows.old) reached.old }
@@ -325,7 +323,7 @@ impl Closer {
         requires is { IsClosing grm.now self.old }
         ensures is { IsClosing grm.now self.new }
         ensures visited { IsVisited grm.now (T.number pidx.0) (T.number dot.0) (Some ctx.now)
-            (rows_in self.old.rows.items) (rows_in self.new.rows.items)
+            (rows_of self.old) (rows_of self.new)
             (IsRuleToDo grm.now self.old.todo) (IsRuleToDo grm.now self.new.todo) }
     {
         if let Some(rule) = rule_behind(grm, pidx, dot) {
@@ -358,7 +356,7 @@ impl Closer {
         requires clear { AreClearRows grm.now self.old.rows.items }
         ensures is { IsClosing grm.now self.new }
         ensures underway { IsUnderway grm.now (items_of T.number given.now)
-            (rows_in self.new.rows.items) (IsRuleToDo grm.now self.new.todo) [] }
+            (rows_of self.new) (IsRuleToDo grm.now self.new.todo) [] }
     {
         for (key, ctx) in given {
             self.visit_item(grm, firsts, key.0, key.1, ctx);
@@ -367,15 +365,9 @@ impl Closer {
 
     /// Passes on what all productions of a rule look at, which were to be done and are so no more.
     fn visit_rule(&mut self, place: usize)
-        requires shape { (g : math.Grammar) × IsClosing g self.old }
+        requires whole { IsWhole self.old }
         requires todo { IsTrue (bit self.old.todo place) }
-        ensures is { (g : math.Grammar) → IsClosing g self.old → IsClosing g self.new }
-        ensures underway { (g : math.Grammar) (a : MathItems) → IsClosing g self.old
-            → IsUnderway g a (rows_in self.old.rows.items) (IsRuleToDo g self.old.todo) []
-            → IsUnderway g a (rows_in self.new.rows.items) (IsRuleToDo g self.new.todo) [] }
-        ensures left { (g : math.Grammar) → IsClosing g self.old
-            → visits_left (math.token_count g) (rows_in self.new.rows.items) self.new.todo
-            < visits_left (math.token_count g) (rows_in self.old.rows.items) self.old.todo }
+        ensures { (g : math.Grammar) → IsClosing g self.old → IsNearer g self.old self.new }
     {
         self.todo.set(place, false);
         visit_leads(
@@ -399,8 +391,7 @@ impl Closer {
         requires upwards { AreUpwards (items_of T.number given.now) }
         requires is { IsCloserOf grm.now self.old }
         ensures is { IsCloserOf grm.now self.new }
-        ensures closes { AreClosingRows grm.now (items_of T.number given.now)
-            (rows_in self.new.rows.items) }
+        ensures closes { AreClosingRows grm.now (items_of T.number given.now) (rows_of self.new) }
     {
         clear_rows(self.rows.as_mut_slice(), &mut self.reached);
         self.visit_given(grm, firsts, given);

@@ -40,7 +40,7 @@ fn no_rows<T: IndexStorage>(grm: &YaccGrammar<T>) -> Result<Vec<Option<Vob>>, Al
 }
 
 /// Sets the bits of all productions of a rule.
-pub(crate) fn mark<T: IndexStorage>(todo: &mut Vob, grm: &YaccGrammar<T>, rule: RIdx<T>)
+fn mark<T: IndexStorage>(todo: &mut Vob, grm: &YaccGrammar<T>, rule: RIdx<T>)
     requires rule { T.number rule.0 < length grm.now.rule_names }
     requires productions { length todo.old ≡ length grm.now.productions }
     ensures { AreMarked (λ q. math.IsProductionOf grm.now q (T.number rule.0)) todo.old todo.new }
@@ -51,7 +51,7 @@ pub(crate) fn mark<T: IndexStorage>(todo: &mut Vob, grm: &YaccGrammar<T>, rule: 
 }
 
 /// The first set place of `from..end`, or else of those below it.
-pub(crate) fn next_set(bits: &Vob, from: usize, end: usize) -> Option<usize>
+fn next_set(bits: &Vob, from: usize, end: usize) -> Option<usize>
     requires order { from ≤ end }
     requires end { end ≡ length bits.now }
     ensures none { IfNone result (HasNone bits.now) }

@@ -7,7 +7,7 @@ ghost use Rattle.lrspec.specs.grammars.ItemSets.{HasItem, Fits, AreUpwards};
 ghost use Rattle.lrclosing.specs.ItemsOf.{items_of, listed_of};
 ghost use Rattle.lrclosing.specs.Rows.{IsPutIn, AreWithRows};
 ghost use Rattle.lrclosing.specs.Leads.{rows_in, AreKeptRows};
-ghost use Rattle.lrclosing.specs.Closer.{IsCloserOf};
+ghost use Rattle.lrclosing.specs.Closer.{IsCloserOf, rows_of};
 ghost use Rattle.lrclosing.specs.Visits.{AreMarked};
 ghost use Rattle.lrclosing.specs.Listing.{IsIn, ArePutIn, IsPlaceAmong, row_items, listed_items};
 
@@ -58,7 +58,7 @@ fn with_productions<T: IndexStorage>(
 /// A range with the productions whose rules the last closing reached, from the first to the last of them.
 fn reached_range<T: IndexStorage>(grm: &YaccGrammar<T>, closer: &Closer) -> (usize, usize)
     requires { IsCloserOf grm.now closer.now }
-    ensures has { (q : ℕ) → IsPutIn grm.now (rows_in closer.now.rows.items) q → IsIn result q }
+    ensures has { (q : ℕ) → IsPutIn grm.now (rows_of closer.now) q → IsIn result q }
     ensures first { result.0 ≤ length grm.now.productions }
     ensures last { 0 < length grm.now.productions → result.1 < length grm.now.productions }
 {
@@ -102,7 +102,7 @@ fn mark_reached<T: IndexStorage>(
     closer: &Closer,
 ) -> Result<Marked, AllocError>
     requires { IsCloserOf grm.now closer.now }
-    ensures { IfOk result (λ m. ArePutIn grm.now (rows_in closer.now.rows.items) m.from m.bits) }
+    ensures { IfOk result (λ m. ArePutIn grm.now (rows_of closer.now) m.from m.bits) }
 {
     let range = reached_range(grm, closer);
     let len = places_in(range, grm.prods_len().0.to_usize());
@@ -198,9 +198,9 @@ pub fn closed_items<'a, T: IndexStorage>(
     requires fits { Fits grm.now (items_of T.number given.now) }
     requires upwards { AreUpwards (items_of T.number given.now) }
     requires is { IsCloserOf grm.now closer.now }
-    requires apart { (q : ℕ) → IsPutIn grm.now (rows_in closer.now.rows.items) q
+    requires apart { (q : ℕ) → IsPutIn grm.now (rows_of closer.now) q
         → HasItem (items_of T.number given.now) q 0 → ⊥ }
-    ensures rows { IfOk result (λ v. AreWithRows grm.now (rows_in closer.now.rows.items)
+    ensures rows { IfOk result (λ v. AreWithRows grm.now (rows_of closer.now)
         (items_of T.number given.now) (listed_of T.number v.items)) }
     ensures fits { IfOk result (λ v. Fits grm.now (listed_of T.number v.items)) }
     ensures upwards { IfOk result (λ v. AreUpwards (listed_of T.number v.items)) }

@@ -4,6 +4,7 @@ use Rattle.lrclosing.specs.Leads.{AreKeptRows, rows_in}
 use Rattle.lrclosing.specs.Visits.{IsRuleToDo}
 use Rattle.lrclosing.proofs.ClosingUnderway.{end_underway}
 use Rattle.lrclosing.proofs.ReachedPlaces.{none_to_do, reached_below, rule_to_do}
+use Rattle.lrclosing.proofs.PutLeads.{closing_whole}
 use Rattle.lrclosing.proofs.RowsReached.{length_reached}
 use Rattle.lrclosing.proofs.RowsWritten.{are_rows, written_whole}
 use Rattle.lrclosing.proofs.closer.Closer.close.Goals as goal
@@ -70,11 +71,14 @@ visit_rule-requires-clause-todo g c =
     let place = rw c.as_slice.ensures.value at c.in-Some.ensures in
     rule_to_do c.loop-k.self.reached.items c.loop-k.self.todo c.in-Some.k c.index-place.result.now c.index-place.ensures place
 
+pub visit_rule-requires-clause-whole : goal.visit_rule-requires-clause-whole
+visit_rule-requires-clause-whole g c = closing_whole c.args.grm.now c.loop-k.self c.loop-k.invariant.is
+
 pub loop-k-smaller : goal.loop-k-smaller
-loop-k-smaller g c = c.visit_rule.ensures.left c.args.grm.now c.loop-k.invariant.is
+loop-k-smaller g c = (c.visit_rule.ensures c.args.grm.now c.loop-k.invariant.is).left
 
 pub loop-k-preserved : goal.loop-k-preserved
 loop-k-preserved g c =
-    let grm = c.args.grm.now in
     let i = c.loop-k.invariant in
-    record { is = c.visit_rule.ensures.is grm i.is; underway = c.visit_rule.ensures.underway grm _ i.is i.underway }
+    let one = c.visit_rule.ensures c.args.grm.now i.is in
+    record { is = one.is; underway = one.underway _ i.underway }
