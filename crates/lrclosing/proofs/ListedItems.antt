@@ -62,6 +62,12 @@ among_row_items g rows from end x r =
 
 -- ---- what is listed
 
+-- the items are those of a closure, upwards
+pub record AreClosed (g : Grammar) (rs : Rows) (es b : Items) : Type 0 where
+  pub rows : AreWithRows g rs es b
+  pub fits : Fits g b
+  pub upwards : AreUpwards b
+
 from_here : (g : Grammar) (rows : Rows) (from end n : ℕ) (x : (ℕ × ℕ) × List Bool) → IsRowItem g rows from end x → end ≤ n → IsRowItem g rows 0 n x
 from_here g rows from end n x r l = record { dot = r.dot; above = omega arith; below = omega (arith, r.below, l); row = r.row }
 
@@ -238,12 +244,9 @@ module _
     ]
 
     -- so is what is the same list
-    module _ (b : Items) (is : b ≡ listed_items g rows 0 es) where
-      pub closed_with_rows : AreWithRows g rows es b
-      closed_with_rows = rw is listed_with_rows
-
-      pub closed_fits : Fits g b
-      closed_fits = rw is listed_fits
-
-      pub closed_upwards : AreUpwards b
-      closed_upwards = rw is (upwards_from_ascending (listed_items g rows 0 es) listed_ascending)
+    pub are_closed : (b : Items) → b ≡ listed_items g rows 0 es → AreClosed g rows es b
+    are_closed b is = record {
+      rows = rw is listed_with_rows;
+      fits = rw is listed_fits;
+      upwards = rw is (upwards_from_ascending (listed_items g rows 0 es) listed_ascending);
+    }

@@ -5,6 +5,7 @@ use Rattle.std.specs.List.{range_with_len}
 use Rattle.std.proofs.lemmas.Bool.{cases_eq, eqb-true}
 use Rattle.std.proofs.lemmas.List.{get_or-map, length-map}
 use Rattle.lrspec.specs.grammars.Grammar.{Grammar, Production, IsOfRule, IsProductionOf, is_of_rule, productions_of}
+use Rattle.lrgrammar.specs.declared.idx.PIdx.{PIdx}
 use Rattle.lrspec.proofs.grammars.BodyFacts.{below_of_production, test_from_of_rule}
 
 -- `q` is one of the first `n` of a list of productions
@@ -78,15 +79,6 @@ among_here n ps p q l e h = let lt : n < n + 1 = omega arith in (n, lt, l, e ∙
 pub among_none : (ps : List ℕ) (q : ℕ) → IsAmongFirst 0 ps q → ⊥
 among_none ps q s = let n : s.0 < 0 = s.1 in absurd (omega (arith, n))
 
--- a production of the list is one of the grammar
-pub production_below :
-    (g : Grammar) (ps : List ℕ) (r k p : ℕ) → ps ≡ productions_of g r → k < length ps → get_or ps k 0 ≡ p → p < length g.productions
-production_below g ps r k p e l h =
-    let lt : k < length (productions_of g r) = rw e at l in
-    let at : get_or (productions_of g r) k 0 ≡ p = rw e at h in
-    let passes : is_of_rule (slice_get g.productions p) r ≡ true = rw (← at) (range_passes (λ q. is_of_rule (slice_get g.productions q) r) 0 (length g.productions) k lt) in
-    below_of_production g p r (of_rule_from_test (slice_get g.productions p) r passes)
-
 -- the number at a place of a list of numbers
 pub number_at : {X : Type 0} (f : X → ℕ) (xs : List X) (i : ℕ) (x : X) → i < length xs → x ≡ get_or xs i x → get_or (map f xs) i 0 ≡ f x
 number_at f xs i x h e = get_or-map f xs i x 0 h ∙ ap f (sym e)
@@ -96,3 +88,16 @@ below_mapped f xs i h = rw length-map h
 
 pub end_mapped : {X : Type 0} (f : X → ℕ) (xs : List X) (i : ℕ) → length xs ≤ i → length (map f xs) ≤ i
 end_mapped f xs i h = rw length-map h
+
+-- what is listed at a place of the code's list is a production of the rule
+pub is_listed :
+    {T : Type 0} (number : T → ℕ) (g : Grammar) (xs : List (PIdx T)) (r i : ℕ) (x : PIdx T) → map (λ p. number p.0) xs ≡ productions_of g r → i < length xs
+    → x ≡ get_or xs i x → IsProductionOf g (number x.0) r
+is_listed number g xs r i x e l s =
+    production_among g (map (λ p. number p.0) xs) r (i + 1) (number x.0) e
+    (among_here i (map (λ p. number p.0) xs) (number x.0) (number x.0) (below_mapped (λ p. number p.0) xs i l) (number_at (λ p. number p.0) xs i x l s) refl)
+
+pub listed_below :
+    {T : Type 0} (number : T → ℕ) (g : Grammar) (xs : List (PIdx T)) (r i : ℕ) (x : PIdx T) → map (λ p. number p.0) xs ≡ productions_of g r → i < length xs
+    → x ≡ get_or xs i x → number x.0 < length g.productions
+listed_below number g xs r i x e l s = below_of_production g (number x.0) r (is_listed number g xs r i x e l s)

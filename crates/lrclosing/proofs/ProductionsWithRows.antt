@@ -1,10 +1,9 @@
 -- the productions whose rules have rows, marked one rule after another
-use Rattle.std.proofs.Common.{◌≡◌, ℕ, ◌+◌, ◌-◌, ◌<◌, ◌≤◌, Bool, true, false, List, [], ◌∷◌, length, map, get_or, set, length-set, replicate, refl, ap, ◌∙◌, ◌⊎◌, arith, inl, inr}
+use Rattle.std.proofs.Common.{◌≡◌, ℕ, ◌+◌, ◌-◌, ◌<◌, ◌≤◌, Bool, true, false, List, [], ◌∷◌, length, get_or, set, length-set, replicate, refl, ap, ◌∙◌, ◌⊎◌, arith, inl, inr}
 use Rattle.std.specs.Prelude.{IsTrue}
 use Rattle.std.specs.Option.{IsSome}
 use Rattle.std.proofs.lemmas.List.{length-replicate}
 use Rattle.lrspec.specs.grammars.Grammar.{Grammar, IsProductionOf, productions_of}
-use Rattle.lrgrammar.specs.declared.idx.PIdx.{PIdx}
 use Rattle.lrspec.proofs.grammars.BodyFacts.{below_of_production}
 use Rattle.lrspec.proofs.grammars.ListMembers.{Among}
 use Rattle.lrbits.specs.Bits.{bit}
@@ -12,7 +11,7 @@ use Rattle.lrclosing.specs.Rows.{Rows, row_at, IsPutIn}
 use Rattle.lrclosing.specs.Visits.{AreMarked}
 use Rattle.lrclosing.specs.Listing.{IsIn, ArePutIn}
 use Rattle.lrclosing.proofs.PassedOn.{set_keeps, set_here, set_from}
-use Rattle.lrclosing.proofs.ProductionsOfRule.{IsAmongFirst, among_productions, production_among, among_next, among_more, among_here, among_none, below_mapped, number_at}
+use Rattle.lrclosing.proofs.ProductionsOfRule.{IsAmongFirst, among_productions, production_among, among_next, among_more, among_here, among_none}
 use Rattle.lrclosing.proofs.VisitedItems.{clear_bits}
 
 -- ---- the range of the productions
@@ -95,14 +94,6 @@ offset_every g from ps r n old new e l m = record {
   set = λ k h. m.set k (among_productions g ps r n (from + k) e l h);
   from = λ k h. elim (m.from k h) [ inl x ↦ inl x | inr x ↦ inr (production_among g ps r n (from + k) e x) ];
 }
-
--- what is listed at a place of the code's list is a production of the rule
-pub is_listed :
-    {T : Type 0} (number : T → ℕ) (g : Grammar) (xs : List (PIdx T)) (r i : ℕ) (x : PIdx T) → map (λ p. number p.0) xs ≡ productions_of g r → i < length xs
-    → x ≡ get_or xs i x → IsProductionOf g (number x.0) r
-is_listed number g xs r i x e l s =
-    production_among g (map (λ p. number p.0) xs) r (i + 1) (number x.0) e
-    (among_here i (map (λ p. number p.0) xs) (number x.0) (number x.0) (below_mapped (λ p. number p.0) xs i l) (number_at (λ p. number p.0) xs i x l s) refl)
 
 -- what is put in is a production
 pub put_in_below : (g : Grammar) (rows : Rows) (q : ℕ) → IsPutIn g rows q → q < length g.productions

@@ -1,29 +1,25 @@
-use Rattle.std.proofs.Common.{◌≡◌, ◌<◌, length, map, get_or, refl}
+use Rattle.std.proofs.Common.{◌≡◌, map, get_or}
 use Rattle.lrspec.specs.grammars.Grammar.{IsProductionOf}
-use Rattle.lrclosing.proofs.ProductionsOfRule.{production_below, production_among, among_here, number_at, below_mapped, end_mapped}
+use Rattle.lrspec.proofs.grammars.BodyFacts.{below_of_production}
+use Rattle.lrclosing.proofs.ProductionsOfRule.{is_listed, number_at, end_mapped}
 use Rattle.lrclosing.proofs.LeadsOfRule.{leads_skip, leads_next, leads_every}
+use Rattle.lrclosing.proofs.closer.leads_of.Given as given
 use Rattle.lrclosing.proofs.closer.leads_of.Goals as goal
-use Rattle.lrclosing.proofs.closer.leads_of.Goals.{in-Some+in_ok-lead_of+in_ok-push, in_default}
+use Rattle.lrclosing.proofs.closer.leads_of.Goals.{After-pidx-item, in-Some+in_ok-lead_of+in_ok-push, in_default}
+
+-- the turn's production is one of the rule
+is_of : (g : given.Over) (c : After-pidx-item g)
+    → IsProductionOf c.args.grm.now (g.T.IndexStorage.number c.pidx-item.result.0) (g.T.IndexStorage.number c.args.rule.0)
+is_of g c =
+    let number = g.T.IndexStorage.number in
+    is_listed number c.args.grm.now c.rule_to_prods-pidx-items.result.now (number c.args.rule.0) c.loop-pidx.pidx-index c.pidx-item.result
+    c.rule_to_prods-pidx-items.ensures.prods c.loop-pidx-test.true c.pidx-item.is
 
 pub rule_behind-requires : goal.rule_behind-requires
-rule_behind-requires g c =
-    let number = g.T.IndexStorage.number in
-    let xs = c.rule_to_prods-pidx-items.result.now in
-    let i = c.loop-pidx.pidx-index in
-    let ps = map (λ p. number p.0) xs in
-    let lt : i < length ps = below_mapped (λ p. number p.0) xs i c.loop-pidx-test.true in
-    let at : get_or ps i 0 ≡ number c.pidx-item.result.0 = number_at (λ p. number p.0) xs i c.pidx-item.result c.loop-pidx-test.true c.pidx-item.is in
-    production_below c.args.grm.now ps (number c.args.rule.0) i (number c.pidx-item.result.0) c.rule_to_prods-pidx-items.ensures.prods lt at
+rule_behind-requires g c = below_of_production c.args.grm.now _ _ (is_of g (goal.at.rule_behind-requires g c).After-pidx-item)
 
 pub lead_of-requires-clause-production : goal.lead_of-requires-clause-production
-lead_of-requires-clause-production g c =
-    let number = g.T.IndexStorage.number in
-    let xs = c.rule_to_prods-pidx-items.result.now in
-    let i = c.loop-pidx.pidx-index in
-    let ps = map (λ p. number p.0) xs in
-    let lt : i < length ps = below_mapped (λ p. number p.0) xs i c.loop-pidx-test.true in
-    let at : get_or ps i 0 ≡ number c.pidx-item.result.0 = number_at (λ p. number p.0) xs i c.pidx-item.result c.loop-pidx-test.true c.pidx-item.is in
-    production_below c.args.grm.now ps (number c.args.rule.0) i (number c.pidx-item.result.0) c.rule_to_prods-pidx-items.ensures.prods lt at
+lead_of-requires-clause-production g c = below_of_production c.args.grm.now _ _ (is_of g (goal.at.lead_of-requires-clause-production g c).After-pidx-item)
 
 pub lead_of-requires-clause-first : goal.lead_of-requires-clause-first
 lead_of-requires-clause-first g c =
@@ -38,10 +34,8 @@ loop-pidx-preserved g c =
     let ps = map (λ p. number p.0) xs in
     let p = number c.pidx-item.result.0 in
     let a = number c.args.rule.0 in
-    let lt : i < length ps = below_mapped (λ p. number p.0) xs i c.loop-pidx-test.true in
     let at : get_or ps i 0 ≡ p = number_at (λ p. number p.0) xs i c.pidx-item.result c.loop-pidx-test.true c.pidx-item.is in
-    let is : IsProductionOf c.args.grm.now p a =
-    production_among c.args.grm.now ps a _ p c.rule_to_prods-pidx-items.ensures.prods (among_here i ps p p lt at refl) in
+    let is = is_of g (goal.at.loop-pidx-preserved g c).After-pidx-item in
     let zero : number c.unwrap.result ≡ 0 = (rw c.unwrap.ensures at c.from_usize.ensures).1 in
     elim c.match-rule_behind.branch [
       | in-Some+in_ok-lead_of+in_ok-push w ↦

@@ -1,6 +1,6 @@
 use Rattle.std.proofs.Common.{◌≡◌, ◌<◌, ◌+◌, length, map, get_or, arith}
-use Rattle.lrclosing.proofs.ProductionsOfRule.{number_at, below_mapped, end_mapped}
-use Rattle.lrclosing.proofs.ProductionsWithRows.{offset_none, offset_this, offset_every, is_listed}
+use Rattle.lrclosing.proofs.ProductionsOfRule.{is_listed, number_at, below_mapped, end_mapped}
+use Rattle.lrclosing.proofs.ProductionsWithRows.{offset_none, offset_this, offset_every}
 use Rattle.lrclosing.proofs.listing.mark_from.Goals as goal
 
 pub loop-pidx-init : goal.loop-pidx-init

@@ -1,5 +1,5 @@
 use Rattle.std.proofs.Common.{◌≡◌, ◌<◌, length, map, get_or, arith}
-use Rattle.lrclosing.proofs.ProductionsOfRule.{production_below, number_at, below_mapped, end_mapped, among_none}
+use Rattle.lrclosing.proofs.ProductionsOfRule.{listed_below, number_at, end_mapped, among_none}
 use Rattle.lrclosing.proofs.ProductionsWithRows.{in_range_next, in_range_every}
 use Rattle.lrclosing.proofs.listing.with_productions.Goals as goal
 
@@ -13,10 +13,9 @@ loop-pidx-preserved g c =
     let i = c.loop-pidx.pidx-index in
     let p = number c.pidx-item.result.0 in
     let ps = map (λ p. number p.0) xs in
-    let lt : i < length ps = below_mapped (λ p. number p.0) xs i c.loop-pidx-test.true in
     let at : get_or ps i 0 ≡ p = number_at (λ p. number p.0) xs i c.pidx-item.result c.loop-pidx-test.true c.pidx-item.is in
     let below : p < length c.args.grm.now.productions =
-    production_below c.args.grm.now ps (number c.args.rule.0) i p c.rule_to_prods-pidx-items.ensures.prods lt at in
+    listed_below number c.args.grm.now xs (number c.args.rule.0) i c.pidx-item.result c.rule_to_prods-pidx-items.ensures.prods c.loop-pidx-test.true c.pidx-item.is in
     let w = rw c.to_usize.ensures.number at c.widened-found.ensures in
     record {
       has = in_range_next c.loop-pidx.found c.widened-found.result ps i p at w.here w.kept c.loop-pidx.invariant.has;

@@ -9,30 +9,6 @@ use Rattle.lrclosing.proofs.passing.passed_on.Goals as goal
 pub returns-in_ok-made-in-None-clause-changed : goal.returns-in_ok-made-in-None-clause-changed
 returns-in_ok-made-in-None-clause-changed g c = rw c.in-None.is (made_grown (token_count c.args.grm.now) c.pass_on.new.row c.pass_on.ensures.passed.len)
 
-pub pass_on-changed-requires-clause-of : goal.pass_on-changed-requires-clause-of
-pass_on-changed-requires-clause-of g c = c.requires.of
-
-pub pass_on-changed-requires-clause-production : goal.pass_on-changed-requires-clause-production
-pass_on-changed-requires-clause-production g c = c.requires.production
-
-pub pass_on-changed-requires-clause-place : goal.pass_on-changed-requires-clause-place
-pass_on-changed-requires-clause-place g c = c.requires.place
-
-pub pass_on-changed-requires-clause-ctx_len : goal.pass_on-changed-requires-clause-ctx_len
-pass_on-changed-requires-clause-ctx_len g c = c.requires.ctx_len
-
-pub pass_on-requires-clause-of : goal.pass_on-requires-clause-of
-pass_on-requires-clause-of g c = c.requires.of
-
-pub pass_on-requires-clause-production : goal.pass_on-requires-clause-production
-pass_on-requires-clause-production g c = c.requires.production
-
-pub pass_on-requires-clause-place : goal.pass_on-requires-clause-place
-pass_on-requires-clause-place g c = c.requires.place
-
-pub pass_on-requires-clause-ctx_len : goal.pass_on-requires-clause-ctx_len
-pass_on-requires-clause-ctx_len g c = c.requires.ctx_len
-
 pub pass_on-changed-requires-clause-len : goal.pass_on-changed-requires-clause-len
 pass_on-changed-requires-clause-len g c = rw c.in-Some.is at c.requires.len
 
