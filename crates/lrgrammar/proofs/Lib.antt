@@ -3,6 +3,7 @@
 pub mod Ranges
 pub mod Turns
 -- grammars
+pub mod FoundNames
 pub mod ProductionLists
 pub mod LastTokens
 pub mod GrammarOfParts

@@ -1,8 +1,6 @@
-use Rattle.std.proofs.Common.{length, ap, ◌∙◌, subst, arith}
+use Rattle.std.proofs.Common.{length, ap, ◌∙◌, arith}
 use Rattle.std.proofs.lemmas.List.{length-map}
 use Rattle.std.specs.String.{string_bytes}
-use Rattle.lrspec.specs.grammars.Grammar.{IsGrammar}
-use Rattle.lrgrammar.specs.GrammarSizes.{IsWithin}
 use Rattle.lrgrammar.proofs.Turns.{has_index, index_number}
 use Rattle.lrgrammar.proofs.grammar.YaccGrammar.tokens_len.Goals as goal
 
@@ -13,9 +11,3 @@ unwrap-requires g c =
 pub returns-clause-value : goal.returns-clause-value
 returns-clause-value g c =
     index_number g.T.IndexStorage.number g.T.IndexStorage.MAX _ c.from_usize.result c.unwrap.result c.unwrap.ensures c.from_usize.ensures ∙ omega (arith, c.len.ensures, c.self.inside.token_names.ok.0, length-map c.self.inside.token_names.items string_bytes, ap (λ m. length m.token_names) c.self.view_is)
-
-pub returns-clause-shape : goal.returns-clause-shape
-returns-clause-shape g c = subst IsGrammar c.self.view_is c.self.invariant.shape
-
-pub returns-clause-sizes : goal.returns-clause-sizes
-returns-clause-sizes g c = subst (IsWithin g.T.IndexStorage.MAX) c.self.view_is c.self.invariant.sizes
