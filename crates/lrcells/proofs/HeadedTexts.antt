@@ -7,28 +7,40 @@ use Rattle.std.proofs.lemmas.List.{flat_map_more, get_or-map, length-map, map-ap
 use Rattle.lrspec.specs.grammars.Grammar.{Grammar}
 use Rattle.lrspec.specs.texts.PrintedTexts.{token_name, production_text, shift_reduce_line, reduce_reduce_line, headed}
 
-module _ {X Y : Type 0} (f : X → Y) where
-  -- the image of an entry is among the images
-  pub image_listed : (xs : List X) (ys : List Y) (i : ℕ) (x : X) → map f xs ≡ ys → i < length xs → x ≡ get_or xs i x → Contains ys (f x)
-  image_listed xs ys i x e l at =
-      let there : get_or (map f xs) i (f x) ≡ f x = get_or-map f xs i x (f x) l ∙ ap f (sym at) in
-      rw (← e) (i, rw length-map l, there)
+-- the image of an entry is among the images
+pub image_listed : {X Y : Type 0} (f : X → Y) (xs : List X) (ys : List Y) (i : ℕ) (x : X) → map f xs ≡ ys → i < length xs → x ≡ get_or xs i x → Contains ys (f x)
+image_listed f xs ys i x e l at =
+    let there : get_or (map f xs) i (f x) ≡ f x = get_or-map f xs i x (f x) l ∙ ap f (sym at) in
+    rw (← e) (i, rw length-map l, there)
+
+-- the text is a headline and the lines of the first `i` entries; what the entries are as plain data
+pub record AreFirstLines {X Y : Type 0} (f : X → Y) (headline : List ℕ) (line : Y → List ℕ) (xs : List X) (ys : List Y) (i : ℕ) (text : List ℕ) : Type 0 where
+  pub entries : map f xs ≡ ys
+  pub lines : text ≡ headline ++ flat_map line (map f (take i xs))
+
+module _ {X Y : Type 0} {f : X → Y} {headline : List ℕ} {line : Y → List ℕ} {xs : List X} {ys : List Y} {i : ℕ} {text : List ℕ} (are : AreFirstLines f headline line xs ys i text) where
+  -- an entry is listed
+  pub entry_listed : {x : X} → i < length xs → x ≡ get_or xs i x → Contains ys (f x)
+  entry_listed {x} l at = image_listed f xs ys i x are.entries l at
 
   -- the line of one entry more
   pub line_more :
-      (headline : List ℕ) (line : Y → List ℕ) (text added new : List ℕ) (xs : List X) (i : ℕ) (x : X) → i < length xs → x ≡ get_or xs i x
-      → text ≡ headline ++ flat_map line (map f (take i xs)) → added ≡ line (f x) → new ≡ text ++ added
-      → new ≡ headline ++ flat_map line (map f (take (i + 1) xs))
-  line_more headline line text added new xs i x l at t a n =
+      {x : X} {added new : List ℕ} → i < length xs → x ≡ get_or xs i x → added ≡ line (f x) → new ≡ text ++ added
+      → AreFirstLines f headline line xs ys (i + 1) new
+  line_more {x} l at a n =
       let more : take (i + 1) xs ≡ take i xs ++ x ∷ [] = take_more xs i x l ∙ ap (λ y. take i xs ++ y ∷ []) (sym at) in
-      rw (n, t, a, more, map-append f (take i xs) (x ∷ [])) (flat_map_more line headline (map f (take i xs)) (f x))
+      record {
+        entries = are.entries;
+        lines = rw (n, are.lines, a, more, map-append f (take i xs) (x ∷ [])) (flat_map_more line headline (map f (take i xs)) (f x));
+      }
 
   -- the lines of all entries
-  pub headed_some :
-      (headline : List ℕ) (line : Y → List ℕ) (text : List ℕ) (xs : List X) (ys : List Y) (i : ℕ) → ¬ (xs ≡ []) → map f xs ≡ ys → length xs ≤ i
-      → text ≡ headline ++ flat_map line (map f (take i xs)) → text ≡ headed headline line ys
-  headed_some headline line text [] ys i some e l t = absurd (some refl)
-  headed_some headline line text (x ∷ xs) ys i some e l t = rw (← e) (t ∙ ap (λ zs. headline ++ flat_map line (map f zs)) (take_all i (x ∷ xs) l))
+  pub all_lines : ¬ (xs ≡ []) → length xs ≤ i → text ≡ headed headline line ys
+  all_lines some l = rw (← are.entries) (headed_some xs some (are.lines ∙ ap (λ zs. headline ++ flat_map line (map f zs)) (take_all i xs l)))
+    where
+      headed_some : (zs : List X) → ¬ (zs ≡ []) → text ≡ headline ++ flat_map line (map f zs) → text ≡ headed headline line (map f zs)
+      headed_some [] n t = absurd (n refl)
+      headed_some (z ∷ zs) n t = t
 
 -- pieces of a line from the left, or from the right
 seven_pieces : (a b c d e f k : List ℕ) → a ++ (b ++ (c ++ (d ++ (e ++ (f ++ k))))) ≡ a ++ b ++ c ++ d ++ e ++ f ++ k

@@ -1,5 +1,5 @@
 -- what a table that is kept in matrices has in each cell
-use Rattle.std.proofs.Common.{◌≡◌, ℕ, ◌+◌, ◌*◌, ◌<◌, ◌≤◌, List, [], length, Option, None, Some, refl, ap, ◌∙◌, inl, inr, arith}
+use Rattle.std.proofs.Common.{◌≡◌, ℕ, ◌+◌, ◌*◌, ◌<◌, ◌≤◌, List, [], length, None, Some, refl, ap, ◌∙◌, inl, inr, arith}
 use Rattle.std.specs.Prelude.{map, slice_get, slice_index_or}
 use Rattle.std.specs.List.{range_with_len}
 use Rattle.std.proofs.lemmas.Bool.{cases_lt, lt-ltb, le-ltb}
@@ -9,10 +9,9 @@ use Rattle.std.proofs.lemmas.List.FromFn.{get_or-map-range_with_len, length-map-
 use Rattle.std.proofs.lemmas.Nat.{mul-add-lt}
 use Rattle.std.proofs.lemmas.Option.{slice_get_within, slice_get-get_or, get_or_from_slice_get}
 use Rattle.std.proofs.Math.Nat.{mul-le-mul_right}
-use Rattle.lrspec.specs.tables.Table.{Error, Lists, action_of, goto_of, IsGrid}
+use Rattle.lrspec.specs.tables.Table.{IsGrid}
 use Rattle.lrsparse.specs.Matrix.{Matrix, value_at}
-use Rattle.lrrows.specs.StoredActions.{action_numbered, goto_numbered}
-use Rattle.lrcells.specs.StoredTable.{grid_of, table_of}
+use Rattle.lrcells.specs.StoredTable.{grid_of}
 
 -- rows beyond the number of rows and cells beyond the number of columns have the default, and the others what their
 -- numbers say
@@ -27,10 +26,12 @@ module _ {X : Type 0} (f : ℕ → X) (d : X) (n : ℕ) (m : Matrix) (s c : ℕ)
   row_there l =
       get_or-map-range_with_len (λ r. map (λ k. f (slice_index_or m.cells (r * m.cols + k) 0)) (range_with_len 0 m.cols)) 0 n s s [] l (omega arith)
 
-  cell_there : s < n → c < m.cols → cell ≡ said c
+  -- the cell says what its number says
+  pub cell_there : s < n → c < m.cols → cell ≡ said c
   cell_there l k = rw (row_there l) (get_or-map-range_with_len said 0 m.cols c c d k (omega arith))
 
-  cell_past_row : n ≤ s → cell ≡ d
+  -- a state beyond the last one has the default in each cell
+  pub cell_past_row : n ≤ s → cell ≡ d
   cell_past_row l = rw (get_or_past (grid_of f n m) s [] (simp length-map-range_with_len l)) refl
 
   cell_past_column : m.cols ≤ c → cell ≡ d
@@ -39,7 +40,8 @@ module _ {X : Type 0} (f : ℕ → X) (d : X) (n : ℕ) (m : Matrix) (s c : ℕ)
     | inr l ↦ cell_past_row l
   ]
 
-  cell_read : (v : ℕ) → length m.cells ≡ n * m.cols → value_at m s c ≡ Some v → cell ≡ f v
+  -- the same by what is read
+  pub cell_read : (v : ℕ) → length m.cells ≡ n * m.cols → value_at m s c ≡ Some v → cell ≡ f v
   cell_read v e h = elim (cases_lt c m.cols) [
     | inl k ↦
         let found : slice_get m.cells (s * m.cols + c) ≡ Some v = rw (lt-ltb c m.cols k) at h in
@@ -49,7 +51,8 @@ module _ {X : Type 0} (f : ℕ → X) (d : X) (n : ℕ) (m : Matrix) (s c : ℕ)
     | inr k ↦ let none : None ≡ Some v = rw (le-ltb c m.cols k) at h in absurd cc
   ]
 
-  cell_none : length m.cells ≡ n * m.cols → value_at m s c ≡ None → cell ≡ d
+  -- where nothing is read, there is the default
+  pub cell_none : length m.cells ≡ n * m.cols → value_at m s c ≡ None → cell ≡ d
   cell_none e h = elim (cases_lt c m.cols) [
     | inl k ↦ elim (cases_lt s n) [
       | inl l ↦
@@ -70,44 +73,3 @@ grid_of_rows {X} f n m =
       rows = length-map-range_with_len row 0 n;
       places = All-map (λ r. length r ≡ m.cols) row (range_with_len 0 n) (λ k d l. length-map-range_with_len _ 0 m.cols);
     }
-
-module _ (n : ℕ) (actions gotos : Matrix) (conflicts : Option Lists) (s : ℕ) where
-  -- the cell says what its number says
-  pub action_read :
-      (t c : ℕ) → length actions.cells ≡ n * actions.cols → value_at actions s t ≡ Some c
-      → action_of (table_of n actions gotos conflicts) s t ≡ action_numbered c
-  action_read t c e h = cell_read action_numbered Error n actions s t c e h
-
-  -- where there is no cell, it is an error
-  pub action_none :
-      (t : ℕ) → length actions.cells ≡ n * actions.cols → value_at actions s t ≡ None
-      → action_of (table_of n actions gotos conflicts) s t ≡ Error
-  action_none t e h = cell_none action_numbered Error n actions s t e h
-
-  -- the same by the place of the cell
-  pub action_there :
-      (t : ℕ) → s < n → t < actions.cols
-      → action_of (table_of n actions gotos conflicts) s t ≡ action_numbered (slice_index_or actions.cells (s * actions.cols + t) 0)
-  action_there t l k = cell_there action_numbered Error n actions s t l k
-
-  -- a state beyond the last one errs on each token
-  pub action_past : (t : ℕ) → n ≤ s → action_of (table_of n actions gotos conflicts) s t ≡ Error
-  action_past t l = cell_past_row action_numbered Error n actions s t l
-
-  -- the goto says what its number says
-  pub goto_read :
-      (r c : ℕ) → length gotos.cells ≡ n * gotos.cols → value_at gotos s r ≡ Some c
-      → goto_of (table_of n actions gotos conflicts) s r ≡ goto_numbered c
-  goto_read r c e h = cell_read goto_numbered None n gotos s r c e h
-
-  -- where there is none, the rule leads nowhere
-  pub goto_none :
-      (r : ℕ) → length gotos.cells ≡ n * gotos.cols → value_at gotos s r ≡ None
-      → goto_of (table_of n actions gotos conflicts) s r ≡ None
-  goto_none r e h = cell_none goto_numbered None n gotos s r e h
-
-  -- the same by the place of the goto
-  pub goto_there :
-      (r : ℕ) → s < n → r < gotos.cols
-      → goto_of (table_of n actions gotos conflicts) s r ≡ goto_numbered (slice_index_or gotos.cells (s * gotos.cols + r) 0)
-  goto_there r l k = cell_there goto_numbered None n gotos s r l k

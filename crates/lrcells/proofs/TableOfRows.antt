@@ -1,5 +1,5 @@
 -- the table whose matrices have the rows of the states of a graph is that of the graph
-use Rattle.std.proofs.Common.{◌≡◌, ◌≢◌, ℕ, ◌+◌, ◌*◌, ◌<◌, ◌≤◌, List, Option, length, refl, sym, subst, ap, ◌∙◌, ◌⊎◌, inl, inr, ◌↔◌, arith, get_or}
+use Rattle.std.proofs.Common.{◌≡◌, ◌≢◌, ℕ, ◌+◌, ◌*◌, ◌<◌, ◌≤◌, List, Option, None, length, refl, sym, subst, ap, ◌∙◌, ◌⊎◌, inl, inr, ◌↔◌, arith, get_or}
 use Rattle.std.specs.List.{flat_map, range_with_len}
 use Rattle.std.proofs.lemmas.List.FromFn.{get_or-map-range_with_len, length-map-range_with_len}
 use Rattle.std.proofs.lemmas.Bool.{cases_lt}
@@ -14,7 +14,7 @@ use Rattle.lrcells.specs.StoredTable.{lists_or_none, table_of}
 use Rattle.lrrows.specs.StateRows.{action_row, goto_row}
 use Rattle.lrrows.specs.RowsOf.{HasCell, ReduceByOne}
 use Rattle.lrrows.proofs.KeptNumbers.{numbered_action, numbered_goto}
-use Rattle.lrcells.proofs.StoredTables.{grid_of_rows, action_there, goto_there}
+use Rattle.lrcells.proofs.StoredTables.{grid_of_rows, cell_there}
 use Rattle.lrcells.proofs.FlattenedRows.{cell_of_rows}
 
 -- so many cells has each row
@@ -39,7 +39,7 @@ module _ (g : Grammar) (h : Graph) (n : ℕ) (actions gotos : Matrix) (kept : Op
 
   pub cell_made : (s t : ℕ) → s < n → t < token_count g → action_of made s t ≡ cell_of g h s t
   cell_made s t l k =
-      action_there n actions gotos kept s t l (omega (arith, has.tokens))
+      cell_there action_numbered Error n actions s t l (omega (arith, has.tokens))
       ∙ (ap action_numbered (
       ap (λ cells. get_or cells (s * actions.cols + t) 0) has.cells
       ∙ (ap (λ cols. get_or (flat_map (action_row g h) (range_with_len 0 n)) (s * cols + t) 0) has.tokens
@@ -49,7 +49,7 @@ module _ (g : Grammar) (h : Graph) (n : ℕ) (actions gotos : Matrix) (kept : Op
 
   pub goto_made : (s r : ℕ) → s < n → r < length g.rule_names → goto_of made s r ≡ edge h s (Rule r)
   goto_made s r l k =
-      goto_there n actions gotos kept s r l (omega (arith, has.rules))
+      cell_there goto_numbered None n gotos s r l (omega (arith, has.rules))
       ∙ (ap goto_numbered (
       ap (λ cells. get_or cells (s * gotos.cols + r) 0) has.edges
       ∙ (ap (λ cols. get_or (flat_map (goto_row g h) (range_with_len 0 n)) (s * cols + r) 0) has.rules

@@ -10,9 +10,10 @@ use Rattle.lrspec.specs.tables.Table.{Action, Shift, Reduce, Accept, Error, Tabl
 use Rattle.lrspec.specs.tables.Rows.{AreActingTokens, AreShiftedTokens, AreReducedBy, ReducesOnly}
 use Rattle.lrsparse.specs.Matrix.{Matrix, value_at}
 use Rattle.lrgrammar.specs.StoredGrammar.{numbers_of}
+use Rattle.lrrows.specs.StoredActions.{action_numbered}
 use Rattle.lrcells.specs.StoredTable.{table_of, AreKeptOfRows}
 use Rattle.lrcells.specs.TakenTokens.{takes, takes_cell, tokens_taken}
-use Rattle.lrcells.proofs.StoredTables.{action_read, action_none, action_past}
+use Rattle.lrcells.proofs.StoredTables.{cell_read, cell_none, cell_past_row}
 use Rattle.lrcells.proofs.TokensTaken.{tokens_upwards, tokens_members}
 
 -- where not only shifts are taken, all but errors are
@@ -30,8 +31,8 @@ taken_shifts Error = (λ e. absurd cc, λ h. let e = h.1 in absurd cc)
 
 module _ (n : ℕ) (actions gotos : Matrix) (conflicts : Option Lists) (s : ℕ) where
   taken_by : (only : Bool) (t : ℕ) (o : Option ℕ) → length actions.cells ≡ n * actions.cols → value_at actions s t ≡ o → takes only (action_of (table_of n actions gotos conflicts) s t) ≡ takes_cell only o
-  taken_by only t (Some c) e h = ap (takes only) (action_read n actions gotos conflicts s t c e h)
-  taken_by only t None e h = ap (takes only) (action_none n actions gotos conflicts s t e h)
+  taken_by only t (Some c) e h = ap (takes only) (cell_read action_numbered Error n actions s t c e h)
+  taken_by only t None e h = ap (takes only) (cell_none action_numbered Error n actions s t e h)
 
   taken_members :
       (only : Bool) (t : ℕ) → length actions.cells ≡ n * actions.cols
@@ -65,13 +66,13 @@ module _ (n : ℕ) (actions gotos : Matrix) (conflicts : Option Lists) (s : ℕ)
     upwards = λ k h. absurd (omega arith);
     members = λ p. (
       λ h. absurd (omega (arith, h.1)),
-      λ h. let e = sym (action_past n actions gotos conflicts s h.0 l) ∙ h.1 in absurd cc,
+      λ h. let e = sym (cell_past_row action_numbered Error n actions s h.0 l) ∙ h.1 in absurd cc,
     );
   }
 
   pub reduces_only_past : n ≤ s → ReducesOnly (table_of n actions gotos conflicts) s → ⊥
   reduces_only_past l h =
-      let e = sym (action_past n actions gotos conflicts s h.1.0 l) ∙ h.1.1 in
+      let e = sym (cell_past_row action_numbered Error n actions s h.1.0 l) ∙ h.1.1 in
       cc
 
 -- what is read of the rows that are kept
