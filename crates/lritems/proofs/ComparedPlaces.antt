@@ -45,3 +45,25 @@ module _
           let same = same_Some ((number e.0.0.0, number e.0.1.0), mine.0) ((number f.0.0.0, number f.0.1.0), shows f.1) (sym mine.1 ∙ its) in
           let bits : mine.0 ≡ shows f.1 = ap (λ x. x.1) same in
           rw bits at (item_at_place b k ((number e.0.0.0, number e.0.1.0), mine.0) both.other_upwards mine.1)
+
+-- two items of the one are read
+pub record AreRead {T : Type 0} (number : T → ℕ) (a : Items) (i j : ℕ) (e f : Key T × List Bool) : Type 0 where
+  pub here : slice_get a i ≡ Some ((number e.0.0.0, number e.0.1.0), e.1)
+  pub there : slice_get a j ≡ Some ((number f.0.0.0, number f.0.1.0), f.1)
+  pub mine : item_at a (number e.0.0.0) (number e.0.1.0) ≡ Some e.1
+  pub later : item_at a (number f.0.0.0) (number f.0.1.0) ≡ Some f.1
+
+-- and the same of the other
+pub record AreOthers {T : Type 0} (number : T → ℕ) (b : Items) (j k : Key T) (v w : List Bool) : Type 0 where
+  pub its : item_at b (number j.0.0) (number j.1.0) ≡ Some v
+  pub later : item_at b (number k.0.0) (number k.1.0) ≡ Some w
+
+module _
+    {T R : Type 0} {number : T → ℕ} {shows : R → List Bool} {es : List (Key T × List Bool)} {all : List (Key T × R)} {a : Items} (both : AreCompared number shows es all a)
+    (i j : ℕ) (e f : Key T × List Bool) (l : i < length a) (m : j < length a) (at : e ≡ get_or es i e) (next : f ≡ get_or es j f)
+  where
+    pub are_read : AreRead number a i j e f
+    are_read = record { here = stands both i e l at; there = stands both j f m next; mine = found both i e l at; later = found both j f m next }
+
+    pub are_others : (x y : Key T × R) → x ≡ get_or all i x → y ≡ get_or all j y → AreOthers number (items_shown number shows all) e.0 f.0 (shows x.1) (shows y.1)
+    are_others x y at_x at_y = record { its = other_found both i e l at x at_x; later = other_found both j f m next y at_y }

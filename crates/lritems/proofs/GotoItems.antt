@@ -10,9 +10,12 @@ use Rattle.lritems.proofs.ItemsAscending.{ascending_from_upwards, same_from_agre
 use Rattle.lrclosing.proofs.AscendingItems.{item_from_among}
 use Rattle.lrclosing.proofs.ItemKeys.{Key}
 
--- items whose lookaheads are shown by `shows`
+-- an item whose lookaheads are shown by `shows`, and several
+abbrev pub item_shown : {T R : Type 0} → (T → ℕ) → (R → List Bool) → Key T × R → (ℕ × ℕ) × List Bool
+item_shown number shows e = ((number e.0.0.0, number e.0.1.0), shows e.1)
+
 abbrev pub items_shown : {T R : Type 0} → (T → ℕ) → (R → List Bool) → List (Key T × R) → Items
-items_shown number shows es = map (λ e. ((number e.0.0.0, number e.0.1.0), shows e.1)) es
+items_shown number shows es = map (item_shown number shows) es
 
 -- a test by what its denial says
 denied : (a b : Bool) → a ≡ not b → not a ≡ b
