@@ -1,5 +1,5 @@
 -- the list of the rules whose rows are reached, by one bit a rule
-use Rattle.std.proofs.Common.{◌≡◌, ℕ, zero, suc, ◌+◌, ◌<◌, ◌≤◌, Bool, true, false, List, [], ◌∷◌, ◌++◌, Some, length, get_or, set, drop, add-one, drop-cons, length-set, get_or-set_other, refl, sym, ap, ◌∙◌, arith, inl, inr}
+use Rattle.std.proofs.Common.{◌≡◌, ℕ, zero, suc, ◌+◌, ◌<◌, ◌≤◌, Bool, true, false, List, [], ◌∷◌, ◌++◌, Some, length, get_or, set, length-set, get_or-set_other, refl, sym, ap, ◌∙◌, arith, inl, inr}
 use Rattle.std.specs.Prelude.{IsTrue, if◌then◌else◌, slice_get, vec_capacity}
 use Rattle.std.specs.List.{All, Contains}
 use Rattle.std.specs.declared.alloc.Global.{Global}
@@ -114,10 +114,6 @@ reached_none v ks n e room = record {
   count = rw (e, count_none v n) refl;
   room = room;
 }
-
--- what is left of a list begins with the element at hand
-pub left_here : (xs : List ℕ) (i d : ℕ) → i < length xs → drop i xs ≡ get_or xs i d ∷ drop (i + 1) xs
-left_here xs i d l = rw add-one (drop-cons xs i d l)
 
 -- a bit that is written where that changed something
 pub set_if_true : (c : Bool) (b : ℕ) (v u : List Bool) → c ≡ true → IsSetIf c b v u → u ≡ set v b true

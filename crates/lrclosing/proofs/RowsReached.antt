@@ -1,5 +1,5 @@
 -- which rows are reached, by one bit a rule
-use Rattle.std.proofs.Common.{◌≡◌, ℕ, zero, suc, ◌<◌, Bool, true, false, List, [], ◌∷◌, Some, None, length, set, replicate, refl, sym, ap, ◌∙◌, arith, inl, inr}
+use Rattle.std.proofs.Common.{◌≡◌, ℕ, zero, suc, ◌+◌, ◌<◌, Bool, true, false, List, [], ◌∷◌, Some, None, length, get_or, set, drop, replicate, add-one, drop-cons, refl, sym, ap, ◌∙◌, arith, inl, inr}
 use Rattle.std.specs.Prelude.{IsTrue, slice_get, if◌then◌else◌}
 use Rattle.std.specs.Option.{IsSome}
 use Rattle.std.proofs.lemmas.Bool.{cases_eq}
@@ -13,6 +13,7 @@ use Rattle.lrclosing.specs.Rows.{row_at}
 use Rattle.lrclosing.specs.Leads.{rows_in, reached_of, led_row, IsLed}
 use Rattle.lrclosing.proofs.MarkedProductions.{below_of_bit}
 use Rattle.lrclosing.proofs.RowsWritten.{row_here, written_here, written_there}
+use Rattle.lrclosing.proofs.SetPlaces.{first_among}
 use Rattle.lrclosing.proofs.VisitedItems.{clear_bits}
 use Rattle.lrclosing.proofs.VisitedLeads.{IsSetIf}
 
@@ -45,6 +46,21 @@ bit_by_row (x ∷ rs) (suc a) h = bit_by_row rs a h
 
 pub below_of_row : (rs : List Row) (a : ℕ) → IsSome (row_at (rows_in rs) a) → a < length rs
 below_of_row rs a h = omega (arith, below_of_bit (reached_of rs) a (bit_by_row rs a h), length_reached rs)
+
+-- what is left of a list begins with the element at hand
+pub left_here : (xs : List ℕ) (i d : ℕ) → i < length xs → drop i xs ≡ get_or xs i d ∷ drop (i + 1) xs
+left_here xs i d l = rw add-one (drop-cons xs i d l)
+
+-- the rule at a place of a list of reached ones has a row, and is below the number of rows
+pub row_in_turn :
+    (rs : List Row) (rules : List ℕ) (i : ℕ) → i < length rules → ((r : ℕ) → Among r (drop i rules) → IsSome (row_at (rows_in rs) r))
+    → IsSome (row_at (rows_in rs) (get_or rules i 0))
+row_in_turn rs rules i l some = first_among (λ r. IsSome (row_at (rows_in rs) r)) _ _ _ (left_here rules i 0 l) some
+
+pub rule_in_turn :
+    (rs : List Row) (rules : List ℕ) (i n : ℕ) → length rs ≡ n → i < length rules → ((r : ℕ) → Among r (drop i rules) → IsSome (row_at (rows_in rs) r))
+    → get_or rules i 0 < n
+rule_in_turn rs rules i n e l some = omega (arith, below_of_row rs (get_or rules i 0) (row_in_turn rs rules i l some), e)
 
 -- ---- a row that is written
 

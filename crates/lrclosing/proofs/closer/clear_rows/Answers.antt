@@ -8,8 +8,8 @@ use Rattle.lrspec.proofs.grammars.ListMembers.{among_from_contains}
 use Rattle.lrbits.specs.Bits.{bit}
 use Rattle.lrclosing.specs.Leads.{reached_of}
 use Rattle.lrclosing.proofs.MarkedProductions.{below_of_bit}
-use Rattle.lrclosing.proofs.ReachedPlaces.{reached_none, left_here}
-use Rattle.lrclosing.proofs.RowsReached.{length_reached, left_by_bits, left_next, none_reached, no_bits}
+use Rattle.lrclosing.proofs.ReachedPlaces.{reached_none}
+use Rattle.lrclosing.proofs.RowsReached.{left_here, length_reached, left_by_bits, left_next, none_reached, no_bits}
 use Rattle.lrclosing.proofs.RowsWritten.{kept_written}
 use Rattle.lrclosing.proofs.closer.clear_rows.Goals as goal
 

@@ -1,14 +1,10 @@
-use Rattle.std.proofs.Common.{◌≡◌, ◌<◌, length, get_or, arith, inl}
-use Rattle.std.specs.Option.{IsSome}
+use Rattle.std.proofs.Common.{◌≡◌, length, get_or, arith, inl}
 use Rattle.std.proofs.lemmas.List.{drop_all}
 use Rattle.lrspec.proofs.grammars.ListMembers.{among_from_contains, contains_from_among}
-use Rattle.lrclosing.specs.Rows.{row_at}
 use Rattle.lrclosing.specs.Leads.{rows_in}
 use Rattle.lrclosing.proofs.ListedTurns.{number_kept}
 use Rattle.lrclosing.proofs.ProductionsWithRows.{range_next, range_every}
-use Rattle.lrclosing.proofs.ReachedPlaces.{left_here}
-use Rattle.lrclosing.proofs.RowsReached.{row_by_bit, bit_by_row, below_of_row}
-use Rattle.lrclosing.proofs.SetPlaces.{first_among}
+use Rattle.lrclosing.proofs.RowsReached.{row_by_bit, bit_by_row, left_here, rule_in_turn}
 use Rattle.lrclosing.proofs.listing.reached_range.Goals as goal
 
 pub loop-place-init : goal.loop-place-init
@@ -28,8 +24,7 @@ unwrap-requires g c =
     let rs = c.args.closer.now.rows.items in
     let rules = c.as_slice-place-items.result.now in
     let i = c.loop-place.place-index in
-    let some = first_among (λ r. IsSome (row_at (rows_in rs) r)) _ _ _ (left_here rules i 0 c.loop-place-test.true) c.loop-place.invariant.some in
-    let below : get_or rules i 0 < length c.args.grm.now.rule_names = omega (arith, below_of_row rs (get_or rules i 0) some, c.requires.is.rows.len) in
+    let below = rule_in_turn rs rules i (length c.args.grm.now.rule_names) c.requires.is.rows.len c.loop-place-test.true c.loop-place.invariant.some in
     number_kept _ _ g.T.IndexStorage.MAX (get_or rules i 0) (length c.args.grm.now.rule_names) c.from_usize.ensures below c.prods_len.ensures.sizes.rules
 
 pub with_productions-range-requires : goal.with_productions-range-requires
@@ -37,9 +32,8 @@ with_productions-range-requires g c =
     let rs = c.args.closer.now.rows.items in
     let rules = c.as_slice-place-items.result.now in
     let i = c.loop-place.place-index in
-    let some = first_among (λ r. IsSome (row_at (rows_in rs) r)) _ _ _ (left_here rules i 0 c.loop-place-test.true) c.loop-place.invariant.some in
     let place : g.T.IndexStorage.number c.unwrap.result ≡ get_or rules i 0 = (rw c.unwrap.ensures at c.from_usize.ensures).1 in
-    omega (arith, below_of_row rs (get_or rules i 0) some, c.requires.is.rows.len, place)
+    rw place (rule_in_turn rs rules i _ c.requires.is.rows.len c.loop-place-test.true c.loop-place.invariant.some)
 
 pub loop-place-preserved : goal.loop-place-preserved
 loop-place-preserved g c =
