@@ -1,7 +1,8 @@
 -- words for weak compatibility by bits, and for what merging changes
 use Rattle.std.specs.Prelude.{◌≡◌, ℕ, ◌<◌, Bool, List, Some, map, slice_get, ◌⊎◌}
-use Rattle.lrspec.specs.grammars.ItemSets.{Items, LooksIn}
-use Rattle.lrspec.specs.merging.WeakCompatibility.{Passes}
+use Rattle.lrspec.specs.grammars.Grammar.{Grammar}
+use Rattle.lrspec.specs.grammars.ItemSets.{Items, LooksIn, Fits, AreUpwards}
+use Rattle.lrspec.specs.merging.WeakCompatibility.{SameItems, Passes, IsUnion}
 use Rattle.lrbits.specs.Bits.{Intersect}
 use Rattle.lritems.specs.ItemsOf.{HaveBits}
 
@@ -41,3 +42,15 @@ pub record Gains (a b : Items) : Type 0 where
   pub t : ℕ
   pub now : LooksIn b p d t
   pub before : LooksIn a p d t → ⊥
+
+-- the core can take the goto in: both have the same items, of one number of bits, and those of the
+-- goto come upwards
+pub record CanTakeIn (core goto : Items) : Type 0 where
+  pub items : SameItems core goto
+  pub bits : HaveEquallyManyBits core goto
+  pub upwards : AreUpwards goto
+
+-- the core took the goto in: it is their union now, and fits each grammar that it fitted
+pub record TookIn (old goto new : Items) : Type 0 where
+  pub union : IsUnion old goto new
+  pub fits : (g : Grammar) → Fits g old → Fits g new

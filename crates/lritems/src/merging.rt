@@ -1,13 +1,12 @@
 //! Weak compatibility of cores with gotos, and merging.
 
 ghost use Rattle.std.specs.Prelude.{◌≡◌, ◌≢◌, ℕ, ◌<◌, Bool, List, true, false, length, Some, slice_get, slice_set, IsTrue, IsSomeAnd, ◌↔◌};
-ghost use Rattle.lrspec.specs.grammars.Grammar.{Grammar};
-ghost use Rattle.lrspec.specs.grammars.ItemSets.{Fits, AreUpwards};
-ghost use Rattle.lrspec.specs.merging.WeakCompatibility.{SameItems, IsWeaklyCompatible, Clash, IsUnion};
+ghost use Rattle.lrspec.specs.grammars.ItemSets.{AreUpwards};
+ghost use Rattle.lrspec.specs.merging.WeakCompatibility.{SameItems, IsWeaklyCompatible, Clash};
 ghost use Rattle.lrbits.specs.Bits.{union};
 ghost use Rattle.lritems.specs.ItemsOf.{Agree};
 ghost use Rattle.lritems.specs.Gotos.{items_in};
-ghost use Rattle.lritems.specs.Merging.{HaveEquallyManyBits, HaveSameKeys, BitsPass, BitsClash, PassesWithLater, Gains};
+ghost use Rattle.lritems.specs.Merging.{CanTakeIn, TookIn, HaveEquallyManyBits, HaveSameKeys, BitsPass, BitsClash, PassesWithLater, Gains};
 
 use crate::cores::Core;
 use crate::gotos::Goto;
@@ -104,11 +103,8 @@ fn merge_at<T: IndexStorage>(core: &mut Core<T>, place: usize, ctx: &Ctx) -> boo
 /// Makes the core its union with the goto, which has the same items, and says whether that changed it. Takes no
 /// memory.
 pub fn weakly_merge<T: IndexStorage>(core: &mut Core<T>, other: &Goto<T>) -> bool
-    requires items { SameItems core.old (items_in T.number other.now) }
-    requires bits { HaveEquallyManyBits core.old (items_in T.number other.now) }
-    requires upwards { AreUpwards (items_in T.number other.now) }
-    ensures union { IsUnion core.old (items_in T.number other.now) core.new }
-    ensures fits { (g : Grammar) → Fits g core.old → Fits g core.new }
+    requires { CanTakeIn core.old (items_in T.number other.now) }
+    ensures taken { TookIn core.old (items_in T.number other.now) core.new }
     ensures same { result ≡ false → Agree core.new core.old }
     ensures grew { result ≡ true → Gains core.old core.new }
 {

@@ -2,15 +2,12 @@
 
 ghost use Rattle.std.specs.Prelude.{◌≡◌, ℕ, [], None, Some, false, true, ◌⊎◌, OnOk, if◌then◌else◌};
 ghost use Rattle.lrspec.specs.grammars.Grammar as math;
-ghost use Rattle.lrspec.specs.grammars.Grammar.{Grammar};
-ghost use Rattle.lrspec.specs.grammars.ItemSets.{Fits, AreUpwards};
-ghost use Rattle.lrspec.specs.merging.WeakCompatibility.{SameItems, IsUnion};
 ghost use Rattle.lrspec.specs.merging.Graph.{same_symbol, edge_at};
 ghost use Rattle.lrgrammar.specs.Symbols.{symbol_of};
 ghost use Rattle.lritems.specs.Gotos.{items_in};
 ghost use Rattle.lrgraphs.specs.GraphOf.{edges_of};
 ghost use Rattle.lrplacing.specs.Construction.{IsUnclosedIfGrown, TellsGrowth, HasEdgesOnce};
-ghost use Rattle.lritems.specs.Merging.{HaveEquallyManyBits};
+ghost use Rattle.lritems.specs.Merging.{CanTakeIn, TookIn};
 
 use lrgrammar::idx::{IndexStorage, Symbol};
 use lritems::cores::Core;
@@ -115,12 +112,9 @@ impl<T: IndexStorage> Draft<T> {
 
     /// Merges a goto into the core, and says whether that grew it: the state is then to be closed again.
     pub(crate) fn merge(&mut self, goto: &Goto<T>) -> bool
-        requires items { SameItems self.old.core (items_in T.number goto.now) }
-        requires bits { HaveEquallyManyBits self.old.core (items_in T.number goto.now) }
-        requires upwards { AreUpwards (items_in T.number goto.now) }
+        requires { CanTakeIn self.old.core (items_in T.number goto.now) }
         ensures edges { self.new.edges ≡ self.old.edges }
-        ensures fits { (g : Grammar) → Fits g self.old.core → Fits g self.new.core }
-        ensures union { IsUnion self.old.core (items_in T.number goto.now) self.new.core }
+        ensures taken { TookIn self.old.core (items_in T.number goto.now) self.new.core }
         ensures closed { IsUnclosedIfGrown self.old.core self.new.core
             self.old.is_closed self.new.is_closed }
         ensures grew { TellsGrowth result self.old.core self.new.core }

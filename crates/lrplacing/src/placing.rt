@@ -3,9 +3,8 @@
 ghost use Rattle.std.specs.Prelude.{◌≡◌, ◌≢◌, ℕ, true, false, IsTrue, ◌↔◌, ◌+◌, ◌<◌, ◌≤◌, ◌==◌, ◌&&◌, if◌then◌else◌, length, slice_get, slice_index, None, Some, IfOk, IfErr, OnOk, MatchOption, ◌⊎◌};
 ghost use Rattle.std.specs.List.{All};
 ghost use Rattle.lrspec.specs.grammars.Grammar as math;
-ghost use Rattle.lrspec.specs.grammars.Grammar.{Grammar};
-ghost use Rattle.lrspec.specs.grammars.ItemSets.{Fits, AreUpwards};
-ghost use Rattle.lrspec.specs.merging.WeakCompatibility.{SameItems, IsWeaklyCompatible, Clash, IsUnion};
+ghost use Rattle.lrspec.specs.grammars.ItemSets.{AreUpwards};
+ghost use Rattle.lrspec.specs.merging.WeakCompatibility.{SameItems, IsWeaklyCompatible, Clash};
 ghost use Rattle.lrspec.specs.merging.Graph.{same_symbol};
 ghost use Rattle.lrgrammar.specs.Symbols.{symbol_of};
 ghost use Rattle.lrplacing.specs.Construction.{core_at, closed_at, edge_from, with_closed, closed_unless, TellsGrowth, Stays, IsUnclosedIfGrown, PlacesOne, PlacesAll};
@@ -16,7 +15,7 @@ ghost use Rattle.lrplacing.specs.ChosenPlaces.{HoldsOfNone, IsFirstWith, IsEqual
 ghost use Rattle.lrplacing.specs.Refusals.{IsLargeOnly};
 ghost use Rattle.lritems.specs.Fingerprints.{fingerprint_of};
 ghost use Rattle.lritems.specs.Gotos.{items_in, gotos_of, AllUpwards, AreOnDistinctSymbols};
-ghost use Rattle.lritems.specs.Merging.{HaveEquallyManyBits};
+ghost use Rattle.lritems.specs.Merging.{CanTakeIn, TookIn, HaveEquallyManyBits};
 
 use crate::candidates::Candidates;
 use crate::draft::Draft;
@@ -97,17 +96,13 @@ fn link<T: IndexStorage>(
 /// Merges the goto into the core of the state `k`, and says whether that grew it.
 fn merge_at<T: IndexStorage>(drafts: &mut Vec<Draft<T>>, k: usize, goto: &Goto<T>) -> bool
     requires below { k < length drafts.old.items }
-    requires items { SameItems (core_at drafts.old.items k) (items_in T.number goto.now) }
-    requires bits { HaveEquallyManyBits (core_at drafts.old.items k) (items_in T.number goto.now) }
-    requires upwards { AreUpwards (items_in T.number goto.now) }
+    requires can { CanTakeIn (core_at drafts.old.items k) (items_in T.number goto.now) }
     ensures len { length drafts.new.items ≡ length drafts.old.items }
     ensures others { (j : ℕ) → j ≢ k → slice_get drafts.new.items j ≡ slice_get drafts.old.items j }
     ensures edges { (y : math.Symbol)
         → edge_from drafts.new.items k y ≡ edge_from drafts.old.items k y }
-    ensures union { IsUnion (core_at drafts.old.items k) (items_in T.number goto.now)
+    ensures taken { TookIn (core_at drafts.old.items k) (items_in T.number goto.now)
         (core_at drafts.new.items k) }
-    ensures fits { (g : Grammar) → Fits g (core_at drafts.old.items k)
-        → Fits g (core_at drafts.new.items k) }
     ensures closed { IsUnclosedIfGrown (core_at drafts.old.items k) (core_at drafts.new.items k)
         (closed_at drafts.old.items k) (closed_at drafts.new.items k) }
     ensures grew { TellsGrowth result (core_at drafts.old.items k) (core_at drafts.new.items k) }

@@ -60,16 +60,14 @@ loop-k-preserved g c =
       );
     }
 
-pub returns-clause-union : goal.returns-clause-union
-returns-clause-union g c =
+pub returns-clause-taken : goal.returns-clause-taken
+returns-clause-taken g c =
     let number = g.T.IndexStorage.number in
     let m = c.loop-k.invariant.merging in
     let all = c.args.other.now.items.items in
     let long = equally_long number (λ r. r.now) c.core.inside.items.items all _ c.core.view_is c.core.invariant c.requires.upwards c.requires.items in
     let end : length all ≤ c.loop-k.k = omega (arith, long, c.core.inside.items.ok.0) in
-    end_merging m.0 _ _ _ _ _ m.3 (none_left number (λ r. r.now) all c.loop-k.k end)
-
-pub returns-clause-fits : goal.returns-clause-fits
-returns-clause-fits g c = λ grm h.
-    let m = c.loop-k.invariant.merging in
-    fits_of_merging m.0 _ _ _ _ _ m.1 m.3 grm h
+    record {
+      union = end_merging m.0 _ _ _ _ _ m.3 (none_left number (λ r. r.now) all c.loop-k.k end);
+      fits = λ grm h. fits_of_merging m.0 _ _ _ _ _ m.1 m.3 grm h;
+    }

@@ -41,10 +41,14 @@ find_compatible-requires-clause-below g c =
 pub find_compatible-requires-clause-bits : goal.find_compatible-requires-clause-bits
 find_compatible-requires-clause-bits g c = rw c.as_slice-2.ensures.value c.requires.bits
 
-pub merge_at-grew-requires-clause-bits : goal.merge_at-grew-requires-clause-bits
-merge_at-grew-requires-clause-bits g c =
+pub merge_at-grew-requires-clause-can : goal.merge_at-grew-requires-clause-can
+merge_at-grew-requires-clause-can g c =
     let found = rw c.as_slice-2.ensures.value at c.in-Some-find_compatible.ensures.compatible in
-    c.requires.bits c.in-Some-find_compatible.k found.0
+    record {
+      items = found.1.items;
+      bits = c.requires.bits c.in-Some-find_compatible.k found.0;
+      upwards = c.requires.upwards;
+    }
 
 pub returns-in-Some-find_compatible-clause-placed : goal.returns-in-Some-find_compatible-clause-placed
 returns-in-Some-find_compatible-clause-placed g c =
@@ -53,8 +57,8 @@ returns-in-Some-find_compatible-clause-placed g c =
     let m = c.merge_at-grew.ensures in
     let l = c.in_ok-link-2.ensures in
     put_places c.args.from (symbol_of number c.args.symbol) c.in-Some-find_compatible.k
-    (put_merged c.args.drafts.now.items c.merge_at-grew.new.drafts.items (items_in number c.args.goto.now) c.in-Some-find_compatible.k found.0 found.1 m.len m.others m.edges m.union
-    m.fits m.closed)
+    (put_merged c.args.drafts.now.items c.merge_at-grew.new.drafts.items (items_in number c.args.goto.now) c.in-Some-find_compatible.k found.0 found.1 m.len m.others m.edges m.taken.union
+    m.taken.fits m.closed)
     l.len l.stays l.edges
 
 pub returns-in-Some-find_compatible-clause-choice : goal.returns-in-Some-find_compatible-clause-choice
@@ -70,7 +74,7 @@ returns-in-Some-find_compatible-clause-candidates g c =
     let k = c.in-Some-find_compatible.k in
     let old = c.args.drafts.now.items in
     candidates_kept (l.len ∙ m.len)
-    (λ j b. rw ((l.stays j).core) (merged_items old c.merge_at-grew.new.drafts.items k m.others m.union j))
+    (λ j b. rw ((l.stays j).core) (merged_items old c.merge_at-grew.new.drafts.items k m.others m.taken.union j))
     c.requires.candidates
 
 pub returns-clause-placed : goal.returns-clause-placed
@@ -100,11 +104,6 @@ returns-clause-candidates g c =
     (candidates_made c.args.drafts.now.items c.make.new.drafts.items c.args.candidates.now c.add.new.self (items_in number c.args.goto.now) m.len
     (λ j b. others_core c.args.drafts.now.items c.make.new.drafts.items m.others j b) (m.core ∙ c.in_ok-core.ensures) c.requires.upwards
     (rw (m.number, c.goto_fingerprint-fingerprint.ensures) at a.here) (rw c.goto_fingerprint-fingerprint.ensures at a.others) c.requires.candidates)
-
-pub merge_at-grew-requires-clause-items : goal.merge_at-grew-requires-clause-items
-merge_at-grew-requires-clause-items g c =
-    let found = rw c.as_slice-2.ensures.value at c.in-Some-find_compatible.ensures.compatible in
-    found.1.items
 
 pub link-requires-2-clause-from : goal.link-requires-2-clause-from
 link-requires-2-clause-from g c = omega (arith, c.in_ok-k.ensures.len, c.requires.from)

@@ -1,31 +1,20 @@
 use Rattle.std.proofs.Common.{◌≡◌, true, false, ap, sym, subst, refl, ◌∙◌, inl, inr}
 use Rattle.lrspec.specs.grammars.ItemSets.{LooksIn}
-use Rattle.lrspec.specs.merging.WeakCompatibility.{SameItems, IsUnion}
 use Rattle.lritems.specs.Gotos.{items_in}
-use Rattle.lritems.specs.Merging.{HaveEquallyManyBits, Gains}
+use Rattle.lritems.specs.Merging.{CanTakeIn, TookIn, Gains}
 use Rattle.lrplacing.specs.Construction.{Draft}
 use Rattle.lrplacing.proofs.CoreGrowth.{of_equal, looks_of_agree}
 use Rattle.lrplacing.proofs.draft.Draft.merge.Goals as goal
 
-pub returns-then-grew-clause-fits : goal.returns-then-grew-clause-fits
-returns-then-grew-clause-fits g c = λ n f. rw c.unclose.ensures.core (c.weakly_merge-grew.ensures.fits n (rw (← c.self.view_is) at f))
-
-pub returns-else-grew-clause-fits : goal.returns-else-grew-clause-fits
-returns-else-grew-clause-fits g c = λ n f. c.weakly_merge-grew.ensures.fits n (rw (← c.self.view_is) at f)
-
 pub weakly_merge-grew-requires : goal.weakly_merge-grew-requires
 weakly_merge-grew-requires g c =
     let goto = items_in g.T.IndexStorage.number c.args.goto.now in
-    record {
-      items = subst (λ (s : Draft). SameItems s.core goto) (sym c.self.view_is) c.requires.items;
-      bits = subst (λ (s : Draft). HaveEquallyManyBits s.core goto) (sym c.self.view_is) c.requires.bits;
-      upwards = c.requires.upwards;
-    }
+    subst (λ (s : Draft). CanTakeIn s.core goto) (sym c.self.view_is) c.requires
 
-pub returns-then-grew-clause-union : goal.returns-then-grew-clause-union
-returns-then-grew-clause-union g c =
+pub returns-then-grew-clause-taken : goal.returns-then-grew-clause-taken
+returns-then-grew-clause-taken g c =
     let old = ap (λ (s : Draft). s.core) c.self.view_is in
-    of_equal (λ a b. IsUnion a (items_in g.T.IndexStorage.number c.args.goto.now) b) _ _ _ _ (sym old) c.unclose.ensures.core c.weakly_merge-grew.ensures.union
+    of_equal (λ a b. TookIn a (items_in g.T.IndexStorage.number c.args.goto.now) b) _ _ _ _ (sym old) c.unclose.ensures.core c.weakly_merge-grew.ensures.taken
 
 pub returns-then-grew-clause-closed : goal.returns-then-grew-clause-closed
 returns-then-grew-clause-closed g c =
@@ -37,10 +26,10 @@ returns-then-grew-clause-grew g c =
     let old = ap (λ (s : Draft). s.core) c.self.view_is in
     (λ e. of_equal Gains _ _ _ _ (sym old) c.unclose.ensures.core (c.weakly_merge-grew.ensures.grew e), λ e. absurd (let n : true ≡ false = sym c.if-grew.true ∙ e in cc))
 
-pub returns-else-grew-clause-union : goal.returns-else-grew-clause-union
-returns-else-grew-clause-union g c =
+pub returns-else-grew-clause-taken : goal.returns-else-grew-clause-taken
+returns-else-grew-clause-taken g c =
     let old = ap (λ (s : Draft). s.core) c.self.view_is in
-    of_equal (λ a b. IsUnion a (items_in g.T.IndexStorage.number c.args.goto.now) b) _ _ _ _ (sym old) refl c.weakly_merge-grew.ensures.union
+    of_equal (λ a b. TookIn a (items_in g.T.IndexStorage.number c.args.goto.now) b) _ _ _ _ (sym old) refl c.weakly_merge-grew.ensures.taken
 
 pub returns-else-grew-clause-closed : goal.returns-else-grew-clause-closed
 returns-else-grew-clause-closed g c =
