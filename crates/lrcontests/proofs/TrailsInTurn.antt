@@ -11,7 +11,7 @@ use Rattle.std.specs.List.{list_any}
 use Rattle.std.specs.BTreeSet.{BTreeSet, contains, insert_key}
 use Rattle.std.specs.BTreeMap.{is_at}
 use Rattle.std.proofs.lemmas.Bool.Decides.{nat_tests}
-use Rattle.std.proofs.lemmas.List.{length-append, map_more, map-append}
+use Rattle.std.proofs.lemmas.List.{length-append, length-map, map_more, map-append}
 use Rattle.std.proofs.lemmas.List.Sorted.{Contains-permutation, length_permutation, IsPermutation-map, IsPermutation-sym}
 use Rattle.std.proofs.lemmas.List.Elements.{Contains-append_left, Contains-push, Contains-push_cases}
 use Rattle.lrspec.specs.grammars.Grammar.{Symbol, Grammar, IsGrammar}
@@ -300,8 +300,11 @@ module _ (g : Grammar) (h : Graph) (t : ℕ) (ps : List Place) where
   }
 
   -- it is one that is there
-  pub turn_below : (vs : List Visit) (ws zs : List ℕ) (n : ℕ) → IsPermutation ws (n ∷ zs) → IsSearching vs ws (λ i. ⊥) → n < length vs
-  turn_below vs ws zs n p k = k.waits n (Contains-permutation (n ∷ zs) ws n (IsPermutation-sym ws (n ∷ zs) p) (in_head n zs))
+  pub turn_below :
+      {X : Type 0} (f : X → Visit) (xs : List X) (ws zs : List ℕ) (n : ℕ) → IsPermutation ws (n ∷ zs) → IsSearching (map f xs) ws (λ i. ⊥) → n < length xs
+  turn_below f xs ws zs n p k =
+      let below = k.waits n (Contains-permutation (n ∷ zs) ws n (IsPermutation-sym ws (n ∷ zs) p) (in_head n zs)) in
+      omega (arith, below, length-map xs f)
 
   -- what was covered by steps is covered by visits of their places
   cover_steps :

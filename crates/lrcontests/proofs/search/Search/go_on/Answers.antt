@@ -1,22 +1,18 @@
 -- a visit for each step
-use Rattle.std.specs.BinaryHeap.{heap_items}
 use Rattle.std.proofs.lemmas.List.{take_all}
-use Rattle.lrcontests.specs.Trails.{visits_of, turns_of, next_of}
+use Rattle.lrcontests.specs.Trails.{next_of}
 use Rattle.lrcontests.proofs.TrailsInTurn.{none_added, one_added}
 use Rattle.lrcontests.proofs.search.Search.go_on.Goals as goal
 
 pub loop-step-init : goal.loop-step-init
-loop-step-init g c =
-    let number = g.T.IndexStorage.number in
-    record { known = c.requires.known; added = none_added (visits_of number c.args.self.now.visits.items) (turns_of (heap_items c.args.self.now.waiting)) }
+loop-step-init g c = record { known = c.requires.known; added = none_added _ _ }
 
 pub loop-step-preserved : goal.loop-step-preserved
 loop-step-preserved g c =
-    let number = g.T.IndexStorage.number in
     record {
       known = c.in_ok-add.ensures.known;
       added =
-          one_added (next_of number c.args.from) c.args.steps.now c.loop-step.step-index c.step-item.result c.loop-step-test.true c.step-item.is
+          one_added (next_of g.T.IndexStorage.number c.args.from) c.args.steps.now c.loop-step.step-index c.step-item.result c.loop-step-test.true c.step-item.is
           c.loop-step.invariant.added c.in_ok-add.ensures.added;
     }
 
