@@ -1,6 +1,6 @@
 -- what closes a need, one item after another
-use Rattle.std.proofs.Common.{◌≡◌, ℕ, ◌<◌, Bool, List, length, Option, None, Some, [], ◌∷◌, ◌++◌, refl, sym, ap, ◌∙◌, ◌⊎◌, inl, inr, ⊎_elim}
-use Rattle.std.specs.Prelude.{Contains}
+use Rattle.std.proofs.Common.{◌≡◌, ℕ, ◌<◌, Bool, true, false, List, length, Option, None, Some, [], ◌∷◌, ◌++◌, refl, sym, ap, ◌∙◌, ◌⊎◌, inl, inr, ⊎_elim}
+use Rattle.std.specs.Prelude.{Contains, IsTrue, ◌↔◌}
 use Rattle.std.specs.Option.{IsSome}
 use Rattle.std.proofs.lemmas.List.Elements.{Contains-append_left, Contains-push, Contains-push_cases}
 use Rattle.lrspec.specs.grammars.Grammar.{Symbol, Rule, Grammar, IsProductionOf}
@@ -10,7 +10,8 @@ use Rattle.lrspec.proofs.grammars.BodyFacts.{rule_unique}
 use Rattle.lrspec.proofs.grammars.Closures.{has_of_looks}
 use Rattle.lrspec.proofs.grammars.ListMembers.{contains_one, only_one, among_from_contains, contains_from_among}
 use Rattle.lrcontests.specs.declared.rests.Rest.TheVariants as rest
-use Rattle.lrcontests.specs.Rests.{HasBehind, IsRestBehind}
+use Rattle.lrcontests.specs.Rests as behind
+use Rattle.lrcontests.specs.Rests.{HasBehind, IsRestBehind, IsClosedBy}
 use Rattle.lrcontests.specs.Searches as search
 use Rattle.lrcontests.specs.Searches.{Need, Met, Look, Closes, IsLooking, AreClosesOf}
 
@@ -76,7 +77,7 @@ module _ (g : Grammar) (c : Items) (t r : ℕ) where
       }
 
       -- an item before another symbol, or with other symbols behind the rule
-      pub neither_closing : IsRestBehind g q d r t rest.Neither → AreClosing zs Left → AreClosing zs Rest
+      neither_closing : IsRestBehind g q d r t rest.Neither → AreClosing zs Left → AreClosing zs Rest
       neither_closing n k = record {
         sound = k.sound;
         looking = k.looking;
@@ -88,7 +89,7 @@ module _ (g : Grammar) (c : Items) (t r : ℕ) where
       same_behind x y e f = let both : Rule r ∷ x ≡ Rule r ∷ y = sym e ∙ f in cc
 
       -- an item with nullable symbols behind the rule that does not look at the token
-      pub blind_closing : IsRestBehind g q d r t rest.Nullable → (LooksIn c q d t → ⊥) → AreClosing zs Left → AreClosing zs Rest
+      blind_closing : IsRestBehind g q d r t rest.Nullable → (LooksIn c q d t → ⊥) → AreClosing zs Left → AreClosing zs Rest
       blind_closing n blind k = record {
         sound = k.sound;
         looking = k.looking;
@@ -96,7 +97,7 @@ module _ (g : Grammar) (c : Items) (t r : ℕ) where
       }
 
       -- one that does
-      pub nullable_closing :
+      nullable_closing :
           IsProductionOf g p r → IsRestBehind g q d r t rest.Nullable → LooksIn c q d t → AreClosing zs Left
           → AreClosing (zs ++ Look q d ∷ []) Rest
       nullable_closing of n look k = record {
@@ -110,14 +111,32 @@ module _ (g : Grammar) (c : Items) (t r : ℕ) where
             (passed_grows zs (Look q d)) k.passed;
       }
 
+      -- an item of the closed state, by what it adds
+      pub next_closing :
+          {b : Bool} {ys : List Need} {done : Bool} → IsTrue b ↔ LooksIn c q d t → IsClosedBy g q d r t b zs ys done → done ≡ false → IsProductionOf g p r
+          → AreClosing zs Left → AreClosing ys Rest
+      next_closing reads (behind.IsClosedBy.begins n) e of k = absurd cc
+      next_closing reads (behind.IsClosedBy.looks n look) e of k = nullable_closing of n (reads.0 look) k
+      next_closing reads (behind.IsClosedBy.blind n look) e of k = blind_closing n (λ i. let no : false ≡ true = sym look ∙ reads.1 i in cc) k
+      next_closing reads (behind.IsClosedBy.neither n) e of k = neither_closing n k
+
     -- an item behind whose rule the symbols can begin with the token closes the need
-    pub met_closing :
+    met_closing :
         (q d : ℕ) → IsProductionOf g p r → IsRestBehind g q d r t rest.Begins → HasItem c q d → AreClosesOf g c t p (Met ∷ [])
     met_closing q d of n i = record {
       sound = λ z h. rw (only_one Met z h) (search.Closes.begins q d i n.1 of n.2);
       looking = λ z h. rw (only_one Met z h) tt;
       all = λ z h l. inr (contains_one Met);
     }
+
+    -- so where nothing more is needed, that alone closes it
+    pub all_closed :
+        {q d : ℕ} {b : Bool} {zs ys : List Need} {done : Bool} → IsClosedBy g q d r t b zs ys done → done ≡ true → IsProductionOf g p r → HasItem c q d
+        → AreClosesOf g c t p ys
+    all_closed {q = q} {d = d} (behind.IsClosedBy.begins n) e of i = met_closing q d of n i
+    all_closed (behind.IsClosedBy.looks n look) e of i = absurd cc
+    all_closed (behind.IsClosedBy.blind n look) e of i = absurd cc
+    all_closed (behind.IsClosedBy.neither n) e of i = absurd cc
 
     -- where no item is left, they are all that close the need
     pub end_closing :

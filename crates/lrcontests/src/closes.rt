@@ -2,9 +2,11 @@
 
 ghost use Rattle.std.specs.Prelude.{◌≡◌, ◌≢◌, ◌<◌, length, IsTrue, IfOk, IfNone, IfSome, MatchOption, ◌↔◌};
 ghost use Rattle.lrspec.specs.grammars.Grammar as math;
-ghost use Rattle.lrspec.specs.grammars.ItemSets.{Fits};
+ghost use Rattle.lrspec.specs.grammars.ItemSets.{Fits, FitsAt};
+ghost use Rattle.lrbits.specs.Bits.{bit};
 ghost use Rattle.lrgrammar.specs.Firsts.{AreFirstsOf};
 ghost use Rattle.lritems.specs.ItemsOf.{set_of};
+ghost use Rattle.lrcontests.specs.Rests.{IsClosedBy};
 ghost use Rattle.lrcontests.specs.Searches as search;
 ghost use Rattle.lrcontests.specs.Searches.{GoesBack, IsSettled, IsMetAtStart, IsLooking, AreClosesOf};
 ghost use Rattle.lrcontests.specs.StoredPlaces.{need_of, needs_of};
@@ -15,7 +17,7 @@ use crate::rests::{Rest, rest_behind};
 use lrgrammar::firsts::YaccFirsts;
 use lrgrammar::grammar::YaccGrammar;
 use lrgrammar::idx::{IndexStorage, PIdx, RIdx, SIdx, TIdx};
-use lritems::itemset::Itemset;
+use lritems::itemset::{Ctx, Itemset};
 use std::alloc::AllocError;
 
 /// The production of which an item at dot 0 is needed, but for the start item.
@@ -91,6 +93,40 @@ pub(crate) fn moved_back<T: IndexStorage>(need: Need<T>) -> Option<Need<T>>
     }
 }
 
+/// Adds what closes the need of a production of the rule by the item, which has these lookaheads; answers whether nothing more is
+/// needed, and then that alone is left.
+fn close_by<T: IndexStorage>(
+    needs: &mut Vec<Need<T>>,
+    grm: &YaccGrammar<T>,
+    firsts: &YaccFirsts<T>,
+    item: (PIdx<T>, SIdx<T>),
+    ctx: &Ctx,
+    rule: RIdx<T>,
+    token: TIdx<T>,
+) -> Result<bool, AllocError>
+    requires of { AreFirstsOf grm.now firsts.now }
+    requires fits { FitsAt grm.now (T.number item.0.0) (T.number item.1.0) ctx.now }
+    requires token { T.number token.0 < math.token_count grm.now }
+    ensures { IfOk result (IsClosedBy grm.now (T.number item.0.0) (T.number item.1.0)
+        (T.number rule.0) (T.number token.0) (bit ctx.now (T.number token.0))
+        (needs_of T.number needs.old.items) (needs_of T.number needs.new.items)) }
+{
+    match rest_behind(grm, firsts, item, rule, token) {
+        Rest::Begins => {
+            needs.clear();
+            needs.push(Need::Met)?;
+            return Ok(true);
+        }
+        Rest::Nullable => {
+            if ctx.get(usize::from(token)) {
+                needs.push(Need::Look(item.0, item.1))?;
+            }
+        }
+        Rest::Neither => {}
+    }
+    Ok(false)
+}
+
 /// What closes the need of the production's item at dot 0, of all items of the closed state.
 fn closes_by_items<T: IndexStorage>(
     grm: &YaccGrammar<T>,
@@ -109,18 +145,8 @@ fn closes_by_items<T: IndexStorage>(
     let rule = grm.prod_to_rule(pidx);
     let mut needs = Vec::new(grm.allocator());
     for (key, ctx) in &closed.items {
-        match rest_behind(grm, firsts, *key, rule, token) {
-            Rest::Begins => {
-                needs.clear();
-                needs.push(Need::Met)?;
-                return Ok(needs);
-            }
-            Rest::Nullable => {
-                if ctx.get(usize::from(token)) {
-                    needs.push(Need::Look(key.0, key.1))?;
-                }
-            }
-            Rest::Neither => {}
+        if close_by(&mut needs, grm, firsts, *key, ctx, rule, token)? {
+            return Ok(needs);
         }
     }
     Ok(needs)
@@ -149,18 +175,8 @@ fn closes_by_row<T: IndexStorage>(
         let Some(ctx) = closed.items.get(key) else {
             continue;
         };
-        match rest_behind(grm, firsts, *key, rule, token) {
-            Rest::Begins => {
-                needs.clear();
-                needs.push(Need::Met)?;
-                return Ok(needs);
-            }
-            Rest::Nullable => {
-                if ctx.get(usize::from(token)) {
-                    needs.push(Need::Look(key.0, key.1))?;
-                }
-            }
-            Rest::Neither => {}
+        if close_by(&mut needs, grm, firsts, *key, ctx, rule, token)? {
+            return Ok(needs);
         }
     }
     Ok(needs)

@@ -1,5 +1,5 @@
 -- the needs that are listed so far close that of the production
-use Rattle.std.proofs.Common.{ℕ, drop}
+use Rattle.std.proofs.Common.{drop}
 use Rattle.std.specs.Prelude.{Contains}
 use Rattle.lritems.specs.ItemsOf.{set_of}
 use Rattle.lrcontests.specs.StoredPlaces.{needs_of}
