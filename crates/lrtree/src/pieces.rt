@@ -118,7 +118,7 @@ fn turned_token<T: IndexStorage>(grm: &YaccGrammar<T>, tidx: TIdx<T>) -> Result<
     ensures { IfOk result (λ v. v.items ≡ reverse (token_text grm.now (T.number tidx.0))) }
 {
     let mut text = String::new(grm.allocator());
-    push_token(grm, tidx, &mut text)?;
+    push_token(&mut text, grm, tidx)?;
     Ok(turned(text))
 }
 

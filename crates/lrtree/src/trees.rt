@@ -80,7 +80,7 @@ impl<T: IndexStorage> Tree<T> {
         let mut is_first = true;
         let mut visits = self.visits(alloc);
         while let Some(visit) = visits.next()? {
-            push_visit(grm, visit, is_first, &mut text)?;
+            push_visit(&mut text, grm, visit, is_first)?;
             is_first = visit.is_enter();
         }
         Ok(text)
