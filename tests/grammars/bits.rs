@@ -16,9 +16,8 @@ struct Pair<'a> {
     /// Whether they are equal, and whether they meet; whether `one` is changed when `other` is joined to it, and when that
     /// is done again; and then whether they are equal, and whether they meet.
     relations: [bool; 6],
-    /// The bounds of a range, and the places in it that are set in `one` in the end.
-    range: (usize, usize),
-    places: &'a [usize],
+    /// Ranges by their bounds, and the places in each that are set in `one` in the end.
+    ranges: &'a [((usize, usize), &'a [usize])],
 }
 
 /// Sets these places, which are not set yet.
@@ -68,19 +67,21 @@ fn is_found(rt: &impl Abort, alloc: Global, pair: &Pair<'_>) -> Result<(), Alloc
     set_places(rt, &mut other, pair.other);
     assert!(rt; one.len() == pair.len && pair.unset < one.len() && !one.get(pair.unset));
     relate(rt, &mut one, &other, pair.relations);
-    are_set(rt, alloc, &one, pair.range, pair.places)
+    for (range, places) in pair.ranges {
+        are_set(rt, alloc, &one, *range, places)?;
+    }
+    Ok(())
 }
 
-/// The last four are of more bits than 16 bits count.
-static PAIRS: [Pair<'static>; 8] = [
+/// The last two are of more bits than 16 bits count.
+static PAIRS: [Pair<'static>; 6] = [
     Pair {
         len: 128,
         one: &[],
         unset: 64,
         other: &[],
         relations: [true, false, false, false, true, false],
-        range: (0, 128),
-        places: &[],
+        ranges: &[((0, 128), &[])],
     },
     Pair {
         len: 128,
@@ -88,8 +89,7 @@ static PAIRS: [Pair<'static>; 8] = [
         unset: 63,
         other: &[],
         relations: [false, false, false, false, false, false],
-        range: (0, 128),
-        places: &[64],
+        ranges: &[((0, 128), &[64])],
     },
     Pair {
         len: 128,
@@ -97,8 +97,7 @@ static PAIRS: [Pair<'static>; 8] = [
         unset: 63,
         other: &[64],
         relations: [true, true, false, false, true, true],
-        range: (0, 128),
-        places: &[64],
+        ranges: &[((0, 128), &[64])],
     },
     Pair {
         len: 128,
@@ -106,8 +105,7 @@ static PAIRS: [Pair<'static>; 8] = [
         unset: 71,
         other: &[],
         relations: [false, false, false, false, false, false],
-        range: (60, 70),
-        places: &[60, 63, 64, 69],
+        ranges: &[((60, 70), &[60, 63, 64, 69])],
     },
     Pair {
         len: 65537,
@@ -115,17 +113,10 @@ static PAIRS: [Pair<'static>; 8] = [
         unset: 65535,
         other: &[64, 65535],
         relations: [false, false, true, false, false, true],
-        range: (0, 65537),
-        places: &[0, 64, 65535, 65536],
-    },
-    Pair {
-        len: 65537,
-        one: &[0, 65536],
-        unset: 65535,
-        other: &[64, 65535],
-        relations: [false, false, true, false, false, true],
-        range: (65535, 65537),
-        places: &[65535, 65536],
+        ranges: &[
+            ((0, 65537), &[0, 64, 65535, 65536]),
+            ((65535, 65537), &[65535, 65536]),
+        ],
     },
     Pair {
         len: 70000,
@@ -133,17 +124,10 @@ static PAIRS: [Pair<'static>; 8] = [
         unset: 69998,
         other: &[64, 69998],
         relations: [false, false, true, false, false, true],
-        range: (0, 70000),
-        places: &[0, 64, 69998, 69999],
-    },
-    Pair {
-        len: 70000,
-        one: &[0, 69999],
-        unset: 69998,
-        other: &[64, 69998],
-        relations: [false, false, true, false, false, true],
-        range: (65535, 70000),
-        places: &[69998, 69999],
+        ranges: &[
+            ((0, 70000), &[0, 64, 69998, 69999]),
+            ((65535, 70000), &[69998, 69999]),
+        ],
     },
 ];
 
