@@ -2,8 +2,8 @@
 
 use crate::fixtures::grammar_and_table;
 use lrgrammar::grammar::YaccGrammar;
-use lrgrammar::idx::{IndexStorage, PIdx, TIdx};
-use lrtable::statetable::{Conflicts, CoreReducesIterator, StateActionsIterator};
+use lrgrammar::idx::{IndexStorage, TIdx};
+use lrtable::statetable::Conflicts;
 use lrtable::{Action, StIdx, StateTable};
 use std::alloc::{AllocError, Global};
 use std::test::Fail;
@@ -87,25 +87,12 @@ pub fn gotos<T: IndexStorage>(
     Ok(told)
 }
 
-/// Adds the numbers of the tokens that the iterator gives.
-fn push_tokens<T: IndexStorage>(
+/// Adds the numbers, each behind a space.
+fn push_spaced(
     told: &mut String,
-    tokens: StateActionsIterator<'_, T>,
+    numbers: impl Iterator<Item = usize> + Drop,
 ) -> Result<(), AllocError> {
-    for token in tokens {
-        let number = usize::from(token);
-        write!(told, " {number}")?;
-    }
-    Ok(())
-}
-
-/// Adds the numbers of the productions by which the state reduces.
-fn push_reduces<T: IndexStorage>(
-    told: &mut String,
-    prods: CoreReducesIterator<'_, T>,
-) -> Result<(), AllocError> {
-    for prod in prods {
-        let number = usize::from(prod);
+    for number in numbers {
         write!(told, " {number}")?;
     }
     Ok(())
@@ -119,11 +106,11 @@ fn push_row<T: IndexStorage>(
     from: StIdx<T>,
 ) -> Result<(), AllocError> {
     told.push_str("acts")?;
-    push_tokens(told, table.state_actions(from))?;
+    push_spaced(told, table.state_actions(from).map(usize::from))?;
     told.push_str(", shifts")?;
-    push_tokens(told, table.state_shifts(from))?;
+    push_spaced(told, table.state_shifts(from).map(usize::from))?;
     told.push_str(", reduces")?;
-    push_reduces(told, table.core_reduces(from))?;
+    push_spaced(told, table.core_reduces(from).map(usize::from))?;
     if table.reduce_only_state(from) {
         told.push_str(" only")?;
     }
@@ -142,15 +129,6 @@ pub fn row<T: IndexStorage>(
     Ok(told)
 }
 
-/// Adds the numbers of the productions.
-fn push_prods<T: IndexStorage>(told: &mut String, prods: &[PIdx<T>]) -> Result<(), AllocError> {
-    for prod in prods {
-        let number = usize::from(*prod);
-        write!(told, " {number}")?;
-    }
-    Ok(())
-}
-
 /// Adds the numbers of the productions of the rule of that name.
 fn push_prods_of<T: IndexStorage>(
     told: &mut String,
@@ -158,7 +136,8 @@ fn push_prods_of<T: IndexStorage>(
     name: &str,
 ) -> Result<(), Fail> {
     let rule = grm.rule_idx(name).ok_or("a rule")?;
-    push_prods(told, grm.rule_to_prods(rule))?;
+    let prods = grm.rule_to_prods(rule);
+    push_spaced(told, prods.iter().map(|prod| usize::from(*prod)))?;
     Ok(())
 }
 
