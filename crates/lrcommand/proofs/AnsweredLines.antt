@@ -3,12 +3,13 @@ use Rattle.std.proofs.Common.{◌≡◌, ℕ, ◌∙◌, sym, ap, refl, subst, L
 use Rattle.std.proofs.lemmas.Grind.{flat_map-append}
 use Rattle.std.proofs.lemmas.List.{append-nil, take-append-drop}
 use Rattle.std.specs.Prelude.{OnOk}
-use Rattle.std.specs.Io.KnownBytes.{Appends, IsAtEnd, Keeps}
+use Rattle.std.specs.Io.KnownBytes.{Appends, Keeps}
 use Rattle.std.specs.Option.{IsSomeAnd}
 use Rattle.lrspec.specs.texts.Devices.{ConsumesSome, AppendsBeginning, AppendsFirstAnswers}
 use Rattle.lrspec.specs.texts.Lines.{nonempty, rest_of, whole_lines, lines, answers_to, answer_text}
 use Rattle.lrspec.specs.grammars.Grammar.{Grammar}
 use Rattle.lrspec.specs.tables.Table.{Table}
+use Rattle.lrtable.specs.Answered.{AreAnswered}
 use Rattle.lrtable.specs.declared.machine.LineError.{LineError}
 use Rattle.lrtable.specs.declared.machine.LineError.TheVariants as ended
 use Rattle.lrcommand.specs.Printing.{MeansGrammar, IsMergedTable, AcceptsAlone}
@@ -56,27 +57,18 @@ consumes_as :
     (bytes left : Option (List ℕ)) (P Q : List ℕ → Type 0) → ((read : List ℕ) → P read → Q read) → ConsumesSome bytes left P → ConsumesSome bytes left Q
 consumes_as bytes left P Q f (read, consumed, p) = (read, consumed, f read p)
 
--- however the answering of lines ended, a beginning of the answers was written
-module _ (answer : List ℕ → List ℕ) (bytes left old new : Option (List ℕ)) where
-  pub however_ended :
-      {X : Type 0} (r : Result X LineError)
-      → OnOk r (ConsumesSome bytes left (λ read. Appends old new (answer_text answer read)))
-      → (r ≡ Err ended.Read → ConsumesSome bytes left (λ read. Appends old new (answers_to answer (whole_lines read))))
-      → (r ≡ Err ended.Write → ConsumesSome bytes left (λ read. AppendsBeginning old new (answer_text answer read)))
-      → (r ≡ Err ended.Memory → ConsumesSome bytes left (λ read. AppendsFirstAnswers old new answer (lines read)))
-      → AnswersBeginning answer bytes old new
-  however_ended (Ok x) ok read write memory = (left, consumes_as bytes left _ _ (λ r. beginning_of_all old new (answer_text answer r)) ok)
-  however_ended (Err ended.Read) ok read write memory = (left, consumes_as bytes left _ _ (beginning_of_whole answer old new) (read refl))
-  however_ended (Err ended.Write) ok read write memory = (left, write refl)
-  however_ended (Err ended.Memory) ok read write memory =
-      (left, consumes_as bytes left _ _ (λ r. beginning_of_first answer old new (lines r)) (memory refl))
+module _ {X : Type 0} {answer : List ℕ → List ℕ} {bytes left old new : Option (List ℕ)} where
+  -- however the answering of lines ended, a beginning of the answers was written
+  pub however_ended : (r : Result X LineError) → AreAnswered answer r bytes left old new → AnswersBeginning answer bytes old new
+  however_ended (Ok x) told = (left, consumes_as bytes left _ _ (λ r. beginning_of_all old new (answer_text answer r)) told.ok)
+  however_ended (Err ended.Read) told = (left, consumes_as bytes left _ _ (beginning_of_whole answer old new) (told.read refl))
+  however_ended (Err ended.Write) told = (left, told.write refl)
+  however_ended (Err ended.Memory) told = (left, consumes_as bytes left _ _ (λ r. beginning_of_first answer old new (lines r)) (told.memory refl))
 
--- where it ended well, all lines were answered
-pub ended_well :
-    {X : Type 0} (answer : List ℕ → List ℕ) (bytes left old new : Option (List ℕ)) (r : Result X LineError) → OnOk r (IsAtEnd left)
-    → OnOk r (ConsumesSome bytes left (λ read. Appends old new (answer_text answer read))) → OnOk r (AnswersAll answer bytes old new)
-ended_well answer bytes left old new (Ok x) end ok = (left, end, ok)
-ended_well answer bytes left old new (Err e) end ok = tt
+  -- where it ended well, all lines were answered
+  pub ended_well : (r : Result X LineError) → AreAnswered answer r bytes left old new → OnOk r (AnswersAll answer bytes old new)
+  ended_well (Ok x) told = (left, told.end, told.ok)
+  ended_well (Err e) told = tt
 
 -- a beginning of the answers stays one, if then known bytes are kept
 begun_kept :
