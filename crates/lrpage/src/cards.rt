@@ -47,7 +47,7 @@ impl<T: IndexStorage> Page<'_, T> {
     }
 
     /// The first of the entries that has a text with two trees, by its place, and the text.
-    fn first_text<'e>(&self, meeting: &'e [Evidence]) -> Option<(usize, &'e Ambiguity)>
+    fn first_ambiguous<'e>(&self, meeting: &'e [Evidence]) -> Option<(usize, &'e Ambiguity)>
         requires proved { AreShown self.now.found.now.grm meeting.now }
         ensures { IfSome result (λ told. IsShown self.now.found.now.grm told.1.now) }
     {
@@ -175,7 +175,7 @@ impl<T: IndexStorage> Page<'_, T> {
     fn push_all_known(&self, page: &mut String, meeting: &[Evidence]) -> Result<(), AllocError>
         requires proved { AreShown self.now.found.now.grm meeting.now }
     {
-        let first = self.first_text(meeting).map_or(0, |told| told.0);
+        let first = self.first_ambiguous(meeting).map_or(0, |told| told.0);
         if let Some(evidence) = meeting.get(first) {
             self.push_known(page, evidence)?;
         }
@@ -192,7 +192,7 @@ impl<T: IndexStorage> Page<'_, T> {
             "<details class=\"part\" id=\"c{number}\"{open}><summary>"
         )?;
         self.push_heading(page, card.meeting)?;
-        let text = self.first_text(card.meeting).map(|told| told.1);
+        let text = self.first_ambiguous(card.meeting).map(|told| told.1);
         self.push_tag(page, text)?;
         page.push_str("</summary>\n")?;
         self.push_places(page, card.marks.as_slice())?;
