@@ -3,7 +3,7 @@
 ghost use Rattle.std.specs.Prelude.{◌≡◌, ◌++◌, map, Contains, IsTrue, IfOk, OnOk};
 ghost use Rattle.std.specs.List.Sorted.{IsPermutation};
 ghost use Rattle.lrspec.specs.tables.Table.{lists_of};
-ghost use Rattle.lrfindings.specs.Listed.{told, listed, shift_listing, reduction_listing};
+ghost use Rattle.lrfindings.specs.Listed.{Listing, told, listed, shift_listing, reduction_listing};
 ghost use Rattle.lrrows.specs.StoredLists.{stored_shift_reduce, stored_reduce_reduce};
 
 use lrgrammar::idx::{IndexStorage, PIdx, StIdx, TIdx};
@@ -53,67 +53,61 @@ pub(crate) fn place_of(file: &FileGrammar, production: usize) -> usize {
     place.unwrap_or(Span::new(0, 0)).start
 }
 
-/// The entry of a shift/reduce conflict: token, production and state.
-fn shift_entry<T: IndexStorage>(file: &FileGrammar, conflict: (TIdx<T>, PIdx<T>, StIdx<T>)) -> Entry
-    ensures { told result ≡ shift_listing (stored_shift_reduce T.number conflict) }
-{
-    let (token, production, state) = conflict;
-    let production = usize::from(production);
-    Entry {
-        place: place_of(file, production),
-        state: usize::from(state),
-        production,
-        other: None,
-        token: usize::from(token),
+/// A conflict of one of the lists of a table.
+trait Listed: Copy {
+    // What it tells.
+    ghost listing: { Self → Listing };
+
+    /// Its entry.
+    fn entry(self, file: &FileGrammar) -> Entry
+        ensures { told result ≡ listing self };
+}
+
+/// A shift/reduce conflict: token, production and state.
+impl<T: IndexStorage> Listed for (TIdx<T>, PIdx<T>, StIdx<T>) {
+    ghost listing = { λ c. shift_listing (stored_shift_reduce T.number c) };
+
+    fn entry(self, file: &FileGrammar) -> Entry {
+        let (token, production, state) = self;
+        let production = usize::from(production);
+        Entry {
+            place: place_of(file, production),
+            state: usize::from(state),
+            production,
+            other: None,
+            token: usize::from(token),
+        }
     }
 }
 
-/// The entry of a reduce/reduce conflict: token, both productions, and state.
-fn reduction_entry<T: IndexStorage>(
-    file: &FileGrammar,
-    conflict: (TIdx<T>, PIdx<T>, PIdx<T>, StIdx<T>),
-) -> Entry
-    ensures { told result ≡ reduction_listing (stored_reduce_reduce T.number conflict) }
-{
-    let (token, production, other, state) = conflict;
-    let production = usize::from(production);
-    Entry {
-        place: place_of(file, production),
-        state: usize::from(state),
-        production,
-        other: Some(usize::from(other)),
-        token: usize::from(token),
+/// A reduce/reduce conflict: token, both productions, and state.
+impl<T: IndexStorage> Listed for (TIdx<T>, PIdx<T>, PIdx<T>, StIdx<T>) {
+    ghost listing = { λ c. reduction_listing (stored_reduce_reduce T.number c) };
+
+    fn entry(self, file: &FileGrammar) -> Entry {
+        let (token, production, other, state) = self;
+        let production = usize::from(production);
+        Entry {
+            place: place_of(file, production),
+            state: usize::from(state),
+            production,
+            other: Some(usize::from(other)),
+            token: usize::from(token),
+        }
     }
 }
 
-/// Adds the shift/reduce conflicts.
-fn push_shift_reduce<T: IndexStorage>(
+/// Adds the conflicts of a list.
+fn push_listed<C: Listed>(
     entries: &mut Vec<Entry>,
     file: &FileGrammar,
-    conflicts: &[(TIdx<T>, PIdx<T>, StIdx<T>)],
+    conflicts: &[C],
 ) -> Result<(), AllocError>
     ensures { OnOk result (map told entries.new.items
-        ≡ map told entries.old.items
-        ++ map (λ c. shift_listing (stored_shift_reduce T.number c)) conflicts.now) }
+        ≡ map told entries.old.items ++ map C.listing conflicts.now) }
 {
     for conflict in conflicts {
-        entries.push(shift_entry(file, *conflict))?;
-    }
-    Ok(())
-}
-
-/// Adds the reduce/reduce conflicts.
-fn push_reduce_reduce<T: IndexStorage>(
-    entries: &mut Vec<Entry>,
-    file: &FileGrammar,
-    conflicts: &[(TIdx<T>, PIdx<T>, PIdx<T>, StIdx<T>)],
-) -> Result<(), AllocError>
-    ensures { OnOk result (map told entries.new.items
-        ≡ map told entries.old.items
-        ++ map (λ c. reduction_listing (stored_reduce_reduce T.number c)) conflicts.now) }
-{
-    for conflict in conflicts {
-        entries.push(reduction_entry(file, *conflict))?;
+        entries.push(conflict.entry(file))?;
     }
     Ok(())
 }
@@ -127,8 +121,8 @@ fn push_conflicts<T: IndexStorage>(
     ensures { OnOk result (map told entries.new.items
         ≡ map told entries.old.items ++ listed conflicts.now) }
 {
-    push_shift_reduce(entries, file, conflicts.sr_conflicts().as_slice())?;
-    push_reduce_reduce(entries, file, conflicts.rr_conflicts().as_slice())?;
+    push_listed(entries, file, conflicts.sr_conflicts().as_slice())?;
+    push_listed(entries, file, conflicts.rr_conflicts().as_slice())?;
     Ok(())
 }
 

@@ -9,4 +9,4 @@ returns g c =
     both_added number c.args.conflicts.now c.as_slice.result.now c.as_slice-2.result.now _ _ _
     (ap (stored_shift_reduces number) c.as_slice.ensures.value ∙ c.sr_conflicts.ensures.entries)
     (ap (stored_reduce_reduces number) c.as_slice-2.ensures.value ∙ c.rr_conflicts.ensures.entries)
-    c.in_ok-push_shift_reduce.ensures c.in_ok-push_reduce_reduce.ensures
+    c.in_ok-push_listed.ensures c.in_ok-push_listed-2.ensures
