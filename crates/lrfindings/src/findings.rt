@@ -1,15 +1,7 @@
 //! What is found in the grammar of a file.
 
-ghost use Rattle.std.specs.Prelude.{◌≡◌, map, IfOk};
-ghost use Rattle.std.specs.List.Sorted.{IsPermutation};
-ghost use Rattle.std.specs.String.{string_bytes};
-ghost use Rattle.lrspec.specs.merging.Graph.{IsGraphOf};
-ghost use Rattle.lrspec.specs.tables.Conflicts.{AreReductionsContested};
-ghost use Rattle.lrspec.specs.tables.Recognition.{IsUnambiguous};
-ghost use Rattle.lrspec.specs.tables.Table.{IsTableOf, lists_of};
-ghost use Rattle.lrgrammar.specs.TextErrors.{IsGrammarOf};
-ghost use Rattle.lrfindings.specs.Listed.{told, listed};
-ghost use Rattle.lrfindings.specs.declared.verdicts.Verdict.TheVariants.{Unambiguous};
+ghost use Rattle.std.specs.Prelude.{IfOk};
+ghost use Rattle.lrfindings.specs.Findings.{AreFindings};
 
 use crate::cells::{CellFindings, Settled, cells_of};
 use crate::conflicts::{Entry, entries_of};
@@ -106,13 +98,7 @@ fn find_with<T: IndexStorage>(
     file: &FileGrammar,
     has_precedences: bool,
 ) -> Result<Findings<T>, FindError>
-    ensures grammar { IfOk result (λ f. IsGrammarOf T.MAX (string_bytes f.text) f.grm) }
-    ensures graph { IfOk result (λ f. IsGraphOf f.grm f.graph) }
-    ensures table { IfOk result (λ f. IsTableOf f.grm f.graph f.table) }
-    ensures contested { IfOk result (λ f. AreReductionsContested f.grm f.graph) }
-    ensures conflicts { IfOk result (λ f.
-        IsPermutation (listed (lists_of f.table)) (map told f.conflicts.items)) }
-    ensures unambiguous { IfOk result (λ f. f.verdict ≡ Unambiguous → IsUnambiguous f.grm) }
+    ensures { IfOk result (AreFindings T.MAX) }
 {
     let text = small_text(alloc, file, has_precedences)?;
     let grm = YaccGrammar::<T>::from_text(alloc, text.as_str())?;
@@ -147,13 +133,7 @@ pub fn find<T: IndexStorage>(
     file: &FileGrammar,
     has_precedences: bool,
 ) -> Result<Findings<T>, FindError>
-    ensures grammar { IfOk result (λ f. IsGrammarOf T.MAX (string_bytes f.text) f.grm) }
-    ensures graph { IfOk result (λ f. IsGraphOf f.grm f.graph) }
-    ensures table { IfOk result (λ f. IsTableOf f.grm f.graph f.table) }
-    ensures contested { IfOk result (λ f. AreReductionsContested f.grm f.graph) }
-    ensures conflicts { IfOk result (λ f.
-        IsPermutation (listed (lists_of f.table)) (map told f.conflicts.items)) }
-    ensures unambiguous { IfOk result (λ f. f.verdict ≡ Unambiguous → IsUnambiguous f.grm) }
+    ensures { IfOk result (AreFindings T.MAX) }
 {
     let found = find_with(alloc, file, has_precedences)?;
     if found.verdict == Verdict::NoConflicts && found.settled.is_empty() {

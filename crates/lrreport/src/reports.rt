@@ -1,14 +1,11 @@
 //! The report on a file.
 
-ghost use Rattle.std.specs.Prelude.{◌≡◌, ◌≢◌, All, map, IfOk, IfSome, IfNone, IsSome, string_bytes};
-ghost use Rattle.std.specs.List.Sorted.{IsPermutation};
+ghost use Rattle.std.specs.Prelude.{◌≡◌, ◌≢◌, All, map, IfOk, IfSome, IfNone, IsSome};
 ghost use Rattle.lrspec.specs.merging.Graph.{IsGraphOf};
 ghost use Rattle.lrspec.specs.tables.Conflicts.{AreReductionsContested};
 ghost use Rattle.lrspec.specs.tables.Recognition.{IsUnambiguous};
-ghost use Rattle.lrspec.specs.tables.Table.{IsTableOf, lists_of};
-ghost use Rattle.lrgrammar.specs.TextErrors.{IsGrammarOf};
 ghost use Rattle.lrfindings.specs.declared.verdicts.Verdict.TheVariants.{Unambiguous};
-ghost use Rattle.lrfindings.specs.Listed.{told, listed};
+ghost use Rattle.lrfindings.specs.Findings.{AreFindings};
 ghost use Rattle.lrfindings.specs.Verdicts.{status_of};
 ghost use Rattle.lrevidence.specs.Ambiguities.{HasTwoTrees, IsProved};
 ghost use Rattle.lrevidence.specs.Entries.{AreListedIn};
@@ -297,13 +294,7 @@ fn report_on_findings<T: IndexStorage>(
     found: Findings<T>,
     options: Options,
 ) -> Result<Report, AllocError>
-    requires grammar { IsGrammarOf T.MAX (string_bytes found.text) found.grm }
-    requires graph { IsGraphOf found.grm found.graph }
-    requires table { IsTableOf found.grm found.graph found.table }
-    requires contested { AreReductionsContested found.grm found.graph }
-    requires conflicts { IsPermutation (listed (lists_of found.table))
-        (map told found.conflicts.items) }
-    requires unambiguous { found.verdict ≡ Unambiguous → IsUnambiguous found.grm }
+    requires { AreFindings T.MAX found }
     ensures concluded { IfOk result (λ r. IsSome r.conclusion) }
     ensures proved { IfOk result (λ r. IfSome r.conclusion IsConcluded) }
     ensures status { IfOk result (λ r. IfSome r.conclusion (λ c. r.status ≡ status_of c.verdict)) }
