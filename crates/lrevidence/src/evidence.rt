@@ -171,7 +171,7 @@ fn first_ambiguity<T: IndexStorage>(
 
 /// A text with two trees, which part at one of the entries, where one is found: that of the first entry that has one. For each the
 /// search takes so many steps at the most. The error says that memory was refused.
-pub fn first_text<T: IndexStorage>(
+pub fn find_ambiguity<T: IndexStorage>(
     alloc: Global,
     found: &Findings<T>,
     entries: &[Entry],

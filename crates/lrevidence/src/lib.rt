@@ -11,7 +11,7 @@ mod steps;
 mod trees;
 
 pub use crate::ambiguities::Ambiguity;
-pub use crate::evidence::{Effort, Evidence, evidence_for, first_text};
+pub use crate::evidence::{Effort, Evidence, evidence_for, find_ambiguity};
 pub use crate::examples::{Example, Outlook};
 pub use crate::names::{
     body_of, list_of, name_of_rule, names_of, names_of_tokens, rule_name, start_of, symbol_name,

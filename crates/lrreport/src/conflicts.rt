@@ -149,7 +149,7 @@ impl<'a, T: IndexStorage> Checked<'a, T> {
     }
 
     /// The text with two trees of the first of the entries that has one, but for those at a token, and its entry's token.
-    pub(crate) fn first_text<'e>(
+    pub(crate) fn ambiguity_but_at<'e>(
         &self,
         meeting: &'e [Evidence],
         but: Option<usize>,

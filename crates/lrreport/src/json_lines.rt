@@ -170,7 +170,7 @@ pub(crate) fn json_of_findings<T: IndexStorage>(
     let counts = verdict.counts();
     let mut object = object_of_file(alloc, checked.source, checked.file, warnings, tells_grammar)?;
     let shown = checked
-        .first_text(checked.evidence, None)
+        .ambiguity_but_at(checked.evidence, None)
         .map(|told| told.1);
     object.verdict = word_of(verdict, shown.is_some());
     object.proved = checked.is_proved(verdict, shown);

@@ -50,7 +50,7 @@ impl<'a, T: IndexStorage> Checked<'a, T> {
     ) -> Result<Option<AmbiguityObject<'a>>, AllocError>
         requires proved { All (IsProved self.now.found.now.grm) meeting.now }
     {
-        match self.first_text(meeting, None) {
+        match self.ambiguity_but_at(meeting, None) {
             Some((_, ambiguity)) => {
                 Ok(Some(self.ambiguity_object(alloc, ambiguity, alternatives)?))
             }

@@ -268,7 +268,7 @@ impl<T: IndexStorage> Checked<'_, T> {
             self.push_unknown(text, notes, meeting)?;
         }
         if meeting.iter().filter(|it| it.ambiguity.is_some()).count() == 2 {
-            if let Some((token, ambiguity)) = self.first_text(meeting, Some(first)) {
+            if let Some((token, ambiguity)) = self.ambiguity_but_at(meeting, Some(first)) {
                 self.push_also(text, notes, token, ambiguity)?;
             }
         }
@@ -336,7 +336,7 @@ impl<T: IndexStorage> Checked<'_, T> {
     ) -> Result<(), AllocError>
         requires proved { All (IsProved self.now.found.now.grm) meeting.now }
     {
-        if let Some((token, ambiguity)) = self.first_text(meeting, None) {
+        if let Some((token, ambiguity)) = self.ambiguity_but_at(meeting, None) {
             self.push_ambiguity(text, notes, ambiguity)?;
             return self.push_others(text, notes, meeting, token);
         }

@@ -17,7 +17,7 @@ use crate::conflicts::{Checked, left_open};
 use crate::json_lines::{json_of_faults, json_of_findings, json_of_refusal};
 use crate::options::{Options, Output};
 use lrdiagnostics::{Layout, Source, TOLD, Teller, Weight, messages_of};
-use lrevidence::{Ambiguity, Effort, Evidence, evidence_for, first_text};
+use lrevidence::{Ambiguity, Effort, Evidence, evidence_for, find_ambiguity};
 use lrfindings::{Entry, FindError, Findings, Settled, Verdict, find, small_text};
 use lrgrammar::idx::IndexStorage;
 use lryacc::{Expected, Fault, FileGrammar, FileRead, read_file};
@@ -189,7 +189,7 @@ fn known_of<T: IndexStorage>(
     let evidence = evidence_for(alloc, file, found, entries.as_slice(), effort)?;
     let settled = settled_entries(alloc, found.settled.as_slice())?;
     let decided = if entries.is_empty() && !settled.is_empty() {
-        first_text(alloc, found, settled.as_slice(), options.steps)?
+        find_ambiguity(alloc, found, settled.as_slice(), options.steps)?
     } else {
         None
     };
