@@ -58,7 +58,7 @@ pub struct Closer {
 fn no_tokens<T: IndexStorage>(grm: &YaccGrammar<T>) -> Result<Ctx, AllocError>
     ensures { IfOk result (λ v. v ≡ replicate (math.token_count grm.now) false) }
 {
-    Vob::from_elem(grm.allocator(), false, grm.tokens_len().0.to_usize())
+    Vob::from_elem(grm.allocator(), false, usize::from(grm.tokens_len()))
 }
 
 /// What the production passes on, which begins with the rule. The error says that memory was refused.
@@ -77,7 +77,7 @@ fn lead_of<T: IndexStorage>(
     let mut begins = no_tokens(grm)?;
     let begun = put_firsts(&mut begins, grm, firsts, pidx, 1);
     Ok(Lead {
-        rule: rule.0.to_usize(),
+        rule: usize::from(rule),
         begins,
         inherits: begun.is_nullable,
     })
@@ -134,7 +134,7 @@ fn leads_by_rule<T: IndexStorage>(
     ensures len { IfOk result (λ v. length v.items ≡ length grm.now.rule_names) }
     ensures leads { IfOk result (λ v. AreLeadsByRule grm.now v.items) }
 {
-    let rules = grm.rules_len().0.to_usize();
+    let rules = usize::from(grm.rules_len());
     let mut leads = Vec::with_capacity(grm.allocator(), rules)?;
     for place in 0..rules {
         leads.push(leads_of(grm, firsts, RIdx(T::from_usize(place).unwrap()))?)?;
@@ -146,7 +146,7 @@ fn leads_by_rule<T: IndexStorage>(
 fn empty_rows<T: IndexStorage>(grm: &YaccGrammar<T>) -> Result<Vec<Row>, AllocError>
     ensures { IfOk result (λ v. AreClearRows grm.now v.items) }
 {
-    let rules = grm.rules_len().0.to_usize();
+    let rules = usize::from(grm.rules_len());
     let mut rows = Vec::with_capacity(grm.allocator(), rules)?;
     for _ in 0..rules {
         rows.push(Row {
@@ -298,7 +298,7 @@ impl Closer {
     {
         let leads = leads_by_rule(grm, firsts)?;
         let rows = empty_rows(grm)?;
-        let rules = grm.rules_len().0.to_usize();
+        let rules = usize::from(grm.rules_len());
         let reached = Vec::with_capacity(grm.allocator(), rules)?;
         let todo = Vob::from_elem(grm.allocator(), false, rules)?;
         Ok(Closer {
@@ -327,13 +327,14 @@ impl Closer {
             (IsRuleToDo grm.now self.old.todo) (IsRuleToDo grm.now self.new.todo) }
     {
         if let Some(rule) = rule_behind(grm, pidx, dot) {
-            let place = rule.0.to_usize();
+            let place = usize::from(rule);
             let was_reached = self.rows[place].is_reached;
             put_ahead(
                 &mut self.rows[place],
                 grm,
                 firsts,
                 pidx,
+                // `to_usize` tells that one more fits
                 dot.0.to_usize() + 1,
                 ctx,
             );

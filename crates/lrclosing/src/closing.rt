@@ -31,7 +31,7 @@ struct Closing {
 fn no_rows<T: IndexStorage>(grm: &YaccGrammar<T>) -> Result<Vec<Option<Vob>>, AllocError>
     ensures { IfOk result (λ v. v.items ≡ replicate (length grm.now.rule_names) None) }
 {
-    let rules = grm.rules_len().0.to_usize();
+    let rules = usize::from(grm.rules_len());
     let mut rows = Vec::with_capacity(grm.allocator(), rules)?;
     for _ in 0..rules {
         rows.push(None)?;
@@ -46,7 +46,7 @@ fn mark<T: IndexStorage>(todo: &mut Vob, grm: &YaccGrammar<T>, rule: RIdx<T>)
     ensures { AreMarked (λ q. math.IsProductionOf grm.now q (T.number rule.0)) todo.old todo.new }
 {
     for pidx in grm.rule_to_prods(rule) {
-        todo.set(pidx.0.to_usize(), true);
+        todo.set(usize::from(*pidx), true);
     }
 }
 
@@ -71,7 +71,7 @@ fn take_next<T: IndexStorage>(todo: &mut Vob, grm: &YaccGrammar<T>, from: usize)
     ensures was { IfSome result (λ p. IsTrue (bit todo.old (T.number p.0))) }
     ensures taken { IfSome result (λ p. todo.new ≡ slice_set todo.old (T.number p.0) false) }
 {
-    let place = next_set(todo, from, grm.prods_len().0.to_usize())?;
+    let place = next_set(todo, from, usize::from(grm.prods_len()))?;
     todo.set(place, false);
     Some(PIdx(T::from_usize(place).unwrap()))
 }
@@ -92,7 +92,7 @@ impl Closing {
             ≡ slice_set self.old.rows.items (T.number rule.0) (Some row) }
         ensures todo { AreMarkedIf changed grm.now (T.number rule.0) self.old.todo self.new.todo }
     {
-        self.rows[rule.0.to_usize()] = Some(row);
+        self.rows[usize::from(rule)] = Some(row);
         if changed {
             mark(&mut self.todo, grm, rule);
         }
@@ -116,12 +116,13 @@ impl Closing {
             (IsToDo self.old.todo) (IsToDo self.new.todo)) }
     {
         if let Some(rule) = rule_behind(grm, pidx, dot) {
-            let taken = self.rows[rule.0.to_usize()].take();
+            let taken = self.rows[usize::from(rule)].take();
             let (row, changed) = passed_on(
                 taken,
                 grm,
                 firsts,
                 pidx,
+                // `to_usize` tells that one more fits
                 dot.0.to_usize() + 1,
                 Some(ctx),
             )?;
@@ -173,9 +174,9 @@ impl Closing {
             ≤ visits_left (math.token_count grm.now) self.old.rows.items self.old.todo) }
     {
         if let Some(rule) = rule_behind(grm, pidx, SIdx(T::from_usize(0).unwrap())) {
-            let taken = self.rows[rule.0.to_usize()].take();
+            let taken = self.rows[usize::from(rule)].take();
             // None where the rule is the production's own, to which it has nothing to pass on.
-            let own = self.rows[grm.prod_to_rule(pidx).0.to_usize()].as_ref();
+            let own = self.rows[usize::from(grm.prod_to_rule(pidx))].as_ref();
             let (row, changed) = passed_on(taken, grm, firsts, pidx, 1, own)?;
             self.put_row(grm, rule, row, changed);
         }
@@ -190,7 +191,7 @@ fn no_closing<T: IndexStorage>(grm: &YaccGrammar<T>) -> Result<Closing, AllocErr
     ensures todo { IfOk result (λ c. HasNone c.todo) }
 {
     let rows = no_rows(grm)?;
-    let todo = Vob::from_elem(grm.allocator(), false, grm.prods_len().0.to_usize())?;
+    let todo = Vob::from_elem(grm.allocator(), false, usize::from(grm.prods_len()))?;
     Ok(Closing { rows, todo })
 }
 
@@ -212,6 +213,7 @@ pub fn closing_rows<T: IndexStorage>(
     while let Some(pidx) = take_next(&mut closing.todo, grm, from) {
         closing.visit_production(grm, firsts, pidx)?;
         visits = visits.saturating_add(1);
+        // `to_usize` tells that one more fits
         from = pidx.0.to_usize() + 1;
     }
     Ok((closing.rows, visits))

@@ -39,7 +39,7 @@ pub fn step_over<T: IndexStorage>(
     ensures shape { math.IsGrammar grm.now }
 {
     let body = grm.prod(pidx);
-    let at = dot.0.to_usize();
+    let at = usize::from(dot);
     if at < body.len() {
         Some((body[at], SIdx(T::from_usize(at + 1).unwrap())))
     } else {
@@ -91,9 +91,9 @@ pub(crate) fn rule_behind<T: IndexStorage>(
 fn item_fits<T: IndexStorage>(grm: &YaccGrammar<T>, pidx: PIdx<T>, dot: SIdx<T>, ctx: &Ctx) -> bool
     ensures { IsTrue result ↔ FitsAt grm.now (T.number pidx.0) (T.number dot.0) ctx.now }
 {
-    pidx.0.to_usize() < grm.prods_len().0.to_usize()
-        && dot.0.to_usize() <= grm.prod_len(pidx).0.to_usize()
-        && ctx.len() == grm.tokens_len().0.to_usize()
+    usize::from(pidx) < usize::from(grm.prods_len())
+        && usize::from(dot) <= usize::from(grm.prod_len(pidx))
+        && ctx.len() == usize::from(grm.tokens_len())
 }
 
 /// Whether each item exists in the grammar, and has one bit a token.

@@ -50,7 +50,7 @@ fn with_productions<T: IndexStorage>(
 {
     let mut found = range;
     for pidx in grm.rule_to_prods(rule) {
-        found = widened(found, pidx.0.to_usize());
+        found = widened(found, usize::from(*pidx));
     }
     found
 }
@@ -62,7 +62,7 @@ fn reached_range<T: IndexStorage>(grm: &YaccGrammar<T>, closer: &Closer) -> (usi
     ensures first { result.0 ≤ length grm.now.productions }
     ensures last { 0 < length grm.now.productions → result.1 < length grm.now.productions }
 {
-    let mut range = (grm.prods_len().0.to_usize(), 0);
+    let mut range = (usize::from(grm.prods_len()), 0);
     for place in closer.reached.as_slice() {
         range = with_productions(range, grm, RIdx(T::from_usize(*place).unwrap()));
     }
@@ -92,7 +92,7 @@ fn mark_from<T: IndexStorage>(bits: &mut Vob, from: usize, grm: &YaccGrammar<T>,
         bits.old bits.new }
 {
     for pidx in grm.rule_to_prods(rule) {
-        bits.set(pidx.0.to_usize() - from, true);
+        bits.set(usize::from(*pidx) - from, true);
     }
 }
 
@@ -105,7 +105,7 @@ fn mark_reached<T: IndexStorage>(
     ensures { IfOk result (λ m. ArePutIn grm.now (rows_of closer.now) m.from m.bits) }
 {
     let range = reached_range(grm, closer);
-    let len = places_in(range, grm.prods_len().0.to_usize());
+    let len = places_in(range, usize::from(grm.prods_len()));
     let mut bits = Vob::from_elem(grm.allocator(), false, len)?;
     for place in closer.reached.as_slice() {
         mark_from(
@@ -153,7 +153,7 @@ fn push_from<'a, T: IndexStorage>(
     let behind = place_of(productions, end);
     for place in productions.bits.iter_set_bits(begin..behind) {
         let pidx = PIdx(T::from_usize(productions.from + place).unwrap());
-        let row = &rows[grm.prod_to_rule(pidx).0.to_usize()];
+        let row = &rows[usize::from(grm.prod_to_rule(pidx))];
         items.push(((pidx, zero), &row.ctx))?;
     }
     Ok(())
@@ -176,9 +176,10 @@ fn push_closed<'a, T: IndexStorage>(
         ≡ listed_of T.number items.old.items
         ++ listed_items grm.now (rows_in rows.now) 0 (items_of T.number given.now)) }
 {
-    let end = grm.prods_len().0.to_usize();
+    let end = usize::from(grm.prods_len());
     let mut from = 0;
     for (key, ctx) in given {
+        // `to_usize` tells that one more fits
         let next = key.0.0.to_usize() + 1;
         push_from(items, grm, rows, productions, from, next)?;
         items.push((*key, ctx))?;

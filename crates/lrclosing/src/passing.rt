@@ -46,7 +46,7 @@ pub(crate) fn put_firsts<T: IndexStorage>(
         match symbol {
             Symbol::Token(token) => {
                 return Begun {
-                    changed: row.set(token.0.to_usize(), true) | changed,
+                    changed: row.set(usize::from(*token), true) | changed,
                     is_nullable: false,
                 };
             }
@@ -120,7 +120,7 @@ pub(crate) fn passed_on<T: IndexStorage>(
             Ok((old, changed))
         }
         None => {
-            let mut made = Vob::from_elem(grm.allocator(), false, grm.tokens_len().0.to_usize())?;
+            let mut made = Vob::from_elem(grm.allocator(), false, usize::from(grm.tokens_len()))?;
             pass_on(&mut made, grm, firsts, pidx, from, ctx);
             Ok((made, true))
         }

@@ -64,7 +64,7 @@ pub(crate) fn with_rows<T: IndexStorage>(
         (items_of T.number s.entries)) }
 {
     let mut closed = given.clone()?;
-    for place in 0..grm.rules_len().0.to_usize() {
+    for place in 0..usize::from(grm.rules_len()) {
         if let Some(row) = &rows[place] {
             put_all(&mut closed, grm, RIdx(T::from_usize(place).unwrap()), row)?;
         }

@@ -19,9 +19,9 @@ fn with_item<T: IndexStorage>(number: u64, key: &(PIdx<T>, SIdx<T>)) -> u64
 {
     number
         .wrapping_mul(PRIME)
-        .wrapping_add(key.0.0.to_usize() as u64)
+        .wrapping_add(usize::from(key.0) as u64)
         .wrapping_mul(PRIME)
-        .wrapping_add(key.1.0.to_usize() as u64)
+        .wrapping_add(usize::from(key.1) as u64)
 }
 
 /// The fingerprint of a core.

@@ -31,7 +31,7 @@ impl Pieces {
         ensures { IfOk result (λ pieces. ArePieces grm.now pieces.nodes.items) }
     {
         let mut nodes = Vec::new(grm.allocator());
-        for prod in 0..grm.prods_len().0.to_usize() {
+        for prod in 0..usize::from(grm.prods_len()) {
             nodes.push(node_pieces(grm, PIdx(T::from_usize(prod).unwrap()))?)?;
         }
         Ok(Pieces { nodes })
@@ -42,7 +42,7 @@ impl Pieces {
         requires { T.number pidx.0 < length self.now.nodes.items }
         ensures { texts_of result.now ≡ pieces_at self.now.nodes.items (T.number pidx.0) }
     {
-        self.nodes[pidx.0.to_usize()].as_slice()
+        self.nodes[usize::from(pidx)].as_slice()
     }
 
     /// Writes the text of the tree of these productions in order behind `out`. The tree is not made.

@@ -77,7 +77,7 @@ pub fn production_labels<T: IndexStorage>(grm: &YaccGrammar<T>) -> Result<Vec<St
     ensures { IfOk result (λ labels. AreLabels grm.now labels.items) }
 {
     let mut labels = Vec::new(grm.allocator());
-    for prod in 0..grm.prods_len().0.to_usize() {
+    for prod in 0..usize::from(grm.prods_len()) {
         labels.push(production_label(grm, PIdx(T::from_usize(prod).unwrap()))?)?;
     }
     Ok(labels)
@@ -102,7 +102,7 @@ fn push_reductions<T: IndexStorage>(
         ≡ out.old.items ++ labels_text labels.now (map (λ p. T.number p.0) reductions.now)) }
 {
     for pidx in reductions {
-        push_reduction(labels[pidx.0.to_usize()].as_str(), out)?;
+        push_reduction(labels[usize::from(*pidx)].as_str(), out)?;
     }
     Ok(())
 }

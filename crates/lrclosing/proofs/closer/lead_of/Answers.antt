@@ -7,7 +7,7 @@ use Rattle.lrclosing.proofs.closer.lead_of.Goals as goal
 pub returns : goal.returns
 returns g c = λ a h.
     let number = g.T.IndexStorage.number in
-    rw c.to_usize.ensures.number
+    rw c.from.ensures
     (lead_made c.args.grm.now (number c.args.pidx.0) a (number c.args.rule.0) _ c.in_ok-begins.begins c.put_firsts-begun.new.row c.put_firsts-begun.result.is_nullable
     c.requires.of.shape c.requires.first h c.in_ok-begins.ensures c.put_firsts-begun.ensures.put c.put_firsts-begun.ensures.nullable)
 

@@ -11,7 +11,7 @@ set-requires g c =
     let number = g.T.IndexStorage.number in
     let below = listed_below number c.args.grm.now c.rule_to_prods-pidx-items.result.now (number c.args.rule.0) c.loop-pidx.pidx-index c.pidx-item.result
     c.rule_to_prods-pidx-items.ensures.prods c.loop-pidx-test.true c.pidx-item.is in
-    omega (arith, below, c.to_usize.ensures.number, c.loop-pidx.invariant.len, c.requires.productions)
+    omega (arith, below, c.from.ensures, c.loop-pidx.invariant.len, c.requires.productions)
 
 pub loop-pidx-preserved : goal.loop-pidx-preserved
 loop-pidx-preserved g c =
@@ -24,7 +24,7 @@ loop-pidx-preserved g c =
     let at : get_or ps i 0 ≡ p = number_at (λ p. number p.0) xs i c.pidx-item.result c.loop-pidx-test.true c.pidx-item.is in
     let below = listed_below number c.args.grm.now xs (number c.args.rule.0) i c.pidx-item.result c.rule_to_prods-pidx-items.ensures.prods c.loop-pidx-test.true c.pidx-item.is in
     let within : p < length c.loop-pidx.todo = omega (arith, below, c.loop-pidx.invariant.len, c.requires.productions) in
-    mark_this ps i p _ _ _ c.loop-pidx.invariant (rw c.to_usize.ensures.number at c.set.ensures.after) within lt at
+    mark_this ps i p _ _ _ c.loop-pidx.invariant (rw c.from.ensures at c.set.ensures.after) within lt at
 
 pub returns : goal.returns
 returns g c =

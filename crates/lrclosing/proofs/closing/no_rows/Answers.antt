@@ -7,5 +7,5 @@ loop-preserved g c = clear_more c.loop.rows.items c.push.new.self.items c.loop.c
 
 pub returns : goal.returns
 returns g c =
-    let e : c.loop.counter ≡ length c.args.grm.now.rule_names = omega (arith, c.loop-test.false, c.to_usize-rules.ensures.number, c.rules_len.ensures.value) in
+    let e : c.loop.counter ≡ length c.args.grm.now.rule_names = omega (arith, c.loop-test.false, c.from-rules.ensures, c.rules_len.ensures.value) in
     rw e at c.loop.invariant

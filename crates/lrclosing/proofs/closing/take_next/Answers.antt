@@ -6,10 +6,10 @@ pub set-requires : goal.set-requires
 set-requires g c = below_of_bit _ _ c.in_ok-place.ensures.is_set
 
 pub next_set-requires-clause-order : goal.next_set-requires-clause-order
-next_set-requires-clause-order g c = omega (arith, c.requires.place, c.requires.productions, c.to_usize.ensures.number, c.prods_len.ensures.value)
+next_set-requires-clause-order g c = omega (arith, c.requires.place, c.requires.productions, c.from.ensures, c.prods_len.ensures.value)
 
 pub next_set-requires-clause-end : goal.next_set-requires-clause-end
-next_set-requires-clause-end g c = c.to_usize.ensures.number ∙ c.prods_len.ensures.value ∙ sym c.requires.productions
+next_set-requires-clause-end g c = c.from.ensures ∙ c.prods_len.ensures.value ∙ sym c.requires.productions
 
 pub returns-clause-was : goal.returns-clause-was
 returns-clause-was g c =

@@ -6,14 +6,14 @@ use Rattle.lrclosing.proofs.listing.mark_from.Goals as goal
 pub loop-pidx-init : goal.loop-pidx-init
 loop-pidx-init g c = offset_none c.args.from _ _
 
-pub overflow_sub-to_usize : goal.overflow_sub-to_usize
-overflow_sub-to_usize g c =
+pub overflow_sub-from : goal.overflow_sub-from
+overflow_sub-from g c =
     let number = g.T.IndexStorage.number in
     let xs = c.rule_to_prods-pidx-items.result.now in
     let i = c.loop-pidx.pidx-index in
     let within = c.requires.within (number c.pidx-item.result.0) (is_listed number c.args.grm.now xs (number c.args.rule.0) i c.pidx-item.result
     c.rule_to_prods-pidx-items.ensures.prods c.loop-pidx-test.true c.pidx-item.is) in
-    omega (arith, within.0, c.to_usize.ensures.number)
+    omega (arith, within.0, c.from.ensures)
 
 pub set-requires : goal.set-requires
 set-requires g c =
@@ -22,7 +22,7 @@ set-requires g c =
     let i = c.loop-pidx.pidx-index in
     let within = c.requires.within (number c.pidx-item.result.0) (is_listed number c.args.grm.now xs (number c.args.rule.0) i c.pidx-item.result
     c.rule_to_prods-pidx-items.ensures.prods c.loop-pidx-test.true c.pidx-item.is) in
-    omega (arith, within.0, within.1, c.to_usize.ensures.number, c.loop-pidx.invariant.len)
+    omega (arith, within.0, within.1, c.from.ensures, c.loop-pidx.invariant.len)
 
 pub loop-pidx-preserved : goal.loop-pidx-preserved
 loop-pidx-preserved g c =
@@ -36,7 +36,7 @@ loop-pidx-preserved g c =
     let within = c.requires.within p (is_listed number c.args.grm.now xs (number c.args.rule.0) i c.pidx-item.result
     c.rule_to_prods-pidx-items.ensures.prods c.loop-pidx-test.true c.pidx-item.is) in
     let high : p < c.args.from + length c.loop-pidx.bits = omega (arith, within.1, c.loop-pidx.invariant.len) in
-    offset_this c.args.from ps i p _ _ _ c.loop-pidx.invariant (rw c.to_usize.ensures.number at c.set.ensures.after) within.0 high lt at
+    offset_this c.args.from ps i p _ _ _ c.loop-pidx.invariant (rw c.from.ensures at c.set.ensures.after) within.0 high lt at
 
 pub returns : goal.returns
 returns g c =

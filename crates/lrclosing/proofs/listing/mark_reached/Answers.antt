@@ -8,17 +8,17 @@ use Rattle.lrclosing.proofs.RowsReached.{row_by_bit, bit_by_row, left_here, row_
 use Rattle.lrclosing.proofs.listing.mark_reached.Goals as goal
 
 pub places_in-len-requires-clause-first : goal.places_in-len-requires-clause-first
-places_in-len-requires-clause-first g c = omega (arith, c.reached_range-range.ensures.first, c.to_usize.ensures.number, c.prods_len.ensures.value)
+places_in-len-requires-clause-first g c = omega (arith, c.reached_range-range.ensures.first, c.from.ensures, c.prods_len.ensures.value)
 
 pub places_in-len-requires-clause-last : goal.places_in-len-requires-clause-last
-places_in-len-requires-clause-last g c = rw (c.to_usize.ensures.number, c.prods_len.ensures.value) c.reached_range-range.ensures.last
+places_in-len-requires-clause-last g c = rw (c.from.ensures, c.prods_len.ensures.value) c.reached_range-range.ensures.last
 
 pub loop-place-init : goal.loop-place-init
 loop-place-init g c =
     let rs = c.args.closer.now.rows.items in
     let is = c.requires.is.reached in
     let value = c.as_slice-place-items.ensures.value in
-    let n = rw (c.to_usize.ensures.number, c.prods_len.ensures.value) at c.places_in-len.ensures in
+    let n = rw (c.from.ensures, c.prods_len.ensures.value) at c.places_in-len.ensures in
     let r = c.reached_range-range.ensures in
     marked_none c.args.grm.now (rows_in rs) _ c.reached_range-range.result.0 c.places_in-len.result _ c.in_ok-bits.ensures.bits n.most
     (λ q h. let i = r.has q h in (i.0, n.all q (put_in_below c.args.grm.now (rows_in rs) q h) i))

@@ -73,5 +73,5 @@ pub returns : goal.returns
 returns g c =
     let number = g.T.IndexStorage.number in
     all_listed (λ y. ((number y.0.0.0, number y.0.1.0), y.1.now)) c.args.grm.now (rows_in c.args.rows.now) _ _ _ _ _ _
-    (none_left number c.args.given.now c.loop-key.key-index c.loop-key-test.false) (c.to_usize-end.ensures.number ∙ c.prods_len.ensures.value)
+    (none_left number c.args.given.now c.loop-key.key-index c.loop-key-test.false) (c.from-end.ensures ∙ c.prods_len.ensures.value)
     c.in_ok-push_from-2.ensures c.loop-key.invariant.listed

@@ -64,13 +64,13 @@ loop-place-preserved g c =
     let grm = c.args.grm.now in
     let m = c.args.productions.now in
     let rs = c.args.rows.now in
-    let row = c.index-rows-to_usize.result in
+    let row = c.index-rows-from.result in
     let p = number c.unwrap-in-loop-place.result in
     let r = number c.prod_to_rule.result.0 in
     let place : p ≡ m.from + c.in-Some.place = (rw c.unwrap-in-loop-place.ensures at c.from_usize-in-loop-place.ensures).1 in
     let dot : number c.unwrap.result ≡ 0 = (rw c.unwrap.ensures at c.from_usize.ensures).1 in
-    let rule : c.to_usize.result < length rs = let l = c.prod_to_rule.ensures.shape.rules p r c.prod_to_rule.ensures.rule in omega (arith, l, c.requires.rows.len, c.to_usize.ensures.number) in
-    let at : slice_get rs r ≡ Some row = rw c.to_usize.ensures.number at (read_at rs c.to_usize.result _ row c.index-rows-to_usize.is rule) in
+    let rule : c.from.result < length rs = let l = c.prod_to_rule.ensures.shape.rules p r c.prod_to_rule.ensures.rule in omega (arith, l, c.requires.rows.len, c.from.ensures) in
+    let at : slice_get rs r ≡ Some row = rw c.from.ensures at (read_at rs c.from.result _ row c.index-rows-from.is rule) in
     let set = first_among (λ k. (m.from + k < c.args.end) × IsTrue (bit m.bits k)) _ _ _ c.in-Some.ensures.steps c.loop-place.invariant.set in
     record {
       set = rest_among (λ k. (m.from + k < c.args.end) × IsTrue (bit m.bits k)) _ _ _ c.in-Some.ensures.steps c.loop-place.invariant.set;
@@ -82,8 +82,8 @@ loop-place-preserved g c =
           c.loop-place.invariant.added;
     }
 
-pub bounds-rows-to_usize : goal.bounds-rows-to_usize
-bounds-rows-to_usize g c =
+pub bounds-rows-from : goal.bounds-rows-from
+bounds-rows-from g c =
     let number = g.T.IndexStorage.number in
     let l = c.prod_to_rule.ensures.shape.rules (number c.unwrap-in-loop-place.result) (number c.prod_to_rule.result.0) c.prod_to_rule.ensures.rule in
-    omega (arith, l, c.requires.rows.len, c.to_usize.ensures.number)
+    omega (arith, l, c.requires.rows.len, c.from.ensures)

@@ -15,7 +15,7 @@ loop-place-init g c =
     record {
       has = λ q r i h. inl (rw value (among_from_contains r _ (is.all r (bit_by_row rs r h))));
       some = λ r h. row_by_bit rs r (is.each r (contains_from_among r _ (rw value at h)));
-      first = omega (arith, c.to_usize.ensures.number, c.prods_len.ensures.value);
+      first = omega (arith, c.from.ensures, c.prods_len.ensures.value);
       last = λ h. h;
     }
 

@@ -16,7 +16,7 @@ loop-pidx-preserved g c =
     let at : get_or ps i 0 ≡ p = number_at (λ p. number p.0) xs i c.pidx-item.result c.loop-pidx-test.true c.pidx-item.is in
     let below : p < length c.args.grm.now.productions =
     listed_below number c.args.grm.now xs (number c.args.rule.0) i c.pidx-item.result c.rule_to_prods-pidx-items.ensures.prods c.loop-pidx-test.true c.pidx-item.is in
-    let w = rw c.to_usize.ensures.number at c.widened-found.ensures in
+    let w = rw c.from.ensures at c.widened-found.ensures in
     record {
       has = in_range_next c.loop-pidx.found c.widened-found.result ps i p at w.here w.kept c.loop-pidx.invariant.has;
       kept = λ q h. w.kept q (c.loop-pidx.invariant.kept q h);

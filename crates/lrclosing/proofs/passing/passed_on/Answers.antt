@@ -25,4 +25,4 @@ returns-in_ok-made-in-None-clause-passed g c =
 
 pub pass_on-requires-clause-len : goal.pass_on-requires-clause-len
 pass_on-requires-clause-len g c =
-    ap length c.in_ok-made-in-None.ensures.bits ∙ length-replicate c.to_usize.result _ ∙ c.to_usize.ensures.number ∙ c.tokens_len.ensures.value
+    ap length c.in_ok-made-in-None.ensures.bits ∙ length-replicate c.from.result _ ∙ c.from.ensures ∙ c.tokens_len.ensures.value

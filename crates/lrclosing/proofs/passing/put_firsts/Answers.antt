@@ -29,7 +29,7 @@ returns-in-Token-clause-put g c =
     let left = left_at (symbol_of number) _ c.loop-symbol.symbol-index c.symbol-item.result _ c.loop-symbol-test.true c.symbol-item.is c.in-Token.is in
     made_passed_on c.args.grm.now c.args.firsts.now c.requires.of (math.rest c.args.grm.now p c.args.from) c.args.row.now c.set.new.self
     (symbols_behind c.args.grm.now c.args.from (math.body_of c.args.grm.now p) (c.prod.ensures.shape.symbols p)) c.requires.len
-    (turn_token c.args.firsts.now c.loop-symbol.row c.set.new.self _ _ _ (number c.in-Token.token.0) c.loop-symbol.invariant.same left (rw (← c.to_usize.ensures.number) c.set.ensures.after))
+    (turn_token c.args.firsts.now c.loop-symbol.row c.set.new.self _ _ _ (number c.in-Token.token.0) c.loop-symbol.invariant.same left (rw (← c.from.ensures) c.set.ensures.after))
 
 pub returns-in-Token-clause-nullable : goal.returns-in-Token-clause-nullable
 returns-in-Token-clause-nullable g c =
@@ -90,7 +90,7 @@ set-requires g c =
     let number = g.T.IndexStorage.number in
     let left = left_at (symbol_of number) _ c.loop-symbol.symbol-index c.symbol-item.result _ c.loop-symbol-test.true c.symbol-item.is c.in-Token.is in
     let symbols = rw left at c.loop-symbol.invariant.symbols in
-    omega (arith, symbols.0, c.to_usize.ensures.number, c.loop-symbol.invariant.len)
+    omega (arith, symbols.0, c.from.ensures, c.loop-symbol.invariant.len)
 
 pub slice_bounds-symbol-items-count : goal.slice_bounds-symbol-items-count
 slice_bounds-symbol-items-count g c = within_body (symbol_of g.T.IndexStorage.number) c.prod.result.now _ c.args.from c.prod.ensures.body c.requires.place
@@ -140,9 +140,9 @@ returns-in-Token-clause-changed g c =
     let k = math.token_count c.args.grm.now in
     let left = left_at (symbol_of number) _ c.loop-symbol.symbol-index c.symbol-item.result _ c.loop-symbol-test.true c.symbol-item.is c.in-Token.is in
     let symbols = rw left at c.loop-symbol.invariant.symbols in
-    let within : c.to_usize.result < length c.loop-symbol.row = omega (arith, symbols.0, c.to_usize.ensures.number, c.loop-symbol.invariant.len) in
+    let within : c.from.result < length c.loop-symbol.row = omega (arith, symbols.0, c.from.ensures, c.loop-symbol.invariant.len) in
     grown_before k c.loop-symbol.changed c.set.result (Some c.args.row.now) c.loop-symbol.row c.set.new.self c.loop-symbol.invariant.grown
-    (grown_set k c.set.result c.loop-symbol.row c.set.new.self c.to_usize.result within c.set.ensures.after c.set.ensures.changed)
+    (grown_set k c.set.result c.loop-symbol.row c.set.new.self c.from.result within c.set.ensures.after c.set.ensures.changed)
 
 pub returns-then-not-is_epsilon_set-clause-changed : goal.returns-then-not-is_epsilon_set-clause-changed
 returns-then-not-is_epsilon_set-clause-changed g c =

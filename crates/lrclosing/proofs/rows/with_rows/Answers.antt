@@ -20,7 +20,7 @@ put_all-requires-clause-bits g c =
     let number = g.T.IndexStorage.number in
     let rows = c.args.rows.now in
     let n = c.loop-place.place in
-    let below : n < length rows = omega (arith, c.loop-place-test.true, c.to_usize-place-end.ensures.number, c.rules_len.ensures.value, c.requires.rows.rules) in
+    let below : n < length rows = omega (arith, c.loop-place-test.true, c.from-place-end.ensures, c.rules_len.ensures.value, c.requires.rows.rules) in
     let at : c.index-rows-place.result ≡ row_at rows n = row_read rows n n _ _ _ refl c.index-rows-place.is refl below in
     let bits : length c.in-Some.row ≡ token_count c.args.grm.now = c.requires.rows.bits n c.in-Some.row (sym at ∙ c.in-Some.is) in
     rw bits (bits_of_fits c.args.grm.now (items_of number c.loop-place.closed.entries) c.loop-place.invariant.fits)
@@ -31,7 +31,7 @@ loop-place-preserved g c =
     let grm = c.args.grm.now in
     let rows = c.args.rows.now in
     let n = c.loop-place.place in
-    let below : n < length rows = omega (arith, c.loop-place-test.true, c.to_usize-place-end.ensures.number, c.rules_len.ensures.value, c.requires.rows.rules) in
+    let below : n < length rows = omega (arith, c.loop-place-test.true, c.from-place-end.ensures, c.rules_len.ensures.value, c.requires.rows.rules) in
     let at : c.index-rows-place.result ≡ row_at rows n = row_read rows n n _ _ _ refl c.index-rows-place.is refl below in
     elim c.match-rows-place.branch [
       | in-Some+in_ok-put_all w ↦
@@ -53,5 +53,5 @@ loop-place-preserved g c =
 pub returns-clause-rows : goal.returns-clause-rows
 returns-clause-rows g c =
     rows_every c.args.grm.now c.args.rows.now c.loop-place.place _ _
-    (λ q r i. let l = c.rules_len.ensures.shape.rules q r i in omega (arith, l, c.loop-place-test.false, c.to_usize-place-end.ensures.number, c.rules_len.ensures.value))
+    (λ q r i. let l = c.rules_len.ensures.shape.rules q r i in omega (arith, l, c.loop-place-test.false, c.from-place-end.ensures, c.rules_len.ensures.value))
     c.loop-place.invariant.rows

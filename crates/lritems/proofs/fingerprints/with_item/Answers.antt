@@ -4,4 +4,4 @@ use Rattle.lritems.proofs.fingerprints.with_item.Goals as goal
 
 pub returns : goal.returns
 unfolding mixed
-returns g c = rw (← c.to_usize.ensures.number, ← c.to_usize-2.ensures.number) refl
+returns g c = rw (← c.from.ensures, ← c.from-2.ensures) refl

@@ -8,9 +8,9 @@ use Rattle.lrclosing.proofs.closer.Closer.new.Goals as goal
 
 pub returns : goal.returns
 returns g c =
-    let n = c.to_usize-rules.result in
+    let n = c.from-rules.result in
     let rs = c.in_ok-rows.rows.items in
-    let rules : n ≡ length c.args.grm.now.rule_names = c.to_usize-rules.ensures.number ∙ c.rules_len.ensures.value in
+    let rules : n ≡ length c.args.grm.now.rule_names = c.from-rules.ensures ∙ c.rules_len.ensures.value in
     record {
       is = record {
         leads_len = c.in_ok-leads.ensures.len;

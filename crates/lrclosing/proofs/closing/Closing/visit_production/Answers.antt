@@ -34,8 +34,8 @@ own_below g c =
 taken : (g : given.Over) (c : After-take-taken g) → g.T.IndexStorage.number c.in-Some.rule.0 < length c.args.self.now.rows.items
     → c.take-taken.result ≡ row_at c.args.self.now.rows.items (g.T.IndexStorage.number c.in-Some.rule.0)
 taken g c l =
-    row_read c.args.self.now.rows.items c.to_usize.result (g.T.IndexStorage.number c.in-Some.rule.0) _ _ _ c.take-taken.ensures.value
-    c.index_mut.ensures.value c.to_usize.ensures.number l
+    row_read c.args.self.now.rows.items c.from.result (g.T.IndexStorage.number c.in-Some.rule.0) _ _ _ c.take-taken.ensures.value
+    c.index_mut.ensures.value c.from.ensures l
 
 own : (g : given.Over) (c : After-as_ref-own g)
     → g.T.IndexStorage.number c.prod_to_rule.result.0 < length c.args.self.now.rows.items
@@ -43,8 +43,8 @@ own : (g : given.Over) (c : After-as_ref-own g)
     ≡ row_at (set c.args.self.now.rows.items (g.T.IndexStorage.number c.in-Some.rule.0) None) (g.T.IndexStorage.number c.prod_to_rule.result.0)
 own g c l =
     let number = g.T.IndexStorage.number in
-    row_beside c.args.self.now.rows.items c.to_usize.result (number c.in-Some.rule.0) c.to_usize-in-Some.result (number c.prod_to_rule.result.0) _ _ _ _
-    c.as_ref-own.ensures.value c.index.ensures c.take-taken.ensures.after c.to_usize.ensures.number c.to_usize-in-Some.ensures.number
+    row_beside c.args.self.now.rows.items c.from.result (number c.in-Some.rule.0) c.from-in-Some.result (number c.prod_to_rule.result.0) _ _ _ _
+    c.as_ref-own.ensures.value c.index.ensures c.take-taken.ensures.after c.from.ensures c.from-in-Some.ensures
     l
 
 pub returns-in_ok-row-clause-visited : goal.returns-in_ok-row-clause-visited
@@ -62,7 +62,7 @@ returns-in_ok-row-clause-visited g c = λ s i.
     c.in_ok-row.row c.args.self.now.todo c.put_row.new.self.todo c.in_ok-row.changed (token_count c.args.grm.now) (before g at.In-Some)
     e (taken g at.After-take-taken here) (rw (own g at.After-as_ref-own (own_below g at.After-prod_to_rule)) at c.in_ok-row.ensures.passed)
     c.in_ok-row.ensures.changed c.put_row.ensures.todo
-    (row_written rows _ c.to_usize.result r _ _ c.put_row.ensures.row c.to_usize.ensures.number) here (from_taken rows r l here) (to_taken rows r l here))
+    (row_written rows _ c.from.result r _ _ c.put_row.ensures.row c.from.ensures) here (from_taken rows r l here) (to_taken rows r l here))
 
 pub returns-in_ok-row-clause-left : goal.returns-in_ok-row-clause-left
 returns-in_ok-row-clause-left g c =
@@ -70,7 +70,7 @@ returns-in_ok-row-clause-left g c =
     let rows = c.args.self.now.rows.items in
     let r = g.T.IndexStorage.number c.in-Some.rule.0 in
     let here = below g at.In-Some in
-    rw (row_written rows _ c.to_usize.result r _ _ c.put_row.ensures.row c.to_usize.ensures.number)
+    rw (row_written rows _ c.from.result r _ _ c.put_row.ensures.row c.from.ensures)
     (left_by_visit c.in_ok-row.changed c.args.grm.now (token_count c.args.grm.now) r rows c.in_ok-row.row c.args.self.now.todo c.put_row.new.self.todo here
     (rw (taken g at.After-take-taken here) at c.in_ok-row.ensures.changed) c.put_row.ensures.todo)
 
@@ -92,11 +92,11 @@ pub passed_on-requires-clause-of : goal.passed_on-requires-clause-of
 passed_on-requires-clause-of g c = c.requires.of
 
 pub index_mut-requires : goal.index_mut-requires
-index_mut-requires g c = omega (arith, below g (goal.at.index_mut-requires g c).In-Some, c.to_usize.ensures.number, c.args.self.now.rows.ok)
+index_mut-requires g c = omega (arith, below g (goal.at.index_mut-requires g c).In-Some, c.from.ensures, c.args.self.now.rows.ok)
 
 pub index-requires : goal.index-requires
 index-requires g c =
-    omega (arith, own_below g (goal.at.index-requires g c).After-prod_to_rule, c.to_usize-in-Some.ensures.number, c.args.self.now.rows.ok)
+    omega (arith, own_below g (goal.at.index-requires g c).After-prod_to_rule, c.from-in-Some.ensures, c.args.self.now.rows.ok)
 
 pub passed_on-requires-clause-place : goal.passed_on-requires-clause-place
 passed_on-requires-clause-place g c =
@@ -122,7 +122,7 @@ put_row-requires-clause-rule g c =
     (symbol_at_dot c.in-Some.ensures.shape (g.T.IndexStorage.number c.args.pidx.0) 0 _ (before g (goal.at.put_row-requires-clause-rule g c).In-Some)).1
 
 pub put_row-requires-clause-rows : goal.put_row-requires-clause-rows
-put_row-requires-clause-rows g c = length-set c.args.self.now.rows.items c.to_usize.result _ ∙ c.requires.shaped.of_rules.rules
+put_row-requires-clause-rows g c = length-set c.args.self.now.rows.items c.from.result _ ∙ c.requires.shaped.of_rules.rules
 
 pub put_row-requires-clause-productions : goal.put_row-requires-clause-productions
 put_row-requires-clause-productions g c = c.requires.shaped.of_productions
@@ -132,7 +132,7 @@ returns-in_ok-row-clause-shaped g c =
     let rows = c.args.self.now.rows.items in
     let r = g.T.IndexStorage.number c.in-Some.rule.0 in
     shaped_written c.args.grm.now rows c.put_row.new.self.rows.items r c.in_ok-row.row c.args.self.now.todo c.put_row.new.self.todo c.in_ok-row.changed c.requires.shaped
-    (row_written rows _ c.to_usize.result r _ _ c.put_row.ensures.row c.to_usize.ensures.number) (below g (goal.at.returns-in_ok-row-clause-shaped g c).In-Some)
+    (row_written rows _ c.from.result r _ _ c.put_row.ensures.row c.from.ensures) (below g (goal.at.returns-in_ok-row-clause-shaped g c).In-Some)
     c.in_ok-row.ensures.passed.len c.put_row.ensures.todo
 
 pub returns-in_default-clause-shaped : goal.returns-in_default-clause-shaped

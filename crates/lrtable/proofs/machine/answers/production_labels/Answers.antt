@@ -12,5 +12,5 @@ loop-prod-preserved g c =
 
 pub returns : goal.returns
 returns g c =
-    let all : c.loop-prod.prod ≡ length c.args.grm.now.productions = omega (arith, c.to_usize-prod-end.ensures.number, c.prods_len.ensures.value) in
+    let all : c.loop-prod.prod ≡ length c.args.grm.now.productions = omega (arith, c.from-prod-end.ensures, c.prods_len.ensures.value) in
     c.loop-prod.invariant ∙ ap (λ n. map (production_label c.args.grm.now) (range_with_len 0 n)) all
