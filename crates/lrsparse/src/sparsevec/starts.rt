@@ -1,6 +1,6 @@
 //! Where the search for a displacement may begin: not before a row of some of the columns found its own.
 
-ghost use Rattle.std.specs.Prelude.{◌≡◌, ◌<◌, ℕ, List, length, slice_index, IsTrue, IfOk, OnOk, Contains, ◌↔◌, ◌*◌, ◌^◌};
+ghost use Rattle.std.specs.Prelude.{◌<◌, ◌^◌, ◌↔◌, ℕ, List, Contains, IsTrue, IfOk, OnOk};
 ghost use Rattle.std.specs.List.{All};
 ghost use Rattle.std.specs.List.Sorted.{IsStrictlyIncreasing};
 ghost use Rattle.lrsparse.specs.Owned.{IsOwned};
