@@ -1,2 +1,3 @@
 -- the files of definitions
 pub mod GraphOf
+pub mod Outlines

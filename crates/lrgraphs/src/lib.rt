@@ -2,6 +2,7 @@
 #![tactic(auto)]
 
 mod errors;
+pub mod outline;
 pub mod stategraph;
 pub mod statetable;
 

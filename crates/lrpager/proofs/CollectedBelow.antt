@@ -3,14 +3,16 @@ use Rattle.std.proofs.Common.{◌≡◌, ℕ, zero, suc, ◌+◌, ◌*◌, ◌<�
 use Rattle.std.specs.Prelude.{slice_get, option_map, count_by, sum_by}
 use Rattle.std.proofs.lemmas.Bool.{cases_lt}
 use Rattle.std.proofs.lemmas.Option.{slice_get_within}
-use Rattle.std.proofs.lemmas.List.{take_all}
-use Rattle.std.proofs.lemmas.List.Sums.{count_by_more_no, sum_by_push, sum_by-take-le, count_by-le-length}
+use Rattle.std.proofs.lemmas.List.{take_all, length-map, map_push}
+use Rattle.std.proofs.lemmas.List.Sums.{sum_by-cons, count_by_more_no, sum_by_push, sum_by-take-le, count_by-le-length}
 use Rattle.lrspec.specs.grammars.Grammar.{Symbol, Grammar}
 use Rattle.lrspec.specs.grammars.ItemSets.{Items, Fits, IsClosure}
 use Rattle.lrspec.specs.merging.Graph.{State, Graph, core_or_none, closed_or_none, edges_or_none, core_of, closed_of, edge, edge_at}
 use Rattle.lrpager.specs.Collecting as collecting
 use Rattle.lrplacing.specs.Construction.{Draft, draft_core, draft_edges, core_at, edge_from}
 use Rattle.lrpager.specs.Collecting.{ReachedAreMarked, new_number, IsCollected, LeadToStates, IsMarked, HaveDistinctTargets, IsRenumbered}
+use Rattle.lrpager.specs.Keeping.{kept_state, kept_states, IsKeptState}
+use Rattle.lrpager.specs.declared.pager.collecting.Kept.{Kept}
 use Rattle.lrpager.proofs.NewNumbers.{marked_below, new_number_after, new_number_increases, new_number_below, new_number_taken}
 
 -- the state `n` of the graph has the core of the state `k`, for its closed state what that closes to, and its edges by new
@@ -153,6 +155,63 @@ collecting_more g f ss marks k h new edges more d s m at renumbered n few is c =
   few = omega (arith, c.few, few);
 })
 
+-- ---- what is kept of the collected states
+
+-- the states are what is kept of those that were collected so far
+pub record AreKeptSoFar (kept : Kept) (g : Grammar) (f : ℕ → ℕ) (ss : List Draft) (marks : List Bool) (k : ℕ) (states : Graph) (edges : ℕ) : Type 0 where
+  pub whole : Graph
+  pub collecting : AreCollecting g f ss marks k whole edges
+  pub kept_is : states ≡ kept_states kept g whole
+
+-- before the first state there are none
+pub kept_none :
+    (kept : Kept) (g : Grammar) (f : ℕ → ℕ) (ss : List Draft) (marks : List Bool) (states : Graph) → states ≡ [] → AreKeptSoFar kept g f ss marks 0 states 0
+kept_none kept g f ss marks states none = record {
+  whole = [];
+  collecting = record {
+    collected = record { length_is = refl; each = λ j l m. absurd (omega arith) };
+    counted = refl;
+    few = omega arith;
+  };
+  kept_is = none;
+}
+
+pub kept_not :
+    (kept : Kept) (g : Grammar) (f : ℕ → ℕ) (ss : List Draft) (marks : List Bool) (k : ℕ) (states : Graph) (edges : ℕ) → k < length marks
+    → get_or marks k false ≡ false → AreKeptSoFar kept g f ss marks k states edges → AreKeptSoFar kept g f ss marks (k + 1) states edges
+kept_not kept g f ss marks k states edges l not c =
+    record { whole = c.whole; collecting = collecting_not g f ss marks k c.whole edges l not c.collecting; kept_is = c.kept_is }
+
+pub kept_more :
+    (kept : Kept) (g : Grammar) (f : ℕ → ℕ) (ss : List Draft) (marks : List Bool) (k : ℕ) (states new : Graph) (edges more : ℕ) (d : Draft) (s : State)
+    → IsMarked marks k → slice_get ss k ≡ Some d → IsKeptState kept g f d s → more ≡ length s.edges → more ≤ length ss → new ≡ states ++ s ∷ []
+    → AreKeptSoFar kept g f ss marks k states edges → AreKeptSoFar kept g f ss marks (k + 1) new (edges + more)
+kept_more kept g f ss marks k states new edges more d s m at n count few is c = record {
+  whole = c.whole ++ n.whole ∷ [];
+  collecting =
+      collecting_more g f ss marks k c.whole (c.whole ++ n.whole ∷ []) edges more d n.whole m at n.renumbered
+      (count ∙ ap (λ (t : State). length t.edges) n.kept_is) few refl c.collecting;
+  kept_is = is ∙ (rw (c.kept_is, n.kept_is) (sym (map_push (kept_state kept g) c.whole n.whole)));
+}
+
+kept_edge_count : (kept : Kept) (g : Grammar) (h : Graph) → edge_count (kept_states kept g h) ≡ edge_count h
+kept_edge_count kept g [] = refl
+kept_edge_count kept g (s ∷ h) =
+    sum_by-cons (λ (t : State). length t.edges) (kept_state kept g s) (kept_states kept g h)
+    ∙ (ap (λ n. length s.edges + n) (kept_edge_count kept g h) ∙ sym (sum_by-cons (λ (t : State). length t.edges) s h))
+
+module _
+    (kept : Kept) (g : Grammar) (f : ℕ → ℕ) (ss : List Draft) (marks : List Bool) (k : ℕ) (states : Graph) (edges : ℕ)
+    (c : AreKeptSoFar kept g f ss marks k states edges) where
+  -- their edges are counted
+  pub kept_counted : edges ≡ edge_count states
+  kept_counted = c.collecting.counted ∙ sym (ap edge_count c.kept_is ∙ kept_edge_count kept g c.whole)
+
+  -- there are as many as marks, where all states were gone through
+  pub kept_count : k ≡ length ss → length marks ≡ length ss → length states ≡ count_by (λ (b : Bool). b) marks
+  kept_count all same =
+      ap length c.kept_is ∙ (length-map c.whole (kept_state kept g) ∙ collected_count g f ss marks k c.whole c.collecting.collected all same)
+
 -- the edges of a state lead to different states, which are below `n`
 pub apart_at :
     (ss : List Draft) (n k : ℕ) (d : Draft) → slice_get ss k ≡ Some d → n ≡ length ss → LeadToStates ss
@@ -182,3 +241,10 @@ pub some_collected : {g : Grammar} {ss : List Draft} {marks : List Bool} {h : Gr
 some_collected marked collected =
     let start = collected.below 0 (marked.marked [] 0 collecting.Walks.start) in
     omega (arith, start)
+
+-- and kept
+pub some_kept :
+    (kept : Kept) {g : Grammar} {ss : List Draft} {marks : List Bool} {states h : Graph} → ReachedAreMarked ss marks → IsCollected g ss marks h
+    → states ≡ kept_states kept g h → 0 < length states
+some_kept kept {g} {ss} {marks} {states} {h} marked collected is =
+    omega (arith, some_collected marked collected, ap length is, length-map h (kept_state kept g))

@@ -10,6 +10,7 @@ pub mod ClosingFacts
 pub mod Beginnings
 pub mod EdgeWalk
 pub mod CollectedBelow
+pub mod KeptStates
 pub mod MarksAdded
 pub mod ReachedMarks
 pub mod RenumberedEdges

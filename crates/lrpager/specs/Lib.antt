@@ -2,4 +2,5 @@
 pub mod Closing
 pub mod Choices
 pub mod Collecting
+pub mod Keeping
 pub mod Refusals

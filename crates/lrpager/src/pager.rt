@@ -17,16 +17,20 @@ ghost use Rattle.lrplacing.specs.CandidatesOf.{AreCandidates};
 ghost use Rattle.lrpager.specs.Closing.{IsTurn, StartsWith, AreToolsFor};
 ghost use Rattle.lrspec.specs.merging.Merged.{IsMerged, AreCounts};
 ghost use Rattle.lrspec.specs.merging.Chains.{HasChainOf};
+ghost use Rattle.lrspec.specs.merging.Graph.{Graph};
+ghost use Rattle.lrgraphs.specs.Outlines.{IsOutlineOf};
+ghost use Rattle.lrpager.specs.Keeping.{kept_states};
 ghost use Rattle.lrplacing.specs.Refusals.{IsLargeOnly};
 
 mod collecting;
 
-use crate::pager::collecting::collect;
+use crate::pager::collecting::{Kept, collect};
 use lrclosing::closer::Closer;
 use lrclosing::listing::closed_items;
 use lrgrammar::firsts::YaccFirsts;
 use lrgrammar::grammar::YaccGrammar;
 use lrgrammar::idx::IndexStorage;
+use lrgraphs::outline::Outline;
 use lrgraphs::{BuildError, StateGraph};
 use lritems::cores::Core;
 use lritems::fingerprints::core_fingerprint;
@@ -184,12 +188,13 @@ pub struct BuildCounts {
     pub closings: u128,
 }
 
-/// The state graph of the grammar, merged by Pager's rule, and what its construction took. `TooLarge` where more than the
-/// index type's `MAX` states would be made, or `MAX` or more are left; never `Table`.
-pub fn build<T: IndexStorage>(
+/// What is kept of the state graph of the grammar, merged by Pager's rule, and what its construction took.
+fn construct_kept<T: IndexStorage>(
     grm: &YaccGrammar<T>,
+    kept: Kept,
 ) -> Result<(StateGraph<T>, BuildCounts), BuildError<T>>
-    ensures merged { IfOk result (λ b. IsMerged grm.now b.0) }
+    ensures merged { IfOk result (λ b. (h : Graph) × IsMerged grm.now h
+        × (b.0 ≡ kept_states kept grm.now h)) }
     ensures below { IfOk result (λ b. length b.0 < T.MAX) }
     ensures counts { IfOk result (λ b.
         AreCounts grm.now T.MAX (length b.0) b.1.made b.1.closings) }
@@ -201,6 +206,35 @@ pub fn build<T: IndexStorage>(
     let mut tools = Tools::new(grm, &firsts)?;
     let closings = construct(&mut drafts, &mut candidates, &mut tools, grm, &firsts)?;
     let made = drafts.len();
-    let graph = collect(drafts, &mut tools.closer, grm, &firsts)?;
+    let graph = collect(drafts, &mut tools.closer, grm, &firsts, kept)?;
     Ok((graph, BuildCounts { made, closings }))
+}
+
+/// The state graph of the grammar, merged by Pager's rule, and what its construction took. `TooLarge` where more than the
+/// index type's `MAX` states would be made, or `MAX` or more are left; never `Table`.
+pub fn build<T: IndexStorage>(
+    grm: &YaccGrammar<T>,
+) -> Result<(StateGraph<T>, BuildCounts), BuildError<T>>
+    ensures merged { IfOk result (λ b. IsMerged grm.now b.0) }
+    ensures below { IfOk result (λ b. length b.0 < T.MAX) }
+    ensures counts { IfOk result (λ b.
+        AreCounts grm.now T.MAX (length b.0) b.1.made b.1.closings) }
+    ensures refused { IfErr result (IsLargeOnly (HasChainOf grm.now T.MAX)) }
+{
+    construct_kept(grm, Kept::Everything)
+}
+
+/// The outline of that graph, and what its construction took, with the same refusals.
+pub fn outline<T: IndexStorage>(
+    grm: &YaccGrammar<T>,
+) -> Result<(Outline<T>, BuildCounts), BuildError<T>>
+    ensures merged { IfOk result (λ b. (h : Graph) × IsMerged grm.now h
+        × IsOutlineOf grm.now h b.0.graph) }
+    ensures below { IfOk result (λ b. length b.0.graph < T.MAX) }
+    ensures counts { IfOk result (λ b.
+        AreCounts grm.now T.MAX (length b.0.graph) b.1.made b.1.closings) }
+    ensures refused { IfErr result (IsLargeOnly (HasChainOf grm.now T.MAX)) }
+{
+    let (graph, counts) = construct_kept(grm, Kept::Outline)?;
+    Ok((Outline { graph }, counts))
 }

@@ -1,6 +1,6 @@
-use Rattle.std.proofs.Common.{arith}
+use Rattle.std.proofs.Common.{◌∙◌, arith}
 use Rattle.std.proofs.lemmas.List.{length-map}
-use Rattle.lrpager.proofs.CollectedBelow.{some_collected}
+use Rattle.lrpager.proofs.CollectedBelow.{some_kept}
 use Rattle.lrpager.proofs.pager.collecting.collect.Goals as goal
 
 pub new-requires : goal.new-requires
@@ -9,7 +9,7 @@ new-requires g c =
     let count = c.in_ok-numbers.ensures.count in
     let marked = rw c.as_slice.ensures.value at c.in_ok-marks.ensures in
     record {
-      some = some_collected marked states.collected;
+      some = some_kept c.args.kept marked states.collected.1 states.collected.2;
       states = rw length-map (omega (arith, states.len, count, c.if-count-MAX.false));
       counted = states.edges;
       order = states.order;
@@ -40,4 +40,6 @@ pub marked_states-requires-clause-most : goal.marked_states-requires-clause-most
 marked_states-requires-clause-most g c = c.requires.most
 
 pub returns-clause-collected : goal.returns-clause-collected
-returns-clause-collected g c = (c.in_ok-marks.marks, rw c.as_slice.ensures.value at c.in_ok-marks.ensures, rw c.new.ensures c.in_ok-states.ensures.collected)
+returns-clause-collected g c =
+    let states = c.in_ok-states.ensures.collected in
+    (states.0, c.in_ok-marks.marks, rw c.as_slice.ensures.value at c.in_ok-marks.ensures, states.1, c.new.ensures ∙ states.2)

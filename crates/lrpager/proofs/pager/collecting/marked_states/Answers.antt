@@ -6,7 +6,7 @@ use Rattle.lrspec.specs.grammars.ItemSets.{Fits}
 use Rattle.lrspec.specs.merging.Graph.{IsInOrder}
 use Rattle.lrgraphs.specs.GraphOf.{state_of, graph_of}
 use Rattle.lrpager.specs.Collecting.{OnlyStartsAtZero}
-use Rattle.lrpager.proofs.CollectedBelow.{first_left, collecting_not, collecting_more, collected_all, apart_at, of_each_core, number_most}
+use Rattle.lrpager.proofs.CollectedBelow.{first_left, kept_not, kept_more, kept_counted, kept_count, collected_all, apart_at, of_each_core, number_most}
 use Rattle.lrpager.proofs.pager.collecting.marked_states.Goals as goal
 
 pub loop-draft-preserved-then-not-is_marked : goal.loop-draft-preserved-then-not-is_marked
@@ -21,7 +21,7 @@ loop-draft-preserved-then-not-is_marked g c =
       within = omega (arith, below);
       closer = i.closer;
       collecting =
-          collecting_not c.args.grm.now (slice_index c.args.numbers.now) c.args.drafts.items c.args.marks.now c.loop-draft.k _ c.loop-draft.edges_len (omega (arith, below, c.requires.marks))
+          kept_not c.args.kept c.args.grm.now (slice_index c.args.numbers.now) c.args.drafts.items c.args.marks.now c.loop-draft.k _ c.loop-draft.edges_len (omega (arith, below, c.requires.marks))
           (sym c.get-is_marked.ensures.value ∙ c.if-not-is_marked.true) i.collecting;
       order = i.order;
     }
@@ -65,7 +65,7 @@ loop-draft-preserved g c =
       within = omega (arith, below);
       closer = one.closer;
       collecting =
-          collecting_more c.args.grm.now (slice_index c.args.numbers.now) c.args.drafts.items c.args.marks.now c.loop-draft.k _ _ c.loop-draft.edges_len c.len-edges_len.result c.in-Some.draft (state_of number state)
+          kept_more c.args.kept c.args.grm.now (slice_index c.args.numbers.now) c.args.drafts.items c.args.marks.now c.loop-draft.k _ _ c.loop-draft.edges_len c.len-edges_len.result c.in-Some.draft (state_of number state)
           (sym c.get-is_marked.ensures.value ∙ c.if-not-is_marked.false) first.0 one.renumbered (rw length-map more) (omega (arith, more, one.len, c.requires.numbers.length_is, c.requires.marks))
           (rw c.in_ok-push.ensures.items (map_push (state_of number) c.loop-draft.states.items state)) i.collecting;
       order =
@@ -76,7 +76,23 @@ loop-draft-preserved g c =
 pub returns-clause-collected : goal.returns-clause-collected
 returns-clause-collected g c =
     let i = c.loop-draft.invariant in
+    let kept = i.collecting in
+    let left = ap length i.rest ∙ length-drop c.loop-draft.k c.args.drafts.items in
+    let all : c.loop-draft.k ≡ length c.args.drafts.items = omega (arith, left, i.len, i.within, c.in-None.ensures.steps.0) in (
+      kept.whole,
+      collected_all c.args.grm.now (slice_index c.args.numbers.now) c.args.drafts.items c.args.marks.now c.loop-draft.k kept.whole kept.collecting.collected all c.requires.marks c.requires.below
+          (λ u l. c.requires.numbers.at u (omega (arith, l, c.requires.marks))),
+      kept.kept_is,
+    )
+
+pub returns-clause-len : goal.returns-clause-len
+returns-clause-len g c =
+    let i = c.loop-draft.invariant in
     let left = ap length i.rest ∙ length-drop c.loop-draft.k c.args.drafts.items in
     let all : c.loop-draft.k ≡ length c.args.drafts.items = omega (arith, left, i.len, i.within, c.in-None.ensures.steps.0) in
-    collected_all c.args.grm.now (slice_index c.args.numbers.now) c.args.drafts.items c.args.marks.now c.loop-draft.k _ i.collecting.collected all c.requires.marks c.requires.below
-    (λ u l. c.requires.numbers.at u (omega (arith, l, c.requires.marks)))
+    sym (length-map c.loop-draft.states.items (state_of g.T.IndexStorage.number))
+    ∙ kept_count c.args.kept c.args.grm.now (slice_index c.args.numbers.now) c.args.drafts.items c.args.marks.now c.loop-draft.k _ c.loop-draft.edges_len i.collecting all c.requires.marks
+
+pub returns-clause-edges : goal.returns-clause-edges
+returns-clause-edges g c =
+    kept_counted c.args.kept c.args.grm.now (slice_index c.args.numbers.now) c.args.drafts.items c.args.marks.now c.loop-draft.k _ c.loop-draft.edges_len c.loop-draft.invariant.collecting
