@@ -7,5 +7,6 @@ pub mod TokensTaken
 pub mod FlattenedRows
 pub mod TableOfRows
 pub mod MadeTable
+pub mod OutlinedTables
 -- texts
 pub mod HeadedTexts

@@ -2,14 +2,14 @@
 use Rattle.std.proofs.Common.{◌≡◌, ℕ, ◌*◌, ◌≤◌, List, [], ◌∷◌, Option, None, Some, length, map, refl, sym, subst, ap, ◌∙◌, arith}
 use Rattle.std.specs.Prelude.{MatchOption, IfSome}
 use Rattle.std.specs.List.{flat_map, range_with_len, All}
-use Rattle.lrspec.specs.grammars.Grammar.{Grammar, IsGrammar, token_count}
-use Rattle.lrspec.specs.merging.Graph.{Graph, IsGraphOf}
+use Rattle.lrspec.specs.grammars.Grammar.{Grammar, token_count}
+use Rattle.lrspec.specs.merging.Graph.{Graph}
 use Rattle.lrspec.specs.tables.Table.{Table, Lists, lists_of, AcceptsAndReduces, IsTableOf}
-use Rattle.lrspec.specs.tables.Rows.{ReducesApart}
 use Rattle.lrspec.specs.tables.Conflicts.{AreEntriesOf}
 use Rattle.lrgrammar.specs.GrammarSizes.{IsWithin}
 use Rattle.lrsparse.specs.Matrix.{Matrix}
 use Rattle.lrsparse.specs.Building.{so_far}
+use Rattle.lrrows.specs.ReadGraphs.{IsReadable}
 use Rattle.lrrows.specs.StateRows.{action_row, goto_row}
 use Rattle.lrrows.specs.StoredActions.{action_numbered, goto_numbered, IsIndexed}
 use Rattle.lrrows.specs.StoredLists.{stored_reduce_reduces, stored_shift_reduces}
@@ -19,7 +19,6 @@ use Rattle.lrrows.specs.declared.rows.Rows.{Rows}
 use Rattle.lrcells.proofs.FlattenedRows.{length_of_rows, all_of_rows}
 use Rattle.lrrows.proofs.IndexedRows.{indexed_action_row, indexed_goto_row}
 use Rattle.lrcells.proofs.TableOfRows.{HasRowsOf, length_of_action_row, length_of_goto_row, made_of_graph, reduced_by, reduces_only}
-use Rattle.lrspec.proofs.tables.ReductionsApart.{reduces_apart}
 use Rattle.lrspec.proofs.tables.ConflictEntries.{entries_in_range}
 
 -- both lists of conflicts by numbers
@@ -76,7 +75,7 @@ module _
       edges = ap (λ (m : Matrix). m.cells) is_kept.gotos_are ∙ (rows.gotos ∙ ap (λ k. flat_map (goto_row g h) (range_with_len 0 k)) (sym rows.count));
     }
 
-    pub made_cells : (most : ℕ) → IsGraphOf g h → IsWithin most g → length h ≤ most → AreCells most (length r.core_reduces.items) actions
+    pub made_cells : (most : ℕ) → IsReadable g h → IsWithin most g → length h ≤ most → AreCells most (length r.core_reduces.items) actions
     made_cells most m w l = record {
       rows = ap length matrices.cells ∙ (length_of_rows (action_row g h) (token_count g) (length_of_action_row g h) (length r.core_reduces.items) ∙ ap (λ k. length r.core_reduces.items * k) (sym matrices.tokens));
       columns = omega (arith, matrices.tokens, w.tokens);
@@ -84,7 +83,7 @@ module _
           (all_of_rows (λ c. IsIndexed most (action_numbered c)) (action_row g h) 0 (length r.core_reduces.items) (λ s k i. indexed_action_row g h most s m w l));
     }
 
-    pub made_gotos : (most : ℕ) → IsGraphOf g h → length h ≤ most → AreGotos most (length r.core_reduces.items) gotos
+    pub made_gotos : (most : ℕ) → IsReadable g h → length h ≤ most → AreGotos most (length r.core_reduces.items) gotos
     made_gotos most m l = record {
       rows = ap length matrices.edges ∙ (length_of_rows (goto_row g h) (length g.rule_names) (length_of_goto_row g h) (length r.core_reduces.items) ∙ ap (λ k. length r.core_reduces.items * k) (sym matrices.rules));
       indexed = subst (All (λ c. IfSome (goto_numbered c) (λ s. s ≤ most))) (sym matrices.edges)
@@ -111,10 +110,6 @@ module _
         made_of_graph g h (length r.core_reduces.items) actions gotos kept matrices none
         (ap (λ (k : Lists). k.reduce_reduce) lists ∙ rows.reduce_reduce)
         (ap (λ (k : Lists). k.shift_reduce) lists ∙ rows.shift_reduce)
-
-    pub made_apart : ((s p : ℕ) → AcceptsAndReduces g h s p → ⊥) → IsGrammar g → IsGraphOf g h → ReducesApart g made
-    made_apart none shape m =
-        reduces_apart g h made shape m (made_table none)
 
     pub made_entries : ((s p : ℕ) → AcceptsAndReduces g h s p → ⊥) → AreEntriesOf g (lists_of made)
     made_entries none = entries_in_range g h made (made_table none)

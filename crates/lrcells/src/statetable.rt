@@ -1,12 +1,14 @@
 //! State tables.
 
 ghost use Rattle.std.specs.Prelude.{◌≡◌, ℕ, ◌<◌, ◌≤◌, ◌-◌, IsTrue, ◌↔◌, length, option_map, IfOk, IfErr, IfSome, IsSome, MatchOption};
-ghost use Rattle.lrspec.specs.merging.Graph.{IsGraphOf};
+ghost use Rattle.lrspec.specs.merging.Graph.{Graph, IsGraphOf};
 ghost use Rattle.lrspec.specs.tables.Table as math;
 ghost use Rattle.lrspec.specs.tables.Table.{IsTableOf, lists_of, goto_of};
 ghost use Rattle.lrspec.specs.tables.Conflicts.{AreEntriesOf};
 ghost use Rattle.lrspec.specs.tables.LrTables.{ListsNothing};
 ghost use Rattle.lrspec.specs.tables.Rows.{AreActingTokens, AreShiftedTokens, AreReducedBy, ReducesOnly, ReducesApart};
+ghost use Rattle.lrgraphs.specs.Outlines.{IsOutlineOf};
+ghost use Rattle.lrrows.specs.ReadGraphs.{IsReadable};
 ghost use Rattle.lrrows.specs.StoredActions.{stored_action};
 ghost use Rattle.lrcells.specs.Refusals.{IsTableRefusal};
 
@@ -18,6 +20,7 @@ pub use crate::statetable::iterators::{CoreReducesIterator, StateActionsIterator
 use lrgrammar::grammar::YaccGrammar;
 use lrgrammar::idx::{IndexStorage, PIdx, RIdx, StIdx, TIdx};
 use lrgraphs::BuildError;
+use lrgraphs::outline::Outline;
 use lrgraphs::stategraph::StateGraph;
 pub use lrgraphs::statetable::{StateTableError, StateTableErrorKind};
 use lrrows::accept_reduce::accept_reduce;
@@ -69,6 +72,22 @@ impl<T: IndexStorage> StateTable<T> {
         requires graph { IsGraphOf grm.now sg.now }
         ensures table { IfOk result (λ b. IsTableOf grm.now sg.now b) }
         ensures reduces { IfOk result (λ b. ReducesApart grm.now b) }
+        ensures entries { IfOk result (λ b. AreEntriesOf grm.now (lists_of b)) }
+        ensures below { IfOk result (λ _. length sg.now < T.MAX - 1) }
+        ensures refused { IfErr result (IsTableRefusal T.number T.MAX grm.now sg.now) }
+    {
+        grm.in_order();
+        StateTable::read(alloc, grm, sg)
+    }
+
+    /// The table that is read off complete items and edges alone, for graphs and for outlines.
+    fn read(
+        alloc: Global,
+        grm: &YaccGrammar<T>,
+        sg: &StateGraph<T>,
+    ) -> Result<StateTable<T>, BuildError<T>>
+        requires graph { IsReadable grm.now sg.now }
+        ensures table { IfOk result (λ b. IsTableOf grm.now sg.now b) }
         ensures entries { IfOk result (λ b. AreEntriesOf grm.now (lists_of b)) }
         ensures below { IfOk result (λ _. length sg.now < T.MAX - 1) }
         ensures refused { IfErr result (IsTableRefusal T.number T.MAX grm.now sg.now) }
@@ -164,4 +183,24 @@ impl<T: IndexStorage> StateTable<T> {
     {
         self.conflicts.as_ref()
     }
+}
+
+/// The table of the graph of which this is an outline. The refusals are those of `StateTable::new`. For the construction of
+/// tables without a graph.
+pub fn table_of_outline<T: IndexStorage>(
+    alloc: Global,
+    grm: &YaccGrammar<T>,
+    outline: &Outline<T>,
+) -> Result<StateTable<T>, BuildError<T>>
+    requires outline { (h : Graph) × IsGraphOf grm.now h × IsOutlineOf grm.now h outline.now.graph }
+    ensures table { IfOk result (λ b. (h : Graph) → IsOutlineOf grm.now h outline.now.graph
+        → IsTableOf grm.now h b) }
+    ensures reduces { IfOk result (λ b. ReducesApart grm.now b) }
+    ensures entries { IfOk result (λ b. AreEntriesOf grm.now (lists_of b)) }
+    ensures below { IfOk result (λ _. length outline.now.graph < T.MAX - 1) }
+    ensures refused { IfErr result (λ e. (h : Graph) → IsOutlineOf grm.now h outline.now.graph
+        → IsTableRefusal T.number T.MAX grm.now h e) }
+{
+    grm.in_order();
+    StateTable::read(alloc, grm, &outline.graph)
 }

@@ -1,24 +1,23 @@
 -- the entries of a row of gotos, by the edges of the state
-use Rattle.std.proofs.Common.{Ordering, Less, ◌≡◌, ◌≢◌, ℕ, suc, ◌+◌, ◌<◌, List, [], ◌∷◌, ◌++◌, length, map, get_or, Some, IsSome, refl, sym, ap, ◌∙◌, inl, inr, arith, eq-eqb}
+use Rattle.std.proofs.Common.{Ordering, Less, ◌≡◌, ℕ, suc, ◌+◌, ◌<◌, List, [], ◌∷◌, length, map, get_or, refl, sym, ap, ◌∙◌, inl, inr, arith, eq-eqb}
 use Rattle.std.specs.List.{All, AllByRecursion, range_with_len}
 use Rattle.std.specs.List.Sorted.{IsStrictlySortedBy, IsStrictlyIncreasing}
 use Rattle.std.specs.Map.{keys_of}
 use Rattle.std.specs.Ordering.{nat_cmp}
 use Rattle.std.proofs.lemmas.Bool.{cases_eq, ne_eqb}
 use Rattle.std.proofs.lemmas.List.Elements.{All-nil, All-cons}
-use Rattle.std.proofs.lemmas.List.FromFn.{length-map-range_with_len, get_or-map-range_with_len}
 use Rattle.std.proofs.lemmas.Map.Keys.{IsStrictlyIncreasing-from_sorted}
 use Rattle.lrgrammar.specs.declared.idx.RIdx.{RIdx}
 use Rattle.lrgrammar.specs.declared.idx.Symbol as stored
 use Rattle.lrgrammar.specs.declared.idx.Symbol.TheVariants as code
 use Rattle.lrgrammar.specs.SymbolLaws.{symbol_cmp}
-use Rattle.lrspec.specs.grammars.Grammar.{Symbol, Rule, Token, Grammar, IsGrammar}
+use Rattle.lrspec.specs.grammars.Grammar.{Symbol, Rule, Token, Grammar}
 use Rattle.lrspec.specs.merging.Graph as math
-use Rattle.lrspec.specs.merging.Graph.{Graph, same_symbol, edge, edge_at, IsGraphOf}
-use Rattle.lrspec.proofs.grammars.BodyFacts.{symbol_at_dot}
+use Rattle.lrspec.specs.merging.Graph.{Graph, same_symbol, edge, edge_at}
 use Rattle.lrgraphs.specs.GraphOf.{edges_of}
 use Rattle.lrgraphs.proofs.DistinctSymbols.{AreOnDistinctSymbols, edge_at_place}
 use Rattle.lrsparse.specs.Entries.{columns_in, number_in, row_with}
+use Rattle.lrrows.specs.ReadGraphs.{IsReadable}
 use Rattle.lrrows.specs.StateRows.{goto_row}
 use Rattle.lrrows.specs.StoredActions.{goto_number}
 
@@ -57,12 +56,6 @@ goto_row_is g h s es made =
     same_rows f k [] e = refl
     same_rows f k (x ∷ xs) e = ap (λ y. y ∷ map f xs) (e x) ∙ ap (λ ys. k x ∷ ys) (same_rows f k xs e)
 
--- the edge on a rule leads on from an item before it, and such a rule is one of the grammar
-rule_within : (g : Grammar) (h : Graph) (s r u : ℕ) → IsGrammar g → IsGraphOf g h → edge h s (Rule r) ≡ Some u → r < length g.rule_names
-rule_within g h s r u shape graph e =
-    let (p, d, i, b) = (graph.gotos.edges s (Rule r)).0 (rw e refl) in
-    (symbol_at_dot shape p d (Rule r) b).1
-
 -- the rules of entries are those of edges
 columns_within :
     (n : ℕ) (es : List (Symbol × ℕ))
@@ -77,12 +70,12 @@ columns_within n (e ∷ es) below = go e.0 e.1 (below 0 e) (columns_within n es 
     go (Token t) u first rest = rest
 
 pub gotos_within :
-    (g : Grammar) (h : Graph) (s : ℕ) → IsGrammar g → IsGraphOf g h → AreOnDistinctSymbols (math.edges_of h s)
+    (g : Grammar) (h : Graph) (s : ℕ) → IsReadable g h → AreOnDistinctSymbols (math.edges_of h s)
     → All (λ e. e.0 < length g.rule_names) (goto_entries (math.edges_of h s))
-gotos_within g h s shape graph distinct =
+gotos_within g h s graph distinct =
     columns_within (length g.rule_names) (math.edges_of h s)
     (λ i d r l e.
-    rule_within g h s r (get_or (math.edges_of h s) i d).1 shape graph
+    graph.rules s r (get_or (math.edges_of h s) i d).1
     (ap (edge_at (math.edges_of h s)) (sym e) ∙ edge_at_place (math.edges_of h s) distinct i d l))
 
 module _

@@ -4,10 +4,11 @@ use Rattle.std.specs.Prelude.{IfSome}
 use Rattle.std.specs.List.{All, range_with_len}
 use Rattle.std.proofs.lemmas.List.Elements.{All-nil, All-cons, All-head, All-map, All-filter}
 use Rattle.lrspec.specs.grammars.Grammar.{Symbol, Rule, Token, Kind, Left, Right, Nonassoc, Precedence, Grammar, token_count, token_precedence, production_precedence}
-use Rattle.lrspec.specs.merging.Graph.{Graph, edge, closed_of, IsGraphOf}
+use Rattle.lrspec.specs.merging.Graph.{Graph, edge, closed_of}
 use Rattle.lrspec.specs.tables.Table.{Action, Shift, Reduce, Accept, Error, by_kind, decide, cell_by, cell_of, reductions, accepts_at}
 use Rattle.lrgrammar.specs.GrammarSizes.{IsWithin}
 use Rattle.lrrows.specs.StoredActions.{IsIndexed, action_number, action_numbered, goto_number, goto_numbered}
+use Rattle.lrrows.specs.ReadGraphs.{IsReadable}
 use Rattle.lrrows.specs.StateRows.{action_row, goto_row}
 use Rattle.lrrows.proofs.KeptNumbers.{numbered_action, numbered_goto}
 
@@ -19,10 +20,10 @@ All-range P a (suc n) f =
 
 -- an edge leads to a state of the graph
 edge_below :
-    (g : Grammar) (h : Graph) (most s : ℕ) (x : Symbol) → IsGraphOf g h → length h ≤ most
+    (g : Grammar) (h : Graph) (most s : ℕ) (x : Symbol) → IsReadable g h → length h ≤ most
     → (o : Option ℕ) → edge h s x ≡ o → IfSome o (λ u. u ≤ most)
 edge_below g h most s x m l None e = tt
-edge_below g h most s x m l (Some u) e = let b = (m.gotos.gotos s u x e).below in omega arith
+edge_below g h most s x m l (Some u) e = let b = m.targets s u x e in omega arith
 
 -- a production that an item set reduces by is one of the grammar
 reductions_within : (g : Grammar) (most t s : ℕ) (h : Graph) → IsWithin most g → All (λ p. p ≤ most) (reductions g (closed_of h s) t)
@@ -61,7 +62,7 @@ cell_indexed g most t (p ∷ ps) (Some u) b l m =
 
 -- the cell of a state and a token says a state or a production up to the greatest index
 pub indexed_cell :
-    (g : Grammar) (h : Graph) (most s t : ℕ) → IsGraphOf g h → IsWithin most g → length h ≤ most
+    (g : Grammar) (h : Graph) (most s t : ℕ) → IsReadable g h → IsWithin most g → length h ≤ most
     → IsIndexed most (cell_of g h s t)
 indexed_cell g h most s t m w l =
     cell_indexed g most t (reductions g (closed_of h s) t) (edge h s (Token t)) (accepts_at g (closed_of h s) t)
@@ -69,7 +70,7 @@ indexed_cell g h most s t m w l =
 
 -- every number of a row of cells keeps an action whose state or production is up to the greatest index
 pub indexed_action_row :
-    (g : Grammar) (h : Graph) (most s : ℕ) → IsGraphOf g h → IsWithin most g → length h ≤ most
+    (g : Grammar) (h : Graph) (most s : ℕ) → IsReadable g h → IsWithin most g → length h ≤ most
     → All (λ c. IsIndexed most (action_numbered c)) (action_row g h s)
 indexed_action_row g h most s m w l =
     All-map (λ c. IsIndexed most (action_numbered c)) (λ t. action_number (cell_of g h s t)) (range_with_len 0 (token_count g))
@@ -78,7 +79,7 @@ indexed_action_row g h most s m w l =
 
 -- every number of a row of gotos keeps a state up to the greatest index, if any
 pub indexed_goto_row :
-    (g : Grammar) (h : Graph) (most s : ℕ) → IsGraphOf g h → length h ≤ most
+    (g : Grammar) (h : Graph) (most s : ℕ) → IsReadable g h → length h ≤ most
     → All (λ c. IfSome (goto_numbered c) (λ u. u ≤ most)) (goto_row g h s)
 indexed_goto_row g h most s m l =
     All-map (λ c. IfSome (goto_numbered c) (λ u. u ≤ most)) (λ r. goto_number (edge h s (Rule r))) (range_with_len 0 (length g.rule_names))

@@ -8,12 +8,13 @@ use Rattle.std.proofs.lemmas.Bool.Decides.{nat_tests}
 use Rattle.std.proofs.lemmas.Map.Keys.{ge_from_not_lt}
 use Rattle.lrspec.specs.grammars.Grammar.{Grammar, end_token, body_of}
 use Rattle.lrspec.specs.grammars.ItemSets.{Items}
-use Rattle.lrspec.specs.merging.Graph.{Graph, closed_of, IsGraphOf}
+use Rattle.lrspec.specs.merging.Graph.{Graph, closed_of}
 use Rattle.lrspec.specs.tables.Table.{reductions, accepts_at, AcceptsAndReduces}
 use Rattle.lrspec.specs.tables.Conflicts.{IsLeastAcceptReduce}
 use Rattle.lrspec.proofs.grammars.ListMembers.{Among}
 use Rattle.lrspec.proofs.tables.CellFacts.{looks_in_from_test, test_from_looks_in, among_reductions, reduction_looks, least_of_first}
 use Rattle.lrspec.proofs.tables.MachineStacks.{look_fits}
+use Rattle.lrrows.specs.ReadGraphs.{IsReadable}
 use Rattle.lrrows.specs.StateRows.{first_of, least_accept_reduce}
 use Rattle.lrrows.proofs.NumbersInTurn.{InTurn, turns_begin, turn_at, turn_taken, turns_end}
 
@@ -53,11 +54,11 @@ module _ {T : Type 0} (number : T → ℕ) (cmp : T → T → Ordering) (partial
   lesser_other x y r e t =
       let l = ge_from_not_lt (number x) (number y) (sym (tests_numbers x y r e) ∙ t) in (omega arith, l, inl refl)
 
-module _ (g : Grammar) (h : Graph) (m : IsGraphOf g h) where
+module _ (g : Grammar) (h : Graph) (m : IsReadable g h) where
   -- a production that a state reduces by at the end of the text is among its reductions there
   among_accept_reduce : (s p : ℕ) → AcceptsAndReduces g h s p → Among p (reductions g (closed_of h s) (end_token g))
   among_accept_reduce s p k =
-      let (below, token) = look_fits (closed_of h s) p (length (body_of g p)) (end_token g) (m.closures.fit_closed s k.below) k.reduces in
+      let (below, token) = look_fits (closed_of h s) p (length (body_of g p)) (end_token g) (m.closed s k.below) k.reduces in
       among_reductions g (closed_of h s) (end_token g) p below k.differ k.reduces
 
   -- by whether it accepts, and its reductions

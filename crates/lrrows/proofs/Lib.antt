@@ -15,6 +15,7 @@ pub mod LookingTokens
 pub mod ConflictSteps
 pub mod ReduceReduceOfState
 -- rows, state after state
+pub mod ReadableGraphs
 pub mod FirstLooking
 pub mod IndexedRows
 pub mod ReducedRows

@@ -8,9 +8,9 @@ use Rattle.std.proofs.lemmas.List.{get_or_push, get_or_append_left, length_push,
 use Rattle.std.proofs.lemmas.List.FromFn.{length-map-range_with_len, get_or-map-range_with_len}
 use Rattle.lrgrammar.specs.declared.idx.PIdx.{PIdx}
 use Rattle.lrgrammar.proofs.Ranges.{range_more}
-use Rattle.lrspec.specs.grammars.Grammar.{Rule, Grammar, token_count}
+use Rattle.lrspec.specs.grammars.Grammar.{Grammar, token_count}
 use Rattle.lrspec.specs.grammars.ItemSets.{Items, AreUpwards, Fits}
-use Rattle.lrspec.specs.merging.Graph.{Graph, closed_of, edge}
+use Rattle.lrspec.specs.merging.Graph.{Graph, closed_of}
 use Rattle.lrspec.specs.tables.Table.{Action, Reduce, Error, cell_of}
 use Rattle.lrspec.specs.tables.Rows.{AreAllWith}
 use Rattle.lrsparse.specs.declared.builder.MatrixBuilder.{MatrixBuilder}
@@ -21,7 +21,7 @@ use Rattle.lrrows.specs.ReduceReduce.{reduce_reduce_by}
 use Rattle.lrrows.specs.ReducingRows.{ReducesByOne}
 use Rattle.lrrows.specs.RowsOf.{HasCell, ReduceByOne, AreRowsOf}
 use Rattle.lrrows.specs.StateRows.{action_row, goto_row, complete_items, first_at, least_reductions, reduce_reduce_at, shift_reduce_at}
-use Rattle.lrrows.specs.StoredActions.{action_number, action_numbered, goto_number}
+use Rattle.lrrows.specs.StoredActions.{action_number, action_numbered}
 use Rattle.lrgrammar.specs.StoredGrammar.{numbers_of}
 use Rattle.lrrows.specs.StoredLists.{stored_reduce_reduces, stored_shift_reduces}
 use Rattle.lrrows.proofs.KeptNumbers.{numbered_action}

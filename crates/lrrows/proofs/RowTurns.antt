@@ -1,9 +1,8 @@
 -- what the tokens of a row bring, one after another
-use Rattle.std.proofs.Common.{◌≡◌, ℕ, ◌+◌, ◌<◌, ◌≤◌, Bool, List, [], ◌∷◌, ◌++◌, length, map, take, get_or, Option, None, Some, append_assoc, arith, refl, sym, ap, ◌∙◌}
+use Rattle.std.proofs.Common.{◌≡◌, ℕ, ◌+◌, ◌<◌, ◌≤◌, Bool, List, [], ◌∷◌, ◌++◌, length, map, take, get_or, Option, None, Some, arith, refl, sym, ap, ◌∙◌}
 use Rattle.std.specs.Option.{MatchOption, IsSome, IfSome}
-use Rattle.std.specs.List.{flat_map, range_with_len}
+use Rattle.std.specs.List.{flat_map}
 use Rattle.std.proofs.lemmas.List.{flat_map_more, map-append, take_more}
-use Rattle.std.proofs.lemmas.List.FromFn.{map-range_with_len_more}
 use Rattle.lrspec.specs.grammars.Grammar.{Grammar, Token}
 use Rattle.lrspec.specs.merging.Graph.{Graph, closed_of, edge}
 use Rattle.lrspec.specs.tables.Table.{accepts_at, cell_by, cell_of, reductions}

@@ -2,10 +2,10 @@
 
 ghost use Rattle.std.specs.Prelude.{◌≡◌, ℕ, option_map, IfOk, MatchOption};
 ghost use Rattle.lrspec.specs.grammars.ItemSets.{Fits, AreUpwards};
-ghost use Rattle.lrspec.specs.merging.Graph.{IsGraphOf};
 ghost use Rattle.lrspec.specs.tables.Table.{AcceptsAndReduces};
 ghost use Rattle.lrspec.specs.tables.Conflicts.{IsLeastAcceptReduce};
 ghost use Rattle.lritems.specs.ItemsOf.{set_of};
+ghost use Rattle.lrrows.specs.ReadGraphs.{IsReadable};
 ghost use Rattle.lrrows.specs.StateRows.{least_accept_reduce};
 
 use crate::completes::{accepted, completes, least_at};
@@ -37,7 +37,7 @@ pub fn accept_reduce<T: IndexStorage>(
     grm: &YaccGrammar<T>,
     sg: &StateGraph<T>,
 ) -> Result<Option<PIdx<T>>, AllocError>
-    requires graph { IsGraphOf grm.now sg.now }
+    requires graph { IsReadable grm.now sg.now }
     ensures { IfOk result (λ o. MatchOption o
         ((s p : ℕ) → AcceptsAndReduces grm.now sg.now s p → ⊥)
         (λ p. IsLeastAcceptReduce grm.now sg.now (T.number p.0))) }

@@ -2,9 +2,10 @@
 
 ghost use Rattle.std.specs.Prelude.{◌≡◌, ℕ, ◌<◌, ◌≤◌, List, length, option_map, IfSome, OnOk};
 ghost use Rattle.lrspec.specs.grammars.Grammar as math;
-ghost use Rattle.lrspec.specs.merging.Graph.{closed_of, IsGraphOf};
+ghost use Rattle.lrspec.specs.merging.Graph.{closed_of};
 ghost use Rattle.lrspec.specs.tables.Table.{accepts_at, bit_or_none, cell_by, decide};
 ghost use Rattle.lrsparse.specs.Entries.{row_with, AreEntries};
+ghost use Rattle.lrrows.specs.ReadGraphs.{IsReadable};
 ghost use Rattle.lrrows.specs.StateRows.{action_row, goto_row, first_of, least_reductions};
 ghost use Rattle.lrrows.specs.StoredActions.{stored_action, action_number};
 ghost use Rattle.lrrows.specs.StoredLists.{least_of};
@@ -141,13 +142,12 @@ pub(crate) fn make_gotos<T: IndexStorage>(
     sg: &StateGraph<T>,
     stidx: StIdx<T>,
 ) -> Result<(), AllocError>
-    requires graph { IsGraphOf grm.now sg.now }
+    requires graph { IsReadable grm.now sg.now }
     requires below { T.number stidx.0 < length sg.now }
     ensures entries { OnOk result (AreEntries (length grm.now.rule_names) entries.new.items) }
     ensures row { OnOk result (row_with 0 (length grm.now.rule_names) entries.new.items
         ≡ goto_row grm.now sg.now (T.number stidx.0)) }
 {
-    grm.in_order();
     let edges = sg.edges(stidx);
     // `len` says of a map that its keys come upwards
     let _ = edges.len();

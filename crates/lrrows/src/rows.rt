@@ -2,9 +2,10 @@
 
 ghost use Rattle.std.specs.Prelude.{◌≡◌, ℕ, ◌+◌, ◌<◌, ◌≤◌, IsTrue, ◌↔◌, List, Contains, length, OnOk, IfOk};
 ghost use Rattle.std.specs.List.{All};
-ghost use Rattle.lrspec.specs.merging.Graph.{Graph, IsGraphOf};
+ghost use Rattle.lrspec.specs.merging.Graph.{Graph};
 ghost use Rattle.lrspec.specs.tables.Table as table;
 ghost use Rattle.lrspec.specs.tables.Rows.{AreAllWith};
+ghost use Rattle.lrrows.specs.ReadGraphs.{IsReadable};
 ghost use Rattle.lrrows.specs.ReducingRows.{ReducesByOne};
 ghost use Rattle.lrrows.specs.RowsOf.{AreRowsOf, HaveZeros};
 ghost use Rattle.lrrows.specs.StoredActions.{action_numbered, actions_in, IsIndexed, NeitherShiftsNorAccepts};
@@ -57,7 +58,7 @@ impl<T: IndexStorage> Rows<T> {
         sg: &StateGraph<T>,
         stidx: StIdx<T>,
     ) -> Result<(), AllocError>
-        requires graph { IsGraphOf grm.now sg.now }
+        requires graph { IsReadable grm.now sg.now }
         requires below { T.number stidx.0 < length sg.now }
         requires states { length sg.now ≤ T.MAX }
         requires rows { AreRowsOf T.number grm.now sg.now (T.number stidx.0) self.old }
@@ -169,7 +170,7 @@ pub fn rows_of<T: IndexStorage>(
     grm: &YaccGrammar<T>,
     sg: &StateGraph<T>,
 ) -> Result<Rows<T>, AllocError>
-    requires graph { IsGraphOf grm.now sg.now }
+    requires graph { IsReadable grm.now sg.now }
     requires states { length sg.now ≤ T.MAX }
     ensures { IfOk result (λ r. AreRowsOf T.number grm.now sg.now (length sg.now) r) }
 {

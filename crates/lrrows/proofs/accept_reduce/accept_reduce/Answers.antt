@@ -15,7 +15,7 @@ closed_state-requires g c = next_asked c.args.grm.now c.args.sg.now _ _ _ _ c.in
 pub accept_reduce_at-requires-clause-fits : goal.accept_reduce_at-requires-clause-fits
 accept_reduce_at-requires-clause-fits g c =
     let l = next_asked c.args.grm.now c.args.sg.now _ _ _ _ c.in-Some.ensures.steps c.loop-stidx.invariant in
-    rw c.closed_state.ensures.items (c.requires.graph.closures.fit_closed _ l)
+    rw c.closed_state.ensures.items (c.requires.graph.closed _ l)
 
 pub accept_reduce_at-requires-clause-upwards : goal.accept_reduce_at-requires-clause-upwards
 accept_reduce_at-requires-clause-upwards g c =

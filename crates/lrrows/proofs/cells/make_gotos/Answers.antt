@@ -16,7 +16,7 @@ returns-clause-entries g c =
     let upwards = rw c.edges-edges.ensures at (gotos_upwards number (λ u. number u.0) _ by_number es c.len.ensures.ordered) in
     let distinct = rw c.edges-edges.ensures at (distinct_entries number (λ u. number u.0) _ by_number es c.len.ensures.ordered) in
     let made = rw (c.in-None.ensures.steps.0, append-nil) at c.loop-symbol.invariant in
-    rw made (record { upwards = upwards; within = gotos_within grm h s c.in_order.ensures.shape c.requires.graph distinct })
+    rw made (record { upwards = upwards; within = gotos_within grm h s c.requires.graph distinct })
 
 pub returns-clause-row : goal.returns-clause-row
 returns-clause-row g c =

@@ -10,16 +10,16 @@ use Rattle.lrrows.proofs.rows.Rows.push.Goals as goal
 
 pub completes-requires : goal.completes-requires
 completes-requires g c =
-    rw c.closed_state-closed.ensures.items (c.requires.graph.closures.fit_closed (g.T.IndexStorage.number c.args.stidx.0) c.requires.below)
+    rw c.closed_state-closed.ensures.items (c.requires.graph.closed (g.T.IndexStorage.number c.args.stidx.0) c.requires.below)
 
 pub accepted-requires : goal.accepted-requires
 accepted-requires g c =
-    rw c.closed_state-closed.ensures.items (c.requires.graph.closures.fit_closed (g.T.IndexStorage.number c.args.stidx.0) c.requires.below)
+    rw c.closed_state-closed.ensures.items (c.requires.graph.closed (g.T.IndexStorage.number c.args.stidx.0) c.requires.below)
 
 pub make_actions-requires-clause-least : goal.make_actions-requires-clause-least
 make_actions-requires-clause-least g c =
     let closed = c.closed_state-closed.ensures in
-    let fits = c.requires.graph.closures.fit_closed (g.T.IndexStorage.number c.args.stidx.0) c.requires.below in
+    let fits = c.requires.graph.closed (g.T.IndexStorage.number c.args.stidx.0) c.requires.below in
     rw c.as_slice-2.ensures.value
     (least_listed c.args.grm.now c.args.sg.now _ _ _ _ closed.upwards fits closed.items c.in_ok-complete.ensures.items (rw c.as_slice.ensures.value at c.in_ok-least.ensures))
 
@@ -69,7 +69,7 @@ push_reduce_reduce-requires-clause-tokens g c =
 pub push_shift_reduce-requires : goal.push_shift_reduce-requires
 push_shift_reduce-requires g c =
     let closed = c.closed_state-closed.ensures in
-    let fits = c.requires.graph.closures.fit_closed (g.T.IndexStorage.number c.args.stidx.0) c.requires.below in
+    let fits = c.requires.graph.closed (g.T.IndexStorage.number c.args.stidx.0) c.requires.below in
     record {
       least =
           rw c.as_slice-7.ensures.value
@@ -84,7 +84,7 @@ returns-clause-rows g c =
     let s = number c.args.stidx.0 in
     let old = c.args.self.now in
     let closed = c.closed_state-closed.ensures in
-    let fits = c.requires.graph.closures.fit_closed s c.requires.below in
+    let fits = c.requires.graph.closed s c.requires.below in
     let least = least_listed grm h s _ _ _ closed.upwards fits closed.items c.in_ok-complete.ensures.items (rw c.as_slice.ensures.value at c.in_ok-least.ensures) in
     let entries = reduce_reduce_listed grm h s _ _ _ closed.upwards fits closed.items c.in_ok-complete.ensures.items least in
     let made = c.in_ok-make_actions.ensures in
