@@ -1,5 +1,6 @@
 //! Item sets and tables: cells, gotos, conflicts, limits.
 
+mod alone;
 mod cells;
 mod conflicts;
 mod item_sets;

@@ -1,5 +1,6 @@
 -- the files of lemmas
 pub mod BuildRefusals
+pub mod BuiltTables
 pub mod ReachedConfigs
 pub mod ReachedRuns
 pub mod StackLists

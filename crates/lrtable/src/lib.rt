@@ -3,6 +3,7 @@
 
 ghost use Rattle.std.specs.Prelude.{◌-◌, ◌<◌, length, Some, IfOk, IfErr, MatchResult};
 ghost use Rattle.lrspec.specs.merging.Chains.{HasChainOf};
+ghost use Rattle.lrspec.specs.merging.Graph.{Graph};
 ghost use Rattle.lrspec.specs.merging.Merged.{AreCounts};
 ghost use Rattle.lrspec.specs.tables.Built.{IsBuilt};
 ghost use Rattle.lrspec.specs.tables.LrTables.{IsExactAnswer};
@@ -36,6 +37,7 @@ pub mod statetable {
 }
 
 pub use crate::statetable::{Action, StateTable, StateTableError, StateTableErrorKind};
+use lrcells::statetable::table_of_outline;
 use lrgrammar::grammar::YaccGrammar;
 use lrgrammar::idx::IndexStorage;
 pub use lrgrammar::idx::StIdx;
@@ -89,4 +91,26 @@ pub fn from_yacc_counted<T: IndexStorage>(
     let (graph, counts) = pager::build(grm)?;
     let table = StateTable::new(alloc, grm, &graph)?;
     Ok((graph, table, counts))
+}
+
+/// The table alone, and what its construction took: those that `from_yacc_counted` answers, with the same refusals. No graph is
+/// made, so that on large grammars it takes half the memory.
+pub fn state_table<T: IndexStorage>(
+    alloc: Global,
+    grm: &YaccGrammar<T>,
+    minimiser: Minimiser,
+) -> Result<(StateTable<T>, BuildCounts), BuildError<T>>
+    ensures built { IfOk result (λ b. (h : Graph) × IsBuilt grm.now h b.0) }
+    ensures below { IfOk result (λ b. length b.0.actions < T.MAX - 1) }
+    ensures counts { IfOk result (λ b.
+        AreCounts grm.now T.MAX (length b.0.actions) b.1.made b.1.closings) }
+    ensures headline { MatchResult result (λ b. IsExactAnswer grm.now (Some b.0))
+        (IsExactError grm.now) }
+    ensures refused { IfErr result (IsBuildRefusal T.number T.MAX grm.now) }
+{
+    let Minimiser::Pager = minimiser;
+    grm.in_order();
+    let (outline, counts) = pager::outline(grm)?;
+    let table = table_of_outline(alloc, grm, &outline)?;
+    Ok((table, counts))
 }

@@ -1,9 +1,8 @@
 use Rattle.lrspec.proofs.texts.ResultsPassedOn.{error_passed}
-use Rattle.lrspec.specs.tables.LrTables.{IsExactAnswer}
-use Rattle.lrspec.proofs.tables.ConflictsAreContested.{reductions_contested, shifts_contested, accept_uncontested}
 use Rattle.lrspec.proofs.tables.ExactWithoutPrecedences.{table_answer}
 use Rattle.lrtable.specs.Refusals.{IsBuildRefusal, IsExactError}
 use Rattle.lrtable.proofs.BuildRefusals.{refused_by_table, exact_error, exact_without_graph, error_answered}
+use Rattle.lrtable.proofs.BuiltTables.{built_table}
 use Rattle.lrtable.proofs.from_yacc_counted.Goals as goal
 
 -- the graph has no table
@@ -38,19 +37,8 @@ new-requires g c = record { graph = c.in_ok-graph.ensures.merged.graph }
 
 pub returns-clause-built : goal.returns-clause-built
 returns-clause-built g c =
-    let grm = c.args.grm.now in
-    let graph = c.in_ok-graph.graph in
-    let merged = c.in_ok-graph.ensures.merged in
-    let made = c.in_ok-table.ensures in record {
-      merged = merged;
-      table = made.table;
-      table_for = record { graph = graph; graph_of = merged.graph; table_of = made.table };
-      reduces = made.reduces;
-      entries = made.entries;
-      accepts = accept_uncontested grm graph c.in_order.ensures.shape merged.graph made.table.no_contest;
-      reductions = reductions_contested grm graph merged.graph merged.shared;
-      shifts = shifts_contested grm graph merged.graph;
-    }
+    let made = c.in_ok-table.ensures in
+    built_table c.args.grm.now c.in_ok-graph.graph c.in_ok-table.table c.in_order.ensures.shape c.in_ok-graph.ensures.merged made.table made.reduces made.entries
 
 pub returns-clause-headline : goal.returns-clause-headline
 returns-clause-headline g c =
