@@ -1,8 +1,6 @@
 -- names with their numbers: each has its place in the list as its number
-use Rattle.std.specs.Prelude.{◌≡◌, ℕ, if◌then◌else◌, List, [], ◌∷◌, ◌++◌, map, Option, None, Some, fold}
-use Rattle.std.specs.Ordering.{nat_cmp}
-use Rattle.std.specs.Cmp.Lexicographic.{slice_cmp}
-use Rattle.std.specs.BTreeMap.{BTreeMap, get_by}
+use Rattle.std.specs.Prelude.{◌≡◌, ℕ, if◌then◌else◌, List, [], ◌∷◌, ◌++◌, map, Option, None, Some, fold, bytes_eq}
+use Rattle.std.specs.HashMap.{HashMap, get_by}
 use denote.Ref.{Bor}
 use Rattle.lrspec.specs.texts.Names.{has_name, place_of}
 
@@ -23,6 +21,6 @@ abbrev pub with_names : List (List ℕ) → List (List ℕ) → List (List ℕ)
 with_names ws vs = fold with_name ws vs
 
 -- the map gives each listed name its number, and nothing else
-abbrev pub IsNumbered : BTreeMap (Bor (List ℕ)) ℕ → List (List ℕ) → Type 0
+abbrev pub IsNumbered : {S : Type 0} → HashMap (Bor (List ℕ)) ℕ S → List (List ℕ) → Type 0
 IsNumbered numbers ws =
-    (w : List ℕ) → get_by (λ k. slice_cmp nat_cmp w k.now) numbers ≡ number_in ws w
+    (w : List ℕ) → get_by (λ k. bytes_eq w k.now) numbers ≡ number_in ws w

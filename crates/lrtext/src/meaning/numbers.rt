@@ -3,13 +3,13 @@
 ghost use Rattle.std.specs.Prelude.{◌≡◌, [], OnOk};
 
 use std::alloc::{AllocError, Global};
-use std::collections::BTreeMap;
+use std::collections::HashMap;
 use std::marker::Model;
 
 /// Names, numbered from 0.
 #[derive(Drop)]
 pub(super) struct Numbers<'a> {
-    places: BTreeMap<&'a str, usize>,
+    places: HashMap<&'a str, usize>,
     names: Vec<&'a str>,
 }
 
@@ -34,7 +34,7 @@ impl<'a> Numbers<'a> {
         ensures { result ≡ [] }
     {
         Numbers {
-            places: BTreeMap::new(alloc),
+            places: HashMap::new(alloc),
             names: Vec::new(alloc),
         }
     }
