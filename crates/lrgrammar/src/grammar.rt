@@ -18,7 +18,7 @@ use crate::idx::{IndexStorage, PIdx, RIdx, SIdx, Symbol, TIdx};
 pub use lrparts::errors::{GrammarError, TextError};
 pub use lrtext::parts::{AssocKind, GrammarParts, PartProd, PartSymbol, PartToken, Precedence};
 use std::alloc::Global;
-use std::collections::BTreeMap;
+use std::collections::HashMap;
 use std::marker::Model;
 pub use tidxs::TIdxIterator;
 
@@ -40,8 +40,8 @@ pub struct YaccGrammar<T: IndexStorage> {
     prods: Vec<Production<T>>,
     start: PIdx<T>,
     rule_prods: Vec<Vec<PIdx<T>>>,
-    rule_places: BTreeMap<String, usize>,
-    token_places: BTreeMap<String, usize>,
+    rule_places: HashMap<String, usize>,
+    token_places: HashMap<String, usize>,
 }
 
 impl<T: IndexStorage> Model for YaccGrammar<T> {

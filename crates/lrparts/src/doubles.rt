@@ -7,13 +7,13 @@ ghost use Rattle.lrtext.specs.StoredParts.{parts_of};
 
 use lrtext::parts::{AssocKind, GrammarParts};
 use std::alloc::{AllocError, Global};
-use std::collections::BTreeMap;
+use std::collections::{BTreeMap, HashMap};
 
 /// Whether two names are the same.
 fn has_double(alloc: Global, names: &[&str]) -> Result<bool, AllocError>
     ensures { IfOk result (λ b. IsTrue b ↔ part.HasDouble (map (λ n. n.now) names.now)) }
 {
-    let mut places: BTreeMap<&str, usize> = BTreeMap::new(alloc);
+    let mut places: HashMap<&str, usize> = HashMap::with_capacity(alloc, names.len())?;
     for i in 0..names.len() {
         if places.insert(names[i], i)?.is_some() {
             return Ok(true);

@@ -2,7 +2,7 @@
 
 ghost use Rattle.std.specs.Prelude.{◌≡◌, ◌≢◌, ℕ, ◌+◌, ◌<◌, ◌≤◌, ◌∷◌, [], ◌++◌, IfOk, OnOk, map, length, All, slice_index_or};
 ghost use Rattle.std.specs.String.{string_bytes};
-ghost use Rattle.std.specs.BTreeMap.{get_by_text};
+ghost use Rattle.std.specs.HashMap.{get_by_text};
 ghost use Rattle.lrspec.specs.texts.Parts.{HasDouble};
 ghost use Rattle.lrparts.specs.LookUps.{FindsNames};
 ghost use Rattle.lrgrammar.specs.StoredGrammar.{production_of, AreListsOf, HasOneMore, KeepsOthers};
@@ -10,7 +10,7 @@ ghost use Rattle.lrgrammar.specs.StoredGrammar.{production_of, AreListsOf, HasOn
 use crate::grammar::Production;
 use crate::idx::{IndexStorage, PIdx};
 use std::alloc::{AllocError, Global};
-use std::collections::BTreeMap;
+use std::collections::HashMap;
 
 /// Adds the production to the list of the rule.
 fn add_to<T: IndexStorage>(
@@ -62,12 +62,12 @@ pub(super) fn production_lists<T: IndexStorage>(
 }
 
 /// The place of each name.
-pub(super) fn places(alloc: Global, names: &[String]) -> Result<BTreeMap<String, usize>, AllocError>
+pub(super) fn places(alloc: Global, names: &[String]) -> Result<HashMap<String, usize>, AllocError>
     requires { HasDouble (map string_bytes names.now) → ⊥ }
     ensures { IfOk result
         (λ m. FindsNames (get_by_text m) (map string_bytes names.now) (length names.now)) }
 {
-    let mut places = BTreeMap::new(alloc);
+    let mut places = HashMap::with_capacity(alloc, names.len())?;
     for i in 0..names.len() {
         places.insert(names[i].clone()?, i)?;
     }

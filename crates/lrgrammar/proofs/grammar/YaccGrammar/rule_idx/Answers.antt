@@ -1,4 +1,4 @@
-use Rattle.std.specs.BTreeMap.{get_by_text}
+use Rattle.std.specs.HashMap.{get_by_text}
 use Rattle.std.specs.String.{string_bytes}
 use Rattle.lrgrammar.proofs.FoundNames.{name_index, name_place, name_missing, names_apart}
 use Rattle.lrgrammar.proofs.grammar.YaccGrammar.rule_idx.Goals as goal

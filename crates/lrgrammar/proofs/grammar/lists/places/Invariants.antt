@@ -1,5 +1,5 @@
 use Rattle.std.proofs.Common.{map}
-use Rattle.std.specs.BTreeMap.{get_by_text}
+use Rattle.std.specs.HashMap.{get_by_text}
 use Rattle.std.specs.String.{string_bytes}
 use Rattle.lrparts.specs.LookUps.{FindsNames}
 use Rattle.lrgrammar.proofs.grammar.lists.places.Given as goal
