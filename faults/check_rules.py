@@ -8,7 +8,7 @@ import os
 from collections import namedtuple
 
 import rules
-from rules import ERRORS, INPUT, OUTPUT, is_beginning, is_same
+from rules import ERRORS, INPUT, OUTPUT, is_beginning
 
 ELSEWHERE = 3
 
@@ -44,11 +44,6 @@ def leaves_input(case, found):
 def memory_used_up(case, whole, found):
     """The fault is told behind whole parts, and nothing comes behind it."""
     return any(found[:3] == joined([*whole.parts[:k], OUT_OF_MEMORY]) for k in range(len(whole.parts)))
-
-
-def memory(case, whole, found):
-    """Memory is enough after all, or the fault is told."""
-    return is_same(case, whole, found) or memory_used_up(case, whole, found)
 
 
 def are_unread(whole, found, unread_parts):
@@ -110,25 +105,4 @@ def writing(case, whole, found):
     return found[:2] == whole[:2] and are_told([part.err for part in whole.parts], found)
 
 
-def writing_behind_one_byte(case, whole, found):
-    """A write that had more to take is followed by one of standard output that fails."""
-    followed = found.faults[OUTPUT] - (not found.faults[ERRORS])
-    if followed < 1:
-        return is_same(case, whole, found)
-    return writing(case, whole, found._replace(faults=(0, followed, 0, 0)))
-
-
-# The rule of lrcheck for each one of lrt. What is interrupted is always taken up again.
-RULES = {
-    rules.is_same: is_same,
-    rules.memory: memory,
-    rules.memory_used_up: memory_used_up,
-    rules.opening: opening,
-    rules.reading: reading,
-    rules.interrupted_reading: is_same,
-    rules.writing: writing,
-    rules.interrupted_writing: is_same,
-    rules.writing_behind_one_byte: writing_behind_one_byte,
-}
-
-FAULTS = {name: fault._replace(rule=RULES[fault.rule]) for name, fault in rules.FAULTS.items()}
+FAULTS = rules.faults_by(memory_used_up, opening, reading, writing)

@@ -66,11 +66,6 @@ def memory_used_up(case, whole, found):
     return tells(found, OUT_OF_MEMORY) and found.out == first_lines(whole.out, lines)
 
 
-def memory(case, whole, found):
-    """Memory is enough after all, or the fault is told."""
-    return is_same(case, whole, found) or memory_used_up(case, whole, found)
-
-
 def opening(case, whole, found):
     """The fault is told, and nothing is read instead."""
     return tells(found, cannot_read(FILE)) and found.out == b"" and not found.input_read
@@ -115,35 +110,50 @@ def interrupted_writing(case, whole, found):
     return (is_same if takes_up else writing)(case, whole, found)
 
 
-def writing_behind_one_byte(case, whole, found):
-    """A write of standard output that had more to take is followed by one that fails."""
-    followed = found.faults[OUTPUT] - 1
-    if followed < 1:
-        return is_same(case, whole, found)
-    return writing(case, whole, found._replace(faults=(0, followed, 0, 0)))
-
-
 # `call`, `kind`, `goes_on` and `then_output` are what faults.c is told. `rule` says whether the answer `found` may come
 # where `whole` does without a fault.
 Fault = namedtuple("Fault", "call kind goes_on rule then_output", defaults=(False,))
 
-FAULTS = {
-    "memory-refused": Fault("memory", "refused", False, memory),
-    "memory-refused-from-there-on": Fault("memory", "refused", True, memory_used_up),
-    "open-fails": Fault("open", "EIO", False, opening),
-    "open-interrupted": Fault("open", "EINTR", False, is_same),
-    "read-fails": Fault("read", "EIO", False, reading),
-    "read-fails-from-there-on": Fault("read", "EIO", True, reading),
-    "read-fails-then-output-fails": Fault("read", "EIO", False, reading, True),
-    "read-interrupted": Fault("read", "EINTR", False, interrupted_reading),
-    "read-of-one-byte": Fault("read", "one-byte", False, is_same),
-    "reads-of-one-byte-from-there-on": Fault("read", "one-byte", True, is_same),
-    "write-fails": Fault("write", "EIO", False, writing),
-    "write-fails-from-there-on": Fault("write", "EIO", True, writing),
-    "write-of-nothing": Fault("write", "nothing", False, writing),
-    "write-interrupted": Fault("write", "EINTR", False, interrupted_writing),
-    "write-of-one-byte": Fault("write", "one-byte", False, is_same),
-    "write-of-one-byte-then-output-fails": Fault("write", "one-byte", False, writing_behind_one_byte, True),
-    "writes-of-one-byte-from-there-on": Fault("write", "one-byte", True, is_same),
-    "close-fails": Fault("close", "EIO", False, is_same),
-}
+
+def same_or(rule):
+    """Nothing comes of the fault, or what the rule says."""
+    return lambda case, whole, found: is_same(case, whole, found) or rule(case, whole, found)
+
+
+def behind_one_byte(writing):
+    """A write that had more to take is followed by one of standard output that fails, as `writing` says."""
+
+    def rule(case, whole, found):
+        followed = found.faults[OUTPUT] - (not found.faults[ERRORS])
+        if followed < 1:
+            return is_same(case, whole, found)
+        return writing(case, whole, found._replace(faults=(0, followed, 0, 0)))
+
+    return rule
+
+
+def faults_by(memory_used_up, opening, reading, writing, interrupted_reading=is_same, interrupted_writing=is_same):
+    """The faults that are tried, with these rules. What is interrupted is taken up again where no other rule is given."""
+    return {
+        "memory-refused": Fault("memory", "refused", False, same_or(memory_used_up)),
+        "memory-refused-from-there-on": Fault("memory", "refused", True, memory_used_up),
+        "open-fails": Fault("open", "EIO", False, opening),
+        "open-interrupted": Fault("open", "EINTR", False, is_same),
+        "read-fails": Fault("read", "EIO", False, reading),
+        "read-fails-from-there-on": Fault("read", "EIO", True, reading),
+        "read-fails-then-output-fails": Fault("read", "EIO", False, reading, True),
+        "read-interrupted": Fault("read", "EINTR", False, interrupted_reading),
+        "read-of-one-byte": Fault("read", "one-byte", False, is_same),
+        "reads-of-one-byte-from-there-on": Fault("read", "one-byte", True, is_same),
+        "write-fails": Fault("write", "EIO", False, writing),
+        "write-fails-from-there-on": Fault("write", "EIO", True, writing),
+        "write-of-nothing": Fault("write", "nothing", False, writing),
+        "write-interrupted": Fault("write", "EINTR", False, interrupted_writing),
+        "write-of-one-byte": Fault("write", "one-byte", False, is_same),
+        "write-of-one-byte-then-output-fails": Fault("write", "one-byte", False, behind_one_byte(writing), True),
+        "writes-of-one-byte-from-there-on": Fault("write", "one-byte", True, is_same),
+        "close-fails": Fault("close", "EIO", False, is_same),
+    }
+
+
+FAULTS = faults_by(memory_used_up, opening, reading, writing, interrupted_reading, interrupted_writing)
