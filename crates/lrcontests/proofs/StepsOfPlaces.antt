@@ -18,10 +18,11 @@ use Rattle.std.specs.declared.alloc.Global.{Global}
 use Rattle.lrgrammar.specs.declared.idx.StIdx.{StIdx}
 use Rattle.lrgrammar.specs.declared.idx.Symbol as code
 use Rattle.lrgrammar.specs.Symbols.{symbol_of}
+use Rattle.lrcontests.specs.declared.places.Candidate.TheVariants.{First, Second}
 use Rattle.lrcontests.specs.declared.places.Step as made
 use Rattle.lrcontests.specs.declared.places.Need as stored
 use Rattle.lrcontests.specs.declared.places.Place as kept
-use Rattle.lrcontests.specs.StoredPlaces.{place_of, needs_of, steps_of, first_step, second_step}
+use Rattle.lrcontests.specs.StoredPlaces.{place_of, needs_of, steps_of, step_with}
 use Rattle.lrcontests.specs.Searches as search
 use Rattle.lrcontests.specs.Searches.{Need, Met, Look, Place, Step, Closes, GoesBack, Steps, IsSettled, IsLooking, AreLooking, AreStepsOf, AreClosesOf, step_to_first, step_to_second}
 use Rattle.lrcontests.proofs.NeedFacts.{back_unique}
@@ -93,11 +94,11 @@ row_at {T} number es i e l is =
     (i, rw length-map l, get_or-map shown es i e (shown e) l ∙ ap shown (sym is))
 
 -- the stored steps to needs are the steps to them
-pub first_steps : {T : Type 0} (number : T → ℕ) (a : kept.Place T) (zs : List (stored.Need T)) → steps_of number (map (λ z. first_step a z) zs) ≡ map (step_to_first (place_of number a)) (needs_of number zs)
+pub first_steps : {T : Type 0} (number : T → ℕ) (a : kept.Place T) (zs : List (stored.Need T)) → steps_of number (map (λ z. step_with a First z) zs) ≡ map (step_to_first (place_of number a)) (needs_of number zs)
 first_steps number a [] = refl
 first_steps number a (z ∷ zs) = rw (first_steps number a zs) refl
 
-pub second_steps : {T : Type 0} (number : T → ℕ) (a : kept.Place T) (zs : List (stored.Need T)) → steps_of number (map (λ z. second_step a z) zs) ≡ map (step_to_second (place_of number a)) (needs_of number zs)
+pub second_steps : {T : Type 0} (number : T → ℕ) (a : kept.Place T) (zs : List (stored.Need T)) → steps_of number (map (λ z. step_with a Second z) zs) ≡ map (step_to_second (place_of number a)) (needs_of number zs)
 second_steps number a [] = refl
 second_steps number a (z ∷ zs) = rw (second_steps number a zs) refl
 
@@ -125,13 +126,13 @@ module _ {T E : Type 0} (number : T → ℕ) (g : Grammar) (h : Graph) (t : ℕ)
   -- so it is where steps are made
   pub first_made :
       (r : Result (Vec (made.Step T) Global) E) → AreStepsOf g h t (place_of number a) (map (step_to_first (place_of number a)) (needs_of number zs))
-      → IfOk r (λ v. v.items ≡ map (λ z. first_step a z) zs) → IfOk r (λ v. AreStepsOf g h t (place_of number a) (steps_of number v.items))
+      → IfOk r (λ v. v.items ≡ map (λ z. step_with a First z) zs) → IfOk r (λ v. AreStepsOf g h t (place_of number a) (steps_of number v.items))
   first_made (Ok v) k e = rw (e, first_steps number a zs) k
   first_made (Err e) k h = h
 
   pub second_made :
       (r : Result (Vec (made.Step T) Global) E) → AreStepsOf g h t (place_of number a) (map (step_to_second (place_of number a)) (needs_of number zs))
-      → IfOk r (λ v. v.items ≡ map (λ z. second_step a z) zs) → IfOk r (λ v. AreStepsOf g h t (place_of number a) (steps_of number v.items))
+      → IfOk r (λ v. v.items ≡ map (λ z. step_with a Second z) zs) → IfOk r (λ v. AreStepsOf g h t (place_of number a) (steps_of number v.items))
   second_made (Ok v) k e = rw (e, second_steps number a zs) k
   second_made (Err e) k h = h
 

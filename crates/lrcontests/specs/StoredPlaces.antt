@@ -2,6 +2,8 @@
 use Rattle.std.specs.Prelude.{ℕ, List, map, None}
 use Rattle.std.specs.Option.{option_map}
 use Rattle.lrgrammar.specs.Symbols.{symbol_of}
+use Rattle.lrcontests.specs.declared.places.Candidate.{Candidate}
+use Rattle.lrcontests.specs.declared.places.Candidate.TheVariants.{First, Second}
 use Rattle.lrcontests.specs.declared.places.Need as stored
 use Rattle.lrcontests.specs.declared.places.Need.TheVariants as code
 use Rattle.lrcontests.specs.declared.places.Place as kept
@@ -34,12 +36,11 @@ needs_of number zs = map (need_of number) zs
 abbrev pub steps_of : {T : Type 0} → (T → ℕ) → List (made.Step T) → List Step
 steps_of number es = map (step_of number) es
 
--- the stored step to this need for the first candidate
-abbrev pub first_step : {T : Type 0} → kept.Place T → stored.Need T → made.Step T
-first_step a z =
-    record { symbol = None; place = record { state = a.state; first = z; second = a.second } }
+-- the place with this need for the candidate
+abbrev pub place_with : {T : Type 0} → kept.Place T → Candidate → stored.Need T → kept.Place T
+place_with a First z = record { state = a.state; first = z; second = a.second }
+place_with a Second z = record { state = a.state; first = a.first; second = z }
 
--- the stored step to this need for the second candidate
-abbrev pub second_step : {T : Type 0} → kept.Place T → stored.Need T → made.Step T
-second_step a z =
-    record { symbol = None; place = record { state = a.state; first = a.first; second = z } }
+-- the stored step to this need for the candidate
+abbrev pub step_with : {T : Type 0} → kept.Place T → Candidate → stored.Need T → made.Step T
+step_with a c z = record { symbol = None; place = place_with a c z }

@@ -1,5 +1,8 @@
 //! Where a search is, and what is needed there.
 
+ghost use Rattle.std.specs.Prelude.{◌≡◌};
+ghost use Rattle.lrcontests.specs.StoredPlaces.{place_with};
+
 use lrgrammar::idx::{PIdx, SIdx, StIdx, Symbol};
 
 /// What a candidate still needs of a list of symbols.
@@ -20,6 +23,33 @@ pub(crate) struct Place<T> {
     pub first: Need<T>,
     /// What is needed for the other candidate.
     pub second: Need<T>,
+}
+
+/// One of the two candidates of a place.
+#[derive(Clone, Copy)]
+pub(crate) enum Candidate {
+    /// That of which `first` says what is needed.
+    First,
+    /// That of which `second` says it.
+    Second,
+}
+
+impl<T: Copy> Place<T> {
+    /// The place with this need for the candidate.
+    pub(crate) fn with(&self, candidate: Candidate, need: Need<T>) -> Place<T>
+        ensures { result ≡ place_with self.now candidate need }
+    {
+        match candidate {
+            Candidate::First => Place {
+                first: need,
+                ..*self
+            },
+            Candidate::Second => Place {
+                second: need,
+                ..*self
+            },
+        }
+    }
 }
 
 /// A step of a search.

@@ -4,11 +4,11 @@ ghost use Rattle.std.specs.Prelude.{◌≡◌, ◌<◌, length, map, IsTrue, IfO
 ghost use Rattle.lrspec.specs.grammars.Grammar as math;
 ghost use Rattle.lrspec.specs.merging.Graph.{IsGraphOf};
 ghost use Rattle.lrcontests.specs.Searches.{IsGoal, IsSettled, AreLooking, AreStepsOf};
-ghost use Rattle.lrcontests.specs.StoredPlaces.{place_of, need_of, steps_of, first_step, second_step};
+ghost use Rattle.lrcontests.specs.StoredPlaces.{place_of, need_of, steps_of, step_with};
 ghost use Rattle.lrcontests.specs.StoredWays.{AreWaysOf, IsRowOf, row_of};
 
 use crate::closes::{closable, closes, is_looking, is_met_at_start, moved_back};
-use crate::places::{Need, Place, Step};
+use crate::places::{Candidate, Need, Place, Step};
 use crate::ways::Ways;
 use lrgrammar::grammar::YaccGrammar;
 use lrgrammar::idx::{IndexStorage, StIdx, Symbol, TIdx};
@@ -45,42 +45,21 @@ pub(crate) fn are_looking<T: IndexStorage>(
     is_looking(grm, closed, place.first, token) && is_looking(grm, closed, place.second, token)
 }
 
-/// The steps to these needs for the first candidate.
-fn with_firsts<T: IndexStorage>(
+/// The steps to these needs for the candidate.
+fn with_needs<T: IndexStorage>(
     alloc: Global,
     place: &Place<T>,
+    candidate: Candidate,
     needs: &[Need<T>],
 ) -> Result<Vec<Step<T>>, AllocError>
-    ensures { IfOk result (λ v. v.items ≡ map (λ z. first_step place.now z) needs.now) }
+    ensures { IfOk result
+        (λ v. v.items ≡ map (λ z. step_with place.now candidate z) needs.now) }
 {
     needs
         .iter()
         .map(|need| Step {
             symbol: None,
-            place: Place {
-                first: *need,
-                ..*place
-            },
-        })
-        .collect(alloc)
-}
-
-/// The steps to these needs for the second candidate.
-fn with_seconds<T: IndexStorage>(
-    alloc: Global,
-    place: &Place<T>,
-    needs: &[Need<T>],
-) -> Result<Vec<Step<T>>, AllocError>
-    ensures { IfOk result (λ v. v.items ≡ map (λ z. second_step place.now z) needs.now) }
-{
-    needs
-        .iter()
-        .map(|need| Step {
-            symbol: None,
-            place: Place {
-                second: *need,
-                ..*place
-            },
+            place: place.with(candidate, *need),
         })
         .collect(alloc)
 }
@@ -144,11 +123,11 @@ pub(crate) fn steps<T: IndexStorage>(
     let uses = ways.uses.as_slice();
     if let Some(pidx) = closable(grm, place.first) {
         let needs = closes(grm, &ways.firsts, uses, closed, pidx, token)?;
-        return with_firsts(grm.allocator(), place, needs.as_slice());
+        return with_needs(grm.allocator(), place, Candidate::First, needs.as_slice());
     }
     if let Some(pidx) = closable(grm, place.second) {
         let needs = closes(grm, &ways.firsts, uses, closed, pidx, token)?;
-        return with_seconds(grm.allocator(), place, needs.as_slice());
+        return with_needs(grm.allocator(), place, Candidate::Second, needs.as_slice());
     }
     let incoming = ways.incoming[usize::from(place.state)].as_slice();
     backs(grm, graph, incoming, place, token)

@@ -32,10 +32,10 @@ returns-in-Some g c =
     let t = number c.args.token.0 in
     let needs = c.in_ok-needs.needs.items in
     let closes = rw c.closed_state-closed.ensures.items at c.in_ok-needs.ensures in
-    first_made number c.args.grm.now c.args.graph.now t c.args.place.now needs c.with_firsts.result
+    first_made number c.args.grm.now c.args.graph.now t c.args.place.now needs c.with_needs.result
     (steps_of_first c.args.grm.now c.args.graph.now t (place_of number c.args.place.now) (number c.in-Some.pidx.0) (needs_of number needs)
     c.in-Some.ensures.item c.in-Some.ensures.apart c.requires.looking closes)
-    (rw c.as_slice.ensures.value at c.with_firsts.ensures)
+    (rw c.as_slice.ensures.value at c.with_needs.ensures)
 
 pub returns-in-Some-closable : goal.returns-in-Some-closable
 returns-in-Some-closable g c =
@@ -43,10 +43,10 @@ returns-in-Some-closable g c =
     let t = number c.args.token.0 in
     let needs = c.in_ok-needs-2.needs.items in
     let closes = rw c.closed_state-closed.ensures.items at c.in_ok-needs-2.ensures in
-    second_made number c.args.grm.now c.args.graph.now t c.args.place.now needs c.with_seconds.result
+    second_made number c.args.grm.now c.args.graph.now t c.args.place.now needs c.with_needs-in-Some-closable.result
     (steps_of_second c.args.grm.now c.args.graph.now t (place_of number c.args.place.now) (number c.in-Some-closable.pidx.0) (needs_of number needs)
     c.requires.ways.firsts.shape c.in_default.ensures.settled c.in-Some-closable.ensures.item c.requires.looking closes)
-    (rw c.as_slice-in-Some-closable.ensures.value at c.with_seconds.ensures)
+    (rw c.as_slice-in-Some-closable.ensures.value at c.with_needs-in-Some-closable.ensures)
 
 pub backs-requires-clause-row : goal.backs-requires-clause-row
 backs-requires-clause-row g c =
