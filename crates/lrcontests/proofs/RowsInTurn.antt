@@ -1,12 +1,12 @@
 -- edges that lead into states, one after another
-use Rattle.std.proofs.Common.{◌≡◌, ℕ, suc, ◌+◌, ◌<◌, ◌≤◌, Ordering, Bool, true, false, cond, List, [], ◌∷◌, ◌++◌, length, get_or, set, get_or-set_same, Option, Some, refl, sym, ap, ◌∙◌, arith, ◌⊎◌, inl, inr}
+use Rattle.std.proofs.Common.{◌≡◌, ℕ, suc, ◌+◌, ◌<◌, ◌≤◌, Ordering, Bool, true, false, cond, List, [], ◌∷◌, ◌++◌, length, get_or, set, length-set, Option, Some, refl, sym, ap, ◌∙◌, arith, ◌⊎◌, inl, inr}
 use Rattle.std.specs.Prelude.{Contains, ◌↔◌, All, option_map}
 use Rattle.std.specs.Map.{lookup}
 use Rattle.std.specs.BTreeMap.{is_at}
 use Rattle.std.specs.declared.vec.Vec.{Vec}
 use Rattle.std.specs.declared.alloc.Global.{Global}
 use Rattle.std.proofs.lemmas.Bool.{cases_eq}
-use Rattle.std.proofs.lemmas.List.{get_or_default, map-append}
+use Rattle.std.proofs.lemmas.List.{get_or-set_other, map-append}
 use Rattle.std.proofs.lemmas.List.Elements.{Contains-append_left, Contains-push, Contains-push_cases}
 use Rattle.lrspec.specs.grammars.Grammar as math
 use Rattle.lrspec.specs.merging.Graph.{Graph, same_symbol, edge, edge_at}
@@ -16,16 +16,10 @@ use Rattle.lrgrammar.specs.declared.idx.StIdx.{StIdx}
 use Rattle.lrgrammar.specs.declared.idx.Symbol.{Symbol}
 use Rattle.lrgrammar.specs.Symbols.{symbol_of}
 use Rattle.lrgrammar.specs.SymbolLaws.{symbol_cmp}
+use Rattle.lrgrammar.proofs.ProductionLists.{one_more}
 use Rattle.lrgraphs.specs.GraphOf.{edges_of}
 use Rattle.lrgraphs.proofs.EdgeFacts.{edge_here}
-use Rattle.lrcontests.specs.StoredWays.{row_of, AreIncoming, HasOneMore, KeepsOthers, AddsEdgesOf}
-
--- a list that is written with one element more
-pub one_more :
-    {X : Type 0} (lists : List (Vec X Global)) (i : ℕ) (was new d : Vec X Global) (x : X) → i < length lists → was ≡ get_or lists i was
-    → new.items ≡ was.items ++ x ∷ [] → (get_or (set lists i new) i d).items ≡ (get_or lists i d).items ++ x ∷ []
-one_more {X} lists i was new d x within is more =
-    ap (λ (v : Vec X Global). v.items) (get_or-set_same lists i new d within) ∙ more ∙ ap (λ (v : Vec X Global). v.items ++ x ∷ []) (is ∙ get_or_default lists i was d within)
+use Rattle.lrcontests.specs.StoredWays.{row_of, AreIncoming, AddsEdgesOf}
 
 -- an edge is the first, or among those that are left
 first_or_left :
@@ -84,10 +78,11 @@ module _ {T : Type 0} (number : T → ℕ) where
 
     -- one edge more
     pub next_adding :
-        (new next : List Row) (left : List (math.Symbol × ℕ)) (e : Edge) (u : ℕ) → number e.1.0 ≡ s → edge h s (symbol_of number e.0) ≡ Some u
-        → length next ≡ length new → HasOneMore new next u e → KeepsOthers new next u → AreAdding new ((symbol_of number e.0, u) ∷ left) → AreAdding next left
-    next_adding new next left e u from is count one others k = record {
-      states = count ∙ k.states;
+        (new : List Row) (left : List (math.Symbol × ℕ)) (e : Edge) (u : ℕ) (was row : Row) → number e.1.0 ≡ s → edge h s (symbol_of number e.0) ≡ Some u
+        → u < length new → was ≡ get_or new u was → row.items ≡ was.items ++ e ∷ [] → AreAdding new ((symbol_of number e.0, u) ∷ left)
+        → AreAdding (set new u row) left
+    next_adding new left e u was row from is within read more k = record {
+      states = length-set new u row ∙ k.states;
       sound = λ w d v r i. elim (row_cases w d v r i) [
         | inl j ↦ k.sound w d v r j
         | inr j ↦ inr (j.1 ∙ from, rw (j.0, j.2) is)
@@ -99,8 +94,11 @@ module _ {T : Type 0} (number : T → ℕ) where
       ];
     }
       where
+        next : List Row
+        next = set new u row
+
         row_is : (d : Row) → row_of number (get_or next u d).items ≡ row_of number (get_or new u d).items ++ (symbol_of number e.0, number e.1.0) ∷ []
-        row_is d = ap (row_of number) (one d) ∙ map-append (λ (x : Edge). (symbol_of number x.0, number x.1.0)) (get_or new u d).items (e ∷ [])
+        row_is d = ap (row_of number) (one_more new u was row d e within read more) ∙ map-append (λ (x : Edge). (symbol_of number x.0, number x.1.0)) (get_or new u d).items (e ∷ [])
 
         row_cases :
             (w : ℕ) (d : Row) (v : math.Symbol) (r : ℕ) → Contains (row_of number (get_or next w d).items) (v, r)
@@ -113,7 +111,7 @@ module _ {T : Type 0} (number : T → ℕ) where
                 | inl j ↦ inl (rw f j)
                 | inr j ↦ inr (sym (ap (λ (p : math.Symbol × ℕ). p.0) j), sym (ap (λ (p : math.Symbol × ℕ). p.1) j), f)
               ]
-          | inr f ↦ inl (rw (others w d f) at i)
+          | inr f ↦ inl (rw (get_or-set_other new u w row d f) at i)
         ]
 
         row_keeps :
@@ -121,7 +119,7 @@ module _ {T : Type 0} (number : T → ℕ) where
             → Contains (row_of number (get_or next w d).items) (v, r)
         row_keeps w d v r i = elim (cases_eq w u) [
           | inl f ↦ rw (f, row_is d) (Contains-append_left (row_of number (get_or new u d).items) ((symbol_of number e.0, number e.1.0) ∷ []) (v, r) (rw f at i))
-          | inr f ↦ rw (others w d f) i
+          | inr f ↦ rw (get_or-set_other new u w row d f) i
         ]
 
         first :

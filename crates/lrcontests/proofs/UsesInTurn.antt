@@ -1,19 +1,19 @@
 -- items that stand before rules, one after another
-use Rattle.std.proofs.Common.{◌≡◌, ℕ, ◌+◌, ◌<◌, ◌≤◌, List, [], ◌∷◌, ◌++◌, length, get_or, drop, refl, sym, ap, ◌∙◌, arith, inl, inr}
+use Rattle.std.proofs.Common.{◌≡◌, ℕ, ◌+◌, ◌<◌, ◌≤◌, List, [], ◌∷◌, ◌++◌, length, get_or, set, drop, refl, sym, ap, ◌∙◌, arith, inl, inr}
 use Rattle.std.specs.Prelude.{Contains}
 use Rattle.std.specs.declared.vec.Vec.{Vec}
 use Rattle.std.specs.declared.alloc.Global.{Global}
 use Rattle.std.proofs.lemmas.Bool.{cases_eq}
-use Rattle.std.proofs.lemmas.List.{map-append, drop_all}
+use Rattle.std.proofs.lemmas.List.{get_or-set_other, map-append, drop_all}
 use Rattle.std.proofs.lemmas.List.Elements.{Contains-append_left}
 use Rattle.lrspec.specs.grammars.Grammar.{Symbol, Rule, Token, Grammar, body_of}
 use Rattle.lrspec.specs.grammars.ItemSets.{IsBefore}
 use Rattle.lrspec.proofs.grammars.BodyFacts.{below_of_drop}
 use Rattle.lrgrammar.specs.declared.idx.PIdx.{PIdx}
 use Rattle.lrgrammar.specs.declared.idx.SIdx.{SIdx}
+use Rattle.lrgrammar.proofs.ProductionLists.{one_more}
 use Rattle.lrclosing.proofs.SymbolsBehindDots.{left_at}
 use Rattle.lrcontests.specs.Rests.{HasBehind}
-use Rattle.lrcontests.specs.StoredWays.{HasOneMore, KeepsOthers}
 use Rattle.lrcontests.specs.StoredUses.{keys_of, HasUsesOfRule, HasUse, HasUseOf, HasUsesOf, KeepsUses, AreUses}
 
 -- the item stands before one symbol
@@ -30,17 +30,18 @@ module _ {T : Type 0} (number : T → ℕ) where
 
   -- a row with one item more keeps what it had
   pub keeps_by_push :
-      (old new : List Row) (i : ℕ) (x : PIdx T × SIdx T) → HasOneMore old new i x → KeepsOthers old new i → KeepsUses number old new
-  keeps_by_push old new i x one others r p d h row = elim (cases_eq r i) [
+      (old : List Row) (i : ℕ) (was new : Row) (x : PIdx T × SIdx T) → i < length old → was ≡ get_or old i was → new.items ≡ was.items ++ x ∷ []
+      → KeepsUses number old (set old i new)
+  keeps_by_push old i was new x within read more r p d h row = elim (cases_eq r i) [
     | inl e ↦
         let had : Contains (keys_of number (get_or old i row).items) (p, d) = rw e at (h row) in
         rw (e, row_is) (Contains-append_left (keys_of number (get_or old i row).items) ((number x.0.0, number x.1.0) ∷ []) (p, d) had)
-    | inr e ↦ rw (others r row e) (h row)
+    | inr e ↦ rw (get_or-set_other old i r new row e) (h row)
   ]
     where
-      row_is : keys_of number (get_or new i row).items ≡ keys_of number (get_or old i row).items ++ (number x.0.0, number x.1.0) ∷ []
+      row_is : keys_of number (get_or (set old i new) i row).items ≡ keys_of number (get_or old i row).items ++ (number x.0.0, number x.1.0) ∷ []
       row_is =
-          ap (keys_of number) (one row) ∙ map-append (λ (k : PIdx T × SIdx T). (number k.0.0, number k.1.0)) (get_or old i row).items (x ∷ [])
+          ap (keys_of number) (one_more old i was new row x within read more) ∙ map-append (λ (k : PIdx T × SIdx T). (number k.0.0, number k.1.0)) (get_or old i row).items (x ∷ [])
 
   -- the items that are left at a place are the one there and those behind it
   pub keys_left :

@@ -1,5 +1,5 @@
 -- what all searches over a graph share
-use Rattle.std.specs.Prelude.{◌≡◌, ◌≢◌, ℕ, ◌<◌, List, [], ◌∷◌, ◌++◌, map, Contains, Some, length, slice_index_or, ◌↔◌, ◌⊎◌}
+use Rattle.std.specs.Prelude.{◌≡◌, ℕ, ◌<◌, List, map, Contains, Some, length, slice_index_or, ◌↔◌, ◌⊎◌}
 use Rattle.std.specs.declared.vec.Vec.{Vec}
 use Rattle.std.specs.declared.alloc.Global.{Global}
 use Rattle.lrspec.specs.grammars.Grammar as math
@@ -32,17 +32,6 @@ pub record AreIncoming {T : Type 0} (number : T → ℕ) (h : Graph)
   pub rows :
       (u : ℕ) (d : Vec (Symbol T × StIdx T) Global) → u < length h
       → IsRowOf h u (row_of number (slice_index_or lists u d).items)
-
--- the list of the state has the edge more, at its end
-abbrev pub HasOneMore : {X : Type 0} → List (Vec X Global) → List (Vec X Global) → ℕ → X → Type 0
-HasOneMore {X} old new state e =
-    (d : Vec X Global) → (slice_index_or new state d).items
-    ≡ (slice_index_or old state d).items ++ e ∷ []
-
--- the lists of all other states are the same
-abbrev pub KeepsOthers : {X : Type 0} → List (Vec X Global) → List (Vec X Global) → ℕ → Type 0
-KeepsOthers {X} old new state =
-    (k : ℕ) (d : Vec X Global) → k ≢ state → slice_index_or new k d ≡ slice_index_or old k d
 
 -- to the edges that lead into each state those of the state `s` are added
 pub record AddsEdgesOf {T : Type 0} (number : T → ℕ) (h : Graph) (s : ℕ)

@@ -6,6 +6,7 @@ mod contests;
 mod fingerprints;
 mod places;
 mod rests;
+mod rows;
 mod search;
 mod steps;
 mod uses;

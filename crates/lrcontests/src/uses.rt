@@ -3,24 +3,11 @@
 ghost use Rattle.std.specs.Prelude.{◌≡◌, ◌<◌, length, IfOk, OnOk};
 ghost use Rattle.lrcontests.specs.StoredUses.{HasUse, HasUseOf, HasUsesOf, KeepsUses, AreUses};
 
+use crate::rows::empty_rows;
 use lrclosing::items::step_over;
 use lrgrammar::grammar::YaccGrammar;
 use lrgrammar::idx::{IndexStorage, PIdx, SIdx, Symbol};
-use std::alloc::{AllocError, Global};
-
-/// So many rows with no items.
-fn no_uses<T: IndexStorage>(
-    alloc: Global,
-    rules: usize,
-) -> Result<Vec<Vec<(PIdx<T>, SIdx<T>)>>, AllocError>
-    ensures { IfOk result (λ v. length v.items ≡ rules) }
-{
-    let mut uses = Vec::new(alloc);
-    for _rule in 0..rules {
-        uses.push(Vec::new(alloc))?;
-    }
-    Ok(uses)
-}
+use std::alloc::AllocError;
 
 /// Adds the item to the row of the rule.
 fn add_use<T: IndexStorage>(
@@ -89,7 +76,7 @@ pub(crate) fn uses<T: IndexStorage>(
 ) -> Result<Vec<Vec<(PIdx<T>, SIdx<T>)>>, AllocError>
     ensures { IfOk result (λ v. AreUses T.number grm.now v.items) }
 {
-    let mut uses = no_uses(grm.allocator(), usize::from(grm.rules_len()))?;
+    let mut uses = empty_rows(grm.allocator(), usize::from(grm.rules_len()))?;
     for number in 0..grm.prods_len().0.to_usize() {
         add_uses(&mut uses, grm, PIdx(T::from_usize(number).unwrap()))?;
     }

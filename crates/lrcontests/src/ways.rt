@@ -1,19 +1,20 @@
 //! What all searches over a graph share.
 
-ghost use Rattle.std.specs.Prelude.{◌≡◌, ◌≢◌, ℕ, ◌<◌, [], ◌∷◌, ◌++◌, length, All, IfOk, OnOk, slice_index_or};
+ghost use Rattle.std.specs.Prelude.{◌≡◌, ◌<◌, length, All, IfOk, OnOk};
 ghost use Rattle.lrspec.specs.merging.Graph.{IsGraphOf};
 ghost use Rattle.lrspec.specs.merging.Graph as math;
 ghost use Rattle.lrgrammar.specs.SymbolLaws.{symbol_cmp};
 ghost use Rattle.lrgraphs.specs.GraphOf.{edges_of};
-ghost use Rattle.lrcontests.specs.StoredWays.{AreIncoming, AreWaysOf, LeadsBelow, HasOneMore, KeepsOthers, AddsEdgesOf};
+ghost use Rattle.lrcontests.specs.StoredWays.{AreIncoming, AreWaysOf, LeadsBelow, AddsEdgesOf};
 
 use crate::fingerprints::fingerprints;
+use crate::rows::empty_rows;
 use crate::uses::uses;
 use lrgrammar::firsts::YaccFirsts;
 use lrgrammar::grammar::YaccGrammar;
 use lrgrammar::idx::{IndexStorage, PIdx, SIdx, StIdx, Symbol};
 use lrgraphs::stategraph::StateGraph;
-use std::alloc::{AllocError, Global};
+use std::alloc::AllocError;
 use std::collections::BTreeMap;
 
 /// What is made once of a grammar and its graph: its FIRST sets, the items before each rule, the edges into each state, how far
@@ -61,21 +62,6 @@ fn edges_from<'a, T: IndexStorage>(
     graph.edges(stidx)
 }
 
-/// Adds an edge to those that lead into the state.
-fn add_edge<T: IndexStorage>(
-    incoming: &mut Vec<Vec<(Symbol<T>, StIdx<T>)>>,
-    state: usize,
-    edge: (Symbol<T>, StIdx<T>),
-) -> Result<(), AllocError>
-    requires { state < length incoming.old.items }
-    ensures count { length incoming.new.items ≡ length incoming.old.items }
-    ensures added { OnOk result (HasOneMore incoming.old.items incoming.new.items state edge) }
-    ensures others { KeepsOthers incoming.old.items incoming.new.items state }
-{
-    incoming[state].push(edge)?;
-    Ok(())
-}
-
 /// Adds the edges of the state to those that lead into each state.
 fn add_edges<T: IndexStorage>(
     incoming: &mut Vec<Vec<(Symbol<T>, StIdx<T>)>>,
@@ -89,24 +75,9 @@ fn add_edges<T: IndexStorage>(
         incoming.old.items incoming.new.items) }
 {
     for (symbol, target) in edges_from(graph, stidx) {
-        add_edge(incoming, usize::from(*target), (*symbol, stidx))?;
+        incoming[usize::from(*target)].push((*symbol, stidx))?;
     }
     Ok(())
-}
-
-/// No edges into so many states.
-fn no_edges<T: IndexStorage>(
-    alloc: Global,
-    states: usize,
-) -> Result<Vec<Vec<(Symbol<T>, StIdx<T>)>>, AllocError>
-    ensures count { IfOk result (λ v. length v.items ≡ states) }
-    ensures empty { IfOk result (λ v. All (λ es. es.items ≡ []) v.items) }
-{
-    let mut incoming = Vec::new(alloc);
-    for _state in 0..states {
-        incoming.push(Vec::new(alloc))?;
-    }
-    Ok(incoming)
 }
 
 /// For each state the edges that lead into it.
@@ -118,7 +89,7 @@ fn incoming<T: IndexStorage>(
     ensures { IfOk result (λ v. AreIncoming T.number graph.now v.items) }
 {
     let states = graph.all_states_len().0.to_usize();
-    let mut incoming = no_edges(grm.allocator(), states)?;
+    let mut incoming = empty_rows(grm.allocator(), states)?;
     for state in 0..states {
         add_edges(&mut incoming, graph, StIdx(T::from_usize(state).unwrap()))?;
     }

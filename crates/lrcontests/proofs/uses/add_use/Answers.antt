@@ -1,11 +1,7 @@
 -- one row has the item more
-use Rattle.std.proofs.lemmas.List.{get_or-set_other}
-use Rattle.lrcontests.proofs.RowsInTurn.{one_more}
 use Rattle.lrcontests.proofs.UsesInTurn.{keeps_by_push}
 use Rattle.lrcontests.proofs.uses.add_use.Goals as goal
 
 pub returns-clause-kept : goal.returns-clause-kept
 returns-clause-kept g c =
-    keeps_by_push g.T.IndexStorage.number c.args.uses.now.items _ c.args.rule c.args.item
-    (λ d. one_more c.args.uses.now.items c.args.rule c.index_mut.result.now c.push.new.self d c.args.item c.requires c.index_mut.ensures.value c.in_ok-push.ensures.items)
-    (λ k d other. get_or-set_other c.args.uses.now.items c.args.rule k c.push.new.self d other)
+    keeps_by_push g.T.IndexStorage.number c.args.uses.now.items c.args.rule c.index_mut.result.now c.push.new.self c.args.item c.requires c.index_mut.ensures.value c.in_ok-push.ensures.items

@@ -17,8 +17,8 @@ loop-symbol-init g c =
       adding = rw (i.0, c.edges_from-symbol-items.ensures.edges) (begin_adding number c.args.graph.now s c.args.incoming.now.items (math.edges_of c.args.graph.now s) (λ v. refl));
     }
 
-pub add_edge-requires : goal.add_edge-requires
-add_edge-requires g c =
+pub index_mut-requires : goal.index_mut-requires
+index_mut-requires g c =
     let number = g.T.IndexStorage.number in
     let found = rw c.in-Some.ensures.steps at c.loop-symbol.invariant.found in
     let below = c.requires.below (symbol_of number c.in-Some.symbol.now) (number c.in-Some.target.now.0) found.0 in
@@ -30,12 +30,14 @@ loop-symbol-preserved g c =
     let s = number c.args.stidx.0 in
     let found = rw c.in-Some.ensures.steps at c.loop-symbol.invariant.found in
     let adding = rw c.in-Some.ensures.steps at c.loop-symbol.invariant.adding in
+    let below = c.requires.below (symbol_of number c.in-Some.symbol.now) (number c.in-Some.target.now.0) found.0 in
     record {
       found = found.1;
-      adding =
-          next_adding number c.args.graph.now s c.args.incoming.now.items c.loop-symbol.incoming.items c.add_edge.new.incoming.items
+      adding = rw c.from.ensures
+          (next_adding number c.args.graph.now s c.args.incoming.now.items c.loop-symbol.incoming.items
           (edges_of number (λ (u : StIdx g.row.T.Denot). number u.0) c.next.new.self) (c.in-Some.symbol.now, c.args.stidx) (number c.in-Some.target.now.0)
-          refl found.0 c.in_ok-add_edge.ensures.count (rw c.from.ensures at c.in_ok-add_edge.ensures.added) (rw c.from.ensures at c.in_ok-add_edge.ensures.others) adding;
+          c.index_mut.result.now c.push.new.self refl found.0 (omega (arith, below, c.loop-symbol.invariant.adding.states, c.requires.states))
+          (rw c.from.ensures at c.index_mut.ensures.value) c.in_ok-push.ensures.items adding);
     }
 
 pub returns : goal.returns
