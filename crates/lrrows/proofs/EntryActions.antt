@@ -25,7 +25,7 @@ entry_or_zero (e ∷ es) c = elim (cases_eq e.0 c) [
   ]
 ]
 
-module _ (n : ℕ) (es : List (ℕ × ℕ)) (are : AreEntries n es) where
+module _ (n : ℕ) (es : List (ℕ × ℕ)) (are : AreEntries 0 n es) where
   abbrev row : List ℕ
   row = row_with 0 n es
 

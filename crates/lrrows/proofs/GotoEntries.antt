@@ -1,5 +1,5 @@
 -- the entries of a row of gotos, by the edges of the state
-use Rattle.std.proofs.Common.{Ordering, Less, ◌≡◌, ℕ, suc, ◌+◌, ◌<◌, List, [], ◌∷◌, length, map, get_or, refl, sym, ap, ◌∙◌, inl, inr, arith, eq-eqb}
+use Rattle.std.proofs.Common.{◌≢◌, Ordering, Less, ◌≡◌, ℕ, suc, ◌+◌, ◌<◌, List, [], ◌∷◌, length, map, get_or, refl, sym, ap, ◌∙◌, inl, inr, arith, eq-eqb}
 use Rattle.std.specs.List.{All, AllByRecursion, range_with_len}
 use Rattle.std.specs.List.Sorted.{IsStrictlySortedBy, IsStrictlyIncreasing}
 use Rattle.std.specs.Map.{keys_of}
@@ -68,6 +68,15 @@ columns_within n (e ∷ es) below = go e.0 e.1 (below 0 e) (columns_within n es 
         → All (λ e. e.0 < n) (goto_first x u (goto_entries es))
     go (Rule r) u first rest = All-cons (λ e. e.0 < n) (r, u + 1) (goto_entries es) (first r (omega arith) refl) rest
     go (Token t) u first rest = rest
+
+-- no entry is empty
+pub gotos_some : (es : List (Symbol × ℕ)) → All (λ e. e.1 ≢ 0) (goto_entries es)
+gotos_some [] = All-nil (λ e. e.1 ≢ 0)
+gotos_some (e ∷ es) = go e.0 e.1 (gotos_some es)
+  where
+    go : (x : Symbol) (u : ℕ) → All (λ e. e.1 ≢ 0) (goto_entries es) → All (λ e. e.1 ≢ 0) (goto_first x u (goto_entries es))
+    go (Rule r) u rest = All-cons (λ e. e.1 ≢ 0) (r, u + 1) (goto_entries es) (λ z. absurd (omega (arith, z))) rest
+    go (Token t) u rest = rest
 
 pub gotos_within :
     (g : Grammar) (h : Graph) (s : ℕ) → IsReadable g h → AreOnDistinctSymbols (math.edges_of h s)

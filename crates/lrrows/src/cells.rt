@@ -119,7 +119,7 @@ pub(crate) fn make_actions<T: IndexStorage>(
     requires accepts { (t : ℕ) → bit_or_none (option_map (λ ctx. ctx.now) accepted) t
         ≡ accepts_at grm.now (closed_of sg.now (T.number stidx.0)) t }
     requires bits { IfSome accepted (λ ctx. length ctx.now ≡ math.token_count grm.now) }
-    ensures entries { OnOk result (AreEntries (math.token_count grm.now) entries.new.items) }
+    ensures entries { OnOk result (AreEntries 0 (math.token_count grm.now) entries.new.items) }
     ensures row { OnOk result (row_with 0 (math.token_count grm.now) entries.new.items
         ≡ action_row grm.now sg.now (T.number stidx.0)) }
 {
@@ -144,7 +144,7 @@ pub(crate) fn make_gotos<T: IndexStorage>(
 ) -> Result<(), AllocError>
     requires graph { IsReadable grm.now sg.now }
     requires below { T.number stidx.0 < length sg.now }
-    ensures entries { OnOk result (AreEntries (length grm.now.rule_names) entries.new.items) }
+    ensures entries { OnOk result (AreEntries 0 (length grm.now.rule_names) entries.new.items) }
     ensures row { OnOk result (row_with 0 (length grm.now.rule_names) entries.new.items
         ≡ goto_row grm.now sg.now (T.number stidx.0)) }
 {

@@ -49,14 +49,14 @@ below_next es i below k d l = let h = below k d l in omega arith
 
 -- these are the entries in the columns below this one, of a row that has the number `f c` in each column `c`
 pub record IsRowSoFar (empty : ℕ) (f : ℕ → ℕ) (column : ℕ) (entries : List (ℕ × ℕ)) : Type 0 where
-  pub are : AreEntries column entries
+  pub are : AreEntries empty column entries
   pub numbers : (c : ℕ) → c < column → number_in empty entries c ≡ f c
 
 module _ (empty : ℕ) (f : ℕ → ℕ) where
   -- a column with the empty number may have no entry
   pub column_passed : (i : ℕ) (es : List (ℕ × ℕ)) → f i ≡ empty → IsRowSoFar empty f i es → IsRowSoFar empty f (i + 1) es
   column_passed i es none row = record {
-    are = record { upwards = row.are.upwards; within = below_next es i row.are.within };
+    are = record { upwards = row.are.upwards; within = below_next es i row.are.within; some = row.are.some };
     numbers = λ c l. elim (cases_eq c i) [
       | inl e ↦ rw e (none_in empty es i row.are.within ∙ sym none)
       | inr n ↦ row.numbers c (omega arith)
@@ -64,14 +64,15 @@ module _ (empty : ℕ) (f : ℕ → ℕ) where
   }
 
   -- or one with its number
-  pub column_more : (i n : ℕ) (es : List (ℕ × ℕ)) → n ≡ f i → IsRowSoFar empty f i es → IsRowSoFar empty f (i + 1) (es ++ (i, n) ∷ [])
-  column_more i n es is row = record {
+  pub column_more : (i n : ℕ) (es : List (ℕ × ℕ)) → n ≢ empty → n ≡ f i → IsRowSoFar empty f i es → IsRowSoFar empty f (i + 1) (es ++ (i, n) ∷ [])
+  column_more i n es some is row = record {
     are = record {
       upwards =
           rw (map-append (λ e. e.0) es ((i, n) ∷ []))
           (upwards_more (columns_in es) i row.are.upwards
           (λ k l. let m : k < length es = omega (arith, length-map es (λ e. e.0)) in rw (get_or-map (λ e. e.0) es k (0, 0) 0 m) (row.are.within k (0, 0) m)));
       within = All-push (λ e. e.0 < i + 1) es (i, n) (below_next es i row.are.within) (omega arith);
+      some = All-push (λ e. e.1 ≢ empty) es (i, n) row.are.some some;
     };
     numbers = λ c l. elim (cases_eq c i) [
       | inl e ↦ rw e (number_pushed empty es i n row.are.within ∙ is)

@@ -55,7 +55,7 @@ impl MatrixBuilder {
     pub fn push_entries(&mut self, entries: &[(usize, usize)]) -> Result<(), AllocError>
         requires built { IsBuilt self.old }
         requires cols { (so_far self.old).cols < 2 ^ 60 }
-        requires entries { AreEntries (so_far self.old).cols entries.now }
+        requires entries { AreEntries (empty_of self.old) (so_far self.old).cols entries.now }
         ensures built { OnOk result (IsBuilt self.new) }
         ensures empty { OnOk result (empty_of self.new ≡ empty_of self.old) }
         ensures cols { OnOk result ((so_far self.new).cols ≡ (so_far self.old).cols) }
@@ -94,7 +94,7 @@ fn entries_of(
     numbers: &[usize],
     empty: usize,
 ) -> Result<Vec<(usize, usize)>, AllocError>
-    ensures entries { IfOk result (λ v. AreEntries (length numbers.now) v.items) }
+    ensures entries { IfOk result (λ v. AreEntries empty (length numbers.now) v.items) }
     ensures numbers { IfOk result (λ v. row_with empty (length numbers.now) v.items ≡ numbers.now) }
 {
     let mut entries = Vec::new(alloc);

@@ -4,7 +4,7 @@ ghost use Rattle.std.specs.Prelude.{◌≡◌, ◌≢◌, ◌≤◌, ◌<◌, �
 ghost use Rattle.std.specs.List.{All};
 ghost use Rattle.std.specs.List.Sorted.{IsStrictlyIncreasing};
 ghost use Rattle.lrsparse.specs.Owned.{IsOwned, AreOwned, MeetsNone};
-ghost use Rattle.lrsparse.specs.Entries.{columns_in, row_with, AreEntries};
+ghost use Rattle.lrsparse.specs.Entries.{columns_in, row_with};
 ghost use Rattle.lrsparse.specs.Places.{FitsIn, IsPlaced, number_at, row_of};
 ghost use Rattle.lrsparse.specs.Starts.{AreStarts};
 
@@ -152,7 +152,8 @@ pub(crate) fn place_row(
 ) -> Result<usize, AllocError>
     requires placed { IsPlaced row places.old }
     requires starts { AreStarts starts.old places.old.owned.items }
-    requires entries { AreEntries (2 ^ 60) entries.now }
+    requires upwards { IsStrictlyIncreasing (columns_in entries.now) }
+    requires narrow { All (λ e. e.0 < 2 ^ 60) entries.now }
     ensures numbers { IfOk result (λ d. (empty cols : ℕ)
         → row_of places.new.list.items empty cols row d ≡ row_with empty cols entries.now) }
     ensures others { OnOk result ((empty q p : ℕ) → q ≢ row

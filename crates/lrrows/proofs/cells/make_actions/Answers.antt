@@ -82,7 +82,7 @@ loop-token-preserved g c =
     let f = λ (u : ℕ). action_number (cell_of grm h s u) in
     elim c.if-number-ne0.branch [
       | then-number-ne0+in_ok-push w ↦
-          rw (w.entries-is, w.in_ok-push.ensures.items) (column_more 0 f t c.cell_number-number.result c.loop-token.entries.items found c.loop-token.invariant)
+          rw (w.entries-is, w.in_ok-push.ensures.items) (column_more 0 f t c.cell_number-number.result c.loop-token.entries.items w.if-number-ne0.true found c.loop-token.invariant)
       | else-number-ne0 w ↦ rw w.entries-is (column_passed 0 f t c.loop-token.entries.items (sym found ∙ w.if-number-ne0.false) c.loop-token.invariant)
     ]
 

@@ -1,7 +1,8 @@
 use Rattle.std.proofs.Common.{refl, append-nil}
+use Rattle.lrspec.specs.merging.Graph as math
 use Rattle.lrgraphs.proofs.EdgeFacts.{by_kinds}
 use Rattle.lrgraphs.proofs.DistinctSymbols.{distinct_entries}
-use Rattle.lrrows.proofs.GotoEntries.{goto_row_is, gotos_within, gotos_upwards}
+use Rattle.lrrows.proofs.GotoEntries.{goto_row_is, gotos_within, gotos_some, gotos_upwards}
 use Rattle.lrrows.proofs.cells.make_gotos.Goals as goal
 
 pub returns-clause-entries : goal.returns-clause-entries
@@ -16,7 +17,7 @@ returns-clause-entries g c =
     let upwards = rw c.edges-edges.ensures at (gotos_upwards number (λ u. number u.0) _ by_number es c.len.ensures.ordered) in
     let distinct = rw c.edges-edges.ensures at (distinct_entries number (λ u. number u.0) _ by_number es c.len.ensures.ordered) in
     let made = rw (c.in-None.ensures.steps.0, append-nil) at c.loop-symbol.invariant in
-    rw made (record { upwards = upwards; within = gotos_within grm h s c.requires.graph distinct })
+    rw made (record { upwards = upwards; within = gotos_within grm h s c.requires.graph distinct; some = gotos_some (math.edges_of h s) })
 
 pub returns-clause-row : goal.returns-clause-row
 returns-clause-row g c =

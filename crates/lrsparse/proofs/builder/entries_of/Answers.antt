@@ -13,7 +13,7 @@ loop-column-preserved c =
     elim c.if-number-empty.branch [
       | then-number-empty+in_ok-push w ↦
           rw (w.entries-is, w.in_ok-push.ensures.items)
-          (column_more empty (λ c. get_or numbers c empty) column (get_or numbers column 0) c.loop-column.entries.items (sym same) c.loop-column.invariant)
+          (column_more empty (λ c. get_or numbers c empty) column (get_or numbers column 0) c.loop-column.entries.items w.if-number-empty.true (sym same) c.loop-column.invariant)
       | else-number-empty w ↦
           rw (w.entries-is) (column_passed empty (λ c. get_or numbers c empty) column c.loop-column.entries.items (same ∙ w.if-number-empty.false) c.loop-column.invariant)
     ]

@@ -48,13 +48,13 @@ pub push_entries-requires-clause-cols : goal.push_entries-requires-clause-cols
 push_entries-requires-clause-cols g c = omega (arith, c.requires.rows.tokens, c.in_order.ensures.sizes.tokens, g.met.T.IndexStorage.most)
 
 pub push_entries-requires-clause-entries : goal.push_entries-requires-clause-entries
-push_entries-requires-clause-entries g c = rw (c.as_slice-row.ensures.value, c.requires.rows.tokens) c.in_ok-make_actions.ensures.entries
+push_entries-requires-clause-entries g c = rw (c.as_slice-row.ensures.value, c.requires.zeros.actions, c.requires.rows.tokens) c.in_ok-make_actions.ensures.entries
 
 pub push_entries-requires-2-clause-cols : goal.push_entries-requires-2-clause-cols
 push_entries-requires-2-clause-cols g c = omega (arith, c.requires.rows.rules, c.in_order.ensures.sizes.rules, g.met.T.IndexStorage.most)
 
 pub push_entries-requires-2-clause-entries : goal.push_entries-requires-2-clause-entries
-push_entries-requires-2-clause-entries g c = rw (c.as_slice-4.ensures.value, c.requires.rows.rules) c.in_ok-make_gotos.ensures.entries
+push_entries-requires-2-clause-entries g c = rw (c.as_slice-4.ensures.value, c.requires.zeros.gotos, c.requires.rows.rules) c.in_ok-make_gotos.ensures.entries
 
 pub push_reduce_reduce-requires-clause-bits : goal.push_reduce_reduce-requires-clause-bits
 push_reduce_reduce-requires-clause-bits g c =

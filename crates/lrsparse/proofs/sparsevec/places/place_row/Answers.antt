@@ -7,7 +7,7 @@ use Rattle.lrsparse.proofs.sparsevec.places.place_row.Goals as goal
 pub set_of-requires-clause-narrow : goal.set_of-requires-clause-narrow
 set_of-requires-clause-narrow c =
     rw (c.as_slice.ensures.value, c.in_ok-columns.ensures)
-    (All-map (λ k. k < 2 ^ 60) (λ (e : ℕ × ℕ). e.0) c.args.entries.now c.requires.entries.within)
+    (All-map (λ k. k < 2 ^ 60) (λ (e : ℕ × ℕ). e.0) c.args.entries.now c.requires.narrow)
 
 pub place_from-requires-clause-start : goal.place_from-requires-clause-start
 place_from-requires-clause-start c =
@@ -21,7 +21,7 @@ place_from-requires-clause-start c =
 pub place_from-requires-clause-narrow : goal.place_from-requires-clause-narrow
 place_from-requires-clause-narrow c =
     rw (c.as_slice-3.ensures.value, c.in_ok-columns.ensures)
-    (All-map (λ k. k < 2 ^ 60) (λ (e : ℕ × ℕ). e.0) c.args.entries.now c.requires.entries.within)
+    (All-map (λ k. k < 2 ^ 60) (λ (e : ℕ × ℕ). e.0) c.args.entries.now c.requires.narrow)
 
 pub returns-clause-least : goal.returns-clause-least
 returns-clause-least c = λ k l h.
