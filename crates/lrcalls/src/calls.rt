@@ -113,7 +113,7 @@ fn push_table_of(subject: &Subject<'_>, text: &mut String) -> Result<(), Problem
 {
     match StateTable::new(subject.grm.allocator(), subject.grm, subject.graph) {
         Ok(table) => Ok(push_table(text, subject.grm, subject.graph, &table)?),
-        Err(BuildError::Memory) => Err(Problem::Memory),
+        Err(BuildError::Memory) => Err(Problem::Memory(AllocError)),
         Err(_) => Err(Problem::Unfit),
     }
 }
@@ -126,14 +126,14 @@ fn push_from_parts(
     text: &mut String,
 ) -> Result<(), Problem> {
     let Ok(mut parts) = read_parts(alloc, source) else {
-        return Err(Problem::Memory);
+        return Err(Problem::Memory(AllocError));
     };
     if lacks_start {
         parts.start = parts.rules.len();
     }
     match YaccGrammar::<u32>::from_parts(alloc, &parts) {
         Ok(grm) => Ok(push_grammar(text, &grm)?),
-        Err(GrammarError::Memory) => Err(Problem::Memory),
+        Err(GrammarError::Memory) => Err(Problem::Memory(AllocError)),
         Err(refusal) => Ok(write!(text, "{refusal:?}")?),
     }
 }
@@ -146,7 +146,7 @@ fn push_built<T: IndexStorage>(
 ) -> Result<(), Problem> {
     match YaccGrammar::<T>::from_text(alloc, source) {
         Ok(grm) => push_graph_of(&grm, text),
-        Err(TextError::Memory) => Err(Problem::Memory),
+        Err(TextError::Memory) => Err(Problem::Memory(AllocError)),
         Err(_) => Err(Problem::Unfit),
     }
 }
@@ -158,7 +158,7 @@ fn push_graph_of<T: IndexStorage>(grm: &YaccGrammar<T>, text: &mut String) -> Re
             let told = push(text, Ok(counts));
             told.and(push(text, graph.pp_closed_states(grm)))
         }
-        Err(BuildError::Memory) => Err(Problem::Memory),
+        Err(BuildError::Memory) => Err(Problem::Memory(AllocError)),
         Err(_) => Err(Problem::Unfit),
     }
 }
@@ -194,7 +194,7 @@ pub fn push_added(
     }
     match room.set.add(item.0, item.1, &room.looks) {
         Ok(changed) => Ok(write!(&mut room.text, "{changed} {:?}", room.set)?),
-        Err(_) if room.set == *closed => Err(Problem::Memory),
+        Err(_) if room.set == *closed => Err(Problem::Memory(AllocError)),
         Err(_) => Ok(room.text.push_str("changed though memory was refused")?),
     }
 }

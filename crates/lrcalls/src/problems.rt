@@ -1,46 +1,22 @@
 //! Why a case could not be tried.
 
-use std::alloc::{AllocError, AllocFailed};
-use std::{fmt, io};
+use std::alloc::AllocError;
+use std::io;
+use thiserror::Error;
 
 /// Why a case could not be tried.
-#[derive(Drop)]
+#[derive(Debug, Drop, Error)]
 pub enum Problem {
     /// The arguments name no case.
+    #[error("no such case")]
     NoCase,
     /// What is needed for the case is not there.
+    #[error("not fit for the case")]
     Unfit,
     /// Memory was refused to something else than the call.
-    Memory,
+    #[error("out of memory outside of the call")]
+    Memory(#[from(alloc)] AllocError),
     /// Standard output took no more.
-    Output,
-}
-
-impl fmt::Display for Problem {
-    fn fmt<W: fmt::Write>(&self, f: &mut fmt::Formatter<W>) -> fmt::Result {
-        f.write_str(match self {
-            Problem::NoCase => "no such case",
-            Problem::Unfit => "not fit for the case",
-            Problem::Memory => "out of memory outside of the call",
-            Problem::Output => "cannot write standard output",
-        })
-    }
-}
-
-impl From<AllocError> for Problem {
-    fn from(_e: AllocError) -> Problem {
-        Problem::Memory
-    }
-}
-
-impl<X: Drop> From<AllocFailed<X>> for Problem {
-    fn from(_e: AllocFailed<X>) -> Problem {
-        Problem::Memory
-    }
-}
-
-impl From<io::Error> for Problem {
-    fn from(_e: io::Error) -> Problem {
-        Problem::Output
-    }
+    #[error("cannot write standard output")]
+    Output(#[from] io::Error),
 }

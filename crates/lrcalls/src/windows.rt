@@ -49,7 +49,7 @@ fn make_calls(
     rt.stdout().write_all(b"begin\n")?;
     let answered = answer(call, subject, &mut texts.found);
     rt.stdout().write_all(b"end\n")?;
-    let is_refused = matches!(&answered, Err(Problem::Memory));
+    let is_refused = matches!(&answered, Err(Problem::Memory(_)));
     if is_refused {
         texts.found.text.clear();
         answer(call, subject, &mut texts.found)?;
