@@ -2,49 +2,31 @@
 
 use lrgrammar::grammar::TextError;
 use lrtable::BuildError;
-use std::alloc::{AllocError, AllocFailed};
-use std::{fmt, io};
+use std::alloc::AllocError;
+use std::io;
+use thiserror::Error;
 
 /// Why nothing is explained.
-#[derive(Drop)]
+#[derive(Debug, Drop, Error)]
 pub enum Problem {
     /// The arguments are none of the program's.
+    #[error("usage: lrexplain reasons|each|times FILE STEPS")]
     Usage,
     /// The text is no grammar, or none that has a table.
+    #[error("no grammar that has a table")]
     NoTable,
     /// A device failed.
+    #[error("a device failed")]
     Device,
     /// Memory was refused.
-    Memory,
-}
-
-impl fmt::Display for Problem {
-    fn fmt<W: fmt::Write>(&self, f: &mut fmt::Formatter<W>) -> fmt::Result {
-        f.write_str(match self {
-            Problem::Usage => "usage: lrexplain reasons|each|times FILE STEPS",
-            Problem::NoTable => "no grammar that has a table",
-            Problem::Device => "a device failed",
-            Problem::Memory => "out of memory",
-        })
-    }
-}
-
-impl From<AllocError> for Problem {
-    fn from(_e: AllocError) -> Problem {
-        Problem::Memory
-    }
-}
-
-impl<X: Drop> From<AllocFailed<X>> for Problem {
-    fn from(_e: AllocFailed<X>) -> Problem {
-        Problem::Memory
-    }
+    #[error("out of memory")]
+    Memory(#[from(alloc)] AllocError),
 }
 
 impl From<io::Error> for Problem {
     fn from(error: io::Error) -> Problem {
         match error.kind() {
-            io::ErrorKind::OutOfMemory => Problem::Memory,
+            io::ErrorKind::OutOfMemory => Problem::Memory(AllocError),
             _ => Problem::Device,
         }
     }
@@ -53,7 +35,7 @@ impl From<io::Error> for Problem {
 impl From<TextError> for Problem {
     fn from(error: TextError) -> Problem {
         match error {
-            TextError::Memory => Problem::Memory,
+            TextError::Memory => Problem::Memory(AllocError),
             _ => Problem::NoTable,
         }
     }
@@ -62,7 +44,7 @@ impl From<TextError> for Problem {
 impl From<BuildError<u32>> for Problem {
     fn from(error: BuildError<u32>) -> Problem {
         match error {
-            BuildError::Memory => Problem::Memory,
+            BuildError::Memory => Problem::Memory(AllocError),
             _ => Problem::NoTable,
         }
     }
