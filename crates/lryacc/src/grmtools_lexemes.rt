@@ -32,12 +32,11 @@ fn directive_end(text: &[u8], from: usize) -> usize
     ensures from { from ≤ result }
     ensures inside { result ≤ length text.now }
 {
-    for at in from..text.len() {
-        if !is_name_byte(text[at]) && text[at] != b'-' {
-            return at;
-        }
-    }
-    text.len()
+    let len = text[from..]
+        .iter()
+        .take_while(|byte| is_name_byte(**byte) || **byte == b'-')
+        .count();
+    from + len
 }
 
 /// The place from `from` on at which a line ends.
