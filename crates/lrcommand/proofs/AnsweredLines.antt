@@ -15,6 +15,13 @@ use Rattle.lrtable.specs.declared.machine.LineError.TheVariants as ended
 use Rattle.lrcommand.specs.Printing.{MeansGrammar, IsMergedTable, AcceptsAlone}
 use Rattle.lrcommand.specs.Lines.{HasTable, AnswersAll, AnswersBeginning}
 
+-- what holds of a grammar that the bytes mean holds of some grammar that they mean
+pub some_meant :
+    (bytes : Option (List ℕ)) (g : Grammar) (P : Grammar → Type 0) → IsSomeAnd bytes (λ bs. MeansGrammar bs g) → P g
+    → IsSomeAnd bytes (λ bs. (h : Grammar) × MeansGrammar bs h × P h)
+some_meant (Some bs) g P means holds = (g, means, holds)
+some_meant None g P means holds = absurd means
+
 -- what was written stays, if then known bytes are kept
 pub Appends-kept : (old mid new : Option (List ℕ)) (text : List ℕ) → Appends old mid text → Keeps mid new → Appends old new text
 Appends-kept None mid new text wrote kept = tt
