@@ -14,7 +14,7 @@ use lrgrammar::idx::{IndexStorage, PIdx, SIdx};
 use lrgrammar::vob::Vob;
 use lrtable::itemset::Itemset;
 use lrtable::machine::{line_tokens, production_label, production_labels, run};
-use lrtable::{BuildError, Minimiser, StateTable, from_yacc_counted};
+use lrtable::{BuildError, Minimiser, StateTable, from_yacc_counted, state_table};
 use lrtext::reader::read_parts;
 use lrtree::{Tree, Visit, Visits, parse};
 use std::alloc::{AllocError, Global};
@@ -98,6 +98,7 @@ fn answer_by_text(call: &OfTexts, subject: &Subject<'_>, text: &mut String) -> R
         OfTexts::ByU32 => push_built::<u32>(alloc, subject.sample.text, text),
         OfTexts::Firsts => push_firsts_of(subject, text),
         OfTexts::Table => push_table_of(subject, text),
+        OfTexts::TableAlone => push_table_alone(subject, text),
     }
 }
 
@@ -113,6 +114,15 @@ fn push_table_of(subject: &Subject<'_>, text: &mut String) -> Result<(), Problem
 {
     match StateTable::new(subject.grm.allocator(), subject.grm, subject.graph) {
         Ok(table) => Ok(push_table(text, subject.grm, subject.graph, &table)?),
+        Err(BuildError::Memory) => Err(Problem::Memory(AllocError)),
+        Err(_) => Err(Problem::Unfit),
+    }
+}
+
+/// `state_table`.
+fn push_table_alone(subject: &Subject<'_>, text: &mut String) -> Result<(), Problem> {
+    match state_table(subject.grm.allocator(), subject.grm, Minimiser::Pager) {
+        Ok((table, _counts)) => Ok(push_table(text, subject.grm, subject.graph, &table)?),
         Err(BuildError::Memory) => Err(Problem::Memory(AllocError)),
         Err(_) => Err(Problem::Unfit),
     }

@@ -24,6 +24,7 @@ pub enum OfTexts {
     ByU32,
     Firsts,
     Table,
+    TableAlone,
 }
 
 /// Calls on the item sets of a state.
@@ -84,7 +85,7 @@ pub enum Place {
 }
 
 /// All that is tried, each with its name and with what the number is that of.
-pub const ALL: [(&str, Call, Place); 39] = [
+pub const ALL: [(&str, Call, Place); 40] = [
     ("vob-from_elem", Call::BitsFromElem, Place::Length),
     ("vob-clone", Call::BitsClone, Place::Length),
     ("from_parts", Call::Text(OfTexts::FromParts), Place::None),
@@ -98,6 +99,7 @@ pub const ALL: [(&str, Call, Place); 39] = [
     ("from_yacc-by-u32", Call::Text(OfTexts::ByU32), Place::None),
     ("firsts", Call::Text(OfTexts::Firsts), Place::None),
     ("statetable-new", Call::Text(OfTexts::Table), Place::None),
+    ("state_table", Call::Text(OfTexts::TableAlone), Place::None),
     ("itemset-close", Call::State(OfStates::Close), Place::State),
     ("itemset-goto", Call::State(OfStates::Goto), Place::State),
     ("itemset-pp", Call::State(OfStates::Pp), Place::State),
