@@ -46,7 +46,8 @@ module _ {T : Type 0} (number : T → ℕ) (cmp : Symbol T → Symbol T → Orde
   agrees : (a b : Symbol T) → is_eq (cmp a b) ≡ same_symbol (symbol_of number a) (symbol_of number b)
   agrees a b = rw (ordered a b) (by_numbers number a b)
 
-swap : (x y : math.Symbol) → same_symbol x y ≡ same_symbol y x
+-- the order of the two makes no difference to the test
+pub swap : (x y : math.Symbol) → same_symbol x y ≡ same_symbol y x
 swap (math.Symbol.Rule r) (math.Symbol.Rule s) = grind (arith, nat_tests)
 swap (math.Symbol.Rule r) (math.Symbol.Token t) = refl
 swap (math.Symbol.Token t) (math.Symbol.Rule s) = refl
@@ -66,7 +67,7 @@ module _
     edge_here (e ∷ es) k = rw (agrees number cmp ordered k e.0, map_cond state (same_symbol (symbol_of number k) (symbol_of number e.0)) e.1 (lookup (is_at (cmp k)) es), edge_here es k) refl
 
     -- an edge that is there has a key
-    key_at : (es : List (Symbol T × X)) (y : math.Symbol) (n : ℕ) → edge_at (edges_of number state es) y ≡ Some n → (q : Symbol T) × (symbol_of number q ≡ y)
+    pub key_at : (es : List (Symbol T × X)) (y : math.Symbol) (n : ℕ) → edge_at (edges_of number state es) y ≡ Some n → (q : Symbol T) × (symbol_of number q ≡ y)
     key_at [] y n h = cc
     key_at (e ∷ es) y n h = go (same_symbol y (symbol_of number e.0)) refl (key_at es y n) h
       where

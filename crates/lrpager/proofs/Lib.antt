@@ -18,3 +18,4 @@ pub mod DistinctTargets
 pub mod NextStates
 pub mod StartsAtZero
 pub mod MadeItems
+pub mod MadeEdges

@@ -1,45 +1,44 @@
--- the edges of a state by new numbers: each is there by now, or is still to come
-use Rattle.std.proofs.Common.{◌≡◌, ℕ, ◌+◌, ◌≤◌, Bool, true, false, cond, arith, List, [], ◌∷◌, Option, None, Some, refl, sym, ap, ◌∙◌, ◌⊎◌, inl, inr}
-use Rattle.std.specs.Prelude.{option_map, if◌then◌else◌}
-use Rattle.std.specs.Option.{IsSome}
-use Rattle.lrspec.specs.grammars.Grammar.{Symbol}
+-- the edges of a state by new numbers
+use Rattle.std.proofs.Common.{◌≡◌, ℕ, Bool, true, false, cond, List, [], ◌∷◌, ◌++◌, Some, map, refl, sym, ap, ◌∙◌, append_assoc, append-nil}
+use Rattle.std.specs.Prelude.{option_map}
+use Rattle.std.proofs.lemmas.List.{map-append}
+use Rattle.lrspec.specs.grammars.Grammar as math
 use Rattle.lrspec.specs.merging.Graph.{same_symbol, edge_at}
+use Rattle.lrgrammar.specs.declared.idx.Symbol.{Symbol}
+use Rattle.lrgrammar.specs.Symbols.{symbol_of}
+use Rattle.lrgraphs.specs.GraphOf.{edges_of}
+use Rattle.lrplacing.specs.Construction.{HasEdgesOnce}
 use Rattle.lrpager.specs.Collecting.{AreRenumbered}
-use Rattle.lrgraphs.proofs.EdgeFacts.{symbol_from_test}
 
--- the edge on each symbol is there by its new number, or is not there yet and still to come
-abbrev pub AreRenumberedOrToCome : (ℕ → ℕ) → List (Symbol × ℕ) → List (Symbol × ℕ) → List (Symbol × ℕ) → Type 0
-AreRenumberedOrToCome f es rest out =
-    (x : Symbol) → (edge_at out x ≡ option_map f (edge_at es x)) ⊎ ((edge_at out x ≡ None) × IsSome (edge_at rest x))
+-- the edges, each to where `f` takes the state to which it led
+abbrev pub renumbered : (ℕ → ℕ) → List (math.Symbol × ℕ) → List (math.Symbol × ℕ)
+renumbered f es = map (λ e. (e.0, f e.1)) es
 
-none_or_some : (f : ℕ → ℕ) (o e : Option ℕ) → o ≡ None → (o ≡ option_map f e) ⊎ ((o ≡ None) × IsSome e)
-none_or_some f o None n = inl n
-none_or_some f o (Some u) n = inr (n, refl)
-
--- at first none is there
-pub renumbered_none : (f : ℕ → ℕ) (es rest out : List (Symbol × ℕ)) → rest ≡ es → out ≡ [] → AreRenumberedOrToCome f es rest out
-renumbered_none f es rest out r o x = rw (r, o) (none_or_some f (edge_at [] x) (edge_at es x) refl)
-
--- one edge more is there
-pub renumbered_turn :
-    (f : ℕ → ℕ) (es rest out new : List (Symbol × ℕ)) (y : Symbol) (v : ℕ) → edge_at es y ≡ Some v
-    → ((x : Symbol) → edge_at new x ≡ if same_symbol x y then Some (f v) else edge_at out x) → AreRenumberedOrToCome f es ((y, v) ∷ rest) out
-    → AreRenumberedOrToCome f es rest new
-renumbered_turn f es rest out new y v found put come x = go (same_symbol x y) refl (put x) (come x)
+pub edge_renumbered : (f : ℕ → ℕ) (es : List (math.Symbol × ℕ)) → AreRenumbered f es (renumbered f es)
+edge_renumbered f [] x = refl
+edge_renumbered f (e ∷ es) x = go (same_symbol x e.0) (edge_renumbered f es x)
   where
     go :
-        (b : Bool) → same_symbol x y ≡ b → edge_at new x ≡ cond b (Some (f v)) (edge_at out x)
-        → (edge_at out x ≡ option_map f (edge_at es x)) ⊎ ((edge_at out x ≡ None) × IsSome (cond b (Some v) (edge_at rest x)))
-        → (edge_at new x ≡ option_map f (edge_at es x)) ⊎ ((edge_at new x ≡ None) × IsSome (edge_at rest x))
-    go true t p o = let here : edge_at es x ≡ Some v = rw (symbol_from_test x y t) found in inl (p ∙ sym (ap (option_map f) here))
-    go false t p (inl e) = inl (p ∙ e)
-    go false t p (inr (n, s)) = inr (p ∙ n, s)
+        (b : Bool) → edge_at (renumbered f es) x ≡ option_map f (edge_at es x)
+        → cond b (Some (f e.1)) (edge_at (renumbered f es) x) ≡ option_map f (cond b (Some e.1) (edge_at es x))
+    go true r = refl
+    go false r = r
 
--- all edges are there where none is to come
-pub renumbered_all : (f : ℕ → ℕ) (es rest out : List (Symbol × ℕ)) → rest ≡ [] → AreRenumberedOrToCome f es rest out → AreRenumbered f es out
-renumbered_all f es rest out r come x = elim (come x) [ inl e ↦ e | inr (n, s) ↦ let none : IsSome (edge_at [] x) = rw r at s in absurd (cc) ]
+-- so they are on the same symbols, of which none has two
+pub once_renumbered : (f : ℕ → ℕ) (es : List (math.Symbol × ℕ)) → HasEdgesOnce es → HasEdgesOnce (renumbered f es)
+once_renumbered f [] once = tt
+once_renumbered f (e ∷ es) once = (edge_renumbered f es e.0 ∙ ap (option_map f) once.0, once_renumbered f es once.1)
 
--- an insertion makes a map at most one longer
-pub at_most_one_more : (old : Bool) (n m : ℕ) → n ≡ m + (if old then 0 else 1) → n ≤ m + 1
-at_most_one_more true n m e = omega (arith, e)
-at_most_one_more false n m e = omega (arith, e)
+-- one edge more is pushed behind those before it
+pub push_renumbered :
+    {T X : Type 0} (number : T → ℕ) (state : X → ℕ) (f : ℕ → ℕ) (ps qs : List (Symbol T × X)) (k : Symbol T) (w : X) (u : ℕ)
+    (left rest whole : List (math.Symbol × ℕ)) → qs ≡ ps ++ (k, w) ∷ [] → state w ≡ f u → left ≡ (symbol_of number k, u) ∷ rest
+    → edges_of number state ps ++ renumbered f left ≡ whole → edges_of number state qs ++ renumbered f rest ≡ whole
+push_renumbered number state f ps qs k w u left rest whole pushed same next h =
+    let all : edges_of number state qs ≡ edges_of number state ps ++ (symbol_of number k, state w) ∷ [] = rw pushed (map-append _ ps ((k, w) ∷ [])) in
+    let before = rw next at h in
+    rw (all, same, append_assoc) before
+
+-- all are there where none is to come
+pub none_more : (a left whole : List (math.Symbol × ℕ)) (f : ℕ → ℕ) → left ≡ [] → a ++ renumbered f left ≡ whole → a ≡ whole
+none_more a left whole f e h = sym (append-nil a) ∙ (rw e at h)
