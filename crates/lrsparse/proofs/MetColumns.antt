@@ -1,7 +1,7 @@
 -- which of the displacements behind one another some column meets an owned place at
-use Rattle.std.proofs.Common.{◌≡◌, ◌⊎◌, ◌↔◌, ℕ, ◌+◌, ◌*◌, ◌/◌, ◌%◌, ◌^◌, ◌-◌, ◌<◌, ◌≤◌, List, length, slice_index, Contains, bit_or, sym, ap, ◌∙◌, inl, inr, arith}
+use Rattle.std.proofs.Common.{◌≡◌, ◌⊎◌, ◌↔◌, ℕ, ◌+◌, ◌*◌, ◌/◌, ◌%◌, ◌^◌, ◌-◌, ◌<◌, ◌≤◌, List, length, slice_index, bit_or, sym, ap, ◌∙◌, inl, inr, arith}
 use Rattle.std.proofs.lemmas.Bool.{cases_lt, cases_eq}
-use Rattle.std.proofs.lemmas.List.{get_or_default, get_or_past}
+use Rattle.std.proofs.lemmas.List.{get_or_past}
 use Rattle.std.proofs.lemmas.Nat.Bits.{bit_at_or, bit_at-lt, bit_at_ones}
 use Rattle.std.specs.Int.{bit_at}
 use Rattle.lrsparse.specs.Owned.{IsOwned, AreOwned, MeetsNone}
@@ -17,7 +17,7 @@ neither_bit : (a b i : ℕ) → bit_at (bit_or a b) i ≡ 0 → (bit_at a i ≡ 
 neither_bit a b i h = (omega (arith, bit_at_or a b i), omega (arith, bit_at_or a b i))
 
 module _
-    (words columns : List ℕ) (displacement met from index : ℕ) (l : index < length columns)
+    (words columns : List ℕ) (displacement from index : ℕ) (l : index < length columns)
     (places : (i : ℕ) → i < 64 → (bit_at from i ≡ 1) ↔ IsOwned words (displacement + slice_index columns index + i))
   where
     met_there : (i : ℕ) → i < 64 → (bit_at from i ≡ 1) ↔ IsOwned words (displacement + i + slice_index columns index)
@@ -25,41 +25,30 @@ module _
         let same : displacement + slice_index columns index + i ≡ displacement + i + slice_index columns index = omega arith in
         rw same at (places i h)
 
-    -- a bit that is set stands for a column that meets an owned place
+    -- where a bit is set, the column meets an owned place
+    pub met_by_one : (i : ℕ) → i < 64 → bit_at from i ≡ 1 → MeetsNone words columns (displacement + i) → ⊥
+    met_by_one i h b none = none index l ((met_there i h).0 b)
+
+    -- the same of the columns before it and itself: where a bit is set, one of them meets an owned place
     pub met_more :
-        ((i : ℕ) → i < 64 → bit_at met i ≡ 1 → (k : ℕ) × (k < length columns) × IsOwned words (displacement + i + slice_index columns k))
-        → (i : ℕ) → i < 64 → bit_at (bit_or met from) i ≡ 1 → (k : ℕ) × (k < length columns) × IsOwned words (displacement + i + slice_index columns k)
-    met_more before i h b = elim (either_bit met from i b) [
+        (met : ℕ) → ((i : ℕ) → i < 64 → bit_at met i ≡ 1 → MeetsNone words columns (displacement + i) → ⊥)
+        → (i : ℕ) → i < 64 → bit_at (bit_or met from) i ≡ 1 → MeetsNone words columns (displacement + i) → ⊥
+    met_more met before i h b = elim (either_bit met from i b) [
       | inl e ↦ before i h e
-      | inr e ↦ (index, l, (met_there i h).0 e)
+      | inr e ↦ met_by_one i h e
     ]
 
     -- where one is not set, none of the columns so far meets one
     pub unmet_more :
-        ((i : ℕ) → i < 64 → bit_at met i ≡ 0 → (k : ℕ) → k < index → IsOwned words (displacement + i + slice_index columns k) → ⊥)
+        (met : ℕ) → ((i : ℕ) → i < 64 → bit_at met i ≡ 0 → (k : ℕ) → k < index → IsOwned words (displacement + i + slice_index columns k) → ⊥)
         → (i : ℕ) → i < 64 → bit_at (bit_or met from) i ≡ 0 → (k : ℕ) → k < index + 1 → IsOwned words (displacement + i + slice_index columns k) → ⊥
-    unmet_more before i h b k m o = elim (cases_eq k index) [
+    unmet_more met before i h b k m o = elim (cases_eq k index) [
       | inl e ↦
           let set : bit_at from i ≡ 1 = (met_there i h).1 (rw e at o) in
           let none = neither_bit met from i b in
           absurd (omega (arith, none.1))
       | inr n ↦ before i h (neither_bit met from i b).0 k (omega arith) o
     ]
-
--- the same of a column that is one of them, and of no further place
-module _ (words columns : List ℕ) (displacement met from : ℕ) where
-  pub met_far :
-      (column : ℕ) → Contains columns column → ((i : ℕ) → i < 64 → (bit_at from i ≡ 1) ↔ IsOwned words (displacement + column + i))
-      → ((i : ℕ) → i < 64 → bit_at met i ≡ 1 → (k : ℕ) × (k < length columns) × IsOwned words (displacement + i + slice_index columns k))
-      → (i : ℕ) → i < 64 → bit_at (bit_or met from) i ≡ 1 → (k : ℕ) × (k < length columns) × IsOwned words (displacement + i + slice_index columns k)
-  met_far column one places before =
-      let is : slice_index columns one.0 ≡ column = get_or_default columns one.0 0 column one.1 ∙ one.2 in
-      met_more words columns displacement met from one.0 one.1 (λ i h. rw is (places i h)) before
-
-  pub unmet_far :
-      (index : ℕ) → ((i : ℕ) → i < 64 → bit_at met i ≡ 0 → (k : ℕ) → k < index → IsOwned words (displacement + i + slice_index columns k) → ⊥)
-      → (i : ℕ) → i < 64 → bit_at (bit_or met from) i ≡ 0 → (k : ℕ) → k < index → IsOwned words (displacement + i + slice_index columns k) → ⊥
-  unmet_far index before i h b = before i h (neither_bit met from i b).0
 
 -- all are met where every bit is set
 pub none_unmet : (met i : ℕ) → i < 64 → met ≡ 2 ^ 64 - 1 → bit_at met i ≡ 0 → ⊥

@@ -1,6 +1,6 @@
 //! The places of a list that rows own, as the bits of words, and the search for a displacement among them.
 
-ghost use Rattle.std.specs.Prelude.{◌≡◌, ◌≤◌, ◌<◌, ◌+◌, ◌-◌, ◌*◌, ◌^◌, ℕ, length, slice_index, Contains, ◌↔◌, ◌⊎◌};
+ghost use Rattle.std.specs.Prelude.{◌≡◌, ◌≤◌, ◌<◌, ◌+◌, ◌-◌, ◌*◌, ◌^◌, ℕ, length, slice_index, ◌↔◌, ◌⊎◌};
 ghost use Rattle.std.specs.Int.{bit_at};
 ghost use Rattle.lrsparse.specs.Owned.{IsOwned, AreOwned, MeetsNone};
 
@@ -26,18 +26,27 @@ fn places_from(words: &[u64], place: usize) -> u64
     low | word_at(words, place / WORD + 1) << (WORD - bit)
 }
 
-/// The column half of them further on than place `k` of the columns, or that at `k` where there is none.
-fn far_column(columns: &[usize], k: usize) -> usize
-    requires { k < length columns.now }
-    ensures { Contains columns.now result }
+/// The displacements from this one on, as many as a word has, at which one of four columns meets an owned place: the first, the
+/// last, and two between them. Places near one another are often owned alike, so these stand far apart: mostly they meet one at
+/// all of the displacements.
+fn met_by_four(words: &[u64], columns: &[usize], displacement: usize) -> u64
+    requires { (k : ℕ) → k < length columns.now →
+        displacement + slice_index columns.now k < 2 ^ 64 }
+    ensures { (i : ℕ) → i < 64 → bit_at result i ≡ 1 →
+        ¬ (MeetsNone words.now columns.now (displacement + i)) }
 {
-    let half = columns.len() / 2;
-    columns.get(half + k).copied().unwrap_or(columns[k])
+    let Some(last) = columns.len().checked_sub(1) else {
+        return 0;
+    };
+    let third = last / 3;
+    places_from(words, displacement + columns[0])
+        | places_from(words, displacement + columns[third])
+        | places_from(words, displacement + columns[last - third])
+        | places_from(words, displacement + columns[last])
 }
 
 /// The displacements from this one on, as many as a word has, at which some column meets an owned place; all of them, where
-/// that is found before the last column. Places near one another are often owned alike, so a far column is tried beside
-/// each: mostly few are tried before all displacements are met.
+/// that is found before the last column.
 fn met_from(words: &[u64], columns: &[usize], displacement: usize) -> u64
     requires { (k : ℕ) → k < length columns.now →
         displacement + slice_index columns.now k < 2 ^ 64 }
@@ -46,13 +55,12 @@ fn met_from(words: &[u64], columns: &[usize], displacement: usize) -> u64
     ensures unmet { (i : ℕ) → i < 64 → bit_at result i ≡ 0 →
         MeetsNone words.now columns.now (displacement + i) }
 {
-    let mut met = 0;
+    let mut met = met_by_four(words, columns, displacement);
     for k in 0..columns.len() {
-        met |= places_from(words, displacement + columns[k]);
-        met |= places_from(words, displacement + far_column(columns, k));
         if met == u64::MAX {
             return met;
         }
+        met |= places_from(words, displacement + columns[k]);
     }
     met
 }
