@@ -1,5 +1,5 @@
 -- starts stay starts, row after row
-use Rattle.std.proofs.Common.{◌≡◌, ◌↔◌, ℕ, zero, ◌+◌, ◌/◌, ◌%◌, ◌<◌, max, List, Contains, length, slice_index, bit_or, sym, ap, ◌∙◌, inl, inr, arith, replicate, ◌⊎◌}
+use Rattle.std.proofs.Common.{◌≡◌, ◌↔◌, ℕ, zero, ◌+◌, ◌/◌, ◌%◌, ◌<◌, max, List, Contains, length, slice_index, bit_or, ap, ◌∙◌, inl, inr, arith, replicate, ◌⊎◌}
 use Rattle.std.specs.Int.{bit_at}
 use Rattle.std.proofs.lemmas.Bool.{cases_lt}
 use Rattle.std.proofs.lemmas.List.{get_or_default, get_or_past, get_or-replicate, length-replicate}

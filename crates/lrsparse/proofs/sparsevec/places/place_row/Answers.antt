@@ -1,4 +1,4 @@
-use Rattle.std.proofs.Common.{ℕ, ◌<◌, ◌^◌, ◌∙◌}
+use Rattle.std.proofs.Common.{ℕ, ◌<◌, ◌^◌}
 use Rattle.std.proofs.lemmas.List.Elements.{All-map}
 use Rattle.lrsparse.proofs.ColumnsOfRow.{row_fits}
 use Rattle.lrsparse.proofs.StartsKept.{none_below_either, nowhere_of_set, nowhere_of_list, nowhere_stays}

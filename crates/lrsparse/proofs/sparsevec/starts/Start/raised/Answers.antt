@@ -1,4 +1,3 @@
-use Rattle.std.proofs.Common.{◌∙◌}
 use Rattle.lrsparse.proofs.StartsKept.{nowhere_of_more}
 use Rattle.lrsparse.proofs.sparsevec.starts.Start.raised.Goals as goal
 
