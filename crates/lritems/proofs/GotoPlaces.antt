@@ -11,7 +11,7 @@ use Rattle.lrgrammar.specs.declared.idx.Symbol as code
 use Rattle.lrgrammar.specs.Symbols.{symbol_of}
 use Rattle.lritems.specs.declared.gotos.Goto.{Goto}
 use Rattle.lritems.specs.declared.gotos.PlacesBySymbol.{PlacesBySymbol}
-use Rattle.lritems.specs.Gotos.{items_in, gotos_of, noted_at, HasPlaceFor, ArePlacesFor, HasGotoOn, HasGotoAt, ArePlacesOf, IsPutAt}
+use Rattle.lritems.specs.Gotos.{items_in, gotos_of, noted_at, HasPlaceFor, ArePlacesFor, HasGotoOn, HasGotoAt, ArePlacesOf, IsPutAt, IsPutOn}
 use Rattle.lritems.proofs.SymbolTests.{symbol_from_test, test_itself}
 
 -- a place below the length of a list has an element
@@ -137,11 +137,41 @@ pub goto_read :
     → slice_get (gotos_of number gs) k ≡ Some (symbol_of number (get_or gs k d).0, items_in number (get_or gs k d).1)
 goto_read number gs k d below = slice_get-map (λ f. (symbol_of number f.0, items_in number f.1)) gs k ∙ rw (slice_get-get_or gs k d below) refl
 
--- an empty goto put at the end
+-- a goto put at the end
 pub pushed_gotos :
-    {T : Type 0} (number : T → ℕ) (gs hs : List (code.Symbol T × Goto T)) (x : code.Symbol T) (a : Goto T) → hs ≡ gs ++ (x, a) ∷ [] → items_in number a ≡ []
-    → gotos_of number hs ≡ gotos_of number gs ++ (symbol_of number x, []) ∷ []
-pushed_gotos number gs hs x a e f = rw e (map-append _ gs ((x, a) ∷ []) ∙ rw f refl)
+    {T : Type 0} (number : T → ℕ) (gs hs : List (code.Symbol T × Goto T)) (x : code.Symbol T) (a : Goto T) (b : Items) → hs ≡ gs ++ (x, a) ∷ []
+    → items_in number a ≡ b → gotos_of number hs ≡ gotos_of number gs ++ (symbol_of number x, b) ∷ []
+pushed_gotos number gs hs x a b e f = rw e (map-append _ gs ((x, a) ∷ []) ∙ rw f refl)
+
+-- what is written over the last goto
+set_end : (gs : List (Symbol × Items)) (e f : Symbol × Items) → slice_set (gs ++ e ∷ []) (length gs) f ≡ gs ++ f ∷ []
+set_end [] e f = refl
+set_end (h ∷ gs) e f = ap (λ hs. h ∷ hs) (set_end gs e f)
+
+-- a goto of one item put at the end is one that is begun, with the item put into it
+pub put_begun :
+    (gs hs : List (Symbol × Items)) (x : Symbol) (p d : ℕ) (ctx : List Bool) → (HasGotoOn gs x → ⊥) → hs ≡ gs ++ (x, ((p, d), ctx) ∷ []) ∷ [] → IsPutOn x p d ctx gs hs
+put_begun gs hs x p d ctx none is = record {
+  ready = gs ++ (x, []) ∷ [];
+  place = length gs;
+  made = inr (none, refl);
+  at = at_end gs x [];
+  put = record {
+    symbol = x;
+    before = [];
+    was = begun gs x;
+    is = is ∙ sym (set_end gs (x, []) (x, ((p, d), ctx) ∷ []));
+  };
+}
+  where
+    begun : (gs : List (Symbol × Items)) (x : Symbol) → slice_get (gs ++ (x, []) ∷ []) (length gs) ≡ Some (x, [])
+    begun [] x = refl
+    begun (e ∷ gs) x = begun gs x
+
+-- an item put at the end of a goto that is there
+pub put_there :
+    (gs hs : List (Symbol × Items)) (x : Symbol) (k p d : ℕ) (ctx : List Bool) → HasGotoAt gs k x → IsPutAt k p d ctx gs hs → IsPutOn x p d ctx gs hs
+put_there gs hs x k p d ctx at put = record { ready = gs; place = k; made = inl refl; at = at; put = put }
 
 -- an item put at the end of the goto at a place
 pub put_in_goto :

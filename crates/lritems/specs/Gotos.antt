@@ -11,14 +11,19 @@ use Rattle.lrspec.specs.grammars.ItemSets.{Items, HasItem, Fits, IsBefore, IsGot
 use Rattle.lrspec.specs.merging.Graph.{same_symbol}
 use Rattle.lritems.specs.declared.gotos.Goto.{Goto}
 use Rattle.lritems.specs.declared.gotos.PlacesBySymbol.{PlacesBySymbol}
+use denote.Bor.{Bor}
 
 -- an item by the numbers of its production and its dot, with bits
 abbrev pub item_of : {T : Type 0} → (T → ℕ) → PIdx T × SIdx T → List Bool → (ℕ × ℕ) × List Bool
 item_of number k v = ((number k.0.0, number k.1.0), v)
 
+-- the items of a goto as they are kept, each with its lookaheads
+abbrev pub listed_in : {T : Type 0} → Goto T → List ((PIdx T × SIdx T) × Bor (List Bool))
+listed_in a = a.first ∷ a.others.items
+
 -- the items of a goto, each by the numbers of its production and its dot
 abbrev pub items_in : {T : Type 0} → (T → ℕ) → Goto T → Items
-items_in number a = map (λ e. item_of number e.0 e.1.now) a.items.items
+items_in number a = map (λ e. item_of number e.0 e.1.now) (listed_in a)
 
 -- gotos as plain data, each with its symbol
 abbrev pub gotos_of :
@@ -111,3 +116,13 @@ pub record IsPutAt
   pub before : Items
   pub was : slice_get old k ≡ Some (symbol, before)
   pub is : new ≡ slice_set old k (symbol, before ++ ((p, d), ctx) ∷ [])
+
+-- `new` is `old` with one item more at the end of the goto on the symbol, which it begins if there is none
+pub record IsPutOn
+    (x : math.Symbol) (p d : ℕ) (ctx : List Bool) (old new : List (math.Symbol × Items))
+    : Type 0 where
+  pub ready : List (math.Symbol × Items)
+  pub place : ℕ
+  pub made : IsMadeReady x old ready
+  pub at : HasGotoAt ready place x
+  pub put : IsPutAt place p d ctx ready new

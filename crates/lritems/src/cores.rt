@@ -53,8 +53,10 @@ impl<T: IndexStorage> Core<T> {
         requires { AreUpwards (items_in T.number goto.now) }
         ensures { IfOk result (λ c. c ≡ items_in T.number goto.now) }
     {
-        let mut items = Vec::with_capacity(alloc, goto.items.len())?;
-        for (key, ctx) in &goto.items {
+        let mut items = Vec::with_capacity(alloc, goto.others.len().saturating_add(1))?;
+        let (key, ctx) = &goto.first;
+        items.push((*key, Ctx::clone(ctx)?))?;
+        for (key, ctx) in &goto.others {
             items.push((*key, Ctx::clone(ctx)?))?;
         }
         Ok(Core { items })

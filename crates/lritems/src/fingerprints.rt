@@ -40,8 +40,8 @@ pub fn core_fingerprint<T: IndexStorage>(core: &Core<T>) -> u64
 pub fn goto_fingerprint<T: IndexStorage>(goto: &Goto<T>) -> u64
     ensures { result ≡ fingerprint_of (items_in T.number goto.now) }
 {
-    let mut number = 0;
-    for (key, _looks) in &goto.items {
+    let mut number = with_item(0, &goto.first.0);
+    for (key, _looks) in &goto.others {
         number = with_item(number, key);
     }
     number

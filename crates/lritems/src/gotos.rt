@@ -1,11 +1,11 @@
 //! The gotos of an item set on all symbols, which aren't made before they are needed.
 
-ghost use Rattle.std.specs.Prelude.{◌≡◌, ◌≢◌, ℕ, ◌<◌, [], Some, length, IfOk, OnOk, IfNone, IfSome, MatchOption, option_map, IsTrue, ◌↔◌};
+ghost use Rattle.std.specs.Prelude.{◌≡◌, ◌≢◌, ℕ, ◌<◌, [], ◌∷◌, Some, length, get_or, IfOk, OnOk, IfNone, IfSome, MatchOption, option_map, IsTrue, ◌↔◌};
 ghost use Rattle.lrspec.specs.grammars.Grammar as math;
 ghost use Rattle.lrspec.specs.grammars.ItemSets.{Fits, HasItem, AreUpwards};
 ghost use Rattle.lrgrammar.specs.Symbols.{symbol_of};
 ghost use Rattle.lritems.specs.ItemsOf.{set_of, listed_of, Agree};
-ghost use Rattle.lritems.specs.Gotos.{AreGotosOf, item_of, items_in, gotos_of, noted_at, HasPlaceFor, ArePlacesFor, ArePlacesOf, HasGotoOn, HasGotoAt, IsMadeReady, IsPutAt};
+ghost use Rattle.lritems.specs.Gotos.{AreGotosOf, item_of, items_in, listed_in, gotos_of, noted_at, HasPlaceFor, ArePlacesFor, ArePlacesOf, HasGotoOn, HasGotoAt, IsPutAt, IsPutOn};
 
 use crate::cores::Core;
 use crate::itemset::{Ctx, Itemset};
@@ -18,7 +18,10 @@ use std::collections::BTreeMap;
 /// A goto that isn't made: its items, upwards, each with its lookaheads in the item set that it is a goto of.
 #[derive(Drop)]
 pub struct Goto<'a, T: IndexStorage> {
-    pub(crate) items: Vec<((PIdx<T>, SIdx<T>), &'a Ctx)>,
+    /// The first item.
+    pub(crate) first: ((PIdx<T>, SIdx<T>), &'a Ctx),
+    /// The others. Most gotos have none, and so take no memory.
+    pub(crate) others: Vec<((PIdx<T>, SIdx<T>), &'a Ctx)>,
 }
 
 /// Whether an item of a goto is an item of an item set, with the same lookaheads.
@@ -35,12 +38,33 @@ fn is_same_item<T: IndexStorage>(
 }
 
 impl<'a, T: IndexStorage> Goto<'a, T> {
-    /// No items.
-    fn new(alloc: Global) -> Goto<'a, T>
-        ensures { items_in T.number result ≡ [] }
+    /// One item.
+    fn new(alloc: Global, pidx: PIdx<T>, dot: SIdx<T>, ctx: &'a Ctx) -> Goto<'a, T>
+        ensures { items_in T.number result
+            ≡ item_of T.number (pidx, dot) ctx.now ∷ [] }
     {
         Goto {
-            items: Vec::new(alloc),
+            first: ((pidx, dot), ctx),
+            others: Vec::new(alloc),
+        }
+    }
+
+    /// Whether there are so many items.
+    pub(crate) fn has_len(&self, len: usize) -> bool
+        ensures { IsTrue result ↔ (length (listed_in self.now) ≡ len) }
+    {
+        len > 0 && len - 1 == self.others.len()
+    }
+
+    /// The item at a place.
+    pub(crate) fn item(&self, place: usize) -> &((PIdx<T>, SIdx<T>), &'a Ctx)
+        requires { place < length (listed_in self.now) }
+        ensures { result.now ≡ get_or (listed_in self.now) place result.now }
+    {
+        if place == 0 {
+            &self.first
+        } else {
+            &self.others[place - 1]
         }
     }
 
@@ -49,11 +73,11 @@ impl<'a, T: IndexStorage> Goto<'a, T> {
         requires { AreUpwards (items_in T.number self.now) }
         ensures { IsTrue result ↔ Agree core.now (items_in T.number self.now) }
     {
-        if self.items.len() != core.items.len() {
+        if !self.has_len(core.items.len()) {
             return false;
         }
-        for k in 0..self.items.len() {
-            let (mine, own) = &self.items[k];
+        for k in 0..core.items.len() {
+            let (mine, own) = self.item(k);
             let (key, ctx) = &core.items[k];
             if !is_same_item(mine, own, key, ctx) {
                 return false;
@@ -128,31 +152,6 @@ fn known_place<T: IndexStorage>(
     }
 }
 
-/// The place of the goto on a symbol, where an empty one is put if there is none.
-fn place_of<T: IndexStorage>(
-    gotos: &mut Vec<(Symbol<T>, Goto<'_, T>)>,
-    places: &mut PlacesBySymbol,
-    grm: &YaccGrammar<T>,
-    symbol: Symbol<T>,
-) -> Result<usize, AllocError>
-    requires noted { HasPlaceFor places.old (symbol_of T.number symbol) }
-    requires places { ArePlacesOf (gotos_of T.number gotos.old.items) places.old }
-    ensures fit { ArePlacesFor grm.now places.old → ArePlacesFor grm.now places.new }
-    ensures places { OnOk result (ArePlacesOf (gotos_of T.number gotos.new.items) places.new) }
-    ensures at { IfOk result (λ k.
-        HasGotoAt (gotos_of T.number gotos.new.items) k (symbol_of T.number symbol)) }
-    ensures made { OnOk result (IsMadeReady (symbol_of T.number symbol)
-        (gotos_of T.number gotos.old.items) (gotos_of T.number gotos.new.items)) }
-{
-    if let Some(place) = known_place(gotos.as_slice(), places, symbol) {
-        return Ok(place);
-    }
-    let place = gotos.len();
-    gotos.push((symbol, Goto::new(grm.allocator())))?;
-    places.set(symbol, place);
-    Ok(place)
-}
-
 /// Puts an item with its lookaheads at the end of the goto at a place.
 fn put_at<'a, T: IndexStorage>(
     gotos: &mut Vec<(Symbol<T>, Goto<'a, T>)>,
@@ -165,7 +164,33 @@ fn put_at<'a, T: IndexStorage>(
     ensures { OnOk result (IsPutAt place (T.number pidx.0) (T.number dot.0) ctx.now
         (gotos_of T.number gotos.old.items) (gotos_of T.number gotos.new.items)) }
 {
-    gotos[place].1.items.push(((pidx, dot), ctx))?;
+    gotos[place].1.others.push(((pidx, dot), ctx))?;
+    Ok(())
+}
+
+/// Puts an item with its lookaheads at the end of the goto on a symbol, which it begins if there is none.
+fn put<'a, T: IndexStorage>(
+    gotos: &mut Vec<(Symbol<T>, Goto<'a, T>)>,
+    places: &mut PlacesBySymbol,
+    symbol: Symbol<T>,
+    pidx: PIdx<T>,
+    dot: SIdx<T>,
+    ctx: &'a Ctx,
+) -> Result<(), AllocError>
+    requires noted { HasPlaceFor places.old (symbol_of T.number symbol) }
+    requires places { ArePlacesOf (gotos_of T.number gotos.old.items) places.old }
+    ensures fit { (g : math.Grammar) → ArePlacesFor g places.old → ArePlacesFor g places.new }
+    ensures places { OnOk result (ArePlacesOf (gotos_of T.number gotos.new.items) places.new) }
+    ensures put { OnOk result
+        (IsPutOn (symbol_of T.number symbol) (T.number pidx.0) (T.number dot.0) ctx.now
+        (gotos_of T.number gotos.old.items) (gotos_of T.number gotos.new.items)) }
+{
+    if let Some(place) = known_place(gotos.as_slice(), places, symbol) {
+        return put_at(gotos, place, pidx, dot, ctx);
+    }
+    let place = gotos.len();
+    gotos.push((symbol, Goto::new(*gotos.allocator(), pidx, dot, ctx)))?;
+    places.set(symbol, place);
     Ok(())
 }
 
@@ -186,8 +211,7 @@ pub fn gotos<'a, T: IndexStorage>(
     let mut gotos = Vec::new(grm.allocator());
     for (key, ctx) in closed {
         if let Some((symbol, dot)) = step_over(grm, key.0, key.1) {
-            let place = place_of(&mut gotos, places, grm, symbol)?;
-            put_at(&mut gotos, place, key.0, dot, ctx)?;
+            put(&mut gotos, places, symbol, key.0, dot, ctx)?;
         }
     }
     Ok(gotos)

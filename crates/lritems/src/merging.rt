@@ -18,11 +18,11 @@ fn has_same_items<T: IndexStorage>(a: &Core<T>, b: &Goto<T>) -> bool
     ensures same { IsTrue result ↔ HaveSameKeys a.now (items_in T.number b.now) }
     ensures upwards { AreUpwards a.now }
 {
-    if a.items.len() != b.items.len() {
+    if !b.has_len(a.items.len()) {
         return false;
     }
     for k in 0..a.items.len() {
-        if a.items[k].0 != b.items[k].0 {
+        if a.items[k].0 != b.item(k).0 {
             return false;
         }
     }
@@ -54,14 +54,14 @@ fn passes_with_later<T: IndexStorage>(a: &Core<T>, b: &Goto<T>, place: usize) ->
     ensures no { result ≡ false → Clash a.now (items_in T.number b.now) }
 {
     let a_i = &a.items[place].1;
-    let b_i = b.items[place].1;
+    let b_i = b.item(place).1;
     for j in place + 1..a.items.len() {
         let a_j = &a.items[j].1;
         // Items that share a token in `a` pass, as most do that are many.
         if a_i.intersects(a_j) {
             continue;
         }
-        if !pair_passes(a_i, a_j, b_i, b.items[j].1) {
+        if !pair_passes(a_i, a_j, b_i, b.item(j).1) {
             return false;
         }
     }
@@ -110,7 +110,7 @@ pub fn weakly_merge<T: IndexStorage>(core: &mut Core<T>, other: &Goto<T>) -> boo
 {
     let mut changed = false;
     for k in 0..core.items.len() {
-        changed |= merge_at(core, k, other.items[k].1);
+        changed |= merge_at(core, k, other.item(k).1);
     }
     changed
 }

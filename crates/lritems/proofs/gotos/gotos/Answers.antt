@@ -6,10 +6,10 @@ use Rattle.lritems.specs.Gotos.{gotos_of, symbols_shown}
 use Rattle.lritems.proofs.GotosUpwards.{begin_growing, skip_growing, behind_there, put_growing}
 use Rattle.lritems.proofs.GotosUnderway.{begin_gotos, end_gotos, skip_gotos, put_gotos}
 use Rattle.lritems.proofs.GotoItems.{left_shown, none_left, found_shown}
-use Rattle.lritems.proofs.GotoPlaces.{below_of_at, has_place, places_put}
+use Rattle.lritems.proofs.GotoPlaces.{has_place}
 use Rattle.lritems.proofs.SymbolsShown.{shows_passed, shows_put}
 use Rattle.lrclosing.proofs.WalksOverItems.{first_or_rest}
-use Rattle.lritems.proofs.gotos.gotos.Goals.{in-Some+in_ok-place+in_ok-put_at, in_default}
+use Rattle.lritems.proofs.gotos.gotos.Goals.{in-Some+in_ok-put, in_default}
 use Rattle.lritems.proofs.gotos.gotos.Goals as goal
 
 pub loop-key-init : goal.loop-key-init
@@ -27,20 +27,14 @@ step_over-requires g c =
     let found = found_shown g.T.IndexStorage.number (λ r. r.now) c.args.closed.now c.loop-key.key-index c.loop-key-item.result c.requires.upwards c.loop-key-test.true c.loop-key-item.is in
     (c.requires.fits _ _ c.loop-key-item.result.1.now found).production
 
-pub place_of-requires-clause-noted : goal.place_of-requires-clause-noted
-place_of-requires-clause-noted g c =
+pub put-requires-clause-noted : goal.put-requires-clause-noted
+put-requires-clause-noted g c =
     let step = c.in-Some.ensures in
     let symbol = symbol_of g.T.IndexStorage.number c.in-Some.symbol in
     has_place c.args.grm.now c.loop-key.places symbol c.loop-key.invariant.fit (symbol_at_dot step.shape _ _ symbol step.found)
 
-pub returns-in_err-place-clause-places : goal.returns-in_err-place-clause-places
-returns-in_err-place-clause-places g c = c.in_err-place.ensures.fit c.loop-key.invariant.fit
-
-pub put_at-requires : goal.put_at-requires
-put_at-requires g c = below_of_at g.T.IndexStorage.number _ _ _ c.in_ok-place.ensures.at
-
-pub returns-in_err-put_at-clause-places : goal.returns-in_err-put_at-clause-places
-returns-in_err-put_at-clause-places g c = c.in_ok-place.ensures.fit c.loop-key.invariant.fit
+pub returns-in_err-put-clause-places : goal.returns-in_err-put-clause-places
+returns-in_err-put-clause-places g c = c.in_err-put.ensures.fit c.args.grm.now c.loop-key.invariant.fit
 
 pub loop-key-preserved : goal.loop-key-preserved
 loop-key-preserved g c =
@@ -57,17 +51,16 @@ loop-key-preserved g c =
     let growing = rw left at c.loop-key.invariant.growing in
     let order = rw left at c.loop-key.invariant.order in
     elim c.match-step_over.branch [
-      | in-Some+in_ok-place+in_ok-put_at w ↦
+      | in-Some+in_ok-put w ↦
           let step = w.in-Some.ensures in
-          let place = w.in_ok-place.ensures in
-          let put = w.in_ok-put_at.ensures in
+          let put = w.in_ok-put.ensures.put in
           rw (w.gotos-is, w.places-is) record {
-            moving = put_gotos c.args.grm.now _ _ _ _ _ _ _ _ _ _ ctx _ (first_or_rest _ _ ctx _) c.requires.fits moving step.found found step.moved place.made place.at put
-                (behind_there _ _ _ _ _ _ _ _ ctx _ growing step.moved place.made put);
-            growing = put_growing _ _ _ _ _ _ _ _ ctx _ growing step.moved place.made put;
-            order = shows_put c.args.grm.now _ _ _ _ ctx _ made _ _ rest shown step.found place.made place.at put order;
-            fit = place.fit c.loop-key.invariant.fit;
-            places = places_put _ _ w.place_of.new.places _ _ _ ctx place.places put;
+            moving = put_gotos c.args.grm.now _ _ _ _ _ _ _ _ _ _ ctx _ (first_or_rest _ _ ctx _) c.requires.fits moving step.found found step.moved put.made put.at put.put
+                (behind_there _ _ _ _ _ _ _ _ ctx _ growing step.moved put.made put.put);
+            growing = put_growing _ _ _ _ _ _ _ _ ctx _ growing step.moved put.made put.put;
+            order = shows_put c.args.grm.now _ _ _ _ ctx _ made _ _ rest shown step.found put.made put.at put.put order;
+            fit = w.in_ok-put.ensures.fit c.args.grm.now c.loop-key.invariant.fit;
+            places = w.in_ok-put.ensures.places;
           }
       | in_default w ↦
           rw (w.gotos-is, w.places-is) record {

@@ -1,32 +1,32 @@
 use Rattle.std.proofs.Common.{◌<◌, ◌≤◌, ◌∙◌, ℕ, sym, arith, length, below_more}
-use Rattle.lritems.specs.Gotos.{items_in}
+use Rattle.lritems.specs.Gotos.{items_in, listed_in}
 use Rattle.lritems.specs.Merging.{PassAt}
 use Rattle.lritems.proofs.ComparedPlaces.{AreCompared, AreRead, AreOthers, items_long, others_long, are_read, are_others}
 use Rattle.lritems.proofs.PassingPairs.{all_passed, clash_here, passed_turn, passes_here, passes_sharing}
 use Rattle.lritems.proofs.merging.passes_with_later.Given as given
 use Rattle.lritems.proofs.merging.passes_with_later.Goals as goal
-use Rattle.lritems.proofs.merging.passes_with_later.Goals.{After-a, After-index-in-loop-j, After-index-in-loop-j-2}
+use Rattle.lritems.proofs.merging.passes_with_later.Goals.{After-a, After-index-in-loop-j, After-item-in-loop-j}
 
 -- the core and the goto have the same items upwards
-both : (g : given.Over) (c : After-a g) → AreCompared g.T.IndexStorage.number (λ r. r.now) c.a.inside.items.items c.args.b.now.items.items c.args.a.now
+both : (g : given.Over) (c : After-a g) → AreCompared g.T.IndexStorage.number (λ r. r.now) c.a.inside.items.items (listed_in c.args.b.now) c.args.a.now
 both g c = record { is = c.a.view_is; upwards = c.a.invariant; other_upwards = c.requires.upwards; keys = c.requires.items }
 
 -- the two items of a turn, in the core
 read : (g : given.Over) (c : After-index-in-loop-j g)
-    → AreCompared g.T.IndexStorage.number (λ r. r.now) c.a.inside.items.items c.args.b.now.items.items c.args.a.now
+    → AreCompared g.T.IndexStorage.number (λ r. r.now) c.a.inside.items.items (listed_in c.args.b.now) c.args.a.now
     → AreRead g.T.IndexStorage.number c.args.a.now c.args.place c.loop-j.j c.index.result.now c.index-in-loop-j.result.now
 read g c h =
     are_read h c.args.place c.loop-j.j c.index.result.now c.index-in-loop-j.result.now c.requires.place (omega (arith, items_long h, c.a.inside.items.ok.0))
     c.index.ensures c.index-in-loop-j.ensures
 
 -- and in the goto
-others : (g : given.Over) (c : After-index-in-loop-j-2 g)
-    → AreCompared g.T.IndexStorage.number (λ r. r.now) c.a.inside.items.items c.args.b.now.items.items c.args.a.now
+others : (g : given.Over) (c : After-item-in-loop-j g)
+    → AreCompared g.T.IndexStorage.number (λ r. r.now) c.a.inside.items.items (listed_in c.args.b.now) c.args.a.now
     → AreOthers g.T.IndexStorage.number (items_in g.T.IndexStorage.number c.args.b.now) c.index.result.now.0 c.index-in-loop-j.result.now.0
-    c.index-2.result.now.1.now c.index-in-loop-j-2.result.now.1.now
+    c.item.result.now.1.now c.item-in-loop-j.result.now.1.now
 others g c h =
     are_others h c.args.place c.loop-j.j c.index.result.now c.index-in-loop-j.result.now c.requires.place (omega (arith, items_long h, c.a.inside.items.ok.0))
-    c.index.ensures c.index-in-loop-j.ensures c.index-2.result.now c.index-in-loop-j-2.result.now c.index-2.ensures c.index-in-loop-j-2.ensures
+    c.index.ensures c.index-in-loop-j.ensures c.item.result.now c.item-in-loop-j.result.now c.item.ensures c.item-in-loop-j.ensures
 
 pub intersects-requires : goal.intersects-requires
 intersects-requires g c =
@@ -34,16 +34,21 @@ intersects-requires g c =
     let r = read g at.After-index-in-loop-j (both g at.After-a) in
     c.requires.bits.1 _ _ _ r.later ∙ sym (c.requires.bits.1 _ _ _ r.mine)
 
-pub index-requires-in-loop-j-2 : goal.index-requires-in-loop-j-2
-index-requires-in-loop-j-2 g c =
-    let h = both g (goal.at.index-requires-in-loop-j-2 g c).After-a in
-    omega (arith, items_long h, others_long h, c.a.inside.items.ok.0, c.args.b.now.items.ok.0)
+pub item-requires : goal.item-requires
+item-requires g c =
+    let h = both g (goal.at.item-requires g c).After-a in
+    omega (arith, others_long h, c.requires.place)
+
+pub item-requires-in-loop-j : goal.item-requires-in-loop-j
+item-requires-in-loop-j g c =
+    let h = both g (goal.at.item-requires-in-loop-j g c).After-a in
+    omega (arith, items_long h, others_long h, c.a.inside.items.ok.0)
 
 pub pair_passes-requires : goal.pair_passes-requires
 pair_passes-requires g c =
     let at = goal.at.pair_passes-requires g c in
     let r = read g at.After-index-in-loop-j (both g at.After-a) in
-    let o = others g at.After-index-in-loop-j-2 (both g at.After-a) in
+    let o = others g at.After-item-in-loop-j (both g at.After-a) in
     let size = sym (c.requires.bits.1 _ _ _ r.mine) in
     record {
       first = c.requires.bits.1 _ _ _ r.later ∙ size;
@@ -67,7 +72,7 @@ pub returns-then-not-pair_passes-clause-no : goal.returns-then-not-pair_passes-c
 returns-then-not-pair_passes-clause-no g c = λ _.
     let at = goal.at.returns-then-not-pair_passes-clause-no g c in
     let r = read g at.After-index-in-loop-j (both g at.After-a) in
-    let o = others g at.After-index-in-loop-j-2 (both g at.After-a) in
+    let o = others g at.After-item-in-loop-j (both g at.After-a) in
     clash_here c.args.a.now (items_in g.T.IndexStorage.number c.args.b.now) _ _ _ _ _ _ _ _ r.mine r.later o.its o.later (c.pair_passes.ensures.no c.if-not-pair_passes.true)
 
 pub loop-j-preserved : goal.loop-j-preserved
@@ -76,7 +81,7 @@ loop-j-preserved g c =
     let a = c.args.a.now in
     let b = items_in g.T.IndexStorage.number c.args.b.now in
     let r = read g at.After-index-in-loop-j (both g at.After-a) in
-    let o = others g at.After-index-in-loop-j-2 (both g at.After-a) in
+    let o = others g at.After-item-in-loop-j (both g at.After-a) in
     below_more (λ (k : ℕ). c.args.place < k → PassAt a b c.args.place k) c.loop-j.j c.loop-j.invariant
     (λ _. passed_turn a b c.args.place c.loop-j.j _ _ r.here r.there
     (passes_here a b _ _ _ _ _ _ _ _ r.mine r.later o.its o.later (c.pair_passes.ensures.yes c.if-not-pair_passes.false)))

@@ -10,12 +10,12 @@ use Rattle.lritems.proofs.merging.weakly_compatible.Goals as goal
 
 pub returns-then-not-has_same_items-clause-compatible : goal.returns-then-not-has_same_items-clause-compatible
 returns-then-not-has_same_items-clause-compatible g c =
-    let keys = keys_from_same _ _ c.has_same_items.ensures.upwards c.requires.upwards in
+    let keys = keys_from_same c.args.a.now (items_in g.T.IndexStorage.number c.args.b.now) c.has_same_items.ensures.upwards c.requires.upwards in
     no_from _ (λ w. let k : false ≡ _ = sym c.if-not-has_same_items.true ∙ c.has_same_items.ensures.same.1 (keys w.items) in cc)
 
 pub returns-then-not-has_same_items-clause-clash : goal.returns-then-not-has_same_items-clause-clash
 returns-then-not-has_same_items-clause-clash g c = λ _ s.
-    let keys = keys_from_same _ _ c.has_same_items.ensures.upwards c.requires.upwards s in
+    let keys = keys_from_same c.args.a.now (items_in g.T.IndexStorage.number c.args.b.now) c.has_same_items.ensures.upwards c.requires.upwards s in
     let k : false ≡ _ = sym c.if-not-has_same_items.true ∙ c.has_same_items.ensures.same.1 keys in
     cc
 

@@ -5,12 +5,15 @@ use Rattle.lritems.proofs.GotoItems.{none_left, none_more, push_turn}
 use Rattle.lritems.proofs.cores.Core.from_goto.Goals as goal
 
 pub loop-key-init : goal.loop-key-init
-loop-key-init g c = rw (c.in_ok-items.ensures.items, c.deref-key-items.ensures.value) refl
+loop-key-init g c =
+    let number = g.T.IndexStorage.number in
+    rw (c.deref-key-items.ensures.value, c.in_ok-push.ensures.items, c.in_ok-items.ensures.items, sym c.in_ok-clone.ensures.cases) refl
 
 pub loop-key-preserved : goal.loop-key-preserved
 loop-key-preserved g c =
-    push_turn g.T.IndexStorage.number (λ r. r.now) c.loop-key.items.items c.push.new.self.items c.deref-key-items.result.now c.loop-key.key-index c.loop-key-item.result
-    c.in_ok-clone.field-0 _ c.loop-key-test.true c.loop-key-item.is (sym c.in_ok-clone.ensures.cases) c.in_ok-push.ensures.items c.loop-key.invariant
+    push_turn g.T.IndexStorage.number (λ r. r.now) c.loop-key.items.items c.push-in-loop-key.new.self.items c.deref-key-items.result.now c.loop-key.key-index c.loop-key-item.result
+    c.in_ok-clone-2.field-0 _ c.loop-key-test.true c.loop-key-item.is (sym c.in_ok-clone-2.ensures.cases) c.in_ok-push-2.ensures.items
+    c.loop-key.invariant
 
 pub invariant_of-result : goal.invariant_of-result
 invariant_of-result g c =
