@@ -1,16 +1,14 @@
 -- conflicts that are added one after the other
-use Rattle.std.proofs.Common.{◌≡◌, ℕ, zero, suc, ◌+◌, ◌<◌, Bool, false, List, [], ◌∷◌, ◌++◌, Option, None, Some, length, map, option_map, take, get_or, refl, sym, ap, ◌∙◌, inl, inr, arith}
+use Rattle.std.proofs.Common.{◌≡◌, ℕ, suc, ◌+◌, ◌<◌, Bool, false, List, [], ◌∷◌, ◌++◌, Option, None, Some, length, map, option_map, take, get_or, refl, sym, ap, ◌∙◌, inl, inr, arith}
 use Rattle.std.specs.Prelude.{filter}
 use Rattle.std.specs.Option.{IfSome}
-use Rattle.std.specs.List.{filter_map, cons_option, range_with_len}
+use Rattle.std.specs.List.{filter_map, range_with_len}
 use Rattle.std.proofs.Math.Seq.{take-length}
-use Rattle.std.proofs.lemmas.List.{append_assoc, append-nil, map-append, get_or-map, length-map}
-use Rattle.std.proofs.lemmas.List.Elements.{filter_map-append}
+use Rattle.std.proofs.lemmas.List.{append_assoc, map-append, get_or-map, length-map}
 use Rattle.std.proofs.lemmas.List.FromFn.{length-map-range_with_len, get_or-map-range_with_len}
-use Rattle.lrspec.specs.grammars.Grammar.{Grammar, Token}
+use Rattle.lrspec.specs.grammars.Grammar.{Grammar}
 use Rattle.lrspec.specs.grammars.ItemSets.{Items}
-use Rattle.lrspec.specs.merging.Graph.{Graph, closed_of, edge}
-use Rattle.lrspec.specs.tables.Table.{reductions, shift_reduce_entry}
+use Rattle.lrspec.specs.tables.Table.{reductions}
 use Rattle.lrspec.specs.texts.PrintedTexts.{set_bits}
 use Rattle.lrspec.proofs.grammars.ListMembers.{Among, from_filter, below_from_range}
 use Rattle.lrgrammar.specs.Bits.{places, set_places}
@@ -20,10 +18,6 @@ use Rattle.lrrows.specs.ReduceReduce.{reduce_reduce_by_least}
 -- the entry for the token `t` in the state `s`, where `q` is the other production
 abbrev pub reduce_reduce_on : List (Option ℕ) → ℕ → ℕ → ℕ → Option (ℕ × ℕ × ℕ × ℕ)
 reduce_reduce_on least s q t = reduce_reduce_by_least (get_or least t None) q s t
-
--- the entry for the token `t` in the state `s`, if it shifts and reduces there and is listed
-abbrev pub shift_reduce_on : Grammar → Graph → ℕ → ℕ → Option (ℕ × ℕ × ℕ)
-shift_reduce_on g h s t = shift_reduce_entry g (reductions g (closed_of h s) t) (edge h s (Token t)) s t
 
 -- numbers that come one after the other are below what all are below
 pub next_below : (n t : ℕ) (ts us : List ℕ) → ts ≡ t ∷ us → ((u : ℕ) → Among u ts → u < n) → t < n
@@ -90,34 +84,19 @@ module _ {P E : Type 0} (number : P → ℕ) (shown : E → ℕ × ℕ × ℕ ×
       let here : f t ≡ None = reduce_reduce_at_token least s q t o r l k h ∙ ap (option_map shown) m in
       added_none f t us (map shown old) zs here (rw i at w)
 
-range_more : (a n : ℕ) → range_with_len a (n + 1) ≡ range_with_len a n ++ (a + n) ∷ []
-range_more a zero = ap (λ k. k ∷ []) (omega arith)
-range_more a (suc n) =
-    let longer : suc n + 1 ≡ suc (n + 1) = omega arith in
-    let last : a + 1 + n ≡ a + suc n = omega arith in
-    ap (range_with_len a) longer ∙ ap (λ xs. a ∷ xs) (range_more (a + 1) n ∙ ap (λ k. range_with_len (a + 1) n ++ k ∷ []) last)
-
-kept_more : {Y : Type 0} (f : ℕ → Option Y) (t : ℕ) → filter_map f (range_with_len 0 (t + 1)) ≡ filter_map f (range_with_len 0 t) ++ cons_option (f t) []
-kept_more f t =
-    ap (filter_map f) (range_more 0 t) ∙ filter_map-append f (range_with_len 0 t) ((0 + t) ∷ [])
-    ∙ ap (λ k. filter_map f (range_with_len 0 t) ++ cons_option (f k) []) (omega arith)
-
-module _ {E Y : Type 0} (shown : E → Y) where
-  -- what the token gives is added
-  pub shift_reduce_added :
-      (f : ℕ → Option Y) (t : ℕ) (r : Option E) (e : E) (old new : List E) (zs : List Y) → option_map shown r ≡ f t → r ≡ Some e
-      → new ≡ old ++ e ∷ [] → map shown old ≡ zs ++ filter_map f (range_with_len 0 t) → map shown new ≡ zs ++ filter_map f (range_with_len 0 (t + 1))
-  shift_reduce_added f t r e old new zs h m n w =
-      let here : f t ≡ Some (shown e) = sym h ∙ ap (option_map shown) m in
-      rw (n, map-append shown old (e ∷ []), w, kept_more f t, here) (append_assoc zs (filter_map f (range_with_len 0 t)) (shown e ∷ []))
+module _ {X E Y : Type 0} (shown : E → Y) (f : X → Option Y) (x : X) (xs ts : List X) (r : Option E) where
+  -- what the next one gives is added
+  pub entry_added :
+      (e : E) (old new : List E) (zs : List Y) → ts ≡ x ∷ xs → option_map shown r ≡ f x → r ≡ Some e → new ≡ old ++ e ∷ []
+      → map shown old ++ filter_map f ts ≡ zs → map shown new ++ filter_map f xs ≡ zs
+  entry_added e old new zs i h m n w =
+      rw (n, map-append shown old (e ∷ [])) (added_one f x xs (shown e) (map shown old) zs (sym h ∙ ap (option_map shown) m) (rw i at w))
 
   -- or it gives nothing
-  pub shift_reduce_passed :
-      (f : ℕ → Option Y) (t : ℕ) (r : Option E) (old new : List E) (zs : List Y) → option_map shown r ≡ f t → r ≡ None
-      → new ≡ old → map shown old ≡ zs ++ filter_map f (range_with_len 0 t) → map shown new ≡ zs ++ filter_map f (range_with_len 0 (t + 1))
-  shift_reduce_passed f t r old new zs h m n w =
-      let here : f t ≡ None = sym h ∙ ap (option_map shown) m in
-      rw (n, w, kept_more f t, here) (ap (λ xs. zs ++ xs) (sym (append-nil (filter_map f (range_with_len 0 t)))))
+  pub entry_passed :
+      (old : List E) (zs : List Y) → ts ≡ x ∷ xs → option_map shown r ≡ f x → r ≡ None → map shown old ++ filter_map f ts ≡ zs
+      → map shown old ++ filter_map f xs ≡ zs
+  entry_passed old zs i h m w = added_none f x xs (map shown old) zs (sym h ∙ ap (option_map shown) m) (rw i at w)
 
 first_among : (rs : List ℕ) (q : ℕ) → Some q ≡ first_of rs → Among q rs
 first_among [] q e = absurd cc

@@ -11,6 +11,7 @@ pub mod LeastListed
 pub mod FilledPlaces
 pub mod EdgeTargets
 pub mod GotoEntries
+pub mod TokenEdges
 pub mod LookingTokens
 pub mod ConflictSteps
 pub mod ReduceReduceOfState

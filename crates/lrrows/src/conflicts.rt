@@ -3,8 +3,9 @@
 ghost use Rattle.std.specs.Prelude.{◌≡◌, ℕ, ◌<◌, ◌≤◌, ◌++◌, List, length, map, option_map, OnOk, IfSome};
 ghost use Rattle.std.specs.List.{All};
 ghost use Rattle.lrspec.specs.grammars.Grammar as math;
-ghost use Rattle.lrspec.specs.merging.Graph.{closed_of, edge};
+ghost use Rattle.lrspec.specs.merging.Graph.{closed_of};
 ghost use Rattle.lrspec.specs.tables.Table.{shift_reduce_entry};
+ghost use Rattle.lrrows.specs.ReadGraphs.{IsReadable};
 ghost use Rattle.lrrows.specs.StateRows.{first_of, least_reductions, shift_reduce_at};
 ghost use Rattle.lrrows.specs.ReduceReduce.{reduce_reduce_by_least, reduce_reduce_by_item, reduce_reduce_by};
 ghost use Rattle.lrrows.specs.StoredLists.{stored_reduce_reduce, stored_shift_reduce, stored_reduce_reduces, stored_shift_reduces, least_of};
@@ -77,25 +78,21 @@ pub(crate) fn push_reduce_reduce<T: IndexStorage>(
     Ok(())
 }
 
-/// The entry for the token, where `least` is the least production by which the state reduces there: if the state shifts the
-/// token, and the token or the production has no precedence.
+/// The entry for a token that the state shifts, where `least` is the least production by which it reduces there: if the token or
+/// the production has no precedence.
 fn shift_reduce_on<T: IndexStorage>(
     grm: &YaccGrammar<T>,
-    sg: &StateGraph<T>,
     stidx: StIdx<T>,
     tidx: TIdx<T>,
     least: Option<PIdx<T>>,
 ) -> Option<(TIdx<T>, PIdx<T>, StIdx<T>)>
     requires token { T.number tidx.0 < math.token_count grm.now }
     requires prod { IfSome least (λ p. T.number p.0 < length grm.now.productions) }
-    ensures entry { (rs : List ℕ) → option_map (λ p. T.number p.0) least ≡ first_of rs
+    ensures entry { (rs : List ℕ) (u : ℕ) → option_map (λ p. T.number p.0) least ≡ first_of rs
         → option_map (stored_shift_reduce T.number) result
-        ≡ shift_reduce_entry grm.now rs
-        (edge sg.now (T.number stidx.0) (math.Token (T.number tidx.0)))
-        (T.number stidx.0) (T.number tidx.0) }
+        ≡ shift_reduce_entry grm.now rs (Some u) (T.number stidx.0) (T.number tidx.0) }
 {
     let pidx = least?;
-    sg.edge(stidx, Symbol::Token(tidx))?;
     if grm.token_precedence(tidx).is_some() && grm.prod_precedence(pidx).is_some() {
         return None;
     }
@@ -111,16 +108,23 @@ pub(crate) fn push_shift_reduce<T: IndexStorage>(
     stidx: StIdx<T>,
     least: &[Option<PIdx<T>>],
 ) -> Result<(), AllocError>
+    requires graph { IsReadable grm.now sg.now }
+    requires below { T.number stidx.0 < length sg.now }
     requires least { least_of T.number least.now
         ≡ least_reductions grm.now (closed_of sg.now (T.number stidx.0)) }
     ensures entries { OnOk result (stored_shift_reduces T.number conflicts.new.items
         ≡ stored_shift_reduces T.number conflicts.old.items
         ++ shift_reduce_at grm.now sg.now (T.number stidx.0)) }
 {
-    for token in 0..usize::from(grm.tokens_len()) {
-        let tidx = TIdx(T::from_usize(token).unwrap());
-        if let Some(entry) = shift_reduce_on(grm, sg, stidx, tidx, least[token]) {
-            conflicts.push(entry)?;
+    let edges = sg.edges(stidx);
+    // `len` says of a map that its keys come upwards
+    let _ = edges.len();
+    for (symbol, _target) in edges {
+        if let Symbol::Token(tidx) = symbol {
+            let least_here = least[usize::from(*tidx)];
+            if let Some(entry) = shift_reduce_on(grm, stidx, *tidx, least_here) {
+                conflicts.push(entry)?;
+            }
         }
     }
     Ok(())

@@ -66,15 +66,12 @@ push_reduce_reduce-requires-clause-tokens g c =
     let count = listed_len _ _ _ _ c.in_ok-least.ensures in
     rw (c.as_slice-5.ensures.value, count) c.in_order.ensures.sizes.tokens
 
-pub push_shift_reduce-requires : goal.push_shift_reduce-requires
-push_shift_reduce-requires g c =
+pub push_shift_reduce-requires-clause-least : goal.push_shift_reduce-requires-clause-least
+push_shift_reduce-requires-clause-least g c =
     let closed = c.closed_state-closed.ensures in
     let fits = c.requires.graph.closed (g.T.IndexStorage.number c.args.stidx.0) c.requires.below in
-    record {
-      least =
-          rw c.as_slice-7.ensures.value
-          (least_listed c.args.grm.now c.args.sg.now _ _ _ _ closed.upwards fits closed.items c.in_ok-complete.ensures.items (rw c.as_slice.ensures.value at c.in_ok-least.ensures));
-    }
+    rw c.as_slice-7.ensures.value
+    (least_listed c.args.grm.now c.args.sg.now _ _ _ _ closed.upwards fits closed.items c.in_ok-complete.ensures.items (rw c.as_slice.ensures.value at c.in_ok-least.ensures))
 
 pub returns-clause-rows : goal.returns-clause-rows
 returns-clause-rows g c =
