@@ -1,4 +1,4 @@
-use Rattle.std.proofs.Common.{◌≡◌, ℕ, ◌<◌, List, [], ◌∷◌, refl, length, arith, ap, inl, inr}
+use Rattle.std.proofs.Common.{◌≡◌, ℕ, ◌<◌, List, [], ◌∷◌, ◌∙◌, refl, sym, length, arith, ap, inl, inr}
 use Rattle.lrspec.proofs.texts.ResultsPassedOn.{error_passed}
 use Rattle.lrspec.specs.merging.Chains.{HasChainOf}
 use Rattle.lrplacing.specs.Refusals.{IsLargeOnly}
@@ -23,6 +23,23 @@ returns-in_err-placed-clause-refused g c =
     let same = length_unless c.loop-symbol.grew c.loop-symbol.drafts.items c.args.from in
     error_passed (IsLargeOnly (HasChainOf c.args._grm.now most)) _ c.in_err-placed.field-0.0 c.from_residual.ensures.1
     (large_by (λ l. chain_of_most _ most i.holds (rw same l)) c.in_err-placed.field-0.0 c.in_err-placed.ensures.refused)
+
+pub loop-symbol-init : goal.loop-symbol-init
+loop-symbol-init g c =
+    let is = c.into_iter-symbol-iterator.ensures.into_iter_gives in
+    record {
+      count = is.1 ∙ c.args.gotos.ok.0 ∙ sym (ap length is.0);
+      from = c.requires.from;
+      most = c.requires.most;
+      unclosed = c.requires.unclosed;
+      holds = c.requires.holds;
+      gotos = rw is.0 c.requires.gotos;
+      upwards = rw is.0 c.requires.upwards;
+      distinct = rw is.0 c.requires.distinct;
+      free = λ x h. c.requires.free x;
+      candidates = c.requires.candidates;
+      placed = λ us p. rw is.0 at p;
+    }
 
 pub loop-symbol-preserved : goal.loop-symbol-preserved
 loop-symbol-preserved g c =
