@@ -1,5 +1,5 @@
 -- the rows that stand in a list, one after another
-use Rattle.std.proofs.Common.{◌≡◌, ◌≢◌, ℕ, zero, suc, ◌+◌, ◌*◌, ◌<◌, ◌≤◌, List, [], ◌∷◌, ◌++◌, Option, None, Some, length, map, refl, sym, ap, ◌∙◌, arith, get_or, append_assoc}
+use Rattle.std.proofs.Common.{◌≡◌, ◌≢◌, ℕ, zero, suc, ◌+◌, ◌*◌, ◌<◌, ◌≤◌, List, [], ◌∷◌, ◌++◌, None, Some, length, map, refl, sym, ap, ◌∙◌, arith, get_or, append_assoc}
 use Rattle.std.proofs.lemmas.List.{append-nil}
 use Rattle.std.specs.Prelude.{slice_index_or}
 use Rattle.std.specs.List.{range_with_len, slice_get}
@@ -9,7 +9,7 @@ use Rattle.std.proofs.lemmas.Option.{slice_get-get_or, slice_get_past}
 use Rattle.lrsparse.specs.declared.sparsevec.places.Entry.{Entry}
 use Rattle.std.proofs.lemmas.Bool.{lt-ltb}
 use Rattle.lrsparse.specs.Matrix.{value_at, HasRows}
-use Rattle.lrsparse.specs.Places.{number_of, number_at, row_of, rows_from}
+use Rattle.lrsparse.specs.Places.{number_at, row_of, rows_from}
 
 pub same_map : {X : Type 0} (f h : ℕ → X) (xs : List ℕ) → ((x : ℕ) → f x ≡ h x) → map f xs ≡ map h xs
 same_map f h [] e = refl
@@ -17,7 +17,7 @@ same_map f h (x ∷ xs) e = ap (λ y. y ∷ map f xs) (e x) ∙ ap (λ ys. h x �
 
 -- rows keep their numbers where another one is placed
 pub rows_kept :
-    (old new : List (Option Entry)) (empty cols row : ℕ)
+    (old new : List Entry) (empty cols row : ℕ)
     → ((q p : ℕ) → q ≢ row → number_at new empty q p ≡ number_at old empty q p)
     → (r : ℕ) (ds : List ℕ) → r + length ds ≤ row → rows_from new empty cols r ds ≡ rows_from old empty cols r ds
 rows_kept old new empty cols row others r [] l = refl
@@ -28,14 +28,14 @@ rows_kept old new empty cols row others r (d ∷ ds) l =
 
 -- one row more
 pub rows_more :
-    (list : List (Option Entry)) (empty cols r d : ℕ) (ds : List ℕ) (row : ℕ) → row ≡ r + length ds
+    (list : List Entry) (empty cols r d : ℕ) (ds : List ℕ) (row : ℕ) → row ≡ r + length ds
     → rows_from list empty cols r (ds ++ d ∷ []) ≡ rows_from list empty cols r ds ++ row_of list empty cols row d
 rows_more list empty cols r d [] row e = rw (let s : row ≡ r = omega arith in s) (append-nil (row_of list empty cols r d))
 rows_more list empty cols r d (x ∷ ds) row e =
     ap (λ xs. row_of list empty cols r x ++ xs) (rows_more list empty cols (r + 1) d ds row (omega arith))
     ∙ sym (append_assoc (row_of list empty cols r x) (rows_from list empty cols (r + 1) ds) (row_of list empty cols row d))
 
-module _ (list : List (Option Entry)) (empty cols : ℕ) where
+module _ (list : List Entry) (empty cols : ℕ) where
   length_of_row : (r d : ℕ) → length (row_of list empty cols r d) ≡ cols
   length_of_row r d = length-map-range_with_len (λ c. number_at list empty r (d + c)) 0 cols
 
@@ -84,19 +84,19 @@ module _ (list : List (Option Entry)) (empty cols : ℕ) where
   value_there ds row c l h = rw (lt-ltb c cols h) (number_read ds row c l h)
 
   pub value_read :
-      (ds : List ℕ) (row c d n : ℕ) (o : Option Entry) → row < length ds → c < cols
-      → d ≡ slice_index_or ds row 0 → o ≡ slice_index_or list (d + c) None → number_of empty row o ≡ n
+      (ds : List ℕ) (row c d n : ℕ) → row < length ds → c < cols
+      → d ≡ slice_index_or ds row 0 → number_at list empty row (d + c) ≡ n
       → value_at (record { cols = cols; cells = rows_from list empty cols 0 ds }) row c ≡ Some n
-  value_read ds row c d n o l h at there number =
+  value_read ds row c d n l h at number =
       value_there ds row c l h
-      ∙ ap Some (ap (λ k. number_at list empty row (k + c)) (sym at) ∙ (ap (number_of empty row) (sym there) ∙ number))
+      ∙ ap Some (ap (λ k. number_at list empty row (k + c)) (sym at) ∙ number)
 
   pub value_past : (ds : List ℕ) (row c : ℕ) → length ds ≤ row → c < cols → value_at (record { cols = cols; cells = rows_from list empty cols 0 ds }) row c ≡ None
   value_past ds row c l h = rw (lt-ltb c cols h) (none_past ds row c l)
 
 -- one row more stands in the list
 pub row_added :
-    (old new : List (Option Entry)) (empty cols row d : ℕ) (ds numbers : List ℕ)
+    (old new : List Entry) (empty cols row d : ℕ) (ds numbers : List ℕ)
     → row ≡ length ds → row_of new empty cols row d ≡ numbers
     → ((q p : ℕ) → q ≢ row → number_at new empty q p ≡ number_at old empty q p)
     → rows_from new empty cols 0 (ds ++ d ∷ []) ≡ rows_from old empty cols 0 ds ++ numbers

@@ -10,12 +10,12 @@ use Rattle.lrsparse.specs.declared.builder.MatrixBuilder.{MatrixBuilder}
 abbrev pub so_far : MatrixBuilder → Matrix
 so_far b = record {
   cols = b.cols;
-  cells = rows_from b.places.list.items b.empty b.cols 0 b.displacements.items;
+  cells = rows_from b.places.list.items b.places.empty b.cols 0 b.displacements.items;
 }
 
 -- the number that stands in most cells
 abbrev pub empty_of : MatrixBuilder → ℕ
-empty_of b = b.empty
+empty_of b = b.places.empty
 
 -- the rows so far are placed, and each of their places has a number
 pub record IsBuilt (b : MatrixBuilder) : Type 0 where

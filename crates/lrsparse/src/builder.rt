@@ -15,7 +15,6 @@ pub struct MatrixBuilder {
     places: Places,
     starts: Starts,
     displacements: Vec<usize>,
-    empty: usize,
     cols: usize,
 }
 
@@ -27,10 +26,9 @@ impl MatrixBuilder {
         ensures matrix { so_far result ≡ record { cols = cols; cells = [] } }
     {
         MatrixBuilder {
-            places: Places::new(alloc),
+            places: Places::new(alloc, empty),
             starts: Starts::new(alloc),
             displacements: Vec::new(alloc),
-            empty,
             cols,
         }
     }
@@ -45,7 +43,7 @@ impl MatrixBuilder {
         ensures cells { OnOk result ((so_far self.new).cells
             ≡ (so_far self.old).cells ++ numbers.now) }
     {
-        let entries = entries_of(*self.displacements.allocator(), numbers, self.empty)?;
+        let entries = entries_of(*self.displacements.allocator(), numbers, self.places.empty)?;
         self.push_entries(entries.as_slice())?;
         Ok(())
     }
@@ -82,7 +80,7 @@ impl MatrixBuilder {
         SparseVec {
             list: places.list,
             displacements: self.displacements,
-            empty: self.empty,
+            empty: places.empty,
             cols: self.cols,
         }
     }

@@ -10,15 +10,16 @@ pub(crate) mod starts;
 mod tests;
 
 use crate::builder::MatrixBuilder;
-use crate::sparsevec::places::{Entry, entry_at};
+use crate::sparsevec::places::Entry;
 use std::alloc::{AllocError, Global};
 use std::marker::Model;
 
 /// A matrix of numbers, in most of whose cells one number stands. The other cells are entries, which stand in one list: those
-/// of a row from its displacement on, each as far behind it as its column says, beside the row that owns the place.
+/// of a row from its displacement on, each as far behind it as its column says, beside the row that owns the place. In a place
+/// that no row owns that number stands too, so that it doesn't matter which row stands beside it.
 #[derive(Drop)]
 pub struct SparseVec {
-    pub(crate) list: Vec<Option<Entry>>,
+    pub(crate) list: Vec<Entry>,
     pub(crate) displacements: Vec<usize>,
     pub(crate) empty: usize,
     pub(crate) cols: usize,
@@ -72,7 +73,7 @@ impl SparseVec {
             return None;
         }
         let displacement = *self.displacements.get(row)?;
-        match entry_at(self.list.as_slice(), displacement + col) {
+        match self.list.get(displacement + col) {
             Some(entry) if entry.row == row => Some(entry.number),
             _ => Some(self.empty),
         }

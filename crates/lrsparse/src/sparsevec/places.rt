@@ -5,7 +5,7 @@ ghost use Rattle.std.specs.List.{All};
 ghost use Rattle.std.specs.List.Sorted.{IsStrictlyIncreasing};
 ghost use Rattle.lrsparse.specs.Owned.{IsOwned, AreOwned, MeetsNone};
 ghost use Rattle.lrsparse.specs.Entries.{columns_in, row_with};
-ghost use Rattle.lrsparse.specs.Places.{FitsIn, IsPlaced, number_at, row_of};
+ghost use Rattle.lrsparse.specs.Places.{IsPlaced, number_at, row_of};
 ghost use Rattle.lrsparse.specs.Starts.{AreStarts};
 
 use crate::sparsevec::owned::{WORD, full_words, least_displacement, own_columns};
@@ -19,13 +19,6 @@ pub(crate) struct Entry {
     pub number: usize,
 }
 
-/// The entry at the place, if a row owns it.
-pub(crate) fn entry_at(list: &[Option<Entry>], place: usize) -> Option<Entry>
-    ensures { result ≡ slice_index_or list.now place None }
-{
-    *list.get(place)?
-}
-
 /// The columns of the entries.
 fn columns_of(alloc: Global, entries: &[(usize, usize)]) -> Result<Vec<usize>, AllocError>
     ensures { IfOk result (λ v. v.items ≡ columns_in entries.now) }
@@ -34,24 +27,19 @@ fn columns_of(alloc: Global, entries: &[(usize, usize)]) -> Result<Vec<usize>, A
 }
 
 /// Puts the entries of the row into the list from the displacement on.
-fn put_entries(
-    list: &mut [Option<Entry>],
-    row: usize,
-    displacement: usize,
-    entries: &[(usize, usize)],
-)
+fn put_entries(list: &mut [Entry], row: usize, displacement: usize, entries: &[(usize, usize)])
     requires upwards { IsStrictlyIncreasing (columns_in entries.now) }
     requires within { All (λ e. displacement + e.0 < length list.old) entries.now }
-    ensures put { All (λ e. slice_index_or list.new (displacement + e.0) None
-        ≡ Some (record { row = row; number = e.1 })) entries.now }
-    ensures kept { (p : ℕ) → All (λ e. p ≢ displacement + e.0) entries.now
-        → slice_index_or list.new p None ≡ slice_index_or list.old p None }
+    ensures put { (past : Entry) → All (λ e. slice_index_or list.new (displacement + e.0) past
+        ≡ record { row = row; number = e.1 }) entries.now }
+    ensures kept { (past : Entry) (p : ℕ) → All (λ e. p ≢ displacement + e.0) entries.now
+        → slice_index_or list.new p past ≡ slice_index_or list.old p past }
 {
     for (column, number) in entries {
-        list[displacement + *column] = Some(Entry {
+        list[displacement + *column] = Entry {
             row,
             number: *number,
-        });
+        };
     }
 }
 
@@ -67,25 +55,28 @@ fn reach<T: Copy>(list: &mut Vec<T>, len: usize, value: T) -> Result<(), AllocEr
     Ok(())
 }
 
-/// The list in which rows are placed, which of its places they own, as the bits of words, and how many of these words at the
-/// beginning are wholly owned.
+/// The list in which rows are placed, which of its places they own, as the bits of words, how many of these words at the
+/// beginning are wholly owned, and the number that stands in the other places.
 #[derive(Drop)]
 pub(crate) struct Places {
-    pub list: Vec<Option<Entry>>,
+    pub list: Vec<Entry>,
     pub owned: Vec<u64>,
     pub full: usize,
+    pub empty: usize,
 }
 
 impl Places {
     /// No places.
-    pub(crate) fn new(alloc: Global) -> Places
+    pub(crate) fn new(alloc: Global, empty: usize) -> Places
         ensures placed { IsPlaced 0 result }
         ensures none { length result.list.items ≡ 0 }
+        ensures empty { result.empty ≡ empty }
     {
         Places {
             list: Vec::new(alloc),
             owned: Vec::new(alloc),
             full: 0,
+            empty,
         }
     }
 
@@ -116,11 +107,14 @@ impl Places {
         requires upwards { IsStrictlyIncreasing columns.now }
         requires narrow { All (λ c. c < 2 ^ 60) columns.now }
         requires start { (d : ℕ) → d < start → ¬ (MeetsNone self.old.owned.items columns.now d) }
-        ensures numbers { IfOk result (λ d. (empty cols : ℕ)
-            → row_of self.new.list.items empty cols row d ≡ row_with empty cols entries.now) }
-        ensures others { OnOk result ((empty q p : ℕ) → q ≢ row
-            → number_at self.new.list.items empty q p ≡ number_at self.old.list.items empty q p) }
-        ensures fits { IfOk result (FitsIn self.old.list.items entries.now) }
+        ensures empty { OnOk result (self.new.empty ≡ self.old.empty) }
+        ensures numbers { IfOk result (λ d. (cols : ℕ)
+            → row_of self.new.list.items self.old.empty cols row d
+            ≡ row_with self.old.empty cols entries.now) }
+        ensures others { OnOk result ((q p : ℕ) → q ≢ row
+            → number_at self.new.list.items self.old.empty q p
+            ≡ number_at self.old.list.items self.old.empty q p) }
+        ensures fits { IfOk result (MeetsNone self.old.owned.items columns.now) }
         ensures least { IfOk result (λ d. (k : ℕ) → k < d
             → ¬ (MeetsNone self.old.owned.items columns.now k)) }
         ensures placed { OnOk result (IsPlaced (row + 1) self.new) }
@@ -133,7 +127,11 @@ impl Places {
         };
         let displacement = least_displacement(self.owned.as_slice(), columns, start);
         let end = displacement + last + 1;
-        reach(&mut self.list, end, None)?;
+        let unowned = Entry {
+            row: 0,
+            number: self.empty,
+        };
+        reach(&mut self.list, end, unowned)?;
         reach(&mut self.owned, end / WORD + 1, 0)?;
         put_entries(self.list.as_mut_slice(), row, displacement, entries);
         own_columns(self.owned.as_mut_slice(), columns, displacement);
@@ -154,13 +152,16 @@ pub(crate) fn place_row(
     requires starts { AreStarts starts.old places.old.owned.items }
     requires upwards { IsStrictlyIncreasing (columns_in entries.now) }
     requires narrow { All (λ e. e.0 < 2 ^ 60) entries.now }
-    ensures numbers { IfOk result (λ d. (empty cols : ℕ)
-        → row_of places.new.list.items empty cols row d ≡ row_with empty cols entries.now) }
-    ensures others { OnOk result ((empty q p : ℕ) → q ≢ row
-        → number_at places.new.list.items empty q p ≡ number_at places.old.list.items empty q p) }
-    ensures fits { IfOk result (FitsIn places.old.list.items entries.now) }
+    ensures empty { OnOk result (places.new.empty ≡ places.old.empty) }
+    ensures numbers { IfOk result (λ d. (cols : ℕ)
+        → row_of places.new.list.items places.old.empty cols row d
+        ≡ row_with places.old.empty cols entries.now) }
+    ensures others { OnOk result ((q p : ℕ) → q ≢ row
+        → number_at places.new.list.items places.old.empty q p
+        ≡ number_at places.old.list.items places.old.empty q p) }
+    ensures fits { IfOk result (MeetsNone places.old.owned.items (columns_in entries.now)) }
     ensures least { IfOk result (λ d. (k : ℕ) → k < d →
-        ¬ (FitsIn places.old.list.items entries.now k)) }
+        ¬ (MeetsNone places.old.owned.items (columns_in entries.now) k)) }
     ensures placed { OnOk result (IsPlaced (row + 1) places.new) }
     ensures starts { OnOk result (AreStarts starts.new places.new.owned.items) }
     ensures within { IfOk result (λ d. d ≤ length places.old.list.items) }

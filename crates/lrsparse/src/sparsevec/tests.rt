@@ -23,7 +23,6 @@ fn places(
     assert_eq!(rt; matrix.displacements.as_slice(), displacements, "{cells:?}");
     assert_eq!(rt; matrix.list.len(), list.len(), "{cells:?}");
     for (entry, (row, number)) in matrix.list.iter().zip(list) {
-        let entry = entry.ok_or("a place that nobody owns")?;
         assert_eq!(rt; entry.row, *row, "{cells:?}");
         assert_eq!(rt; entry.number, *number, "{cells:?}");
     }

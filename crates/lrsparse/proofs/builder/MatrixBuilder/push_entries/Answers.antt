@@ -8,6 +8,6 @@ returns-clause-cells c =
     let b = c.args.self.now in
     let row : c.len.result ≡ length b.displacements.items = omega arith in
     let more = c.in_ok-push.ensures.items in
-    rw more (row_added b.places.list.items c.place_row.new.places.list.items b.empty b.cols c.len.result
-    c.in_ok-displacement.displacement b.displacements.items (row_with b.empty b.cols c.args.entries.now)
-    row (c.in_ok-displacement.ensures.numbers b.empty b.cols) (c.in_ok-displacement.ensures.others b.empty))
+    rw (more, c.in_ok-displacement.ensures.empty) (row_added b.places.list.items c.place_row.new.places.list.items b.places.empty b.cols c.len.result
+    c.in_ok-displacement.displacement b.displacements.items (row_with b.places.empty b.cols c.args.entries.now)
+    row (c.in_ok-displacement.ensures.numbers b.cols) c.in_ok-displacement.ensures.others)

@@ -1,6 +1,5 @@
 use Rattle.std.proofs.Common.{ℕ, ◌<◌, ◌^◌}
 use Rattle.std.proofs.lemmas.List.Elements.{All-map}
-use Rattle.lrsparse.proofs.ColumnsOfRow.{row_fits}
 use Rattle.lrsparse.proofs.StartsKept.{none_below_either, nowhere_of_set, nowhere_of_list, nowhere_stays}
 use Rattle.lrsparse.proofs.sparsevec.places.place_row.Goals as goal
 
@@ -22,11 +21,6 @@ pub place_from-requires-clause-narrow : goal.place_from-requires-clause-narrow
 place_from-requires-clause-narrow c =
     rw (c.as_slice-3.ensures.value, c.in_ok-columns.ensures)
     (All-map (λ k. k < 2 ^ 60) (λ (e : ℕ × ℕ). e.0) c.args.entries.now c.requires.narrow)
-
-pub returns-clause-least : goal.returns-clause-least
-returns-clause-least c = λ k l h.
-    let least = rw (c.as_slice-3.ensures.value, c.in_ok-columns.ensures) at c.in_ok-displacement.ensures.least in
-    least k l (row_fits c.args.places.now.list.items c.args.places.now.owned.items c.requires.placed.owned c.args.entries.now k h)
 
 pub returns-clause-starts : goal.returns-clause-starts
 returns-clause-starts c =

@@ -1,20 +1,23 @@
-use Rattle.std.proofs.Common.{◌≡◌, ◌≢◌, ◌↔◌, ◌⊎◌, ◌≤◌, ◌/◌, ◌-◌, ◌<◌, ◌+◌, ◌^◌, ◌∙◌, ℕ, ◌++◌, None, Some, length, take, drop, slice_index, slice_index_or, refl, sym, ap, inl, arith}
+use Rattle.std.proofs.Common.{◌≡◌, ◌≢◌, ◌↔◌, ◌⊎◌, ◌≤◌, ◌/◌, ◌-◌, ◌<◌, ◌+◌, ◌^◌, ◌∙◌, ℕ, ◌++◌, Some, length, take, drop, slice_index, refl, sym, ap, inl, inr, arith}
 use Rattle.std.specs.List.{All, slice_get}
 use Rattle.std.proofs.Math.Seq.{take-append_seam}
+use Rattle.lrsparse.specs.Entries.{columns_in}
 use Rattle.lrsparse.specs.Owned.{IsOwned, MeetsNone}
-use Rattle.lrsparse.specs.Places.{FitsIn}
-use Rattle.lrsparse.proofs.ColumnsOfRow.{fits_row, least_within, last_there, column_to_last, none_there}
+use Rattle.lrsparse.specs.Places.{entry_at, unowned}
+use Rattle.lrsparse.proofs.ColumnsOfRow.{least_within, last_there, column_to_last, none_there}
 use Rattle.lrsparse.proofs.EntriesOfRow.{column_at, columns_len}
-use Rattle.lrsparse.proofs.PlacedRow.{row_placed, others_kept, above_placed, owned_placed}
+use Rattle.lrsparse.proofs.PlacedRow.{row_placed, others_kept, above_placed, free_placed}
 use Rattle.lrsparse.proofs.sparsevec.places.Places.place_from.Goals as goal
 
 pub returns-in_default-clause-numbers : goal.returns-in_default-clause-numbers
 returns-in_default-clause-numbers c =
-    let list = c.args.self.now.list.items in
+    let places = c.args.self.now in
+    let list = places.list.items in
     let es = c.args.entries.now in
     let was = none_there c.args.columns.now (sym (c.in_default.ensures ∙ c.last.ensures.value)) in
     let none : length es ≡ 0 = omega (arith, columns_len es, ap length c.requires.columns) in
-    row_placed list list c.args.row 0 es (λ k x l. absurd (omega arith)) (λ p h. refl) c.requires.placed.above (rw c.requires.columns at c.requires.upwards)
+    row_placed list list places.empty c.args.row 0 es places.owned.items (λ k x l. absurd (omega arith)) (λ p h. refl) c.requires.placed.above c.requires.placed.free
+    (rw c.requires.columns at c.requires.upwards)
 
 -- what is known where the displacement is found
 module _ (c : goal.After-least_displacement-displacement) where
@@ -25,7 +28,7 @@ module _ (c : goal.After-least_displacement-displacement) where
   least = rw c.as_slice.ensures.value at c.least_displacement-displacement.ensures.least
 
   within : c.least_displacement-displacement.result ≤ length c.args.self.now.list.items
-  within = least_within c.args.self.now.list.items c.args.self.now.owned.items c.requires.placed.owned c.args.columns.now c.least_displacement-displacement.result least
+  within = least_within (length c.args.self.now.list.items) c.args.self.now.owned.items c.requires.placed.within c.args.columns.now c.least_displacement-displacement.result least
 
   narrow : c.in-Some.last < 2 ^ 60
   narrow =
@@ -82,8 +85,10 @@ full_words-self-requires c = λ p l.
 module _ (c : goal.After-self-3-1) where
   kept :
       (p : ℕ) → All (λ e. p ≢ c.least_displacement-displacement.result + e.0) c.args.entries.now
-      → slice_index_or c.put_entries.new.list p None ≡ slice_index_or c.args.self.now.list.items p None
-  kept p h = c.put_entries.ensures.kept p h ∙ (ap (λ xs. slice_index_or xs p None) c.as_mut_slice.ensures.value ∙ c.in_ok-reach.ensures.values p)
+      → entry_at c.put_entries.new.list c.args.self.now.empty p ≡ entry_at c.args.self.now.list.items c.args.self.now.empty p
+  kept p h =
+      c.put_entries.ensures.kept (unowned c.args.self.now.empty) p h
+      ∙ (ap (λ xs. entry_at xs c.args.self.now.empty p) c.as_mut_slice.ensures.value ∙ c.in_ok-reach.ensures.values p)
 
   long : length c.put_entries.new.list ≡ c.reach.new.list.len
   long = c.put_entries.auto.list ∙ c.as_mut_slice.ensures.len
@@ -110,22 +115,29 @@ module _ (c : goal.After-self-3-1) where
   least_of : (d : ℕ) → d < c.least_displacement-displacement.result → MeetsNone c.args.self.now.owned.items c.args.columns.now d → ⊥
   least_of = rw c.as_slice.ensures.value at c.least_displacement-displacement.ensures.least
 
-  fits_there : FitsIn c.args.self.now.list.items c.args.entries.now c.least_displacement-displacement.result
-  fits_there = fits_row c.args.self.now.list.items c.args.self.now.owned.items c.requires.placed.owned c.args.entries.now c.least_displacement-displacement.result
-      (rw (c.as_slice.ensures.value, c.requires.columns) at c.least_displacement-displacement.ensures.fits)
+  -- that of the columns, as those of the entries
+  more_of :
+      (q : ℕ)
+      → IsOwned c.own_columns.new.words q
+      ↔ (IsOwned c.args.self.now.owned.items q
+      ⊎ ((k : ℕ) × (k < length (columns_in c.args.entries.now)) × (q ≡ c.least_displacement-displacement.result + slice_index (columns_in c.args.entries.now) k)))
+  more_of = rw c.requires.columns at more
 
 pub returns-clause-numbers : goal.returns-clause-numbers
 returns-clause-numbers c =
-    rw (whole c) (row_placed c.args.self.now.list.items c.put_entries.new.list c.args.row c.least_displacement-displacement.result c.args.entries.now
-    c.put_entries.ensures.put (kept c) c.requires.placed.above (rw c.requires.columns at c.requires.upwards))
+    let places = c.args.self.now in
+    rw (whole c) (row_placed places.list.items c.put_entries.new.list places.empty c.args.row c.least_displacement-displacement.result c.args.entries.now places.owned.items
+    (c.put_entries.ensures.put (unowned places.empty)) (kept c) c.requires.placed.above c.requires.placed.free (rw c.requires.columns at c.requires.upwards))
 
 pub returns-clause-others : goal.returns-clause-others
 returns-clause-others c =
-    rw (whole c) (others_kept c.args.self.now.list.items c.put_entries.new.list c.args.row c.least_displacement-displacement.result c.args.entries.now
-    c.put_entries.ensures.put (kept c) c.requires.placed.above (fits_there c))
+    let places = c.args.self.now in
+    rw (whole c) (others_kept places.list.items c.put_entries.new.list places.empty c.args.row c.least_displacement-displacement.result c.args.entries.now places.owned.items
+    (c.put_entries.ensures.put (unowned places.empty)) (kept c) c.requires.placed.above c.requires.placed.free
+    (rw (c.as_slice.ensures.value, c.requires.columns) at c.least_displacement-displacement.ensures.fits))
 
 pub returns-clause-fits : goal.returns-clause-fits
-returns-clause-fits c = fits_there c
+returns-clause-fits c = rw c.as_slice.ensures.value at c.least_displacement-displacement.ensures.fits
 
 pub returns-clause-least : goal.returns-clause-least
 returns-clause-least c = least_of c
@@ -135,24 +147,40 @@ returns-clause-owned c = rw (whole_words c) (λ p o. (more c p).1 (inl o))
 
 pub returns-clause-within : goal.returns-clause-within
 returns-clause-within c =
-    least_within c.args.self.now.list.items c.args.self.now.owned.items c.requires.placed.owned c.args.columns.now c.least_displacement-displacement.result (least_of c)
+    let places = c.args.self.now in
+    least_within (length places.list.items) places.owned.items c.requires.placed.within c.args.columns.now c.least_displacement-displacement.result (least_of c)
 
 pub returns-clause-placed : goal.returns-clause-placed
-returns-clause-placed c = record {
-  above = rw (whole c) (above_placed c.args.self.now.list.items c.put_entries.new.list c.args.row c.least_displacement-displacement.result c.args.entries.now
-      c.put_entries.ensures.put (kept c) c.requires.placed.above);
-  owned = rw (whole c, whole_words c) (owned_placed c.args.self.now.list.items c.put_entries.new.list c.args.row c.least_displacement-displacement.result c.args.entries.now
-      c.put_entries.ensures.put (kept c) c.requires.placed.above c.args.self.now.owned.items c.own_columns.new.words
-      c.requires.placed.owned (rw c.requires.columns at (more c)));
-  words = rw (whole c, whole_words c) (omega (
-    arith,
-    c.requires.placed.words,
-    c.put_entries.auto.list,
-    ap length c.as_mut_slice.ensures.value,
-    c.in_ok-reach.ensures.len,
-    c.own_columns.auto.words,
-    ap length c.as_mut_slice-2.ensures.value,
-    c.in_ok-reach-2.ensures.len,
-  ));
-  full = λ p l. rw c.as_slice-2.ensures.value at (c.full_words-self.ensures p l);
-}
+returns-clause-placed c =
+    let places = c.args.self.now in
+    let d = c.least_displacement-displacement.result in
+    let es = c.args.entries.now in
+    let put = c.put_entries.ensures.put (unowned places.empty) in
+    let placed = c.requires.placed in
+    record {
+      above = rw (whole c, whole_words c) (above_placed places.list.items c.put_entries.new.list places.empty c.args.row d es places.owned.items
+          put (kept c) placed.above placed.free c.own_columns.new.words (more_of c));
+      free = rw (whole c, whole_words c) (free_placed places.list.items c.put_entries.new.list places.empty c.args.row d es places.owned.items
+          put (kept c) placed.above placed.free c.own_columns.new.words (more_of c));
+      within = rw (whole c, whole_words c) (λ p o. elim ((more c p).0 o) [
+        | inl b ↦ omega (arith, placed.within p b, long c, c.in_ok-reach.ensures.len)
+        | inr (k, l, e) ↦
+            omega (
+              arith,
+              column_to_last c.args.columns.now c.requires.upwards c.in-Some.last (sym (c.in-Some.ensures ∙ c.last.ensures.value)) k l,
+              long c,
+              c.in_ok-reach.ensures.len,
+            )
+      ]);
+      words = rw (whole c, whole_words c) (omega (
+        arith,
+        placed.words,
+        c.put_entries.auto.list,
+        ap length c.as_mut_slice.ensures.value,
+        c.in_ok-reach.ensures.len,
+        c.own_columns.auto.words,
+        ap length c.as_mut_slice-2.ensures.value,
+        c.in_ok-reach-2.ensures.len,
+      ));
+      full = λ p l. rw c.as_slice-2.ensures.value at (c.full_words-self.ensures p l);
+    }
