@@ -1,7 +1,7 @@
 //! Tables that are made without a graph, beside those that come with one.
 
 use crate::fixtures::{
-    A_COLLECTED_STATE, BRACKETS, CONTESTED_ON_X_ALONE, EMPTY_RULE, FOUR_LEVELS, GROWN_TWICE_AT_ONCE,
+    ASSIGNMENTS, A_COLLECTED_STATE, BRACKETS, CONTESTED_ON_X_ALONE, EMPTY_RULE, FOUR_LEVELS, GROWN_TWICE_AT_ONCE,
     HIDDEN_LEFT_RECURSION, LR1_AND_NOT_LALR1, MERGED_TWICE_BY_ONE_GOTO, NEVER_ENDING, NO_SENTENCE,
     ONE_BODY_TWICE, PAGERS_EXAMPLE, RULE_WITHOUT_A_TREE, SHIFT_AND_TWO_REDUCTIONS,
     SUMS_AND_PRODUCTS, THREE_REDUCTIONS, TOLD_APART_LATE, UNARY_MINUS, collected_states,
@@ -9,7 +9,9 @@ use crate::fixtures::{
 };
 use lrgrammar::grammar::YaccGrammar;
 use lrgrammar::idx::{IndexStorage, RIdx};
-use lrtable::{Minimiser, StIdx, StateTable, from_yacc_counted, state_table};
+use lrtable::{
+    Minimiser, StIdx, StateTable, from_yacc_counted, from_yacc_if_contested, state_table,
+};
 use std::alloc::Global;
 use std::process::Abort;
 use std::test::Fail;
@@ -109,6 +111,35 @@ fn of_as_many_states_as_there_may_be(rt: HostRuntime) -> Result<(), Fail> {
     for (copies, length) in [(3, 193), (2, 214), (3, 194)] {
         let text = collected_states(rt.alloc(), copies, length)?;
         is_the_same::<u8>(&rt, rt.alloc(), text.as_str())?;
+    }
+    Ok(())
+}
+
+/// There is a graph beside a table just where entries meet in a cell, whether or not precedences settle what is done.
+#[test]
+fn with_a_graph_where_entries_meet(rt: HostRuntime) -> Result<(), Fail> {
+    for (text, meet) in [
+        (EMPTY_RULE, false),
+        (BRACKETS, false),
+        (ASSIGNMENTS, false),
+        (LR1_AND_NOT_LALR1, false),
+        (A_COLLECTED_STATE, false),
+        (GROWN_TWICE_AT_ONCE, false),
+        (CONTESTED_ON_X_ALONE, true),
+        (SHIFT_AND_TWO_REDUCTIONS, true),
+        (ONE_BODY_TWICE, true),
+        (SUMS_AND_PRODUCTS, true),
+        (FOUR_LEVELS, true),
+    ] {
+        let grm = YaccGrammar::<u32>::from_text(rt.alloc(), text)?;
+        let (graph, table, states) =
+            from_yacc_if_contested(rt.alloc(), &grm, Minimiser::Pager)?;
+        assert_eq!(&rt; graph.is_some(), meet, "{text}");
+        let (whole, wanted, _) = from_yacc_counted(rt.alloc(), &grm, Minimiser::Pager)?;
+        assert_eq!(&rt; states, usize::from(whole.all_states_len()), "{text}");
+        for state in whole.iter_stidxs() {
+            assert!(&rt; are_same_at(&grm, &wanted, &table, state), "{text}");
+        }
     }
     Ok(())
 }

@@ -1,6 +1,6 @@
 -- what is kept of states: all of them are the graph, and complete items with edges are its outline
-use Rattle.std.proofs.Common.{◌≡◌, ℕ, ◌<◌, Bool, true, false, cond, eq-eqb, List, [], ◌∷◌, ◌++◌, length, Option, None, Some, Result, Ok, Err, IsTrue, ◌↔◌, append_assoc, append-nil, refl, sym, ap, subst, ◌∙◌}
-use Rattle.std.specs.Prelude.{◌==◌, ◌&&◌, filter, slice_get, option_map, IfOk}
+use Rattle.std.proofs.Common.{◌≡◌, ℕ, ◌<◌, Bool, true, false, cond, eq-eqb, List, [], ◌∷◌, ◌++◌, length, Option, None, Some, IsTrue, ◌↔◌, append_assoc, append-nil, refl, sym, ap, subst, ◌∙◌}
+use Rattle.std.specs.Prelude.{◌==◌, ◌&&◌, filter, slice_get, option_map}
 use Rattle.std.proofs.lemmas.Bool.{and_parts, eqb-true, ne_eqb}
 use Rattle.std.proofs.lemmas.List.{length-map, map-id}
 use Rattle.std.proofs.lemmas.List.Kept.{AllPairs-filter}
@@ -8,7 +8,6 @@ use Rattle.std.proofs.lemmas.Option.{slice_get-map}
 use Rattle.lrspec.specs.grammars.Grammar.{Symbol, Grammar, body_of}
 use Rattle.lrspec.specs.grammars.ItemSets.{Items, Precedes, AreUpwards, IsClosure, Fits, FitsAt, item_at}
 use Rattle.lrspec.specs.merging.Graph.{State, Graph, closed_or_none, edges_or_none, closed_of, edges_of, edge_at}
-use Rattle.lrspec.specs.merging.Merged.{IsMerged}
 use Rattle.lrgraphs.specs.Outlines.{IsOutlineOf}
 use Rattle.lrplacing.specs.Construction.{Draft}
 use Rattle.lrpager.specs.Collecting.{AreRenumbered}
@@ -17,14 +16,8 @@ use Rattle.lrpager.specs.declared.pager.collecting.Kept.{Kept}
 use Rattle.lrpager.specs.declared.pager.collecting.Kept.TheVariants.{Everything, Outline}
 
 -- keeping all of a graph leaves it as it is
-kept_all : (g : Grammar) (h : Graph) → kept_states Everything g h ≡ h
+pub kept_all : (g : Grammar) (h : Graph) → kept_states Everything g h ≡ h
 kept_all g h = map-id h
-
-pub merged_all :
-    {X E : Type 0} (g : Grammar) (graph : X → Graph) (r : Result X E) → IfOk r (λ x. (h : Graph) × IsMerged g h × (graph x ≡ kept_states Everything g h))
-    → IfOk r (λ x. IsMerged g (graph x))
-merged_all g graph (Ok x) (h, merged, kept_is) = subst (IsMerged g) (sym (kept_is ∙ kept_all g h)) merged
-merged_all g graph (Err e) t = tt
 
 -- ---- complete items
 

@@ -4,6 +4,8 @@ use Rattle.std.specs.Prelude.{sum_by, slice_get}
 use Rattle.std.proofs.lemmas.List.Sums.{sum_by-cons}
 use Rattle.std.proofs.Math.Nat.{mul-le-mul}
 use Rattle.lrspec.specs.grammars.Grammar.{Production, Grammar, token_count, body_or_none, item_count}
+use Rattle.lrspec.specs.merging.Chains.{HasChainOf}
+use Rattle.lrspec.specs.merging.Merged.{AreCounts}
 use Rattle.lrgrammar.specs.GrammarSizes.{IsWithin}
 use Rattle.lrplacing.specs.Construction.{Draft}
 use Rattle.lrplacing.specs.Counts.{unclosed, weight}
@@ -46,3 +48,7 @@ pub closings_fit :
     (most : ℕ) (g : Grammar) (ss : List Draft) (closings : ℕ) → IsWithin most g → most < 2 ^ 32 → length ss ≤ most
     → closings + unclosed ss ≤ weight g ss → closings < 2 ^ 128
 closings_fit most g ss closings h small l c = omega (arith, c, weight_within g ss most l, closings_bound_fits most g h small)
+
+-- there are no more states than a chain has item sets
+pub chain_of_counts : (g : Grammar) (most n m k : ℕ) → AreCounts g most n m k → HasChainOf g n
+chain_of_counts g most n m k c = let (chain, is, same) = c.chain in (chain, is, omega (arith, same, c.states))

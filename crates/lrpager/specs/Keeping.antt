@@ -1,12 +1,24 @@
 -- what is kept of the states that are reached: all of them, or what an outline needs
-use Rattle.std.specs.Prelude.{◌≡◌, ℕ, ◌==◌, Bool, List, [], filter, map, length}
+use Rattle.std.specs.Prelude.{◌≡◌, ℕ, ◌==◌, Bool, true, false, List, [], filter, map, length}
 use Rattle.lrspec.specs.grammars.Grammar.{Grammar, body_of}
 use Rattle.lrspec.specs.grammars.ItemSets.{Items, Fits, IsClosure}
 use Rattle.lrspec.specs.merging.Graph.{State, Graph}
 use Rattle.lrplacing.specs.Construction.{Draft}
 use Rattle.lrpager.specs.Collecting.{IsRenumbered}
+use Rattle.lrgraphs.specs.Outlines.{IsOutlineOf}
+use Rattle.lrpager.specs.declared.pager.Built.{Built}
+use Rattle.lrpager.specs.declared.pager.Built.TheVariants as built
+use Rattle.lrpager.specs.declared.pager.Wanted.{Wanted}
+use Rattle.lrpager.specs.declared.pager.Wanted.TheVariants as wanted
 use Rattle.lrpager.specs.declared.pager.collecting.Kept.{Kept}
 use Rattle.lrpager.specs.declared.pager.collecting.Kept.TheVariants.{Everything, Outline}
+
+-- what is kept of the states, where it is known whether one is contested
+abbrev pub kept_of : Wanted → Bool → Kept
+kept_of wanted.Graph contested = Everything
+kept_of wanted.Outline contested = Outline
+kept_of wanted.GraphIfContested true = Everything
+kept_of wanted.GraphIfContested false = Outline
 
 -- whether the item is complete: its dot stands behind the whole body
 abbrev pub is_complete : Grammar → (ℕ × ℕ) × List Bool → Bool
@@ -47,3 +59,8 @@ pub record IsKeptState (kept : Kept) (g : Grammar) (f : ℕ → ℕ) (d : Draft)
   pub whole : State
   pub renumbered : IsRenumbered g f d whole
   pub kept_is : s ≡ kept_state kept g whole
+
+-- it is the graph, or its outline
+abbrev pub IsBuiltOf : {T : Type 0} → Grammar → Graph → Built T → Type 0
+IsBuiltOf g h (built.Graph graph) = graph ≡ h
+IsBuiltOf g h (built.Outline outline) = IsOutlineOf g h outline.graph

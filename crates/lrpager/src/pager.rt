@@ -19,12 +19,14 @@ ghost use Rattle.lrspec.specs.merging.Merged.{IsMerged, AreCounts};
 ghost use Rattle.lrspec.specs.merging.Chains.{HasChainOf};
 ghost use Rattle.lrspec.specs.merging.Graph.{Graph};
 ghost use Rattle.lrgraphs.specs.Outlines.{IsOutlineOf};
-ghost use Rattle.lrpager.specs.Keeping.{kept_states};
+ghost use Rattle.lrpager.specs.Keeping.{kept_of, kept_states, IsBuiltOf};
 ghost use Rattle.lrplacing.specs.Refusals.{IsLargeOnly};
 
 mod collecting;
+mod contested;
 
 use crate::pager::collecting::{Kept, collect};
+use crate::pager::contested::is_contested;
 use lrclosing::closer::Closer;
 use lrclosing::listing::closed_items;
 use lrgrammar::firsts::YaccFirsts;
@@ -47,6 +49,8 @@ struct Tools {
     closer: Closer,
     /// Places for the gotos of one state.
     places: PlacesBySymbol,
+    /// Whether a contested state is sought and wasn't found.
+    seeks_contested: bool,
 }
 
 impl Tools {
@@ -54,6 +58,7 @@ impl Tools {
     fn new<T: IndexStorage>(
         grm: &YaccGrammar<T>,
         firsts: &YaccFirsts<T>,
+        seeks_contested: bool,
     ) -> Result<Tools, AllocError>
         requires of { AreFirstsOf grm.now firsts.now }
         ensures { IfOk result (AreToolsFor grm.now) }
@@ -61,6 +66,7 @@ impl Tools {
         Ok(Tools {
             closer: Closer::new(grm, firsts)?,
             places: PlacesBySymbol::new(grm)?,
+            seeks_contested,
         })
     }
 }
@@ -118,6 +124,9 @@ fn close<T: IndexStorage>(
     tools.closer.close(grm, firsts, given);
     let closed = closed_items(given, grm, &tools.closer)?;
     let successors = gotos(closed.as_slice(), grm, &mut tools.places)?;
+    if tools.seeks_contested {
+        tools.seeks_contested = !is_contested(grm, closed.as_slice(), successors.as_slice())?;
+    }
     drafts[i].clear_edges();
     let grew = place_all(drafts, candidates, grm, i, successors)?;
     if !grew {
@@ -188,26 +197,54 @@ pub struct BuildCounts {
     pub closings: u128,
 }
 
-/// What is kept of the state graph of the grammar, merged by Pager's rule, and what its construction took.
+/// What is wanted of a state graph.
+#[derive(Clone, Copy, PartialEq, Eq)]
+enum Wanted {
+    /// All of it.
+    Graph,
+    /// What its table needs.
+    Outline,
+    /// All of it, where a state is contested, and else what its table needs.
+    GraphIfContested,
+}
+
+impl Wanted {
+    /// What is kept of the states, where it is known whether one is contested.
+    fn kept(self, is_contested: bool) -> Kept
+        ensures { result ≡ kept_of self is_contested }
+    {
+        match self {
+            Wanted::Graph => Kept::Everything,
+            Wanted::Outline => Kept::Outline,
+            Wanted::GraphIfContested if is_contested => Kept::Everything,
+            Wanted::GraphIfContested => Kept::Outline,
+        }
+    }
+}
+
+/// What is wanted of the state graph of the grammar, merged by Pager's rule; whether that is all of it, where that depends on it
+/// whether a state is contested; and what its construction took.
 fn construct_kept<T: IndexStorage>(
     grm: &YaccGrammar<T>,
-    kept: Kept,
-) -> Result<(StateGraph<T>, BuildCounts), BuildError<T>>
+    wanted: Wanted,
+) -> Result<(StateGraph<T>, bool, BuildCounts), BuildError<T>>
     ensures merged { IfOk result (λ b. (h : Graph) × IsMerged grm.now h
-        × (b.0 ≡ kept_states kept grm.now h)) }
+        × (b.0 ≡ kept_states (kept_of wanted b.1) grm.now h)) }
     ensures below { IfOk result (λ b. length b.0 < T.MAX) }
     ensures counts { IfOk result (λ b.
-        AreCounts grm.now T.MAX (length b.0) b.1.made b.1.closings) }
+        AreCounts grm.now T.MAX (length b.0) b.2.made b.2.closings) }
     ensures refused { IfErr result (IsLargeOnly (HasChainOf grm.now T.MAX)) }
 {
     grm.in_order();
     let firsts = grm.firsts()?;
     let (mut drafts, mut candidates) = begin(grm)?;
-    let mut tools = Tools::new(grm, &firsts)?;
+    let mut tools = Tools::new(grm, &firsts, wanted == Wanted::GraphIfContested)?;
     let closings = construct(&mut drafts, &mut candidates, &mut tools, grm, &firsts)?;
     let made = drafts.len();
+    let is_contested = !tools.seeks_contested;
+    let kept = wanted.kept(is_contested);
     let graph = collect(drafts, &mut tools.closer, grm, &firsts, kept)?;
-    Ok((graph, BuildCounts { made, closings }))
+    Ok((graph, is_contested, BuildCounts { made, closings }))
 }
 
 /// The state graph of the grammar, merged by Pager's rule, and what its construction took. `TooLarge` where more than the
@@ -221,7 +258,8 @@ pub fn build<T: IndexStorage>(
         AreCounts grm.now T.MAX (length b.0) b.1.made b.1.closings) }
     ensures refused { IfErr result (IsLargeOnly (HasChainOf grm.now T.MAX)) }
 {
-    construct_kept(grm, Kept::Everything)
+    let (graph, _, counts) = construct_kept(grm, Wanted::Graph)?;
+    Ok((graph, counts))
 }
 
 /// The outline of that graph, and what its construction took, with the same refusals.
@@ -235,6 +273,29 @@ pub fn outline<T: IndexStorage>(
         AreCounts grm.now T.MAX (length b.0.graph) b.1.made b.1.closings) }
     ensures refused { IfErr result (IsLargeOnly (HasChainOf grm.now T.MAX)) }
 {
-    let (graph, counts) = construct_kept(grm, Kept::Outline)?;
+    let (graph, _, counts) = construct_kept(grm, Wanted::Outline)?;
     Ok((Outline { graph }, counts))
+}
+
+/// A state graph, or its outline.
+#[derive(Drop)]
+pub enum Built<T: IndexStorage> {
+    /// The graph.
+    Graph(StateGraph<T>),
+    /// Its outline.
+    Outline(Outline<T>),
+}
+
+/// That graph where a state is contested, so that it can be searched why; and else its outline, which takes less time and memory.
+/// The refusals are the same.
+pub fn build_if_contested<T: IndexStorage>(grm: &YaccGrammar<T>) -> Result<Built<T>, BuildError<T>>
+    ensures merged { IfOk result (λ b. (h : Graph) × IsBuiltOf grm.now h b × IsMerged grm.now h
+        × HasChainOf grm.now (length h)) }
+    ensures refused { IfErr result (IsLargeOnly (HasChainOf grm.now T.MAX)) }
+{
+    let (graph, is_contested, _) = construct_kept(grm, Wanted::GraphIfContested)?;
+    if is_contested {
+        return Ok(Built::Graph(graph));
+    }
+    Ok(Built::Outline(Outline { graph }))
 }

@@ -11,7 +11,7 @@ use Rattle.lrgraphs.specs.declared.errors.BuildError.{BuildError}
 use Rattle.lrgraphs.specs.declared.errors.BuildError.TheVariants.{Table, TooLarge, Memory}
 use Rattle.lrgraphs.specs.declared.statetable.StateTableErrorKind.{StateTableErrorKind}
 use Rattle.lrgraphs.specs.declared.statetable.StateTableErrorKind.TheVariants.{AcceptReduceConflict}
-use Rattle.lrspec.specs.merging.Chains.{HasChainOfExactly}
+use Rattle.lrspec.specs.merging.Chains.{HasChainOf, HasChainOfExactly}
 use Rattle.lrcells.specs.Refusals.{TellsOne, IsTableRefusal}
 use Rattle.lrtable.specs.Refusals.{IsLargeOnly, IsBuildRefusal, IsExactError}
 
@@ -23,14 +23,14 @@ still_told number P Q (AcceptReduceConflict (Some p)) f t = f (number p.0) t
 
 -- the graph has no table
 pub refused_by_table :
-    {T : Type 0} (number : T → ℕ) (most : ℕ) (g : Grammar) (h : Graph) (made : ℕ) (e : BuildError T) → IsGrammar g → IsGraphOf g h
-    → HasChainOfExactly g made → length h ≤ made → IsTableRefusal number most g h e → IsBuildRefusal number most g e
-refused_by_table number most g h made (Table e) grammar m c l r = record {
+    {T : Type 0} (number : T → ℕ) (most : ℕ) (g : Grammar) (h : Graph) (e : BuildError T) → IsGrammar g → IsGraphOf g h
+    → HasChainOf g (length h) → IsTableRefusal number most g h e → IsBuildRefusal number most g e
+refused_by_table number most g h (Table e) grammar m c r = record {
   other = still_told number (IsLeastAcceptReduce g h) (IsLeastAcceptContested g) e.kind (least_contested g h grammar m) r.1.other;
   at = r.1.at;
 }
-refused_by_table number most g h made TooLarge grammar m (chain, is, n) l r = (chain, is, omega (arith, l, r, n))
-refused_by_table number most g h made Memory grammar m c l r = tt
+refused_by_table number most g h TooLarge grammar m (chain, is, n) r = (chain, is, omega (arith, r, n))
+refused_by_table number most g h Memory grammar m c r = tt
 
 -- the headline, by which production is told
 told_answer : {T : Type 0} (number : T → ℕ) (g : Grammar) (k : StateTableErrorKind T) → TellsOne number (IsLeastAcceptContested g) k → IsExactAnswer g None
@@ -53,3 +53,7 @@ exact_without_graph P g Memory r = tt
 pub error_answered : {T E : Type 0} (P : T → Type 0) (Q : E → Type 0) (r : Result T E) (e : E) → IsErrAnd r (λ x. x ≡ e) → Q e → MatchResult r P Q
 error_answered P Q (Ok x) e same h = absurd same
 error_answered P Q (Err x) e same h = subst Q (sym same) h
+
+-- a chain that is long enough
+pub chain_of_count : (g : Grammar) (n made : ℕ) → HasChainOfExactly g made → n ≤ made → HasChainOf g n
+chain_of_count g n made (chain, is, same) l = (chain, is, omega (arith, same, l))

@@ -59,6 +59,12 @@ gotos-requires-clause-fits g c = rw c.as_slice.ensures.value c.in_ok-closed.ensu
 pub gotos-requires-clause-upwards : goal.gotos-requires-clause-upwards
 gotos-requires-clause-upwards g c = rw c.as_slice.ensures.value c.in_ok-closed.ensures.upwards
 
+pub is_contested-requires-clause-fits : goal.is_contested-requires-clause-fits
+is_contested-requires-clause-fits g c = rw c.as_slice-then-tools.ensures.value c.in_ok-closed.ensures.fits
+
+pub is_contested-requires-clause-upwards : goal.is_contested-requires-clause-upwards
+is_contested-requires-clause-upwards g c = rw c.as_slice-then-tools.ensures.value c.in_ok-closed.ensures.upwards
+
 pub place_all-requires-clause-unclosed : goal.place_all-requires-clause-unclosed
 place_all-requires-clause-unclosed g c =
     ((cleared g (goal.at.place_all-requires-clause-unclosed g c).After-clear_edges).stays c.args.i).closed ∙ c.requires.unclosed

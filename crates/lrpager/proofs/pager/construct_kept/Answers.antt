@@ -46,7 +46,7 @@ returns-clause-merged g c =
         conflicts = collected_invents_no_conflict shape e.holds e.closed e.gotos marked collected;
         crossing = collected_crosses e.holds marked collected;
       },
-      kept_is,
+      rw c.kept-kept.ensures at kept_is,
     )
 
 pub returns-clause-counts : goal.returns-clause-counts
@@ -54,7 +54,7 @@ returns-clause-counts g c =
     let e = c.in_ok-closings.ensures in
     let (h, marks, marked, collected, kept_is) = c.in_ok-graph.ensures.collected in
     let most = collected_no_more marked collected in
-    let count = ap length kept_is ∙ length-map h (kept_state c.args.kept c.args.grm.now) in
+    let count = ap length kept_is ∙ length-map h (kept_state c.kept-kept.result c.args.grm.now) in
     let made = chain_of_states c.construct.new.drafts.items e.holds.chain in
     let same : c.len-made.result ≡ length c.construct.new.drafts.items = omega arith in record {
       states = omega (arith, most, count);
