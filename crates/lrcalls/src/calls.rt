@@ -14,7 +14,9 @@ use lrgrammar::idx::{IndexStorage, PIdx, SIdx};
 use lrgrammar::vob::Vob;
 use lrtable::itemset::Itemset;
 use lrtable::machine::{line_tokens, production_label, production_labels, run};
-use lrtable::{BuildError, Minimiser, StateTable, from_yacc_counted, state_table};
+use lrtable::{
+    BuildError, Minimiser, StateTable, from_yacc_counted, from_yacc_if_contested, state_table,
+};
 use lrtext::reader::read_parts;
 use lrtree::{Tree, Visit, Visits, parse};
 use std::alloc::{AllocError, Global};
@@ -99,6 +101,7 @@ fn answer_by_text(call: &OfTexts, subject: &Subject<'_>, text: &mut String) -> R
         OfTexts::Firsts => push_firsts_of(subject, text),
         OfTexts::Table => push_table_of(subject, text),
         OfTexts::TableAlone => push_table_alone(subject, text),
+        OfTexts::TableIfContested => push_table_if_contested(subject, text),
     }
 }
 
@@ -114,6 +117,18 @@ fn push_table_of(subject: &Subject<'_>, text: &mut String) -> Result<(), Problem
 {
     match StateTable::new(subject.grm.allocator(), subject.grm, subject.graph) {
         Ok(table) => Ok(push_table(text, subject.grm, subject.graph, &table)?),
+        Err(BuildError::Memory) => Err(Problem::Memory(AllocError)),
+        Err(_) => Err(Problem::Unfit),
+    }
+}
+
+/// `from_yacc_if_contested`.
+fn push_table_if_contested(subject: &Subject<'_>, text: &mut String) -> Result<(), Problem> {
+    match from_yacc_if_contested(subject.grm.allocator(), subject.grm, Minimiser::Pager) {
+        Ok((graph, table, states)) => {
+            push(text, Ok((graph.is_some(), states)))?;
+            Ok(push_table(text, subject.grm, subject.graph, &table)?)
+        }
         Err(BuildError::Memory) => Err(Problem::Memory(AllocError)),
         Err(_) => Err(Problem::Unfit),
     }

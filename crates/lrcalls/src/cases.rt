@@ -25,6 +25,7 @@ pub enum OfTexts {
     Firsts,
     Table,
     TableAlone,
+    TableIfContested,
 }
 
 /// Calls on the item sets of a state.
@@ -85,7 +86,7 @@ pub enum Place {
 }
 
 /// All that is tried, each with its name and with what the number is that of.
-pub const ALL: [(&str, Call, Place); 40] = [
+pub const ALL: [(&str, Call, Place); 41] = [
     ("vob-from_elem", Call::BitsFromElem, Place::Length),
     ("vob-clone", Call::BitsClone, Place::Length),
     ("from_parts", Call::Text(OfTexts::FromParts), Place::None),
@@ -100,6 +101,11 @@ pub const ALL: [(&str, Call, Place); 40] = [
     ("firsts", Call::Text(OfTexts::Firsts), Place::None),
     ("statetable-new", Call::Text(OfTexts::Table), Place::None),
     ("state_table", Call::Text(OfTexts::TableAlone), Place::None),
+    (
+        "from_yacc_if_contested",
+        Call::Text(OfTexts::TableIfContested),
+        Place::None,
+    ),
     ("itemset-close", Call::State(OfStates::Close), Place::State),
     ("itemset-goto", Call::State(OfStates::Goto), Place::State),
     ("itemset-pp", Call::State(OfStates::Pp), Place::State),

@@ -1,6 +1,6 @@
 //! Why there are conflicts.
 
-ghost use Rattle.std.specs.Prelude.{◌≡◌, ◌∷◌, [], ◌++◌, map, All, IfOk, IfSome, OnOk};
+ghost use Rattle.std.specs.Prelude.{◌≡◌, ◌∷◌, [], ◌++◌, map, All, IfOk, IfSome, OnOk, MatchOption};
 ghost use Rattle.lrspec.specs.merging.Graph.{IsGraphOf};
 ghost use Rattle.lrspec.specs.tables.Conflicts.{AreReductionsContested};
 ghost use Rattle.lrreasons.specs.Entries.{entry_of, IsListed};
@@ -132,18 +132,19 @@ pub fn evidence_for<T: IndexStorage>(
     entries: &[Entry],
     effort: Effort,
 ) -> Result<Vec<Evidence>, AllocError>
-    requires graph { IsGraphOf found.now.grm found.now.graph }
-    requires listed { AreListedIn found.now.grm found.now.graph found.now.conflicts.items }
-    requires contested { AreReductionsContested found.now.grm found.now.graph }
+    requires graph { MatchOption found.now.graph (entries.now ≡ []) (IsGraphOf found.now.grm) }
+    requires listed { IfSome found.now.graph (λ h.
+        AreListedIn found.now.grm h found.now.conflicts.items) }
+    requires contested { IfSome found.now.graph (AreReductionsContested found.now.grm) }
     ensures entries { IfOk result (λ v. map (λ e. e.entry) v.items ≡ entries.now) }
     ensures proved { IfOk result (λ v. All (IsProved found.now.grm) v.items) }
 {
     let mut list = Vec::new(alloc);
-    if entries.is_empty() {
+    let (Some(graph), false) = (&found.graph, entries.is_empty()) else {
         return Ok(list);
-    }
+    };
     let grm = &found.grm;
-    let reasons = Reasons::new(grm, &found.graph)?;
+    let reasons = Reasons::new(grm, graph)?;
     let (numbering, listed) = (Numbering { grm, file }, found.conflicts.as_slice());
     push_evidence(&mut list, &reasons, numbering, listed, entries, effort)?;
     Ok(list)
@@ -177,12 +178,12 @@ pub fn find_ambiguity<T: IndexStorage>(
     entries: &[Entry],
     steps: usize,
 ) -> Result<Option<Ambiguity>, AllocError>
-    requires graph { IsGraphOf found.now.grm found.now.graph }
+    requires graph { IfSome found.now.graph (IsGraphOf found.now.grm) }
     ensures { IfOk result (λ o. IfSome o (HasTwoTrees found.now.grm)) }
 {
-    if steps == 0 {
+    let (Some(graph), true) = (&found.graph, steps > 0) else {
         return Ok(None);
-    }
-    let reasons = Reasons::new(&found.grm, &found.graph)?;
+    };
+    let reasons = Reasons::new(&found.grm, graph)?;
     first_ambiguity(alloc, &reasons, entries, steps)
 }

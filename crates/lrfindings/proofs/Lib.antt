@@ -1,2 +1,3 @@
 -- entries of lists of conflicts
 mod ListedEntries
+pub mod FoundNothing

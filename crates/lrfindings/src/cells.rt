@@ -5,6 +5,8 @@
 //! own tokens. A production whose precedence would be that of such a line has the odd level below its tokens, whose level is
 //! even: so the table shifts, and both are left.
 
+ghost use Rattle.std.specs.Prelude.{◌≡◌, [], IfOk};
+
 use crate::conflicts::{Entry, place_of};
 use crate::idle::{Deciding, Idle};
 use lrgrammar::grammar::{AssocKind, PartProd, PartSymbol, Precedence};
@@ -142,7 +144,7 @@ impl Precedences {
     }
 }
 
-/// What is found in the cells of a graph.
+/// What is found in the cells of a table.
 #[derive(Drop)]
 pub(crate) struct CellFindings {
     /// The decisions between a shift and a reduction.
@@ -153,6 +155,24 @@ pub(crate) struct CellFindings {
     pub(crate) opened: Vec<Entry>,
     /// What of the file takes no part in the decisions, and what of its tokens in no rule.
     pub(crate) idle: Idle,
+}
+
+impl CellFindings {
+    /// What is found where nothing meets in any cell: which precedences settle nothing, and which tokens are in no rule.
+    pub(crate) fn without_decisions(
+        alloc: Global,
+        file: &FileGrammar,
+    ) -> Result<CellFindings, AllocError>
+        ensures opened { IfOk result (λ c. c.opened.items ≡ []) }
+        ensures settled { IfOk result (λ c. c.settled.items ≡ []) }
+    {
+        Ok(CellFindings {
+            settled: Vec::new(alloc),
+            closed: Vec::new(alloc),
+            opened: Vec::new(alloc),
+            idle: Deciding::new(alloc, file)?.idle(file)?,
+        })
+    }
 }
 
 /// What was found in cells so far.

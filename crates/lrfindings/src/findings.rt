@@ -1,16 +1,19 @@
 //! What is found in the grammar of a file.
 
-ghost use Rattle.std.specs.Prelude.{IfOk};
+ghost use Rattle.std.specs.Prelude.{◌≡◌, [], IfOk, IfNone, IfSome};
+ghost use Rattle.lrspec.specs.merging.Graph.{Graph};
+ghost use Rattle.lrspec.specs.tables.Built.{IsBuilt};
+ghost use Rattle.lrspec.specs.tables.LrTables.{ListsNothing};
 ghost use Rattle.lrfindings.specs.Findings.{AreFindings};
 
 use crate::cells::{CellFindings, Settled, cells_of};
 use crate::conflicts::{Entry, entries_of};
 use crate::idle::Idle;
 use crate::texts::small_text;
-use crate::verdicts::{Counts, Verdict, checked};
+use crate::verdicts::{Counts, Verdict, verdict_of};
 use lrgrammar::grammar::{GrammarError, TextError, YaccGrammar};
 use lrgrammar::idx::IndexStorage;
-use lrtable::{BuildError, StateGraph, StateTable};
+use lrtable::{BuildError, Minimiser, StateGraph, StateTable, from_yacc, from_yacc_if_contested};
 use lryacc::FileGrammar;
 use std::alloc::{AllocError, Global};
 
@@ -21,10 +24,13 @@ pub struct Findings<T: IndexStorage> {
     pub text: String,
     /// Its grammar.
     pub grm: YaccGrammar<T>,
-    /// The state graph of the grammar.
-    pub graph: StateGraph<T>,
+    /// The state graph of the grammar. None where it wasn't wanted and no entries meet in a cell of its table, so that nothing is
+    /// searched in it.
+    pub graph: Option<StateGraph<T>>,
     /// The table of the graph.
     pub table: StateTable<T>,
+    /// How many states they have.
+    pub states: usize,
     /// The conflicts of the table, in the order of the file.
     pub conflicts: Vec<Entry>,
     /// Those of them that are settled where each reduction is tried by itself against a shift, as Bison does; in their order.
@@ -92,18 +98,54 @@ impl<T: IndexStorage> From<BuildError<T>> for FindError {
     }
 }
 
+/// The graph of a grammar, where it is wanted or entries meet in a cell of the table; the table; and how many states they have.
+/// The error is that of `from_yacc`.
+fn tabled<T: IndexStorage>(
+    grm: &YaccGrammar<T>,
+    wants_graph: bool,
+) -> Result<(Option<StateGraph<T>>, StateTable<T>, usize), BuildError<T>>
+    ensures built { IfOk result (λ b. (h : Graph) × IsBuilt grm.now h b.1
+        × IfSome b.0 (λ g. g ≡ h)) }
+    ensures without { IfOk result (λ b. IfNone b.0 (ListsNothing b.1)) }
+{
+    if !wants_graph {
+        return from_yacc_if_contested(grm.allocator(), grm, Minimiser::Pager);
+    }
+    let (graph, table) = from_yacc(grm.allocator(), grm, Minimiser::Pager)?;
+    let states = usize::from(graph.all_states_len());
+    Ok((Some(graph), table, states))
+}
+
+/// What is found in the cells of a table; without a graph, in which no entries meet.
+fn found_in_cells<T: IndexStorage>(
+    alloc: Global,
+    file: &FileGrammar,
+    graph: Option<&StateGraph<T>>,
+    has_precedences: bool,
+) -> Result<CellFindings, AllocError>
+    ensures opened { IfNone graph.entry (IfOk result (λ c. c.opened.items ≡ [])) }
+    ensures settled { IfNone graph.entry (IfOk result (λ c. c.settled.items ≡ [])) }
+{
+    match graph {
+        Some(graph) => cells_of(alloc, file, graph, has_precedences),
+        None => CellFindings::without_decisions(alloc, file),
+    }
+}
+
 /// What is found in the grammar of a file, with its precedences or without them.
 fn find_with<T: IndexStorage>(
     alloc: Global,
     file: &FileGrammar,
     has_precedences: bool,
+    wants_graph: bool,
 ) -> Result<Findings<T>, FindError>
     ensures { IfOk result (AreFindings T.MAX) }
 {
     let text = small_text(alloc, file, has_precedences)?;
     let grm = YaccGrammar::<T>::from_text(alloc, text.as_str())?;
-    let (graph, table, verdict) = checked(&grm)?;
-    let cells = cells_of(alloc, file, &graph, has_precedences)?;
+    let (graph, table, states) = tabled(&grm, wants_graph)?;
+    let verdict = verdict_of(&grm, &table);
+    let cells = found_in_cells(alloc, file, graph.as_ref(), has_precedences)?;
     let conflicts = entries_of(alloc, file, &table)?;
     let CellFindings {
         settled,
@@ -117,6 +159,7 @@ fn find_with<T: IndexStorage>(
         grm,
         graph,
         table,
+        states,
         conflicts,
         closed,
         opened,
@@ -127,17 +170,19 @@ fn find_with<T: IndexStorage>(
 }
 
 /// What is found in the grammar of a file, with its precedences or without them; without them also where there are no
-/// conflicts and they settle nothing. `TooLarge` where the index type is too small for the grammar or its graph.
+/// conflicts and they settle nothing. There is a graph where it is wanted, and where there are conflicts or some are settled.
+/// `TooLarge` where the index type is too small for the grammar or its graph.
 pub fn find<T: IndexStorage>(
     alloc: Global,
     file: &FileGrammar,
     has_precedences: bool,
+    wants_graph: bool,
 ) -> Result<Findings<T>, FindError>
     ensures { IfOk result (AreFindings T.MAX) }
 {
-    let found = find_with(alloc, file, has_precedences)?;
+    let found = find_with(alloc, file, has_precedences, wants_graph)?;
     if found.verdict == Verdict::NoConflicts && found.settled.is_empty() {
-        return find_with(alloc, file, false);
+        return find_with(alloc, file, false, wants_graph);
     }
     Ok(found)
 }

@@ -1,17 +1,15 @@
 //! The verdict of a grammar.
 
-ghost use Rattle.std.specs.Prelude.{◌≡◌, ◌≢◌, IfOk};
-ghost use Rattle.lrspec.specs.merging.Graph.{IsGraphOf};
-ghost use Rattle.lrspec.specs.tables.Conflicts.{AreReductionsContested};
+ghost use Rattle.std.specs.Prelude.{◌≡◌};
 ghost use Rattle.lrspec.specs.tables.Recognition.{IsUnambiguous};
-ghost use Rattle.lrspec.specs.tables.Table.{IsTableOf};
+ghost use Rattle.lrspec.specs.tables.Table.{IsTableFor};
 ghost use Rattle.lrfindings.specs.Verdicts.{status_of};
 ghost use Rattle.lrfindings.specs.declared.verdicts.Verdict.TheVariants.{Unambiguous};
 
 use crate::conflicts::Entry;
 use lrgrammar::grammar::YaccGrammar;
 use lrgrammar::idx::IndexStorage;
-use lrtable::{BuildError, Minimiser, StateGraph, StateTable, from_yacc};
+use lrtable::StateTable;
 use lryacc::Expected;
 use std::fmt;
 
@@ -80,28 +78,14 @@ pub enum Verdict {
     },
 }
 
-/// The graph, the table and the verdict of a grammar. The error is that of `from_yacc`.
-pub(crate) fn checked<T: IndexStorage>(
-    grm: &YaccGrammar<T>,
-) -> Result<(StateGraph<T>, StateTable<T>, Verdict), BuildError<T>>
-    ensures graph { IfOk result (λ r. IsGraphOf grm.now r.0) }
-    ensures table { IfOk result (λ r. IsTableOf grm.now r.0 r.1) }
-    ensures contested { IfOk result (λ r. AreReductionsContested grm.now r.0) }
-    ensures unambiguous { IfOk result (λ r. r.2 ≡ Unambiguous → IsUnambiguous grm.now) }
+/// The verdict of a grammar that has this table.
+pub(crate) fn verdict_of<T: IndexStorage>(grm: &YaccGrammar<T>, table: &StateTable<T>) -> Verdict
+    requires { IsTableFor grm.now table.now }
+    ensures { result ≡ Unambiguous → IsUnambiguous grm.now }
 {
-    let (graph, table) = from_yacc(grm.allocator(), grm, Minimiser::Pager)?;
-    if grm.has_precedences() || table.conflicts().is_some() {
-        let verdict = by_conflicts(&table);
-        return Ok((graph, table, verdict));
-    }
-    Ok((graph, table, Verdict::Unambiguous))
-}
-
-/// The verdict of a grammar that has precedences or conflicts.
-fn by_conflicts<T: IndexStorage>(table: &StateTable<T>) -> Verdict
-    ensures { result ≢ Unambiguous }
-{
+    grm.in_order();
     match table.conflicts() {
+        None if !grm.has_precedences() => Verdict::Unambiguous,
         Some(conflicts) => Verdict::Conflicts(Counts {
             shift_reduce: conflicts.sr_len(),
             reduce_reduce: conflicts.rr_len(),

@@ -106,14 +106,13 @@ impl<T: IndexStorage> Page<'_, T> {
             .filter(|token| is_of_file(token))
             .count();
         let productions = parts.prods.iter().filter(|prod| prod.rule > 0).count();
-        let states = usize::from(self.found.graph.all_states_len());
         push_count(page, rules, "rule")?;
         page.push_str(", ")?;
         push_count(page, productions, "production")?;
         page.push_str(", ")?;
         push_count(page, tokens, "token")?;
         page.push_str(", ")?;
-        push_count(page, states, "state")?;
+        push_count(page, self.found.states, "state")?;
         page.push_str(". ")
     }
 

@@ -6,12 +6,14 @@ use crate::pages::{Page, push_count};
 use crate::symbols::{DOT, number_of};
 use lrgrammar::grammar::PartSymbol;
 use lrgrammar::idx::{IndexStorage, PIdx, StIdx, Symbol};
+use lrtable::StateGraph;
 use std::alloc::{AllocError, Global};
 
 /// What is needed beside a page to show its states.
 #[derive(Drop)]
 struct States<'a, T: IndexStorage> {
     page: Page<'a, T>,
+    graph: &'a StateGraph<T>,
     /// By rule of the graph, its number in the file.
     rules: Vec<usize>,
     /// By state, the numbers of the cards that are about it, counted from 1.
@@ -39,7 +41,7 @@ impl<'a, T: IndexStorage> Page<'a, T> {
     /// By state, the numbers of the cards that are about it.
     fn cards_of_states(&self, alloc: Global) -> Result<Vec<Vec<usize>>, AllocError> {
         let mut lists: Vec<Vec<usize>> = Vec::new(alloc);
-        for _ in 0..usize::from(self.found.graph.all_states_len()) {
+        for _ in 0..self.found.states {
             lists.push(Vec::new(alloc))?;
         }
         let mut number: usize = 0;
@@ -54,16 +56,20 @@ impl<'a, T: IndexStorage> Page<'a, T> {
         Ok(lists)
     }
 
-    /// Adds the states.
+    /// Adds the states, where there is a graph.
     pub(crate) fn push_states(self, page: &mut String) -> Result<(), AllocError> {
+        let Some(graph) = &self.found.graph else {
+            return Ok(());
+        };
         let alloc = *page.allocator();
         let states = States {
+            graph,
             rules: self.rules_of_graph(alloc)?,
             cards: self.cards_of_states(alloc)?,
             page: self,
         };
         page.push_str("<section id=\"states\"><h2>States</h2>\n")?;
-        for state in self.found.graph.iter_stidxs() {
+        for state in graph.iter_stidxs() {
             states.push_state(page, state)?;
         }
         page.push_str("</section>\n")
@@ -104,7 +110,7 @@ impl<T: IndexStorage> States<'_, T> {
 
     /// Adds the items of the core of a state.
     fn push_core(&self, page: &mut String, state: StIdx<T>) -> Result<(), AllocError> {
-        let graph = &self.page.found.graph;
+        let graph = self.graph;
         if usize::from(state) >= usize::from(graph.all_states_len()) {
             return Ok(());
         }
@@ -132,7 +138,7 @@ impl<T: IndexStorage> States<'_, T> {
 
     /// Adds the edges of a state for the script: each as a symbol and a state.
     fn push_edges(&self, page: &mut String, state: StIdx<T>) -> Result<(), AllocError> {
-        let graph = &self.page.found.graph;
+        let graph = self.graph;
         if usize::from(state) >= usize::from(graph.all_states_len()) {
             return Ok(());
         }

@@ -1,11 +1,12 @@
 -- conflicts that are left open, one entry after the other
-use Rattle.std.proofs.Common.{◌≡◌, ℕ, ◌+◌, ◌<◌, ◌≤◌, List, [], ◌∷◌, ◌++◌, append_assoc, length, take}
-use Rattle.std.proofs.lemmas.List.{take_all, take_more}
+use Rattle.std.proofs.Common.{◌≡◌, ℕ, ◌+◌, ◌<◌, ◌≤◌, List, [], ◌∷◌, ◌++◌, append_assoc, length, take, ap, arith}
+use Rattle.std.proofs.lemmas.List.{take_all, take_more, nil_from_length, length-append}
 use Rattle.std.proofs.lemmas.List.Elements.{All-nil, All-push}
 use Rattle.std.proofs.lemmas.List.Sorted.{IsPermutation-refl, IsPermutation-trans, IsPermutation-append_left, IsPermutation-append_right, IsPermutation-append_comm}
 use Rattle.std.specs.List.{Contains, slice_index_or}
 use Rattle.std.specs.List.Sorted.{IsPermutation}
 use Rattle.lrfindings.specs.declared.conflicts.Entry.{Entry}
+use Rattle.lrfindings.proofs.FoundNothing.{no_more}
 use Rattle.lrreport.specs.LeftOpen.{AreLeftOpen}
 
 module _ (closed opened : List Entry) where
@@ -52,3 +53,9 @@ module _ (closed opened : List Entry) where
           of_closed = whole.of_closed;
           each = IsPermutation-trans _ _ _ whole.each (IsPermutation-append_left whole.dropped left ordered moved);
         }
+
+-- where no conflict is found none is left
+pub nothing_left : (conflicts closed opened left : List Entry) → conflicts ≡ [] → opened ≡ [] → AreLeftOpen conflicts closed opened left → left ≡ []
+nothing_left conflicts closed opened left none_there none_opened a =
+    let both : left ++ a.dropped ≡ [] = no_more (left ++ a.dropped) (rw (none_there, none_opened) at a.each) in
+    nil_from_length left (omega (arith, ap length both, length-append left a.dropped))

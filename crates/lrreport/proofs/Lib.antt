@@ -1,3 +1,4 @@
 -- conflicts that are left open, and entries that are told in groups
 mod LeftOpenEntries
 mod Groups
+mod KeptGraph

@@ -119,8 +119,7 @@ impl<'a, T: IndexStorage> Checked<'a, T> {
         entries: &[Entry],
     ) -> Result<Vec<(usize, usize)>, AllocError> {
         let mut list = Vec::new(alloc);
-        let graph = &self.found.graph;
-        let Some(number) = T::from_usize(state) else {
+        let (Some(graph), Some(number)) = (&self.found.graph, T::from_usize(state)) else {
             return Ok(list);
         };
         if state >= usize::from(graph.all_states_len()) {

@@ -177,7 +177,7 @@ pub(crate) fn json_of_findings<T: IndexStorage>(
     object.shift_reduce = Some(counts.shift_reduce);
     object.reduce_reduce = Some(counts.reduce_reduce);
     object.expected = numbers_of(expected);
-    object.states = Some(usize::from(checked.found.graph.all_states_len()));
+    object.states = Some(checked.found.states);
     let alternatives = alternatives(alloc, checked.file)?;
     object.conflicts = checked.conflict_objects(alloc, alternatives.as_slice())?;
     object.settled = checked.settled_objects(alloc, alternatives.as_slice())?;

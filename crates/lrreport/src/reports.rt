@@ -1,11 +1,11 @@
 //! The report on a file.
 
-ghost use Rattle.std.specs.Prelude.{◌≡◌, ◌≢◌, All, map, IfOk, IfSome, IfNone, IsSome};
+ghost use Rattle.std.specs.Prelude.{◌≡◌, ◌≢◌, All, map, IfOk, IfSome, IfNone, IsSome, MatchOption};
 ghost use Rattle.lrspec.specs.merging.Graph.{IsGraphOf};
 ghost use Rattle.lrspec.specs.tables.Conflicts.{AreReductionsContested};
 ghost use Rattle.lrspec.specs.tables.Recognition.{IsUnambiguous};
 ghost use Rattle.lrfindings.specs.declared.verdicts.Verdict.TheVariants.{Unambiguous};
-ghost use Rattle.lrfindings.specs.Findings.{AreFindings};
+ghost use Rattle.lrfindings.specs.Findings.{AreFindings, FindNothing};
 ghost use Rattle.lrfindings.specs.Verdicts.{status_of};
 ghost use Rattle.lrevidence.specs.Ambiguities.{HasTwoTrees, IsProved};
 ghost use Rattle.lrevidence.specs.Entries.{AreListedIn};
@@ -161,12 +161,10 @@ fn effort_of(options: Options) -> Effort {
 }
 
 /// The entries that precedences settle.
-fn settled_entries(alloc: Global, settled: &[Settled]) -> Result<Vec<Entry>, AllocError> {
-    let mut entries = Vec::new(alloc);
-    for it in settled {
-        entries.push(it.entry)?;
-    }
-    Ok(entries)
+fn settled_entries(alloc: Global, settled: &[Settled]) -> Result<Vec<Entry>, AllocError>
+    ensures { IfOk result (λ v. v.items ≡ map (λ s. s.entry) settled.now) }
+{
+    settled.iter().map(|it| it.entry).collect(alloc)
 }
 
 /// What is known of a grammar beside what was found in it.
@@ -176,9 +174,10 @@ fn known_of<T: IndexStorage>(
     found: &Findings<T>,
     options: Options,
 ) -> Result<Known, AllocError>
-    requires graph { IsGraphOf found.now.grm found.now.graph }
-    requires listed { AreListedIn found.now.grm found.now.graph found.now.conflicts.items }
-    requires contested { AreReductionsContested found.now.grm found.now.graph }
+    requires graph { MatchOption found.now.graph (FindNothing found.now) (IsGraphOf found.now.grm) }
+    requires listed { IfSome found.now.graph (λ h.
+        AreListedIn found.now.grm h found.now.conflicts.items) }
+    requires contested { IfSome found.now.graph (AreReductionsContested found.now.grm) }
     ensures left { IfOk result (λ k. AreLeftOpen found.now.conflicts.items found.now.closed.items
         found.now.opened.items (map (λ e. e.entry) k.evidence.items)) }
     ensures proved { IfOk result (λ k. All (IsProved found.now.grm) k.evidence.items) }
@@ -338,14 +337,15 @@ fn report_on_grammar(alloc: Global, read: Read<'_>, options: Options) -> Result<
             conclusion: None,
         });
     }
+    let wants_graph = options.makes_page || options.output == Output::States;
     if is_small(read.file) {
-        match find::<u16>(alloc, read.file, has_precedences) {
+        match find::<u16>(alloc, read.file, has_precedences, wants_graph) {
             Ok(found) => return report_on_findings(alloc, read, found, options),
             Err(FindError::TooLarge) => {}
             Err(why) => return report_on_refusal(alloc, read, why, options),
         }
     }
-    match find::<u32>(alloc, read.file, has_precedences) {
+    match find::<u32>(alloc, read.file, has_precedences, wants_graph) {
         Ok(found) => report_on_findings(alloc, read, found, options),
         Err(why) => report_on_refusal(alloc, read, why, options),
     }

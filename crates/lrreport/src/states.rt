@@ -169,7 +169,9 @@ impl<'a, T: IndexStorage> Listing<'a, T> {
 
     /// Adds the items of the core of a state.
     fn push_items(&self, text: &mut String, state: StIdx<T>) -> Result<(), AllocError> {
-        let graph = &self.checked.found.graph;
+        let Some(graph) = &self.checked.found.graph else {
+            return Ok(());
+        };
         if usize::from(state) >= usize::from(graph.all_states_len()) {
             return Ok(());
         }
@@ -214,9 +216,12 @@ impl<'a, T: IndexStorage> Listing<'a, T> {
 impl<T: IndexStorage> Checked<'_, T> {
     /// Adds the states of the graph: first those that have conflicts, with their numbers alone, and then all of them.
     pub(crate) fn push_states(self, text: &mut String) -> Result<(), AllocError> {
+        let Some(graph) = &self.found.graph else {
+            return Ok(());
+        };
         let listing = Listing::new(*text.allocator(), self, Layout::new(self.options.is_plain))?;
         listing.push_counts(text)?;
-        for state in self.found.graph.iter_stidxs() {
+        for state in graph.iter_stidxs() {
             listing.push_state(text, state)?;
         }
         Ok(())

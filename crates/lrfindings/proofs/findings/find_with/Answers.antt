@@ -1,12 +1,23 @@
 use Rattle.std.proofs.Common.{rules}
+use Rattle.lrfindings.proofs.FoundNothing.{none_referred, nothing_found}
 use Rattle.lrfindings.proofs.findings.find_with.Goals as goal
 
+pub verdict_of-verdict-requires : goal.verdict_of-verdict-requires
+verdict_of-verdict-requires g c = let (h, built, kept) = c.in_ok-graph.ensures.built in built.table_for
+
 pub returns : goal.returns
-returns g c = record {
-  grammar = search rules;
-  graph = c.in_ok-graph.ensures.graph;
-  table = c.in_ok-graph.ensures.table;
-  contested = c.in_ok-graph.ensures.contested;
-  conflicts = c.in_ok-conflicts.ensures;
-  unambiguous = λ told. c.in_ok-graph.ensures.unambiguous (c.adjusted-verdict.ensures told);
-}
+returns g c =
+    let (h, built, kept) = c.in_ok-graph.ensures.built in
+    let cells = c.in_ok-cells.ensures in
+    record {
+      grammar = search rules;
+      graph = h;
+      of_grammar = built.merged.graph;
+      table = built.table;
+      contested = built.reductions;
+      kept = kept;
+      conflicts = c.in_ok-conflicts.ensures;
+      without = nothing_found _ c.in_ok-graph.graph c.in_ok-graph.table c.in_ok-graph.ensures.without c.in_ok-conflicts.ensures
+          (none_referred c.in_ok-graph.graph c.as_ref.result _ c.as_ref.ensures.value cells.opened) (none_referred c.in_ok-graph.graph c.as_ref.result _ c.as_ref.ensures.value cells.settled);
+      unambiguous = λ told. c.verdict_of-verdict.ensures (c.adjusted-verdict.ensures told);
+    }
