@@ -37,6 +37,15 @@ module _ (columns : List ℕ) where
       → (k : ℕ) → k < length columns → slice_index columns k ≤ last
   column_to_last upwards last was k l = omega (arith, up_to_last columns upwards k l, (last_there last was).1)
 
+  -- nor before the first one
+  pub column_from_first :
+      IsStrictlyIncreasing columns → (first : ℕ) → slice_get columns 0 ≡ Some first → (k : ℕ) → k < length columns → first ≤ slice_index columns k
+  column_from_first upwards first was k l =
+      let is : slice_index columns 0 ≡ first = get_or_from_slice_get columns 0 first 0 was in
+      let above = rises columns upwards 0 k (omega arith) in
+      let same : 0 + k ≡ k = omega arith in
+      omega (arith, is, rw same at above)
+
   -- without a last column there is none
   pub none_there : slice_get columns (length columns - 1) ≡ None → length columns ≡ 0
   none_there was = elim (cases_lt 0 (length columns)) [

@@ -1,36 +1,35 @@
--- starts stay starts, row after row
-use Rattle.std.proofs.Common.{◌≡◌, ◌↔◌, ℕ, zero, ◌+◌, ◌/◌, ◌%◌, ◌<◌, max, List, Contains, length, slice_index, bit_or, ap, ◌∙◌, inl, inr, arith, replicate, ◌⊎◌}
+-- starts, as sets of columns, and rows that come after them
+use Rattle.std.proofs.Common.{◌≡◌, ◌↔◌, ℕ, zero, ◌+◌, ◌-◌, ◌*◌, ◌/◌, ◌%◌, ◌<◌, ◌≤◌, List, Contains, length, slice_index, bit_or, ap, ◌∙◌, inl, inr, arith, replicate, get_or, ◌⊎◌}
 use Rattle.std.specs.Int.{bit_at}
 use Rattle.std.proofs.lemmas.Bool.{cases_lt}
 use Rattle.std.proofs.lemmas.List.{get_or_default, get_or_past, get_or-replicate, length-replicate}
 use Rattle.std.proofs.lemmas.Nat.Bits.{bit_at_or, bit_at-lt, bit_at-zero}
 use Rattle.lrsparse.specs.Owned.{IsOwned, MeetsNone}
-use Rattle.lrsparse.specs.Starts.{FitNowhereBelow}
-
--- where two searches may begin, one may begin at the greater
-pub none_below_either :
-    (words columns : List ℕ) (a b : ℕ)
-    → ((k : ℕ) → k < a → MeetsNone words columns k → ⊥) → ((k : ℕ) → k < b → MeetsNone words columns k → ⊥)
-    → (k : ℕ) → k < max a b → MeetsNone words columns k → ⊥
-none_below_either words columns a b first second k l = elim (cases_lt k a) [
-  | inl h ↦ first k h
-  | inr h ↦ second k (omega arith)
-]
+use Rattle.lrsparse.specs.Starts.{IsIn, FitNowhereBelow, AreStarts}
+use Rattle.lrsparse.specs.declared.sparsevec.starts.ColumnSet.{ColumnSet}
+use Rattle.lrsparse.specs.declared.sparsevec.starts.Starts.{Starts}
 
 -- a column that met an owned place meets it still
 pub nowhere_stays :
-    (before after columns : List ℕ) (d : ℕ) → ((p : ℕ) → IsOwned before p → IsOwned after p)
+    (before after : List ℕ) (columns : ColumnSet) (d : ℕ) → ((p : ℕ) → IsOwned before p → IsOwned after p)
     → FitNowhereBelow before columns d → FitNowhereBelow after columns d
 nowhere_stays before after columns d grown none k l meets = none k l (λ c o w. meets c o (grown (k + c) w))
 
+-- so starts stay starts
+pub starts_stay :
+    (starts : Starts) (before after : List ℕ) → ((p : ℕ) → IsOwned before p → IsOwned after p) → AreStarts starts before → AreStarts starts after
+starts_stay starts before after grown are k s l =
+    let start = get_or starts.all.items k s in
+    nowhere_stays before after start.columns start.displacement grown (are k s l)
+
 -- more columns fit nowhere either
 pub nowhere_of_more :
-    (words part whole : List ℕ) (d : ℕ) → ((p : ℕ) → IsOwned part p → IsOwned whole p)
+    (words : List ℕ) (part whole : ColumnSet) (d : ℕ) → ((c : ℕ) → IsIn part c → IsIn whole c)
     → FitNowhereBelow words part d → FitNowhereBelow words whole d
 nowhere_of_more words part whole d among none k l meets = none k l (λ c o. meets c (among c o))
 
 -- a set of columns fits where their list does
-module _ (words columns set : List ℕ) (same : (c : ℕ) → IsOwned set c ↔ Contains columns c) (d : ℕ) where
+module _ (words columns : List ℕ) (set : ColumnSet) (same : (c : ℕ) → IsIn set c ↔ Contains columns c) (d : ℕ) where
   pub nowhere_of_set : FitNowhereBelow words set d → (k : ℕ) → k < d → MeetsNone words columns k → ⊥
   nowhere_of_set none k l meets = none k l (λ c o w.
       let there = (same c).0 o in
@@ -41,21 +40,6 @@ module _ (words columns set : List ℕ) (same : (c : ℕ) → IsOwned set c ↔ 
   nowhere_of_list none k l meets = none k l (λ j m w.
       let c = slice_index columns j in
       meets c ((same c).1 (j, m, get_or_default columns j c 0 m)) w)
-
--- places are among others where their words have no bit that those of the others haven't
-pub among_by_words :
-    (part whole : List ℕ) → ((j : ℕ) → j < length part → bit_or (slice_index part j) (slice_index whole j) ≡ slice_index whole j)
-    → (p : ℕ) → IsOwned part p → IsOwned whole p
-among_by_words part whole words p o = elim (cases_lt (p / 64) (length part)) [
-  | inl l ↦
-      let a = slice_index part (p / 64) in
-      let b = slice_index whole (p / 64) in
-      let i = p % 64 in
-      omega (arith, o, bit_at_or a b i, bit_at-lt a i, bit_at-lt b i, ap (λ n. bit_at n i) (words (p / 64) l))
-  | inr l ↦
-      let none = get_or_past part (p / 64) 0 l in
-      absurd (omega (arith, o, bit_at-zero (p % 64), ap (λ n. bit_at n (p % 64)) none))
-]
 
 long : (n : ℕ) → length (replicate n zero) ≡ n
 long n = length-replicate n zero
@@ -72,15 +56,49 @@ none_owned n p o = elim (cases_lt (p / 64) n) [
       absurd (omega (arith, o, bit_at-zero (p % 64), ap (λ w. bit_at w (p % 64)) none))
 ]
 
--- what a list of columns adds to no places is their set
+-- a bit of the next word is one of the word with whose bits it adds none
+pub among_one_more :
+    (part : List ℕ) (index own : ℕ) (P : ℕ → ℕ → Type 0)
+    → ((j i : ℕ) → j < index → i < 64 → bit_at (slice_index part j) i ≡ 1 → P j i)
+    → ((i : ℕ) → i < 64 → bit_at own i ≡ 1 → P index i)
+    → bit_or (slice_index part index) own ≡ own
+    → (j i : ℕ) → j < index + 1 → i < 64 → bit_at (slice_index part j) i ≡ 1 → P j i
+among_one_more part index own P so_far there adds j i l low bit = elim (cases_lt j index) [
+  | inl less ↦ so_far j i less low bit
+  | inr last ↦
+      let same : j ≡ index = omega arith in
+      let a = slice_index part index in
+      rw same (there i low (omega (arith, rw same at bit, bit_at_or a own i, bit_at-lt a i, bit_at-lt own i, ap (λ n. bit_at n i) adds)))
+]
+
+-- a set is among others where each bit of its words is
+pub among_by_words :
+    (part whole : ColumnSet)
+    → ((j i : ℕ) → j < length part.words.items → i < 64 → bit_at (slice_index part.words.items j) i ≡ 1 → IsIn whole (64 * (part.skipped + j) + i))
+    → (c : ℕ) → IsIn part c → IsIn whole c
+among_by_words part whole words c (l, o) =
+    let p = c - 64 * part.skipped in
+    let place : 64 * (part.skipped + p / 64) + p % 64 ≡ c = omega arith in
+    elim (cases_lt (p / 64) (length part.words.items)) [
+      | inl h ↦ rw place at (words (p / 64) (p % 64) h (omega arith) o)
+      | inr h ↦
+          let none = get_or_past part.words.items (p / 64) 0 h in
+          absurd (omega (arith, o, bit_at-zero (p % 64), ap (λ n. bit_at n (p % 64)) none))
+    ]
+
+-- what the columns add to no places, so far before, is their set
 pub set_of_list :
-    (none words columns : List ℕ) (n : ℕ) → none ≡ replicate n 0
-    → ((p : ℕ) → IsOwned words p ↔ (IsOwned none p ⊎ ((k : ℕ) × (k < length columns) × (p ≡ 0 + slice_index columns k))))
-    → (c : ℕ) → IsOwned words c ↔ Contains columns c
-set_of_list none words columns n clear put c = (
-  λ o. elim ((put c).0 o) [
-    | inl w ↦ absurd (none_owned n c (rw clear at w))
-    | inr (k, l, is) ↦ (k, l, omega (arith, get_or_default columns k c 0 l, is))
+    (none words columns : List ℕ) (first n : ℕ) → none ≡ replicate n 0
+    → ((k : ℕ) → k < length columns → first ≤ slice_index columns k)
+    → ((p : ℕ) → IsOwned words p ↔ (IsOwned none p ⊎ ((k : ℕ) × (k < length columns) × (first / 64 * 64 + p ≡ slice_index columns k))))
+    → (c : ℕ) → ((64 * (first / 64) ≤ c) × IsOwned words (c - 64 * (first / 64))) ↔ Contains columns c
+set_of_list none words columns first n clear behind put c = (
+  λ w. elim ((put (c - 64 * (first / 64))).0 w.1) [
+    | inl o ↦ absurd (none_owned n (c - 64 * (first / 64)) (rw clear at o))
+    | inr (k, h, is) ↦ (k, h, omega (arith, get_or_default columns k c 0 h, is, w.0))
   ],
-  λ there. (put c).1 (inr (there.0, there.1, omega (arith, get_or_default columns there.0 c 0 there.1, there.2))),
+  λ there.
+      let is = get_or_default columns there.0 c 0 there.1 in
+      let low = behind there.0 there.1 in
+      (omega (arith, is, low, there.2), (put (c - 64 * (first / 64))).1 (inr (there.0, there.1, omega (arith, is, low, there.2)))),
 )

@@ -1,20 +1,25 @@
 -- where the search for a row of some columns may begin; sets of columns are the bits of words
-use Rattle.std.specs.Prelude.{ℕ, ◌+◌, ◌<◌, List}
+use Rattle.std.specs.Prelude.{ℕ, ◌+◌, ◌-◌, ◌*◌, ◌<◌, ◌≤◌, List}
 use Rattle.std.specs.List.{All}
+use Rattle.lrsparse.specs.declared.sparsevec.starts.ColumnSet.{ColumnSet}
 use Rattle.lrsparse.specs.declared.sparsevec.starts.Starts.{Starts}
 use Rattle.lrsparse.specs.Owned.{IsOwned}
 
+-- the column is in the set: its bit is set in the words, which begin behind those that are left out
+abbrev pub IsIn : ColumnSet → ℕ → Type 0
+IsIn set column = (64 * set.skipped ≤ column) × IsOwned set.words.items (column - 64 * set.skipped)
+
 -- at the displacement none of these columns meets an owned place
-abbrev pub SetMeetsNone : List ℕ → List ℕ → ℕ → Type 0
+abbrev pub SetMeetsNone : List ℕ → ColumnSet → ℕ → Type 0
 SetMeetsNone words columns displacement =
-    (c : ℕ) → IsOwned columns c → ¬ (IsOwned words (displacement + c))
+    (column : ℕ) → IsIn columns column → ¬ (IsOwned words (displacement + column))
 
 -- at each displacement below this one some of these columns meets an owned place
-abbrev pub FitNowhereBelow : List ℕ → List ℕ → ℕ → Type 0
+abbrev pub FitNowhereBelow : List ℕ → ColumnSet → ℕ → Type 0
 FitNowhereBelow words columns displacement =
     (k : ℕ) → k < displacement → ¬ (SetMeetsNone words columns k)
 
 -- the columns of each start fit nowhere below its displacement
 abbrev pub AreStarts : Starts → List ℕ → Type 0
 AreStarts starts words =
-    All (λ s. FitNowhereBelow words s.columns.items s.displacement) starts.all.items
+    All (λ s. FitNowhereBelow words s.columns s.displacement) starts.all.items

@@ -27,8 +27,8 @@ fn places_from(words: &[u64], place: usize) -> u64
 }
 
 /// The displacements from this one on, as many as a word has, at which one of four columns meets an owned place: the first, the
-/// last, and two between them. Places near one another are often owned alike, so these stand far apart: mostly they meet one at
-/// all of the displacements.
+/// last, and where these do not meet one at all of the displacements, two between them. Places near one another are often owned
+/// alike, so these stand far apart.
 fn met_by_four(words: &[u64], columns: &[usize], displacement: usize) -> u64
     requires { (k : ℕ) → k < length columns.now →
         displacement + slice_index columns.now k < 2 ^ 64 }
@@ -38,11 +38,14 @@ fn met_by_four(words: &[u64], columns: &[usize], displacement: usize) -> u64
     let Some(last) = columns.len().checked_sub(1) else {
         return 0;
     };
+    let ends = places_from(words, displacement + columns[0])
+        | places_from(words, displacement + columns[last]);
+    if ends == u64::MAX {
+        return ends;
+    }
     let third = last / 3;
-    places_from(words, displacement + columns[0])
-        | places_from(words, displacement + columns[third])
+    ends | places_from(words, displacement + columns[third])
         | places_from(words, displacement + columns[last - third])
-        | places_from(words, displacement + columns[last])
 }
 
 /// The displacements from this one on, as many as a word has, at which some column meets an owned place; all of them, where
@@ -102,6 +105,21 @@ pub(crate) fn own_columns(words: &mut [u64], columns: &[usize], displacement: us
 {
     for column in columns {
         own(words, displacement + *column);
+    }
+}
+
+/// Lets the places be owned in which the columns stand, so far before.
+pub(crate) fn own_columns_behind(words: &mut [u64], columns: &[usize], before: usize)
+    requires room { 64 * length words.old < 2 ^ 64 }
+    requires behind { (k : ℕ) → k < length columns.now → before ≤ slice_index columns.now k }
+    requires within { (k : ℕ) → k < length columns.now
+        → slice_index columns.now k < before + 64 * length words.old }
+    ensures { (p : ℕ) → IsOwned words.new p
+        ↔ (IsOwned words.old p
+        ⊎ ((k : ℕ) × (k < length columns.now) × (before + p ≡ slice_index columns.now k))) }
+{
+    for column in columns {
+        own(words, *column - before);
     }
 }
 

@@ -168,9 +168,7 @@ pub(crate) fn place_row(
 {
     let columns = columns_of(*places.list.allocator(), entries)?;
     let set = set_of(*places.list.allocator(), columns.as_slice())?;
-    let start = starts
-        .before(&set)
-        .max(places.behind_full(columns.as_slice()));
+    let start = starts.before(&set, places.behind_full(columns.as_slice()));
     let displacement = places.place_from(start, row, entries, columns.as_slice())?;
     starts.note(set, displacement)?;
     Ok(displacement)

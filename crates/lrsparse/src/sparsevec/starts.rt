@@ -1,36 +1,72 @@
 //! Where the search for a displacement may begin: not before a row of some of the columns found its own.
 
-ghost use Rattle.std.specs.Prelude.{◌<◌, ◌^◌, ◌↔◌, ℕ, List, Contains, IsTrue, IfOk, OnOk};
+ghost use Rattle.std.specs.Prelude.{◌≡◌, ◌<◌, ◌+◌, ◌*◌, ◌^◌, ◌↔◌, ℕ, List, Contains, IsTrue, IfOk, OnOk};
+ghost use Rattle.std.specs.Int.{bit_at};
 ghost use Rattle.std.specs.List.{All};
 ghost use Rattle.std.specs.List.Sorted.{IsStrictlyIncreasing};
-ghost use Rattle.lrsparse.specs.Owned.{IsOwned};
-ghost use Rattle.lrsparse.specs.Starts.{FitNowhereBelow, AreStarts};
+ghost use Rattle.lrsparse.specs.Starts.{IsIn, FitNowhereBelow, AreStarts};
 
-use crate::sparsevec::owned::{WORD, own_columns, word_at};
+use crate::sparsevec::owned::{WORD, own_columns_behind, word_at};
 use std::alloc::{AllocError, Global};
 use std::collections::BTreeMap;
 
-/// How many rows are looked at for the next one, those that came last: states that were made one after another are alike, and
-/// more rows would take more time than they save.
+/// How many sets of columns are looked at for the next row, those that came last: states that were made one after another are
+/// alike, and more sets would take more time than they save.
 const LAST: usize = 64;
 
-/// A set of columns, as the bits of words, and the displacement that the last row of these columns has: below it none fits.
+/// A set of columns, as the bits of words. The words before that of the first column are left out, as a matrix can have many
+/// rows whose few columns stand far behind its first one.
+#[derive(Clone, Drop, PartialEq, Eq, PartialOrd, Ord)]
+pub(crate) struct ColumnSet {
+    pub skipped: usize,
+    pub words: Vec<u64>,
+}
+
+impl ColumnSet {
+    /// The word with this index among all, those that are left out too.
+    fn word(&self, index: usize) -> u64
+        ensures { (i : ℕ) → i < 64 → bit_at result i ≡ 1 → IsIn self.now (64 * index + i) }
+    {
+        match index.checked_sub(self.skipped) {
+            Some(place) => word_at(self.words.as_slice(), place),
+            None => 0,
+        }
+    }
+
+    /// Whether all columns are among the others.
+    fn is_among(&self, others: &ColumnSet) -> bool
+        ensures { IsTrue result → (c : ℕ) → IsIn self.now c → IsIn others.now c }
+    {
+        for index in 0..self.words.len() {
+            let Some(place) = self.skipped.checked_add(index) else {
+                return false;
+            };
+            let own = others.word(place);
+            if self.words[index] | own != own {
+                return false;
+            }
+        }
+        true
+    }
+}
+
+/// A set of columns, and the displacement that the last row of these columns has: below it none fits.
 #[derive(Drop)]
 pub(crate) struct Start {
-    pub columns: Vec<u64>,
+    pub columns: ColumnSet,
     pub displacement: usize,
 }
 
 impl Start {
     /// The displacement where the search for a row of these columns may begin, if it may at the least one: where all columns
     /// of this start are among them, not below its own.
-    fn raised(&self, columns: &[u64], least: usize) -> usize
+    fn raised(&self, columns: &ColumnSet, least: usize) -> usize
         ensures { (words : List ℕ)
-            → FitNowhereBelow words self.now.columns.items self.now.displacement
+            → FitNowhereBelow words self.now.columns self.now.displacement
             → FitNowhereBelow words columns.now least
             → FitNowhereBelow words columns.now result }
     {
-        if self.displacement > least && are_among(self.columns.as_slice(), columns) {
+        if self.displacement > least && self.columns.is_among(columns) {
             self.displacement
         } else {
             least
@@ -38,42 +74,43 @@ impl Start {
     }
 }
 
-/// Whether all of the places are among the others; both are the bits of words.
-fn are_among(part: &[u64], whole: &[u64]) -> bool
-    ensures { IsTrue result → (p : ℕ) → IsOwned part.now p → IsOwned whole.now p }
-{
-    for index in 0..part.len() {
-        let own = word_at(whole, index);
-        if part[index] | own != own {
-            return false;
-        }
-    }
-    true
-}
-
-/// The columns as the bits of words. The error says that memory was refused.
-pub(crate) fn set_of(alloc: Global, columns: &[usize]) -> Result<Vec<u64>, AllocError>
+/// The set of these columns. The error says that memory was refused.
+pub(crate) fn set_of(alloc: Global, columns: &[usize]) -> Result<ColumnSet, AllocError>
     requires upwards { IsStrictlyIncreasing columns.now }
     requires narrow { All (λ c. c < 2 ^ 60) columns.now }
-    ensures { IfOk result (λ set. (c : ℕ) → IsOwned set.items c ↔ Contains columns.now c) }
+    ensures { IfOk result (λ set. (c : ℕ) → IsIn set c ↔ Contains columns.now c) }
 {
-    let Some(last) = columns.last().copied() else {
-        return Ok(Vec::new(alloc));
+    let (Some(first), Some(last)) = (columns.first(), columns.last()) else {
+        return Ok(ColumnSet {
+            skipped: 0,
+            words: Vec::new(alloc),
+        });
     };
-    let mut set = vec![in alloc; 0; last / WORD + 1]?;
-    own_columns(set.as_mut_slice(), columns, 0);
-    Ok(set)
+    let skipped = *first / WORD;
+    let mut words = vec![in alloc; 0; *last / WORD + 1 - skipped]?;
+    own_columns_behind(words.as_mut_slice(), columns, skipped * WORD);
+    Ok(ColumnSet { skipped, words })
 }
 
 /// The sets of columns of the rows so far, each with its start.
 #[derive(Drop)]
 pub(crate) struct Starts {
     /// Where each set stands among all.
-    places: BTreeMap<Vec<u64>, usize>,
+    places: BTreeMap<ColumnSet, usize>,
     /// In the order in which they came first.
     pub all: Vec<Start>,
-    /// By row, where its set stands among all.
-    rows: Vec<usize>,
+    /// Where the sets that came last stand among all, each once.
+    recent: Vec<usize>,
+}
+
+/// Lets the place be the last one, once and behind so many at the most as are looked at.
+fn renew(recent: &mut Vec<usize>, place: usize) -> Result<(), AllocError> {
+    recent.retain(|other| *other != place);
+    if recent.len() == LAST {
+        recent.remove(0);
+    }
+    recent.push(place)?;
+    Ok(())
 }
 
 impl Starts {
@@ -84,17 +121,17 @@ impl Starts {
         Starts {
             places: BTreeMap::new(alloc),
             all: Vec::new(alloc),
-            rows: Vec::new(alloc),
+            recent: Vec::new(alloc),
         }
     }
 
     /// The place of this set of columns among all; one that is new comes behind them.
-    fn place(&self, columns: &Vec<u64>) -> usize {
+    fn place(&self, columns: &ColumnSet) -> usize {
         self.places.get(columns).copied().unwrap_or(self.all.len())
     }
 
     /// Where the search for a row of these columns may begin, if it may at the least one, by the start at the place too.
-    fn raised_by(&self, place: usize, columns: &[u64], least: usize) -> usize
+    fn raised_by(&self, place: usize, columns: &ColumnSet, least: usize) -> usize
         ensures { (words : List ℕ) → AreStarts self.now words
             → FitNowhereBelow words columns.now least
             → FitNowhereBelow words columns.now result }
@@ -106,26 +143,34 @@ impl Starts {
         }
     }
 
-    /// Where the search for a row of this set of columns may begin, by the last row of the same set and by the last rows.
-    pub(crate) fn before(&self, columns: &Vec<u64>) -> usize
+    /// Where the search for a row of this set of columns may begin, if it may at the least one, by the last row of the same set
+    /// and by those of the sets that came last.
+    pub(crate) fn before(&self, columns: &ColumnSet, least: usize) -> usize
         ensures { (words : List ℕ) → AreStarts self.now words
-            → FitNowhereBelow words columns.now.items result }
+            → FitNowhereBelow words columns.now least
+            → FitNowhereBelow words columns.now result }
     {
-        let set = columns.as_slice();
-        let mut least = self.raised_by(self.place(columns), set, 0);
-        for row in self.rows.len().saturating_sub(LAST)..self.rows.len() {
-            least = self.raised_by(self.rows[row], set, least);
+        if columns.words.is_empty() {
+            return least;
         }
-        least
+        let mut start = self.raised_by(self.place(columns), columns, least);
+        for place in self.recent.iter().rev() {
+            start = self.raised_by(*place, columns, start);
+        }
+        start
     }
 
-    /// Notes that a row of this set of columns has the displacement, and that none fits below it.
-    pub(crate) fn note(&mut self, columns: Vec<u64>, displacement: usize) -> Result<(), AllocError>
+    /// Notes that a row of this set of columns has the displacement, and that none fits below it. A row without columns says
+    /// nothing of others.
+    pub(crate) fn note(&mut self, columns: ColumnSet, displacement: usize) -> Result<(), AllocError>
         ensures { OnOk result ((words : List ℕ) → AreStarts self.old words
-            → FitNowhereBelow words columns.items displacement → AreStarts self.new words) }
+            → FitNowhereBelow words columns displacement → AreStarts self.new words) }
     {
+        if columns.words.is_empty() {
+            return Ok(());
+        }
         let place = self.place(&columns);
-        self.rows.push(place)?;
+        renew(&mut self.recent, place)?;
         if place < self.all.len() {
             self.all[place] = Start {
                 columns,

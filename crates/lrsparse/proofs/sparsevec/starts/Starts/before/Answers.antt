@@ -1,11 +1,8 @@
-use Rattle.std.proofs.Common.{arith}
 use Rattle.lrsparse.proofs.sparsevec.starts.Starts.before.Goals as goal
 
-pub loop-row-init : goal.loop-row-init
-loop-row-init c = λ words are.
-    rw (← c.as_slice-set.ensures.value) (c.raised_by-least.ensures words are (λ k l. absurd (omega arith)))
+pub loop-place-init : goal.loop-place-init
+loop-place-init c = c.raised_by-start.ensures
 
-pub loop-row-preserved : goal.loop-row-preserved
-loop-row-preserved c = λ words are.
-    rw (← c.as_slice-set.ensures.value)
-    (c.raised_by-least-in-loop-row.ensures words are (rw c.as_slice-set.ensures.value (c.loop-row.invariant words are)))
+pub loop-place-preserved : goal.loop-place-preserved
+loop-place-preserved c = λ words are none.
+    c.raised_by-start-in-loop-place.ensures words are (c.loop-place.invariant words are none)
