@@ -1,5 +1,5 @@
 -- what is promised of findings
-use Rattle.std.specs.Prelude.{◌≡◌, ℕ, [], map, string_bytes, IfNone, IfSome}
+use Rattle.std.specs.Prelude.{◌≡◌, ℕ, [], length, map, string_bytes, IfNone, IfSome}
 use Rattle.std.specs.List.Sorted.{IsPermutation}
 use Rattle.lrspec.specs.merging.Graph.{Graph, IsGraphOf}
 use Rattle.lrspec.specs.tables.Conflicts.{AreReductionsContested}
@@ -26,6 +26,7 @@ pub record AreFindings {T : Type 0} (max : ℕ) (f : Findings T) : Type 0 where
   pub table : IsTableOf f.grm graph f.table
   pub contested : AreReductionsContested f.grm graph
   pub kept : IfSome f.graph (λ h. h ≡ graph)
+  pub states : f.states ≡ length graph
   pub without : IfNone f.graph (FindNothing f)
   pub conflicts : IsPermutation (listed (lists_of f.table)) (map told f.conflicts.items)
   pub unambiguous : f.verdict ≡ Unambiguous → IsUnambiguous f.grm

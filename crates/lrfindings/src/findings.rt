@@ -1,6 +1,6 @@
 //! What is found in the grammar of a file.
 
-ghost use Rattle.std.specs.Prelude.{◌≡◌, [], IfOk, IfNone, IfSome};
+ghost use Rattle.std.specs.Prelude.{◌≡◌, [], length, IfOk, IfNone, IfSome};
 ghost use Rattle.lrspec.specs.merging.Graph.{Graph};
 ghost use Rattle.lrspec.specs.tables.Built.{IsBuilt};
 ghost use Rattle.lrspec.specs.tables.LrTables.{ListsNothing};
@@ -107,6 +107,7 @@ fn tabled<T: IndexStorage>(
     ensures built { IfOk result (λ b. (h : Graph) × IsBuilt grm.now h b.1
         × IfSome b.0 (λ g. g ≡ h)) }
     ensures without { IfOk result (λ b. IfNone b.0 (ListsNothing b.1)) }
+    ensures states { IfOk result (λ b. b.2 ≡ length b.1.actions) }
 {
     if !wants_graph {
         return from_yacc_if_contested(grm.allocator(), grm, Minimiser::Pager);

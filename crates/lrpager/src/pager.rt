@@ -222,8 +222,8 @@ impl Wanted {
     }
 }
 
-/// What is wanted of the state graph of the grammar, merged by Pager's rule; whether that is all of it, where that depends on it
-/// whether a state is contested; and what its construction took.
+/// The state graph of the grammar, merged by Pager's rule, as far as it is wanted; whether a contested state was found, which is
+/// sought only where the rest depends on it; and what the construction took.
 fn construct_kept<T: IndexStorage>(
     grm: &YaccGrammar<T>,
     wanted: Wanted,

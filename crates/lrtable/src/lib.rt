@@ -180,7 +180,8 @@ pub fn from_yacc_if_contested<T: IndexStorage>(
     grm: &YaccGrammar<T>,
     minimiser: Minimiser,
 ) -> Result<(Option<StateGraph<T>>, StateTable<T>, usize), BuildError<T>>
-    ensures built { IfOk result (λ b. (h : Graph) × IsBuilt grm.now h b.1 × IfSome b.0 (λ g. g ≡ h)) }
+    ensures built { IfOk result (λ b. (h : Graph) × IsBuilt grm.now h b.1
+        × IfSome b.0 (λ g. g ≡ h)) }
     ensures without { IfOk result (λ b. IfNone b.0 (ListsNothing b.1)) }
     ensures states { IfOk result (λ b. b.2 ≡ length b.1.actions) }
     ensures below { IfOk result (λ b. b.2 < T.MAX - 1) }

@@ -1,4 +1,4 @@
-use Rattle.std.proofs.Common.{rules}
+use Rattle.std.proofs.Common.{◌∙◌, rules}
 use Rattle.lrfindings.proofs.FoundNothing.{none_referred, nothing_found}
 use Rattle.lrfindings.proofs.findings.find_with.Goals as goal
 
@@ -16,6 +16,7 @@ returns g c =
       table = built.table;
       contested = built.reductions;
       kept = kept;
+      states = c.in_ok-graph.ensures.states ∙ built.table.action_grid.rows;
       conflicts = c.in_ok-conflicts.ensures;
       without = nothing_found _ c.in_ok-graph.graph c.in_ok-graph.table c.in_ok-graph.ensures.without c.in_ok-conflicts.ensures
           (none_referred c.in_ok-graph.graph c.as_ref.result _ c.as_ref.ensures.value cells.opened) (none_referred c.in_ok-graph.graph c.as_ref.result _ c.as_ref.ensures.value cells.settled);
