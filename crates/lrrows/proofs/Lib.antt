@@ -15,6 +15,8 @@ pub mod TokenEdges
 pub mod LookingTokens
 pub mod ConflictSteps
 pub mod ReduceReduceOfState
+pub mod MarkedTokens
+pub mod UsedTokens
 -- rows, state after state
 pub mod ReadableGraphs
 pub mod FirstLooking

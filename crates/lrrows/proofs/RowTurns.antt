@@ -1,6 +1,6 @@
 -- what the tokens of a row bring, one after another
-use Rattle.std.proofs.Common.{◌≡◌, ℕ, ◌+◌, ◌<◌, ◌≤◌, Bool, List, [], ◌∷◌, ◌++◌, length, map, take, get_or, Option, None, Some, arith, refl, sym, ap, ◌∙◌}
-use Rattle.std.specs.Option.{MatchOption, IsSome, IfSome}
+use Rattle.std.proofs.Common.{◌≡◌, ℕ, ◌+◌, ◌<◌, Bool, List, [], ◌∷◌, ◌++◌, length, map, take, get_or, Option, None, Some, arith, refl, sym, ap, ◌∙◌}
+use Rattle.std.specs.Option.{IfSome}
 use Rattle.std.specs.List.{flat_map}
 use Rattle.std.proofs.lemmas.List.{flat_map_more, map-append, take_more}
 use Rattle.lrspec.specs.grammars.Grammar.{Grammar, Token}
@@ -23,24 +23,6 @@ row_begun (x ∷ xs) = ap (λ ys. x ∷ ys) (row_begun xs)
 pub bit_there : {X : Type 0} (len : X → ℕ) (o : Option X) (n t : ℕ) → IfSome o (λ x. len x ≡ n) → t < n → IfSome o (λ x. t < len x)
 bit_there len None n t e l = tt
 bit_there len (Some x) n t e l = omega arith
-
--- after the last turn there were as many
-pub turns_all : (i end k n : ℕ) → i ≤ end → end ≤ i → end ≡ k → k ≡ n → i ≡ n
-turns_all i end k n most least e d = omega arith
-
--- the turn is one of as many
-pub turn_below : (x i end k n : ℕ) → x ≡ i → i < end → end ≡ k → k ≡ n → x < n
-turn_below x i end k n s l e d = omega arith
-
-pub turn_upto : (x i end k n : ℕ) → x ≡ i → i < end → end ≡ k → k ≡ n → x ≤ n
-turn_upto x i end k n s l e d = omega arith
-
--- its number is one that an index keeps
-pub turn_kept :
-    {X : Type 0} (P : X → Type 0) (o : Option X) (most i end k n : ℕ) → MatchOption o (most < i) P → i < end → end ≡ k → k ≡ n → n ≤ most
-    → IsSome o
-turn_kept P None most i end k n m l e d b = absurd (omega arith)
-turn_kept P (Some x) most i end k n m l e d b = refl
 
 -- what the next element gives is added to what those before it gave
 pub listed_turn :

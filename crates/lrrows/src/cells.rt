@@ -1,9 +1,11 @@
 //! The cells and gotos of one state of a graph.
 
-ghost use Rattle.std.specs.Prelude.{◌≡◌, ℕ, ◌<◌, ◌≤◌, List, length, option_map, IfSome, OnOk};
+ghost use Rattle.std.specs.Prelude.{◌≡◌, ℕ, ◌<◌, ◌≤◌, false, List, length, option_map, IfSome, OnOk};
 ghost use Rattle.lrspec.specs.grammars.Grammar as math;
 ghost use Rattle.lrspec.specs.merging.Graph.{closed_of};
-ghost use Rattle.lrspec.specs.tables.Table.{accepts_at, bit_or_none, cell_by, decide};
+ghost use Rattle.lrspec.specs.tables.Table as table;
+ghost use Rattle.lrspec.specs.tables.Table.{accepts_at, bit_or_none, cell_by, cell_of, decide};
+ghost use Rattle.lrgrammar.specs.Bits.{bit};
 ghost use Rattle.lrsparse.specs.Entries.{row_with, AreEntries};
 ghost use Rattle.lrrows.specs.ReadGraphs.{IsReadable};
 ghost use Rattle.lrrows.specs.StateRows.{action_row, goto_row, first_of, least_reductions};
@@ -105,15 +107,20 @@ fn has_token(lookaheads: Option<&Ctx>, token: usize) -> bool
     lookaheads.is_some_and(|ctx| ctx.get(token))
 }
 
-/// Makes the entries those of the state's cells, by token: its errors have none.
+/// Makes the entries those of the state's cells, by token: its errors have none, and it errs on all but the used tokens.
 pub(crate) fn make_actions<T: IndexStorage>(
     entries: &mut Vec<(usize, usize)>,
     grm: &YaccGrammar<T>,
     sg: &StateGraph<T>,
     stidx: StIdx<T>,
+    used: &Ctx,
     least: &[Option<PIdx<T>>],
     accepted: Option<&Ctx>,
 ) -> Result<(), AllocError>
+    requires tokens { math.token_count grm.now ≤ T.MAX }
+    requires used { length used.now ≡ math.token_count grm.now }
+    requires errs { (t : ℕ) → t < math.token_count grm.now → bit used.now t ≡ false
+        → cell_of grm.now sg.now (T.number stidx.0) t ≡ table.Action.Error }
     requires least { least_of T.number least.now
         ≡ least_reductions grm.now (closed_of sg.now (T.number stidx.0)) }
     requires accepts { (t : ℕ) → bit_or_none (option_map (λ ctx. ctx.now) accepted) t
@@ -125,7 +132,7 @@ pub(crate) fn make_actions<T: IndexStorage>(
 {
     let targets = token_targets(grm, sg, stidx)?;
     entries.clear();
-    for token in 0..usize::from(grm.tokens_len()) {
+    for token in used.iter_set_bits(0..used.len()) {
         let accepts = has_token(accepted, token);
         let number = cell_number(grm, token, least[token], targets[token], accepts);
         if number != 0 {

@@ -10,3 +10,4 @@ pub mod numbers;
 mod places;
 pub mod rows;
 mod targets;
+mod used;

@@ -16,6 +16,7 @@ use crate::cells::{make_actions, make_gotos};
 use crate::completes::{accepted, completes, least_by_token};
 use crate::conflicts::{push_reduce_reduce, push_shift_reduce};
 use crate::numbers::action_of_number;
+use crate::used::used_tokens;
 use lrgrammar::grammar::YaccGrammar;
 use lrgrammar::idx::{IndexStorage, PIdx, StIdx, TIdx};
 use lrgraphs::stategraph::StateGraph;
@@ -71,14 +72,9 @@ impl<T: IndexStorage> Rows<T> {
         let closed = sg.closed_state(stidx);
         let complete = completes(grm, closed)?;
         let least = least_by_token(grm, complete.as_slice())?;
-        make_actions(
-            buffer,
-            grm,
-            sg,
-            stidx,
-            least.as_slice(),
-            accepted(grm, closed),
-        )?;
+        let accepts = accepted(grm, closed);
+        let used = used_tokens(grm, sg, stidx, complete.as_slice(), accepts)?;
+        make_actions(buffer, grm, sg, stidx, &used, least.as_slice(), accepts)?;
         let row = buffer.as_slice();
         let reduces = reduces_of::<T>(grm.allocator(), row)?;
         self.reduce_only

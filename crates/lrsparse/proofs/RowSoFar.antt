@@ -1,5 +1,5 @@
 -- rows that grow by entries, one column after another
-use Rattle.std.proofs.Common.{◌≡◌, ◌≢◌, ℕ, ◌+◌, ◌<◌, List, [], ◌∷◌, ◌++◌, length, slice_index, refl, sym, ◌∙◌, inl, inr, arith, eq-eqb, get_or}
+use Rattle.std.proofs.Common.{◌≡◌, ◌≢◌, ℕ, zero, suc, ◌+◌, ◌<◌, ◌≤◌, List, [], ◌∷◌, ◌++◌, length, slice_index, refl, sym, ◌∙◌, inl, inr, arith, eq-eqb, get_or}
 use Rattle.std.specs.List.{All}
 use Rattle.std.specs.List.Sorted.{IsStrictlyIncreasing}
 use Rattle.std.proofs.lemmas.Bool.{cases_lt, cases_eq, ne_eqb}
@@ -79,6 +79,15 @@ module _ (empty : ℕ) (f : ℕ → ℕ) where
       | inr m ↦ number_kept empty es i n c (λ e. m (sym e)) ∙ row.numbers c (omega arith)
     ];
   }
+
+  -- so may the columns up to another one, where each of them has it
+  pub columns_passed :
+      (k i n : ℕ) (es : List (ℕ × ℕ)) → i + k ≡ n → ((c : ℕ) → i ≤ c → c < n → f c ≡ empty) → IsRowSoFar empty f i es
+      → IsRowSoFar empty f n es
+  columns_passed zero i n es e none row = let same : n ≡ i = omega (arith, e) in rw same row
+  columns_passed (suc k) i n es e none row =
+      columns_passed k (i + 1) n es (omega (arith, e)) (λ c l m. none c (omega (arith, l)) m)
+      (column_passed i es (none i (omega arith) (omega (arith, e))) row)
 
   -- behind the last column the row has its numbers
   pub row_ended :
