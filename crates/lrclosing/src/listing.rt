@@ -69,6 +69,20 @@ fn reached_range<T: IndexStorage>(grm: &YaccGrammar<T>, closer: &Closer) -> (usi
     range
 }
 
+/// How many productions the rules have that the last closing reached.
+fn reached_len<T: IndexStorage>(grm: &YaccGrammar<T>, closer: &Closer) -> usize
+    requires { IsCloserOf grm.now closer.now }
+{
+    // for the numbers of rules
+    grm.in_order();
+    let mut len: usize = 0;
+    for place in closer.reached.as_slice() {
+        let productions = grm.rule_to_prods(RIdx(T::from_usize(*place).unwrap()));
+        len = len.saturating_add(productions.len());
+    }
+    len
+}
+
 /// How many places a range has below `most`, where the first one may be `most` itself.
 fn places_in(range: (usize, usize), most: usize) -> usize
     requires first { range.0 ≤ most }
@@ -208,7 +222,8 @@ pub fn closed_items<'a, T: IndexStorage>(
 {
     let rows = closer.rows.as_slice();
     let productions = mark_reached(grm, closer)?;
-    let mut items = Vec::new(grm.allocator());
+    let len = given.len().saturating_add(reached_len(grm, closer));
+    let mut items = Vec::with_capacity(grm.allocator(), len)?;
     push_closed(&mut items, given, grm, rows, &productions)?;
     Ok(items)
 }

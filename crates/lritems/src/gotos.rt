@@ -208,7 +208,7 @@ pub fn gotos<'a, T: IndexStorage>(
         AreGotosOf grm.now (listed_of T.number closed.now) (gotos_of T.number v.items)) }
     ensures places { ArePlacesFor grm.now places.new }
 {
-    let mut gotos = Vec::new(grm.allocator());
+    let mut gotos = Vec::with_capacity(grm.allocator(), closed.len())?;
     for (key, ctx) in closed {
         if let Some((symbol, dot)) = step_over(grm, key.0, key.1) {
             put(&mut gotos, places, symbol, key.0, dot, ctx)?;

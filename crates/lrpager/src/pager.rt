@@ -127,7 +127,7 @@ fn close<T: IndexStorage>(
     if tools.seeks_contested {
         tools.seeks_contested = !is_contested(grm, closed.as_slice(), successors.as_slice())?;
     }
-    drafts[i].clear_edges();
+    drafts[i].clear_edges(successors.len())?;
     let grew = place_all(drafts, candidates, grm, i, successors)?;
     if !grew {
         drafts[i].set_closed();

@@ -87,13 +87,14 @@ impl<T: IndexStorage> Draft<T> {
         self.is_closed = true;
     }
 
-    /// Drops all edges, before the state is closed.
-    pub fn clear_edges(&mut self)
+    /// Drops all edges, before the state is closed, and makes room for so many. The error says that memory was refused.
+    pub fn clear_edges(&mut self, len: usize) -> Result<(), AllocError>
         ensures core { self.new.core ≡ self.old.core }
         ensures closed { self.new.is_closed ≡ self.old.is_closed }
         ensures edges { self.new.edges ≡ [] }
     {
         self.edges.clear();
+        self.edges.reserve_exact(len)
     }
 
     /// Adds the edge on the symbol, on which there is none.

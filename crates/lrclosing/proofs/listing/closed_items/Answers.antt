@@ -24,7 +24,7 @@ closed g c =
     let rows = rows_of c.args.closer.now in
     let es = items_of number c.args.given.now in
     let listed : listed_of number c.push_closed.new.items.items ≡ listed_items grm rows 0 es =
-    rw (c.new-items.ensures.items, c.as_slice-rows.ensures.value) at c.in_ok-push_closed.ensures in
+    rw (c.in_ok-items.ensures.items, c.as_slice-rows.ensures.value) at c.in_ok-push_closed.ensures in
     are_closed grm rows es c.requires.fits (are_rows grm c.args.closer.now.rows.items c.requires.is.is.rows) (ascending_from_upwards es c.requires.upwards)
     c.requires.apart _ listed
 

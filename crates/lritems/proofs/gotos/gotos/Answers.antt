@@ -15,11 +15,11 @@ use Rattle.lritems.proofs.gotos.gotos.Goals as goal
 pub loop-key-init : goal.loop-key-init
 loop-key-init g c =
     record {
-      moving = begin_gotos c.args.grm.now _ _ _ (rw c.new-gotos.ensures.items refl) refl;
-      growing = begin_growing (listed_of g.T.IndexStorage.number c.args.closed.now) _ _ (rw c.new-gotos.ensures.items refl) refl c.requires.upwards;
-      order = rw c.new-gotos.ensures.items refl;
+      moving = begin_gotos c.args.grm.now _ _ _ (rw c.in_ok-gotos.ensures.items refl) refl;
+      growing = begin_growing (listed_of g.T.IndexStorage.number c.args.closed.now) _ _ (rw c.in_ok-gotos.ensures.items refl) refl c.requires.upwards;
+      order = rw c.in_ok-gotos.ensures.items refl;
       fit = c.requires.places;
-      places = rw c.new-gotos.ensures.items (λ x h. absurd h);
+      places = rw c.in_ok-gotos.ensures.items (λ x h. absurd h);
     }
 
 pub step_over-requires : goal.step_over-requires

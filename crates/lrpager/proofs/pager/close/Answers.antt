@@ -10,7 +10,7 @@ use Rattle.lrpager.proofs.ClosingFacts.{IsCleared, copied_core, is_cleared, cand
 use Rattle.lrpager.proofs.StartsAtZero.{only_starts, rows_apart}
 use Rattle.lrpager.proofs.pager.close.Given as given
 use Rattle.lrpager.proofs.pager.close.Goals as goal
-use Rattle.lrpager.proofs.pager.close.Goals.{After-items-given, After-clear_edges, then-not-grew, else-not-grew}
+use Rattle.lrpager.proofs.pager.close.Goals.{After-items-given, In_ok-clear_edges, then-not-grew, else-not-grew}
 
 -- the items that are closed are those of the core
 same : (g : given.Over) (c : After-items-given g)
@@ -19,14 +19,14 @@ same g c =
     copied_core c.args.drafts.now.items c.args.i c.index.result.now c.requires.below c.index.ensures
     (c.items-given.ensures.items ∙ c.in_ok-core.ensures ∙ c.core.ensures)
 
-cleared : (g : given.Over) (c : After-clear_edges g)
+cleared : (g : given.Over) (c : In_ok-clear_edges g)
     → IsCleared c.args.drafts.now.items c.args.i (set c.args.drafts.now.items c.args.i c.clear_edges.new.self)
 cleared g c =
     let e = c.clear_edges.ensures in
     is_cleared c.args.drafts.now.items c.args.i c.index_mut.result.now c.clear_edges.new.self c.requires.below c.index_mut.ensures.value e.core e.closed e.edges
 
 -- the state is closed, and its gotos are at hand
-turn : (g : given.Over) (c : After-clear_edges g)
+turn : (g : given.Over) (c : In_ok-clear_edges g)
     → ClosesTo c.args.grm.now c.args.drafts.now.items c.args.i (with_closed (set c.args.drafts.now.items c.args.i c.clear_edges.new.self) c.args.i)
     (gotos_of g.T.IndexStorage.number c.in_ok-successors.successors.items)
 turn g c =
@@ -67,23 +67,23 @@ is_contested-requires-clause-upwards g c = rw c.as_slice-then-tools.ensures.valu
 
 pub place_all-requires-clause-unclosed : goal.place_all-requires-clause-unclosed
 place_all-requires-clause-unclosed g c =
-    ((cleared g (goal.at.place_all-requires-clause-unclosed g c).After-clear_edges).stays c.args.i).closed ∙ c.requires.unclosed
+    ((cleared g (goal.at.place_all-requires-clause-unclosed g c).In_ok-clear_edges).stays c.args.i).closed ∙ c.requires.unclosed
 
 pub place_all-requires-clause-holds : goal.place_all-requires-clause-holds
 place_all-requires-clause-holds g c =
-    closed_holds c.requires.of.shape (turn g (goal.at.place_all-requires-clause-holds g c).After-clear_edges) c.requires.holds
+    closed_holds c.requires.of.shape (turn g (goal.at.place_all-requires-clause-holds g c).In_ok-clear_edges) c.requires.holds
 
 pub place_all-requires-clause-gotos : goal.place_all-requires-clause-gotos
 place_all-requires-clause-gotos g c =
-    closed_gotos c.requires.of.shape (turn g (goal.at.place_all-requires-clause-gotos g c).After-clear_edges) c.requires.holds
+    closed_gotos c.requires.of.shape (turn g (goal.at.place_all-requires-clause-gotos g c).In_ok-clear_edges) c.requires.holds
 
 pub place_all-requires-clause-free : goal.place_all-requires-clause-free
 place_all-requires-clause-free g c =
-    (cleared g (goal.at.place_all-requires-clause-free g c).After-clear_edges).edges
+    (cleared g (goal.at.place_all-requires-clause-free g c).In_ok-clear_edges).edges
 
 pub place_all-requires-clause-candidates : goal.place_all-requires-clause-candidates
 place_all-requires-clause-candidates g c =
-    candidates_cleared (cleared g (goal.at.place_all-requires-clause-candidates g c).After-clear_edges) c.requires.candidates
+    candidates_cleared (cleared g (goal.at.place_all-requires-clause-candidates g c).In_ok-clear_edges) c.requires.candidates
 
 pub returns-clause-turn : goal.returns-clause-turn
 returns-clause-turn g c =
@@ -92,8 +92,8 @@ returns-clause-turn g c =
       | then-not-grew w ↦
           let s = w.set_closed.ensures in
           let noted = set_with mid c.args.i w.index_mut-then-not-grew.result.now w.set_closed.new.self c.in_ok-grew.ensures.from w.index_mut-then-not-grew.ensures.value s.core s.edges s.closed in
-          record { mid = _; gotos = _; closes = turn g (goal.at.returns-clause-turn g c).After-clear_edges; places = rw (ap (λ d. d.items) w.drafts-is, noted) (rw w.if-not-grew.true at c.in_ok-grew.ensures.placed) }
-      | else-not-grew w ↦ record { mid = _; gotos = _; closes = turn g (goal.at.returns-clause-turn g c).After-clear_edges; places = rw (ap (λ d. d.items) w.drafts-is) (rw w.if-not-grew.false at c.in_ok-grew.ensures.placed) }
+          record { mid = _; gotos = _; closes = turn g (goal.at.returns-clause-turn g c).In_ok-clear_edges; places = rw (ap (λ d. d.items) w.drafts-is, noted) (rw w.if-not-grew.true at c.in_ok-grew.ensures.placed) }
+      | else-not-grew w ↦ record { mid = _; gotos = _; closes = turn g (goal.at.returns-clause-turn g c).In_ok-clear_edges; places = rw (ap (λ d. d.items) w.drafts-is) (rw w.if-not-grew.false at c.in_ok-grew.ensures.placed) }
     ]
 
 pub returns-clause-candidates : goal.returns-clause-candidates
