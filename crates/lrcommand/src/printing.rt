@@ -13,8 +13,9 @@ use crate::faults::Fault;
 use crate::requests::{Listing, Source};
 use lrgrammar::grammar::YaccGrammar;
 use lritems::cores;
-use lrtable::{BuildError, Minimiser, from_yacc};
+use lrtable::{BuildError, Minimiser, StateGraph, from_yacc};
 use std::alloc::{AllocError, Global};
+use std::mem::forget;
 
 /// The text that is printed of a grammar; `file` holds the bytes of its source, and is None where they could not be
 /// read.
@@ -95,13 +96,20 @@ fn start_text(grm: &YaccGrammar<u32>) -> Result<String, AllocError>
     ended(closed.pp(grm)?)
 }
 
+/// Leaves the graph to the end of the program, which is near: to let go of its states one by one would take time.
+fn leave(graph: StateGraph<u32>) {
+    forget(graph);
+}
+
 /// The text of the state graph with the cores of its states.
 fn core_text(grm: &YaccGrammar<u32>) -> Result<String, BuildError<u32>>
     ensures text { IfOk result (λ s. Prints grm.now Core (string_bytes s)) }
     ensures refused { IfErr result (IsBuildRefusal (λ n. n) max_index grm.now) }
 {
     let (graph, _table) = from_yacc(grm.allocator(), grm, Minimiser::Pager)?;
-    Ok(ended(graph.pp_core_states(grm)?)?)
+    let text = graph.pp_core_states(grm)?;
+    leave(graph);
+    Ok(ended(text)?)
 }
 
 /// The text of the state graph with its closed states.
@@ -110,7 +118,9 @@ fn closed_text(grm: &YaccGrammar<u32>) -> Result<String, BuildError<u32>>
     ensures refused { IfErr result (IsBuildRefusal (λ n. n) max_index grm.now) }
 {
     let (graph, _table) = from_yacc(grm.allocator(), grm, Minimiser::Pager)?;
-    Ok(ended(graph.pp_closed_states(grm)?)?)
+    let text = graph.pp_closed_states(grm)?;
+    leave(graph);
+    Ok(ended(text)?)
 }
 
 /// The text of the conflicts of the table, or that there are none.
@@ -119,7 +129,8 @@ fn conflicts_text(grm: &YaccGrammar<u32>) -> Result<String, BuildError<u32>>
     ensures refused { IfErr result (IsBuildRefusal (λ n. n) max_index grm.now) }
 {
     let alloc = grm.allocator();
-    let (_graph, table) = from_yacc(alloc, grm, Minimiser::Pager)?;
+    let (graph, table) = from_yacc(alloc, grm, Minimiser::Pager)?;
+    leave(graph);
     match table.conflicts() {
         Some(conflicts) => Ok(conflicts.pp(grm)?),
         None => Ok(String::from_str(alloc, "no conflicts\n")?),
