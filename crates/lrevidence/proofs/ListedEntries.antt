@@ -6,8 +6,8 @@ use Rattle.std.proofs.lemmas.List.Sorted.{Contains-permutation, IsPermutation-sy
 use Rattle.lrspec.specs.grammars.Grammar.{Grammar}
 use Rattle.lrspec.specs.merging.Graph.{Graph}
 use Rattle.lrspec.specs.tables.Table.{shift_reduce_of, reduce_reduce_of}
-use Rattle.lrfindings.specs.declared.conflicts.Entry.{Entry}
-use Rattle.lrfindings.specs.Listed.{Listing, told, listed, shift_listing, reduction_listing}
+use Rattle.lrverdicts.specs.declared.conflicts.Entry.{Entry}
+use Rattle.lrverdicts.specs.Listed.{Listing, told, listed, shift_listing, reduction_listing}
 use Rattle.lrreasons.specs.Entries.{lists_in, entry_by, IsListed}
 use Rattle.lrevidence.specs.Entries.{AreListedIn}
 

@@ -3,8 +3,8 @@ use Rattle.std.specs.Prelude.{List, map}
 use Rattle.std.specs.List.Sorted.{IsPermutation}
 use Rattle.lrspec.specs.grammars.Grammar.{Grammar}
 use Rattle.lrspec.specs.merging.Graph.{Graph}
-use Rattle.lrfindings.specs.declared.conflicts.Entry.{Entry}
-use Rattle.lrfindings.specs.Listed.{told, listed}
+use Rattle.lrverdicts.specs.declared.conflicts.Entry.{Entry}
+use Rattle.lrverdicts.specs.Listed.{told, listed}
 use Rattle.lrreasons.specs.Entries.{lists_in}
 
 -- these are the entries of both lists of the graph's table

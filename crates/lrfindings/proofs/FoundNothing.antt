@@ -5,10 +5,10 @@ use Rattle.std.specs.List.Sorted.{IsPermutation}
 use Rattle.std.proofs.lemmas.List.Sorted.{Contains-permutation, IsPermutation-sym}
 use Rattle.lrspec.specs.tables.LrTables.{ListsNothing}
 use Rattle.lrspec.specs.tables.Table.{Table, lists_of}
-use Rattle.lrfindings.specs.declared.conflicts.Entry.{Entry}
+use Rattle.lrverdicts.specs.declared.conflicts.Entry.{Entry}
 use Rattle.lrfindings.specs.declared.findings.Findings.{Findings}
 use Rattle.lrfindings.specs.Findings.{FindNothing}
-use Rattle.lrfindings.specs.Listed.{told, listed}
+use Rattle.lrverdicts.specs.Listed.{told, listed}
 
 -- in another order nothing is nothing
 pub no_more : {X : Type 0} (xs : List X) → IsPermutation [] xs → xs ≡ []

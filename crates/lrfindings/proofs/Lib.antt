@@ -1,3 +1,2 @@
--- entries of lists of conflicts
-mod ListedEntries
+-- findings where there is no graph
 pub mod FoundNothing

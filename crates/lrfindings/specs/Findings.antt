@@ -7,8 +7,8 @@ use Rattle.lrspec.specs.tables.Recognition.{IsUnambiguous}
 use Rattle.lrspec.specs.tables.Table.{IsTableOf, lists_of}
 use Rattle.lrgrammar.specs.TextErrors.{IsGrammarOf}
 use Rattle.lrfindings.specs.declared.findings.Findings.{Findings}
-use Rattle.lrfindings.specs.declared.verdicts.Verdict.TheVariants.{Unambiguous}
-use Rattle.lrfindings.specs.Listed.{told, listed}
+use Rattle.lrverdicts.specs.declared.verdicts.Verdict.TheVariants.{Unambiguous}
+use Rattle.lrverdicts.specs.Listed.{told, listed}
 
 -- no conflict is found, and none that precedences settle
 pub record FindNothing {T : Type 0} (f : Findings T) : Type 0 where

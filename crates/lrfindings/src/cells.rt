@@ -7,12 +7,12 @@
 
 ghost use Rattle.std.specs.Prelude.{◌≡◌, [], IfOk};
 
-use crate::conflicts::{Entry, place_of};
 use crate::idle::{Deciding, Idle};
 use lrgrammar::grammar::{AssocKind, PartProd, PartSymbol, Precedence};
 use lrgrammar::idx::{IndexStorage, PIdx, SIdx, StIdx, Symbol, TIdx};
 use lrgrammar::vob::Vob;
 use lrtable::StateGraph;
+use lrverdicts::{Entry, place_of};
 use lryacc::FileGrammar;
 use std::alloc::{AllocError, Global};
 

@@ -7,13 +7,12 @@ ghost use Rattle.lrspec.specs.tables.LrTables.{ListsNothing};
 ghost use Rattle.lrfindings.specs.Findings.{AreFindings};
 
 use crate::cells::{CellFindings, Settled, cells_of};
-use crate::conflicts::{Entry, entries_of};
 use crate::idle::Idle;
 use crate::texts::small_text;
-use crate::verdicts::{Counts, Verdict, verdict_of};
 use lrgrammar::grammar::{GrammarError, TextError, YaccGrammar};
 use lrgrammar::idx::IndexStorage;
 use lrtable::{BuildError, Minimiser, StateGraph, StateTable, from_yacc, from_yacc_if_contested};
+use lrverdicts::{Counts, Entry, Verdict, entries_of, verdict_of};
 use lryacc::FileGrammar;
 use std::alloc::{AllocError, Global};
 

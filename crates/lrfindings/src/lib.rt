@@ -2,16 +2,13 @@
 #![tactic(auto)]
 
 mod cells;
-mod conflicts;
 mod findings;
 mod idle;
 mod names;
 mod texts;
-mod verdicts;
 
 pub use crate::cells::{Settled, Winner, precedence_token};
-pub use crate::conflicts::{Entry, is_among};
 pub use crate::findings::{FindError, Findings, find};
 pub use crate::idle::Idle;
 pub use crate::texts::small_text;
-pub use crate::verdicts::{Counts, Verdict};
+pub use lrverdicts::{Counts, Entry, Verdict, is_among};

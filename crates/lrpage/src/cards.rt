@@ -4,7 +4,7 @@ ghost use Rattle.std.specs.Prelude.{IfSome};
 ghost use Rattle.std.specs.Option.{ForSome};
 ghost use Rattle.lrevidence.specs.Ambiguities.{AreShown, IsShown};
 
-use crate::escapes::push_name;
+use crate::names::push_name;
 use crate::pages::{Card, Page, push_count};
 use crate::symbols::DOT;
 use lrevidence::{Ambiguity, Evidence, Example, Outlook, Step, list_of, start_of, text_of};

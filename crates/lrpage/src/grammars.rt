@@ -1,6 +1,6 @@
 //! The grammar of a file.
 
-use crate::escapes::push_name;
+use crate::names::push_name;
 use crate::pages::Page;
 use crate::symbols::number_of;
 use lrevidence::{body_of, rule_name};

@@ -1,12 +1,12 @@
 //! A page that shows what was found in the grammar of a file: its conflicts with their trees, its rules, and the states.
 //!
-//! It needs nothing but itself. All text of the file goes through `push_escaped`. Trees and edges stand in it as numbers, and
-//! its own script draws and lists them once they are looked at.
+//! It needs nothing but itself. All text of the file goes through `lrdiagnostics::push_escaped`. Trees and edges stand in it as
+//! numbers, and its own script draws and lists them once they are looked at.
 #![tactic(auto)]
 
 mod cards;
-mod escapes;
 mod grammars;
+mod names;
 mod pages;
 mod places;
 mod script;
@@ -15,5 +15,4 @@ mod style;
 mod symbols;
 mod trees;
 
-pub use crate::escapes::push_escaped;
 pub use crate::pages::{Card, Page};

@@ -3,8 +3,8 @@
 ghost use Rattle.std.specs.Prelude.{◌≡◌, ⊤, All};
 ghost use Rattle.lrevidence.specs.Ambiguities.{AreShown};
 
-use crate::escapes::push_name;
 use crate::grammars::is_of_file;
+use crate::names::push_name;
 use crate::script::SCRIPT;
 use crate::style::STYLE;
 use lrdiagnostics::{Mark, Source};

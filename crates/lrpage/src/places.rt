@@ -1,8 +1,8 @@
 //! Lines of the file, with the places in them marked.
 
-use crate::escapes::{push_escaped, push_name};
+use crate::names::push_name;
 use crate::pages::Page;
-use lrdiagnostics::{Mark, ShownLine};
+use lrdiagnostics::{Mark, ShownLine, push_escaped};
 use lrgrammar::idx::IndexStorage;
 use std::alloc::{AllocError, Global};
 use unicode_width::UnicodeWidthChar;

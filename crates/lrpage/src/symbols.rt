@@ -1,6 +1,6 @@
 //! Symbols and productions of a file.
 
-use crate::escapes::push_name;
+use crate::names::push_name;
 use crate::pages::Page;
 use lrevidence::{body_of, rule_name, token_name};
 use lrgrammar::grammar::PartSymbol;

@@ -5,7 +5,7 @@ use Rattle.std.proofs.lemmas.List.Elements.{All-nil, All-push}
 use Rattle.std.proofs.lemmas.List.Sorted.{IsPermutation-refl, IsPermutation-trans, IsPermutation-append_left, IsPermutation-append_right, IsPermutation-append_comm}
 use Rattle.std.specs.List.{Contains, slice_index_or}
 use Rattle.std.specs.List.Sorted.{IsPermutation}
-use Rattle.lrfindings.specs.declared.conflicts.Entry.{Entry}
+use Rattle.lrverdicts.specs.declared.conflicts.Entry.{Entry}
 use Rattle.lrfindings.proofs.FoundNothing.{no_more}
 use Rattle.lrreport.specs.LeftOpen.{AreLeftOpen}
 

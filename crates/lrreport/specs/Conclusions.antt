@@ -4,8 +4,8 @@ use Rattle.lrspec.specs.grammars.Grammar.{Grammar}
 use Rattle.lrspec.specs.merging.Graph.{Graph, IsGraphOf}
 use Rattle.lrspec.specs.tables.Recognition.{IsUnambiguous}
 use Rattle.lrgrammar.specs.TextErrors.{IsGrammarOf}
-use Rattle.lrfindings.specs.declared.conflicts.Entry.{Entry}
-use Rattle.lrfindings.specs.declared.verdicts.Verdict.TheVariants.{Unambiguous}
+use Rattle.lrverdicts.specs.declared.conflicts.Entry.{Entry}
+use Rattle.lrverdicts.specs.declared.verdicts.Verdict.TheVariants.{Unambiguous}
 use Rattle.lrevidence.specs.Ambiguities.{IsProved}
 use Rattle.lrevidence.specs.Entries.{AreListedIn}
 use Rattle.lrreport.specs.LeftOpen.{AreLeftOpen}

@@ -4,9 +4,9 @@ ghost use Rattle.std.specs.Prelude.{◌≡◌, ◌≢◌, All, map, IfOk, IfSome
 ghost use Rattle.lrspec.specs.merging.Graph.{IsGraphOf};
 ghost use Rattle.lrspec.specs.tables.Conflicts.{AreReductionsContested};
 ghost use Rattle.lrspec.specs.tables.Recognition.{IsUnambiguous};
-ghost use Rattle.lrfindings.specs.declared.verdicts.Verdict.TheVariants.{Unambiguous};
+ghost use Rattle.lrverdicts.specs.declared.verdicts.Verdict.TheVariants.{Unambiguous};
 ghost use Rattle.lrfindings.specs.Findings.{AreFindings, FindNothing};
-ghost use Rattle.lrfindings.specs.Verdicts.{status_of};
+ghost use Rattle.lrverdicts.specs.Verdicts.{status_of};
 ghost use Rattle.lrevidence.specs.Ambiguities.{HasTwoTrees, IsProved};
 ghost use Rattle.lrevidence.specs.Entries.{AreListedIn};
 ghost use Rattle.lrreport.specs.declared.options.Output.TheVariants.{Grammar};

@@ -1,7 +1,7 @@
 use Rattle.std.proofs.Common.{◌∙◌, ap}
 use Rattle.lrrows.specs.StoredLists.{stored_shift_reduces, stored_reduce_reduces}
-use Rattle.lrfindings.proofs.ListedEntries.{both_added}
-use Rattle.lrfindings.proofs.conflicts.push_conflicts.Goals as goal
+use Rattle.lrverdicts.proofs.ListedEntries.{both_added}
+use Rattle.lrverdicts.proofs.conflicts.push_conflicts.Goals as goal
 
 pub returns : goal.returns
 returns g c =

@@ -5,9 +5,9 @@ use Rattle.std.proofs.lemmas.List.{map-id}
 use Rattle.std.proofs.lemmas.Str.{encodes-chars}
 use Rattle.std.specs.Str.{chars}
 use lib.Utf8.{encodes}
-use Rattle.lrpage.specs.Escapes.{escaped}
-use Rattle.lrpage.proofs.EscapedTexts.{escaped_more, plain_behind}
-use Rattle.lrpage.proofs.escapes.push_escaped.Goals as goal
+use Rattle.lrdiagnostics.specs.Escapes.{escaped}
+use Rattle.lrdiagnostics.proofs.EscapedTexts.{escaped_more, plain_behind}
+use Rattle.lrdiagnostics.proofs.escapes.push_escaped.Goals as goal
 
 pub loop-character-preserved : goal.loop-character-preserved
 loop-character-preserved c =

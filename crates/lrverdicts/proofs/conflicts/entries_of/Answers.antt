@@ -1,9 +1,9 @@
 use Rattle.std.proofs.Common.{◌≡◌, map, refl}
 use Rattle.lrspec.specs.tables.Table.{lists_of}
-use Rattle.lrfindings.specs.Listed.{told, listed}
-use Rattle.lrfindings.proofs.ListedEntries.{sorted_entries}
-use Rattle.lrfindings.proofs.conflicts.entries_of.Goals as goal
-use Rattle.lrfindings.proofs.conflicts.entries_of.Goals.{in-Some+in_ok-push_conflicts, in_default}
+use Rattle.lrverdicts.specs.Listed.{told, listed}
+use Rattle.lrverdicts.proofs.ListedEntries.{sorted_entries}
+use Rattle.lrverdicts.proofs.conflicts.entries_of.Goals as goal
+use Rattle.lrverdicts.proofs.conflicts.entries_of.Goals.{in-Some+in_ok-push_conflicts, in_default}
 
 pub returns : goal.returns
 returns g c =

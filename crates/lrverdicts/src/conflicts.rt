@@ -3,7 +3,7 @@
 ghost use Rattle.std.specs.Prelude.{◌≡◌, ◌++◌, map, Contains, IsTrue, IfOk, OnOk};
 ghost use Rattle.std.specs.List.Sorted.{IsPermutation};
 ghost use Rattle.lrspec.specs.tables.Table.{lists_of};
-ghost use Rattle.lrfindings.specs.Listed.{Listing, told, listed, shift_listing, reduction_listing};
+ghost use Rattle.lrverdicts.specs.Listed.{Listing, told, listed, shift_listing, reduction_listing};
 ghost use Rattle.lrrows.specs.StoredLists.{stored_shift_reduce, stored_reduce_reduce};
 
 use lrgrammar::idx::{IndexStorage, PIdx, StIdx, TIdx};
@@ -48,7 +48,7 @@ pub fn is_among(list: &[Entry], entry: &Entry) -> bool
 }
 
 /// Where the body of a production stands.
-pub(crate) fn place_of(file: &FileGrammar, production: usize) -> usize {
+pub fn place_of(file: &FileGrammar, production: usize) -> usize {
     let place = file.production_places.get(production).copied();
     place.unwrap_or(Span::new(0, 0)).start
 }
@@ -127,7 +127,7 @@ fn push_conflicts<T: IndexStorage>(
 }
 
 /// The entries of both lists of a table, each once.
-pub(crate) fn entries_of<T: IndexStorage>(
+pub fn entries_of<T: IndexStorage>(
     alloc: Global,
     file: &FileGrammar,
     table: &StateTable<T>,

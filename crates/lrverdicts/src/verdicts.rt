@@ -3,8 +3,8 @@
 ghost use Rattle.std.specs.Prelude.{◌≡◌};
 ghost use Rattle.lrspec.specs.tables.Recognition.{IsUnambiguous};
 ghost use Rattle.lrspec.specs.tables.Table.{IsTableFor};
-ghost use Rattle.lrfindings.specs.Verdicts.{status_of};
-ghost use Rattle.lrfindings.specs.declared.verdicts.Verdict.TheVariants.{Unambiguous};
+ghost use Rattle.lrverdicts.specs.Verdicts.{status_of};
+ghost use Rattle.lrverdicts.specs.declared.verdicts.Verdict.TheVariants.{Unambiguous};
 
 use crate::conflicts::Entry;
 use lrgrammar::grammar::YaccGrammar;
@@ -24,7 +24,7 @@ pub struct Counts {
 
 impl Counts {
     /// How many entries there are of either kind.
-    pub(crate) fn of(entries: &[Entry]) -> Counts {
+    pub fn of(entries: &[Entry]) -> Counts {
         let mut counts = Counts::default();
         for entry in entries {
             let count = match entry.other {
@@ -79,7 +79,7 @@ pub enum Verdict {
 }
 
 /// The verdict of a grammar that has this table.
-pub(crate) fn verdict_of<T: IndexStorage>(grm: &YaccGrammar<T>, table: &StateTable<T>) -> Verdict
+pub fn verdict_of<T: IndexStorage>(grm: &YaccGrammar<T>, table: &StateTable<T>) -> Verdict
     requires { IsTableFor grm.now table.now }
     ensures { result ≡ Unambiguous → IsUnambiguous grm.now }
 {
@@ -96,7 +96,7 @@ pub(crate) fn verdict_of<T: IndexStorage>(grm: &YaccGrammar<T>, table: &StateTab
 
 impl Verdict {
     /// The verdict where so many conflicts are none, and so many more are left.
-    pub(crate) fn adjusted(self, closed: Counts, opened: Counts) -> Verdict
+    pub fn adjusted(self, closed: Counts, opened: Counts) -> Verdict
         ensures { result ≡ Unambiguous → self ≡ Unambiguous }
     {
         if closed.is_zero() && opened.is_zero() {

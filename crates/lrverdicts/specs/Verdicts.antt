@@ -1,7 +1,7 @@
 -- what a verdict means
 use Rattle.std.specs.Prelude.{ℕ}
-use Rattle.lrfindings.specs.declared.verdicts.Verdict.{Verdict}
-use Rattle.lrfindings.specs.declared.verdicts.Verdict.TheVariants.{Unambiguous, NoConflicts, Conflicts, Expected, Unexpected}
+use Rattle.lrverdicts.specs.declared.verdicts.Verdict.{Verdict}
+use Rattle.lrverdicts.specs.declared.verdicts.Verdict.TheVariants.{Unambiguous, NoConflicts, Conflicts, Expected, Unexpected}
 
 -- the exit status: 1 where there are conflicts that are not expected
 abbrev pub status_of : Verdict → ℕ

@@ -9,7 +9,7 @@ use Rattle.std.proofs.lemmas.Bool.{cases_lt}
 use Rattle.std.proofs.lemmas.List.Elements.{All-nil, All-cons, All-append}
 use Rattle.std.proofs.lemmas.List.Concat.{flat_map-append}
 use Rattle.std.proofs.lemmas.Str.{inside_one}
-use Rattle.lrpage.specs.Escapes.{entity, escaped, IsPlain}
+use Rattle.lrdiagnostics.specs.Escapes.{entity, escaped, IsPlain}
 
 -- a byte that has no entity
 entity_other : (b : ℕ) → b ≢ 60 → b ≢ 62 → b ≢ 38 → b ≢ 34 → b ≢ 39 → entity b ≡ b ∷ []

@@ -1,9 +1,8 @@
 //! Text of a file between the tags of a page, and in the values of attributes.
 
 ghost use Rattle.std.specs.Prelude.{◌≡◌, ◌++◌, length, drop, All, OnOk, string_bytes, encode_utf8};
-ghost use Rattle.lrpage.specs.Escapes.{escaped, IsPlain};
+ghost use Rattle.lrdiagnostics.specs.Escapes.{escaped, IsPlain};
 
-use lrdiagnostics::push_shown;
 use std::alloc::AllocError;
 
 /// Adds what stands for a character.
@@ -34,11 +33,4 @@ pub fn push_escaped(page: &mut String, text: &str) -> Result<(), AllocError>
         push_character(page, character)?;
     }
     Ok(())
-}
-
-/// Adds a name of the file, or other text with such names, with something else for what a reader would not see.
-pub(crate) fn push_name(page: &mut String, name: &str) -> Result<(), AllocError> {
-    let mut shown = String::new(*page.allocator());
-    push_shown(&mut shown, name)?;
-    push_escaped(page, shown.as_str())
 }

@@ -1,7 +1,7 @@
 -- the entries of a table's lists of conflicts, in one list
 use Rattle.std.specs.Prelude.{ℕ, List, map, ◌++◌, Option, None, Some}
 use Rattle.lrspec.specs.tables.Table.{Lists}
-use Rattle.lrfindings.specs.declared.conflicts.Entry.{Entry}
+use Rattle.lrverdicts.specs.declared.conflicts.Entry.{Entry}
 
 -- an entry of a list: token, production, the other production if there is one, and state
 abbrev pub Listing : Type 0

@@ -1,7 +1,7 @@
 use Rattle.lrspec.specs.tables.LrTables.{HasNoPrecedences, ListsNothing}
 use Rattle.lrspec.proofs.tables.NoPrecedences.{no_precedences}
 use Rattle.lrspec.proofs.tables.ExactWithoutPrecedences.{recognises_without_precedences}
-use Rattle.lrfindings.proofs.verdicts.verdict_of.Goals as goal
+use Rattle.lrverdicts.proofs.verdicts.verdict_of.Goals as goal
 
 pub returns-in-None : goal.returns-in-None
 returns-in-None g c told =

@@ -9,8 +9,8 @@ use Rattle.lrgrammar.specs.declared.idx.StIdx.{StIdx}
 use Rattle.lrgrammar.specs.declared.idx.TIdx.{TIdx}
 use Rattle.lrspec.specs.tables.Table.{Lists}
 use Rattle.lrrows.specs.StoredLists.{stored_shift_reduce, stored_shift_reduces, stored_reduce_reduce, stored_reduce_reduces}
-use Rattle.lrfindings.specs.declared.conflicts.Entry.{Entry}
-use Rattle.lrfindings.specs.Listed.{Listing, told, listed, shift_listing, reduction_listing}
+use Rattle.lrverdicts.specs.declared.conflicts.Entry.{Entry}
+use Rattle.lrverdicts.specs.Listed.{Listing, told, listed, shift_listing, reduction_listing}
 
 -- those of the first list, and then those of the second, are those of both
 pub both_added :

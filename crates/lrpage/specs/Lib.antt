@@ -1,2 +1,0 @@
--- escaped text
-pub mod Escapes

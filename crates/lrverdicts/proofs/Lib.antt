@@ -1,0 +1,2 @@
+-- entries of lists of conflicts
+mod ListedEntries
