@@ -1,6 +1,7 @@
 #!/bin/sh
-# Times `lrt conflicts` on files, as it is and with `state_table` in place of `from_yacc`, so that no graph is made: seconds of
-# processor time, the least of RUNS, and MB at the most. Both programs are built without a proof. For example
+# Times `lrt conflicts` on files, but for the text of conflicts, with `from_yacc` and with `state_table` in its place, so that no
+# graph is made: seconds of processor time, the least of RUNS, and MB at the most. Both programs are built without a proof. For
+# example
 #
 #     bench/without_graph.sh mariadb.y
 #
@@ -9,11 +10,6 @@ set -eu
 top=$(dirname "$(dirname "$(readlink -f "$0")")")
 room=$(mktemp -d)
 trap 'rm -rf "$room"' EXIT
-
-# Copies the sources to a folder.
-copy() {
-    mkdir "$room/$1" && (cd "$top" && find . -name out -prune -o -name .git -prune -o -type f -exec cp --parents -t "$room/$1" {} +)
-}
 
 # Prints the row of a file for a program.
 measure() {
@@ -24,10 +20,17 @@ measure() {
         END { printf "%s: %s: %.3f s, %.0f MB\n", file, name, least, most / 1024 }'
 }
 
-copy graph
-copy table
-sed -i 's/let (_graph, table) = from_yacc(/let (table, _counts) = state_table(/; s/from_yacc};/from_yacc, state_table};/' \
-    "$room/table/crates/lrcommand/src/printing.rt"
+mkdir "$room/graph"
+(cd "$top" && find . -name out -prune -o -name .git -prune -o -type f -exec cp --parents -t "$room/graph" {} +)
+printing=crates/lrcommand/src/printing.rt
+sed -i 's/Some(conflicts) => Ok(conflicts.pp(grm)?),/Some(_) => Ok(String::from_str(alloc, "conflicts\\n")?),/' \
+    "$room/graph/$printing"
+cp -r "$room/graph" "$room/table"
+sed -i '/^fn conflicts_text/,/^}/ {
+    s/let (graph, table) = from_yacc(/let (table, _counts) = state_table(/
+    /leave(graph);/d
+}
+s/from_yacc};/from_yacc, state_table};/' "$room/table/$printing"
 for name in graph table; do
     "$room/$name/look" conflicts "$top/examples/c.y" >"$room/$name.told"
 done

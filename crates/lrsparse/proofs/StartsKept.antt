@@ -74,11 +74,11 @@ among_one_more part index own P so_far there adds j i l low bit = elim (cases_lt
 -- a set is among others where each bit of its words is
 pub among_by_words :
     (part whole : ColumnSet)
-    → ((j i : ℕ) → j < length part.words.items → i < 64 → bit_at (slice_index part.words.items j) i ≡ 1 → IsIn whole (64 * (part.skipped + j) + i))
+    → ((j i : ℕ) → j < length part.words.items → i < 64 → bit_at (slice_index part.words.items j) i ≡ 1 → IsIn whole (part.first + 64 * j + i))
     → (c : ℕ) → IsIn part c → IsIn whole c
 among_by_words part whole words c (l, o) =
-    let p = c - 64 * part.skipped in
-    let place : 64 * (part.skipped + p / 64) + p % 64 ≡ c = omega arith in
+    let p = c - part.first in
+    let place : part.first + 64 * (p / 64) + p % 64 ≡ c = omega arith in
     elim (cases_lt (p / 64) (length part.words.items)) [
       | inl h ↦ rw place at (words (p / 64) (p % 64) h (omega arith) o)
       | inr h ↦
@@ -86,19 +86,29 @@ among_by_words part whole words c (l, o) =
           absurd (omega (arith, o, bit_at-zero (p % 64), ap (λ n. bit_at n (p % 64)) none))
     ]
 
+-- columns that are all moved behind fit as far below
+pub nowhere_moved :
+    (words : List ℕ) (columns moved : ColumnSet) (d behind : ℕ) → moved.words.items ≡ columns.words.items → moved.first ≡ columns.first + behind
+    → FitNowhereBelow words columns d → FitNowhereBelow words moved (d - behind)
+nowhere_moved words columns moved d behind same first none k l meets =
+    none (k + behind) (omega (arith, l)) (λ c (low, o) w.
+    let place : c + behind - moved.first ≡ c - columns.first = omega (arith, first, low) in
+    let at : k + (c + behind) ≡ k + behind + c = omega arith in
+    meets (c + behind) (omega (arith, first, low), rw (same, place) o) (rw at w))
+
 -- what the columns add to no places, so far before, is their set
 pub set_of_list :
     (none words columns : List ℕ) (first n : ℕ) → none ≡ replicate n 0
     → ((k : ℕ) → k < length columns → first ≤ slice_index columns k)
-    → ((p : ℕ) → IsOwned words p ↔ (IsOwned none p ⊎ ((k : ℕ) × (k < length columns) × (first / 64 * 64 + p ≡ slice_index columns k))))
-    → (c : ℕ) → ((64 * (first / 64) ≤ c) × IsOwned words (c - 64 * (first / 64))) ↔ Contains columns c
+    → ((p : ℕ) → IsOwned words p ↔ (IsOwned none p ⊎ ((k : ℕ) × (k < length columns) × (first + p ≡ slice_index columns k))))
+    → (c : ℕ) → ((first ≤ c) × IsOwned words (c - first)) ↔ Contains columns c
 set_of_list none words columns first n clear behind put c = (
-  λ w. elim ((put (c - 64 * (first / 64))).0 w.1) [
-    | inl o ↦ absurd (none_owned n (c - 64 * (first / 64)) (rw clear at o))
+  λ w. elim ((put (c - first)).0 w.1) [
+    | inl o ↦ absurd (none_owned n (c - first) (rw clear at o))
     | inr (k, h, is) ↦ (k, h, omega (arith, get_or_default columns k c 0 h, is, w.0))
   ],
   λ there.
       let is = get_or_default columns there.0 c 0 there.1 in
       let low = behind there.0 there.1 in
-      (omega (arith, is, low, there.2), (put (c - 64 * (first / 64))).1 (inr (there.0, there.1, omega (arith, is, low, there.2)))),
+      (omega (arith, is, low, there.2), (put (c - first)).1 (inr (there.0, there.1, omega (arith, is, low, there.2)))),
 )

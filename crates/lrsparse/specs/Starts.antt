@@ -1,13 +1,13 @@
 -- where the search for a row of some columns may begin; sets of columns are the bits of words
-use Rattle.std.specs.Prelude.{ℕ, ◌+◌, ◌-◌, ◌*◌, ◌<◌, ◌≤◌, List}
+use Rattle.std.specs.Prelude.{ℕ, ◌+◌, ◌-◌, ◌<◌, ◌≤◌, List}
 use Rattle.std.specs.List.{All}
 use Rattle.lrsparse.specs.declared.sparsevec.starts.ColumnSet.{ColumnSet}
 use Rattle.lrsparse.specs.declared.sparsevec.starts.Starts.{Starts}
 use Rattle.lrsparse.specs.Owned.{IsOwned}
 
--- the column is in the set: its bit is set in the words, which begin behind those that are left out
+-- the column is in the set: how far behind the first one it stands has its bit in the words
 abbrev pub IsIn : ColumnSet → ℕ → Type 0
-IsIn set column = (64 * set.skipped ≤ column) × IsOwned set.words.items (column - 64 * set.skipped)
+IsIn set column = (set.first ≤ column) × IsOwned set.words.items (column - set.first)
 
 -- at the displacement none of these columns meets an owned place
 abbrev pub SetMeetsNone : List ℕ → ColumnSet → ℕ → Type 0

@@ -8,14 +8,14 @@ ghost use Rattle.lrsparse.specs.Owned.{IsOwned, AreOwned, MeetsNone};
 pub(crate) const WORD: usize = 64;
 
 /// The word, whose places nobody owns past the last one.
-pub(crate) fn word_at(words: &[u64], index: usize) -> u64
+fn word_at(words: &[u64], index: usize) -> u64
     ensures { result ≡ slice_index words.now index }
 {
     words.get(index).copied().unwrap_or(0)
 }
 
 /// The places from this one on, as many as a word has.
-fn places_from(words: &[u64], place: usize) -> u64
+pub(crate) fn places_from(words: &[u64], place: usize) -> u64
     ensures { (i : ℕ) → i < 64 → (bit_at result i ≡ 1) ↔ IsOwned words.now (place + i) }
 {
     let bit = place % WORD;

@@ -1,12 +1,11 @@
 //! Where the search for a displacement may begin: not before a row of some of the columns found its own.
 
-ghost use Rattle.std.specs.Prelude.{◌≡◌, ◌<◌, ◌+◌, ◌*◌, ◌^◌, ◌↔◌, ℕ, List, Contains, IsTrue, IfOk, OnOk};
-ghost use Rattle.std.specs.Int.{bit_at};
+ghost use Rattle.std.specs.Prelude.{◌<◌, ◌^◌, ◌↔◌, ℕ, List, Contains, IsTrue, IfOk, OnOk};
 ghost use Rattle.std.specs.List.{All};
 ghost use Rattle.std.specs.List.Sorted.{IsStrictlyIncreasing};
 ghost use Rattle.lrsparse.specs.Starts.{IsIn, FitNowhereBelow, AreStarts};
 
-use crate::sparsevec::owned::{WORD, own_columns_behind, word_at};
+use crate::sparsevec::owned::{WORD, own_columns_behind, places_from};
 use std::alloc::{AllocError, Global};
 use std::collections::BTreeMap;
 
@@ -14,37 +13,30 @@ use std::collections::BTreeMap;
 /// alike, and more sets would take more time than they save.
 const LAST: usize = 64;
 
-/// A set of columns, as the bits of words. The words before that of the first column are left out, as a matrix can have many
-/// rows whose few columns stand far behind its first one.
-#[derive(Clone, Drop, PartialEq, Eq, PartialOrd, Ord)]
+/// A set of columns: the first one, and as the bits of words how far behind it each of them stands.
+#[derive(Drop)]
 pub(crate) struct ColumnSet {
-    pub skipped: usize,
+    pub first: usize,
     pub words: Vec<u64>,
 }
 
 impl ColumnSet {
-    /// The word with this index among all, those that are left out too.
-    fn word(&self, index: usize) -> u64
-        ensures { (i : ℕ) → i < 64 → bit_at result i ≡ 1 → IsIn self.now (64 * index + i) }
-    {
-        match index.checked_sub(self.skipped) {
-            Some(place) => word_at(self.words.as_slice(), place),
-            None => 0,
-        }
-    }
-
     /// Whether all columns are among the others.
     fn is_among(&self, others: &ColumnSet) -> bool
         ensures { IsTrue result → (c : ℕ) → IsIn self.now c → IsIn others.now c }
     {
+        let Some(mut place) = self.first.checked_sub(others.first) else {
+            return false;
+        };
         for index in 0..self.words.len() {
-            let Some(place) = self.skipped.checked_add(index) else {
-                return false;
-            };
-            let own = others.word(place);
+            let own = places_from(others.words.as_slice(), place);
             if self.words[index] | own != own {
                 return false;
             }
+            let Some(next) = place.checked_add(WORD) else {
+                return false;
+            };
+            place = next;
         }
         true
     }
@@ -72,6 +64,23 @@ impl Start {
             least
         }
     }
+
+    /// The same where these columns are those of this start, all as far behind them: at a displacement they take the places that
+    /// those take at one which is as much greater. Where they stand before them, this start says nothing.
+    fn moved(&self, columns: &ColumnSet, least: usize) -> usize
+        ensures { (words : List ℕ)
+            → FitNowhereBelow words self.now.columns self.now.displacement
+            → FitNowhereBelow words columns.now least
+            → FitNowhereBelow words columns.now result }
+    {
+        if self.columns.words != columns.words {
+            return least;
+        }
+        match columns.first.checked_sub(self.columns.first) {
+            Some(behind) => self.displacement.saturating_sub(behind).max(least),
+            None => least,
+        }
+    }
 }
 
 /// The set of these columns. The error says that memory was refused.
@@ -82,22 +91,22 @@ pub(crate) fn set_of(alloc: Global, columns: &[usize]) -> Result<ColumnSet, Allo
 {
     let (Some(first), Some(last)) = (columns.first(), columns.last()) else {
         return Ok(ColumnSet {
-            skipped: 0,
+            first: 0,
             words: Vec::new(alloc),
         });
     };
-    let skipped = *first / WORD;
-    let mut words = vec![in alloc; 0; *last / WORD + 1 - skipped]?;
-    own_columns_behind(words.as_mut_slice(), columns, skipped * WORD);
-    Ok(ColumnSet { skipped, words })
+    let first = *first;
+    let mut words = vec![in alloc; 0; (*last - first) / WORD + 1]?;
+    own_columns_behind(words.as_mut_slice(), columns, first);
+    Ok(ColumnSet { first, words })
 }
 
-/// The sets of columns of the rows so far, each with its start.
+/// The sets of columns of the rows so far, each with its start; of those that are one set but for where it stands, the last one.
 #[derive(Drop)]
 pub(crate) struct Starts {
-    /// Where each set stands among all.
-    places: BTreeMap<ColumnSet, usize>,
-    /// In the order in which they came first.
+    /// Where each set stands among all, by its words.
+    places: BTreeMap<Vec<u64>, usize>,
+    /// In the order in which such sets came first.
     pub all: Vec<Start>,
     /// Where the sets that came last stand among all, each once.
     recent: Vec<usize>,
@@ -125,12 +134,27 @@ impl Starts {
         }
     }
 
-    /// The place of this set of columns among all; one that is new comes behind them.
+    /// The place of this set of columns among all, wherever it stands; one that is new comes behind them.
     fn place(&self, columns: &ColumnSet) -> usize {
-        self.places.get(columns).copied().unwrap_or(self.all.len())
+        let known = self.places.get(&columns.words);
+        known.copied().unwrap_or(self.all.len())
     }
 
-    /// Where the search for a row of these columns may begin, if it may at the least one, by the start at the place too.
+    /// Where the search for a row of these columns may begin, if it may at the least one, by the start at the place too, where
+    /// its columns are these or as far before them.
+    fn moved_by(&self, place: usize, columns: &ColumnSet, least: usize) -> usize
+        ensures { (words : List ℕ) → AreStarts self.now words
+            → FitNowhereBelow words columns.now least
+            → FitNowhereBelow words columns.now result }
+    {
+        if place < self.all.len() {
+            self.all[place].moved(columns, least)
+        } else {
+            least
+        }
+    }
+
+    /// The same, where all columns of the start are among these.
     fn raised_by(&self, place: usize, columns: &ColumnSet, least: usize) -> usize
         ensures { (words : List ℕ) → AreStarts self.now words
             → FitNowhereBelow words columns.now least
@@ -143,8 +167,8 @@ impl Starts {
         }
     }
 
-    /// Where the search for a row of this set of columns may begin, if it may at the least one, by the last row of the same set
-    /// and by those of the sets that came last.
+    /// Where the search for a row of this set of columns may begin, if it may at the least one, by the last row of such a set and
+    /// by those of the sets that came last.
     pub(crate) fn before(&self, columns: &ColumnSet, least: usize) -> usize
         ensures { (words : List ℕ) → AreStarts self.now words
             → FitNowhereBelow words columns.now least
@@ -153,7 +177,7 @@ impl Starts {
         if columns.words.is_empty() {
             return least;
         }
-        let mut start = self.raised_by(self.place(columns), columns, least);
+        let mut start = self.moved_by(self.place(columns), columns, least);
         for place in self.recent.iter().rev() {
             start = self.raised_by(*place, columns, start);
         }
@@ -178,7 +202,7 @@ impl Starts {
             };
             return Ok(());
         }
-        self.places.insert(columns.clone()?, place)?;
+        self.places.insert(columns.words.clone()?, place)?;
         self.all.push(Start {
             columns,
             displacement,

@@ -6,5 +6,6 @@ use Rattle.lrsparse.proofs.sparsevec.starts.ColumnSet.is_among.Given as goal
 
 abbrev pub invariant-loop-index : goal.invariant-loop-index
 invariant-loop-index l =
-    (j i : ℕ) → j < l.index → i < 64 → bit_at (slice_index l.self.words.items j) i ≡ 1
-    → IsIn l.others (64 * (l.self.skipped + j) + i)
+    (l.others.first + l.place ≡ l.self.first + 64 * l.index)
+    × ((j i : ℕ) → j < l.index → i < 64 → bit_at (slice_index l.self.words.items j) i ≡ 1
+    → IsIn l.others (l.self.first + 64 * j + i))
