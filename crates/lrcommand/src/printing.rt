@@ -18,7 +18,7 @@ use std::alloc::{AllocError, Global};
 use std::mem::forget;
 
 /// The text that is printed of a grammar; `file` holds the bytes of its source, and is None where they could not be
-/// read.
+/// read. A state graph made for it stays in memory until the program ends.
 pub fn listing_text<'a>(
     alloc: Global,
     listing: Listing,

@@ -6,8 +6,6 @@ ghost use Rattle.lrsparse.specs.Matrix.{value_at, HasRows};
 mod owned;
 pub(crate) mod places;
 pub(crate) mod starts;
-#[cfg(test)]
-mod tests;
 
 use crate::builder::MatrixBuilder;
 use crate::sparsevec::places::Entry;

@@ -121,6 +121,8 @@ impl Places {
         ensures owned { OnOk result ((p : ℕ) →
             IsOwned self.old.owned.items p → IsOwned self.new.owned.items p) }
         ensures within { IfOk result (λ d. d ≤ length self.old.list.items) }
+        ensures short { IfOk result (λ d. (len : ℕ) → length self.old.list.items ≤ len
+            → All (λ c. d + c < len) columns.now → length self.new.list.items ≤ len) }
     {
         let Some(last) = columns.last().copied() else {
             return Ok(0);
@@ -165,6 +167,8 @@ pub(crate) fn place_row(
     ensures placed { OnOk result (IsPlaced (row + 1) places.new) }
     ensures starts { OnOk result (AreStarts starts.new places.new.owned.items) }
     ensures within { IfOk result (λ d. d ≤ length places.old.list.items) }
+    ensures short { IfOk result (λ d. (len : ℕ) → length places.old.list.items ≤ len
+        → All (λ c. d + c < len) (columns_in entries.now) → length places.new.list.items ≤ len) }
 {
     let columns = columns_of(*places.list.allocator(), entries)?;
     let set = set_of(*places.list.allocator(), columns.as_slice())?;

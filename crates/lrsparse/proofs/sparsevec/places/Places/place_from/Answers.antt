@@ -150,6 +150,11 @@ returns-clause-within c =
     let places = c.args.self.now in
     least_within (length places.list.items) places.owned.items c.requires.placed.within c.args.columns.now c.least_displacement-displacement.result (least_of c)
 
+pub returns-clause-short : goal.returns-clause-short
+returns-clause-short c len longer ends =
+    let there = last_there c.args.columns.now c.in-Some.last (sym (c.in-Some.ensures ∙ c.last.ensures.value)) in
+    rw (whole c) (omega (arith, longer, rw there.1 at (ends (length c.args.columns.now - 1) 0 there.0), long c, c.in_ok-reach.ensures.len))
+
 pub returns-clause-placed : goal.returns-clause-placed
 returns-clause-placed c =
     let places = c.args.self.now in
