@@ -8,7 +8,7 @@ use Rattle.lrgrammar.specs.declared.idx.RIdx.{RIdx}
 use Rattle.lrgrammar.specs.Symbols.{symbol_of}
 use Rattle.lrspec.specs.grammars.Grammar.{Symbol, Rule, Grammar, body_of, IsProductionOf}
 use Rattle.lrspec.proofs.grammars.BodyFacts.{rule_unique, below_of_production}
-use Rattle.lrambiguity.specs.declared.moves.Move as stored-move
+use Rattle.lrmoves.specs.declared.moves.Move as stored-move
 use Rattle.lrambiguity.specs.declared.derivations.Fold.{Fold}
 use Rattle.lrambiguity.specs.Moves.{Move, Shift, Reduce}
 use Rattle.lrambiguity.specs.Derivations as fold

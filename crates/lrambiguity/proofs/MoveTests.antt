@@ -3,8 +3,8 @@ use Rattle.std.proofs.Common.{◌≡◌, ℕ, Bool, true, false, List, [], ◌�
 use Rattle.std.specs.Prelude.{IsTrue, ◌↔◌, slice_get}
 use Rattle.std.specs.Option.{option_eq}
 use Rattle.lrgrammar.specs.declared.idx.PIdx.{PIdx}
-use Rattle.lrambiguity.specs.declared.moves.Move as stored
-use Rattle.lrambiguity.specs.declared.moves.Move.TheVariants as code
+use Rattle.lrmoves.specs.declared.moves.Move as stored
+use Rattle.lrmoves.specs.declared.moves.Move.TheVariants as code
 use Rattle.lrambiguity.specs.Moves.{Move, Reduce}
 use Rattle.lrambiguity.specs.StoredMoves.{move_of, moves_stored}
 

@@ -18,7 +18,7 @@ use Rattle.lrspec.proofs.tables.MachineStacks.{start_body}
 use Rattle.lrtable.specs.RunAnswers.{text_of}
 use Rattle.lrtree.specs.declared.trees.Tree.{Tree}
 use Rattle.lrtree.specs.StoredTrees.{tree_of, forest_of}
-use Rattle.lrambiguity.specs.declared.moves.Move as stored
+use Rattle.lrmoves.specs.declared.moves.Move as stored
 use Rattle.lrambiguity.specs.declared.replays.Replay.{Replay}
 use Rattle.lrambiguity.specs.Moves.{Move, Shift, Reduce, IsTreeBy, HasNoTree}
 use Rattle.lrambiguity.specs.StoredMoves.{move_of, moves_stored}

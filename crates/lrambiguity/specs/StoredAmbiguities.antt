@@ -8,7 +8,7 @@ use Rattle.lrspec.specs.grammars.Trees as math
 use Rattle.lrtable.specs.RunAnswers.{text_of}
 use Rattle.lrtree.specs.declared.trees.Tree.{Tree}
 use Rattle.lrtree.specs.StoredTrees.{tree_of}
-use Rattle.lrambiguity.specs.declared.moves.Move as stored
+use Rattle.lrmoves.specs.declared.moves.Move as stored
 use Rattle.lrambiguity.specs.declared.ambiguities.Ambiguity.{Ambiguity}
 use Rattle.lrambiguity.specs.Moves.{IsTreeBy}
 use Rattle.lrspec.specs.merging.Graph.{Graph}

@@ -1,7 +1,7 @@
 -- moves, as the code stores them
 use Rattle.std.specs.Prelude.{ℕ, List, map}
-use Rattle.lrambiguity.specs.declared.moves.Move as stored
-use Rattle.lrambiguity.specs.declared.moves.Move.TheVariants as code
+use Rattle.lrmoves.specs.declared.moves.Move as stored
+use Rattle.lrmoves.specs.declared.moves.Move.TheVariants as code
 use Rattle.lrambiguity.specs.Moves.{Move, Shift, Reduce}
 
 -- a move by the number of its production

@@ -1,6 +1,6 @@
 //! Ambiguities.
 
-ghost use Rattle.std.specs.Prelude.{◌≡◌, ◌≢◌, false, ◌++◌, IfOk, IfSome, IfNone, IsSome, IsTrue, slice_get};
+ghost use Rattle.std.specs.Prelude.{◌≡◌, ◌≢◌, ◌++◌, IfOk, IfSome, IfNone, IsSome};
 ghost use Rattle.lrspec.specs.tables.Recognition.{IsUnambiguous};
 ghost use Rattle.lrspec.specs.tables.Table.{Table, IsTableFor};
 ghost use Rattle.lrspec.specs.tables.LrTables.{HasNoPrecedences, ListsNothing};
@@ -10,10 +10,10 @@ ghost use Rattle.lrambiguity.specs.Moves.{HasNoTree, IsTreeBy, IsTreeOfText};
 ghost use Rattle.lrambiguity.specs.StoredMoves.{moves_stored};
 ghost use Rattle.lrambiguity.specs.StoredAmbiguities.{AreTreesBy, BeginAlike, IsAmbiguity, IsGiven};
 
-use crate::moves::Move;
 use crate::reading::read_moves;
 use lrgrammar::grammar::YaccGrammar;
 use lrgrammar::idx::{IndexStorage, TIdx};
+use lrmoves::{Move, differ_at_once};
 use lrtree::Tree;
 use std::alloc::{AllocError, Global};
 
@@ -42,14 +42,6 @@ impl<T: IndexStorage> Ambiguity<T> {
         self.one_tree.take_apart();
         self.other_tree.take_apart();
     }
-}
-
-/// Whether the first moves differ.
-fn differ_at_once<T: IndexStorage>(one: &[Move<T>], other: &[Move<T>]) -> bool
-    ensures differ { IsTrue result → slice_get one.now 0 ≢ slice_get other.now 0 }
-    ensures same { result ≡ false → slice_get one.now 0 ≡ slice_get other.now 0 }
-{
-    one.first().copied() != other.first().copied()
 }
 
 /// The tree of the text that the moves before and those behind them put together.

@@ -10,9 +10,9 @@ ghost use Rattle.lrambiguity.specs.Moves as plain;
 ghost use Rattle.lrambiguity.specs.StoredFolds.{stack_of, HasFolded, FoldsOn, CannotFold};
 ghost use Rattle.lrambiguity.specs.StoredMoves.{move_of, moves_stored};
 
-use crate::moves::Move;
 use lrgrammar::grammar::YaccGrammar;
 use lrgrammar::idx::{IndexStorage, PIdx, RIdx, Symbol};
+use lrmoves::Move;
 use std::alloc::{AllocError, Global};
 
 /// Whether the rule is the only symbol of the list.

@@ -10,11 +10,11 @@ ghost use Rattle.lrambiguity.specs.Inputs.{IsReadAs, GoesOn};
 ghost use Rattle.lrambiguity.specs.StoredMoves.{move_of, moves_stored};
 
 use crate::ambiguities::read_joined;
-use crate::moves::{Move, Written};
 use crate::partings::begins_with;
 use crate::replays::Replay;
 use lrgrammar::grammar::YaccGrammar;
 use lrgrammar::idx::{IndexStorage, Symbol, TIdx};
+use lrmoves::{Move, Written};
 use lrtree::Tree;
 use std::alloc::{AllocError, Global};
 

@@ -4,7 +4,6 @@
 mod ambiguities;
 mod derivations;
 mod inputs;
-mod moves;
 mod nesting;
 mod partings;
 mod reading;
@@ -13,7 +12,7 @@ mod replays;
 pub use crate::ambiguities::{Ambiguity, check_ambiguity};
 pub use crate::derivations::derives;
 pub use crate::inputs::{goes_on, reads_as};
-pub use crate::moves::{Move, Written};
 pub use crate::nesting::nests;
 pub use crate::partings::{Contest, parts_at};
 pub use crate::reading::read_moves;
+pub use lrmoves::{Move, Written};

@@ -15,10 +15,10 @@ ghost use Rattle.lrambiguity.specs.StoredReplays.{roots_of};
 ghost use Rattle.lrambiguity.specs.StoredAmbiguities.{IsAmbiguity, AmbiguityPartsAt};
 
 use crate::ambiguities::Ambiguity;
-use crate::moves::Move;
 use crate::replays::Replay;
 use lrgrammar::grammar::YaccGrammar;
 use lrgrammar::idx::{IndexStorage, StIdx, TIdx};
+use lrmoves::Move;
 use lrtable::StateGraph;
 use lrtable::itemset::Itemset;
 use std::alloc::{AllocError, Global};

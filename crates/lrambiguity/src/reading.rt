@@ -7,10 +7,10 @@ ghost use Rattle.lrtree.specs.StoredTrees.{tree_of};
 ghost use Rattle.lrambiguity.specs.Moves.{moves_of, IsTreeOfStart, HasNoTree};
 ghost use Rattle.lrambiguity.specs.StoredMoves.{moves_stored};
 
-use crate::moves::Move;
 use crate::replays::Replay;
 use lrgrammar::grammar::YaccGrammar;
 use lrgrammar::idx::{IndexStorage, TIdx};
+use lrmoves::Move;
 use lrtree::Tree;
 use std::alloc::{AllocError, Global};
 

@@ -12,9 +12,9 @@ ghost use Rattle.lrambiguity.specs.Moves.{IsTreeBy, HasNoTree};
 ghost use Rattle.lrambiguity.specs.StoredMoves.{move_of, moves_stored};
 ghost use Rattle.lrambiguity.specs.StoredReplays.{roots_of, AreRoots, HasMade, HasMadeSome, Makes, LeadsNowhere};
 
-use crate::moves::Move;
 use lrgrammar::grammar::YaccGrammar;
 use lrgrammar::idx::{IndexStorage, PIdx, StIdx, Symbol, TIdx};
+use lrmoves::Move;
 use lrtable::StateGraph;
 use lrtree::Tree;
 use std::alloc::{AllocError, Global};

@@ -1,13 +1,2 @@
--- searches over plain data
-pub mod FinishedSearches
-pub mod StepsServed
-pub mod RestsInTurn
-pub mod NeedFacts
-pub mod ClosesInTurn
-pub mod StepsOfPlaces
-pub mod RowsInTurn
-pub mod UsesInTurn
-pub mod TrailsInTurn
-pub mod FingerprintsInTurn
+-- lemmas of contests
 pub mod ReasonsOfPlaces
-pub mod TurnsOfSearch

@@ -24,9 +24,9 @@ use Rattle.lrspec.proofs.tables.ListedConflicts.{listed_mix, listed_pair}
 use Rattle.lrspec.proofs.tables.ConflictsAreContested.{shifts_contested}
 use Rattle.lrclosing.proofs.WalksOverItems.{first_or_rest}
 use Rattle.lrclosing.proofs.MarkedProductions.{below_of_bit}
-use Rattle.lrcontests.specs.Searches.{Met, Look, Place, Serves, AreLooking, IsAnswer}
+use Rattle.lrsearches.specs.Searches.{Met, Look, Place, Serves, AreLooking, IsAnswer}
 use Rattle.lrcontests.specs.Contests.{IsShiftContest, IsReductionContest, HasNoReductionContest, IsReason, IsReasonIfAny, at_state, AreStartsBelow}
-use Rattle.lrcontests.proofs.FinishedSearches.{looking}
+use Rattle.lrsearches.proofs.FinishedSearches.{looking}
 
 -- two item sets with the core after one list have the same items
 same_of_cores : {g : Grammar} {w : List Symbol} (a b : Items) → HasCoreAfter g w a → HasCoreAfter g w b → SameItems a b

@@ -5,7 +5,7 @@ use Rattle.lrspec.specs.grammars.Candidates.{Shift, Reduce, IsCandidate}
 use Rattle.lrspec.specs.merging.Cores.{HasCoreAfter}
 use Rattle.lrspec.specs.merging.Graph.{Graph, core_of}
 use Rattle.lrspec.specs.merging.WeakCompatibility.{SameItems}
-use Rattle.lrcontests.specs.Searches.{Place, IsMet, AreLooking}
+use Rattle.lrsearches.specs.Searches.{Place, IsMet, AreLooking}
 
 -- a grammar and a graph of it
 pub record Contested : Type 0 where

@@ -1,10 +1,2 @@
 -- the files of definitions
-pub mod Searches
-pub mod StoredPlaces
-pub mod StoredUses
-pub mod Rests
-pub mod Fingerprints
-pub mod StoredWays
-pub mod PlaceOrder
-pub mod Trails
 pub mod Contests

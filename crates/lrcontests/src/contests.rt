@@ -9,20 +9,17 @@ ghost use Rattle.lrspec.specs.tables.Table.{shift_reduce_of, reduce_reduce_of};
 ghost use Rattle.lrspec.specs.tables.Conflicts.{AreReductionsContested};
 ghost use Rattle.lrgrammar.specs.Symbols.{symbol_of};
 ghost use Rattle.lritems.specs.ItemsOf.{set_of};
-ghost use Rattle.lrcontests.specs.Searches as search;
-ghost use Rattle.lrcontests.specs.Searches.{AreLooking};
-ghost use Rattle.lrcontests.specs.StoredPlaces.{need_of, place_of};
-ghost use Rattle.lrcontests.specs.StoredWays.{AreWaysOf};
+ghost use Rattle.lrsearches.specs.Searches as search;
+ghost use Rattle.lrsearches.specs.Searches.{AreLooking};
+ghost use Rattle.lrsearches.specs.StoredPlaces.{need_of, place_of};
+ghost use Rattle.lrsearches.specs.StoredWays.{AreWaysOf};
 ghost use Rattle.lrcontests.specs.Contests.{IsShiftContest, IsReductionContest, HasNoReductionContest, IsReasonIfAny, AreStartsBelow};
 
-use crate::places::{Need, Place};
-use crate::search::shortest_list;
-use crate::steps::are_looking;
-use crate::ways::Ways;
 use lrgrammar::grammar::YaccGrammar;
 use lrgrammar::idx::{IndexStorage, PIdx, StIdx, Symbol, TIdx};
 use lrgraphs::stategraph::StateGraph;
 use lritems::itemset::Itemset;
+use lrsearches::{Need, Place, Ways, are_looking, shortest_list};
 use std::alloc::AllocError;
 use std::marker::Model;
 
@@ -38,7 +35,7 @@ impl<'a, T: IndexStorage> Model for Contests<'a, T> {
     ghost use Rattle.std.specs.Prelude.{◌≡◌};
     ghost use Rattle.lrspec.specs.merging.Graph.{IsGraphOf, core_of};
     ghost use Rattle.lrcontests.specs.Contests.{Contested};
-    ghost use Rattle.lrcontests.specs.StoredWays.{AreWaysOf};
+    ghost use Rattle.lrsearches.specs.StoredWays.{AreWaysOf};
 
     ghost Value = { Contested };
 

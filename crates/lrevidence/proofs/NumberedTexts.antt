@@ -9,7 +9,7 @@ use Rattle.lrforms.specs.declared.ambiguous.Conflict.{Conflict}
 use Rattle.lrreasons.specs.declared.ambiguities.ProvedAmbiguity.{ProvedAmbiguity}
 use Rattle.lrreasons.specs.Ambiguities.{IsProofOf}
 use Rattle.lrevidence.specs.declared.ambiguities.Ambiguity.{Ambiguity}
-use Rattle.lrevidence.specs.Steps.{moves_by}
+use Rattle.lrshown.specs.Steps.{moves_by}
 use Rattle.lrevidence.specs.Ambiguities.{HasTwoTrees}
 
 -- where its steps are the moves of one that is proved, its text has both trees of that

@@ -1,12 +1,14 @@
 -- texts with two trees
-use Rattle.std.specs.Prelude.{◌≢◌, List, ◌++◌, All, IfSome}
+use Rattle.std.specs.Prelude.{◌≢◌, ℕ, ◌-◌, List, ◌++◌, All, IfSome}
 use Rattle.std.specs.Option.{ForSome}
 use Rattle.lrspec.specs.grammars.Grammar.{Grammar}
 use Rattle.lrspec.specs.grammars.Trees.{Tree}
+use Rattle.lryacc.specs.declared.numbering.FileGrammar.{FileGrammar}
 use Rattle.lrambiguity.specs.Moves.{IsTreeBy}
 use Rattle.lrevidence.specs.declared.ambiguities.Ambiguity.{Ambiguity}
 use Rattle.lrevidence.specs.declared.evidence.Evidence.{Evidence}
-use Rattle.lrevidence.specs.Steps.{moves_by}
+use Rattle.lrshown.specs.Steps.{moves_by, shifts}
+use Rattle.lrshown.specs.ShownTexts.{choosing, start_of_text}
 
 -- by its steps the text has two trees, which differ
 pub record HasTwoTrees (g : Grammar) (a : Ambiguity) : Type 0 where
@@ -28,3 +30,7 @@ IsShown g a = ∥ HasTwoTrees g a ∥₁
 
 abbrev pub AreShown : Grammar → List Evidence → Type 0
 AreShown g evidence = All (λ e. ForSome e.ambiguity (IsShown g)) evidence
+
+-- how many tokens of what is shown stand before the dot
+abbrev pub shown_dot : FileGrammar → Ambiguity → ℕ
+shown_dot file a = shifts a.trees.before.items - choosing (start_of_text file a.tokens.items)

@@ -1,5 +1,3 @@
--- steps, texts with two trees and what is shown of them, and entries that a table lists
-pub mod Steps
+-- texts with two trees, and entries that a table lists
 pub mod Ambiguities
-pub mod ShownTexts
 pub mod Entries

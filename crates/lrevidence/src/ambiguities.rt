@@ -4,15 +4,14 @@ ghost use Rattle.std.specs.Prelude.{◌≡◌, map, IfOk, IfSome};
 ghost use Rattle.lrtable.specs.RunAnswers.{text_of};
 ghost use Rattle.lrambiguity.specs.StoredMoves.{moves_stored};
 ghost use Rattle.lrambiguity.specs.StoredAmbiguities.{IsAmbiguity};
-ghost use Rattle.lrevidence.specs.Steps.{moves_by};
-ghost use Rattle.lrevidence.specs.Ambiguities.{HasTwoTrees};
-ghost use Rattle.lrevidence.specs.ShownTexts.{start_of_text, shown_dot};
+ghost use Rattle.lrshown.specs.Steps.{moves_by};
+ghost use Rattle.lrevidence.specs.Ambiguities.{HasTwoTrees, shown_dot};
+ghost use Rattle.lrshown.specs.ShownTexts.{start_of_text};
 
-use crate::names::start_of;
-use crate::steps::{TwoTrees, steps_of};
 use lrgrammar::grammar::PartSymbol;
 use lrgrammar::idx::{IndexStorage, TIdx};
 use lrreasons::{Conflict, Form, ProvedAmbiguity, Reasons};
+use lrshown::{TwoTrees, start_of, steps_of};
 use lryacc::FileGrammar;
 use std::alloc::{AllocError, Global};
 

@@ -1,7 +1,7 @@
 //! Conflicts of a graph, by the numbers of a file.
 
 ghost use Rattle.std.specs.Prelude.{◌≡◌, IfSome, option_map};
-ghost use Rattle.lrreasons.specs.Entries.{entry_of, entry_by};
+ghost use Rattle.lrentries.specs.Entries.{entry_of, entry_by};
 
 use lrfindings::Entry;
 use lrgrammar::idx::{IndexStorage, PIdx, StIdx, TIdx};

@@ -3,7 +3,7 @@
 ghost use Rattle.std.specs.Prelude.{◌≡◌, ◌∷◌, [], ◌++◌, map, All, IfOk, IfSome, OnOk, MatchOption};
 ghost use Rattle.lrspec.specs.merging.Graph.{IsGraphOf};
 ghost use Rattle.lrspec.specs.tables.Conflicts.{AreReductionsContested};
-ghost use Rattle.lrreasons.specs.Entries.{entry_of, IsListed};
+ghost use Rattle.lrentries.specs.Entries.{entry_of, IsListed};
 ghost use Rattle.lrevidence.specs.Ambiguities.{HasTwoTrees, IsProved};
 ghost use Rattle.lrevidence.specs.Entries.{AreListedIn};
 

@@ -6,16 +6,11 @@ mod ambiguities;
 mod conflicts;
 mod evidence;
 mod examples;
-mod names;
-mod steps;
-mod trees;
 
 pub use crate::ambiguities::Ambiguity;
 pub use crate::evidence::{Effort, Evidence, evidence_for, find_ambiguity};
 pub use crate::examples::{Example, Outlook};
-pub use crate::names::{
-    body_of, list_of, name_of_rule, names_of, names_of_tokens, rule_name, start_of, symbol_name,
-    text_of, token_name,
+pub use lrshown::{
+    Node, Step, Tree, TwoTrees, Visit, body_of, list_of, name_of_rule, names_of, names_of_tokens,
+    rule_name, start_of, symbol_name, text_of, token_name,
 };
-pub use crate::steps::{Step, TwoTrees};
-pub use crate::trees::{Node, Tree, Visit};

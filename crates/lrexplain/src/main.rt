@@ -7,7 +7,7 @@
 ghost use Rattle.std.specs.Prelude.{◌≡◌};
 ghost use Rattle.lrspec.specs.merging.Graph.{IsGraphOf};
 ghost use Rattle.lrspec.specs.tables.Conflicts.{AreReductionsContested};
-ghost use Rattle.lrreasons.specs.Entries.{lists_in};
+ghost use Rattle.lrentries.specs.Entries.{lists_in};
 
 mod problems;
 

@@ -1,8 +1,4 @@
--- lemmas: of entries and what is found of them; then of their texts
-pub mod AddedEntries
-pub mod ListsOfGraphs
-pub mod EntryTokens
-pub mod ListedEntries
+-- lemmas: of what is found of entries; then of their texts
 pub mod PlainTokens
 pub mod ProvedOnes
 pub mod ReasonsInTurn

@@ -3,7 +3,7 @@ use Rattle.std.specs.Prelude.{◌≡◌, ◌≢◌, ℕ, List, ◌++◌, map, sl
 use Rattle.lrspec.specs.grammars.Grammar.{Grammar}
 use Rattle.lrspec.specs.merging.Graph.{Graph}
 use Rattle.lrgrammar.specs.Symbols.{symbol_of}
-use Rattle.lrambiguity.specs.declared.moves.Move as stored
+use Rattle.lrmoves.specs.declared.moves.Move as stored
 use Rattle.lrambiguity.specs.Derivations.{IsDerivedBy}
 use Rattle.lrambiguity.specs.StoredMoves.{moves_stored}
 use Rattle.lrambiguity.specs.StoredAmbiguities.{IsAmbiguity, AmbiguityPartsAt}

@@ -5,7 +5,7 @@ use Rattle.lrspec.specs.grammars.ItemSets.{IsBefore}
 use Rattle.lrspec.specs.merging.Graph.{Graph}
 use Rattle.lrgrammar.specs.Symbols.{symbol_of}
 use Rattle.lrtable.specs.RunAnswers.{text_of}
-use Rattle.lrambiguity.specs.declared.moves.Written.{Written}
+use Rattle.lrmoves.specs.declared.moves.Written.{Written}
 use Rattle.lrambiguity.specs.Moves.{Move, Shift, Reduce}
 use Rattle.lrambiguity.specs.StoredMoves.{moves_stored}
 use Rattle.lrambiguity.specs.Inputs.{IsReadAs, GoesOn}
@@ -13,7 +13,7 @@ use Rattle.lrambiguity.specs.Nesting.{Nests}
 use Rattle.lrambiguity.specs.StoredItems.{items_of}
 use Rattle.lrforms.specs.declared.outlooks.Outlook.{Outlook}
 use Rattle.lrreasons.specs.declared.examples.Example.{Example}
-use Rattle.lrreasons.specs.Entries.{Entry, token_of, one_of, other_of, IsRealAfter, IsNowhereReal}
+use Rattle.lrentries.specs.Entries.{Entry, token_of, one_of, other_of, IsRealAfter, IsNowhereReal}
 
 -- the list derives the text by its moves
 abbrev pub IsTextOf : {T : Type 0} → (T → ℕ) → Grammar → List Symbol → Written T → Type 0

@@ -1,5 +1,4 @@
 -- the files of definitions
-pub mod Entries
 pub mod Examples
 pub mod Ambiguities
 pub mod Reasons

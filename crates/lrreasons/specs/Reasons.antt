@@ -3,7 +3,7 @@ use Rattle.std.specs.Prelude.{ℕ, IfSome, IsSome, ◌⊎◌}
 use Rattle.lrspec.specs.grammars.Grammar.{Grammar}
 use Rattle.lrspec.specs.merging.Graph.{Graph}
 use Rattle.lrreasons.specs.declared.reasons.Reason.{Reason}
-use Rattle.lrreasons.specs.Entries.{entry_of}
+use Rattle.lrentries.specs.Entries.{entry_of}
 use Rattle.lrreasons.specs.Examples.{IsExampleOf}
 use Rattle.lrreasons.specs.Ambiguities.{IsProofOf}
 

@@ -6,7 +6,7 @@ use Rattle.lrgrammar.specs.declared.idx.TIdx.{TIdx}
 use Rattle.lrspec.specs.texts.PrintedTexts.{rule_name}
 use Rattle.lrgrammar.specs.Symbols.{symbol_of}
 use Rattle.lrambiguity.specs.declared.ambiguities.Ambiguity.{Ambiguity}
-use Rattle.lrambiguity.specs.declared.moves.Written.{Written}
+use Rattle.lrmoves.specs.declared.moves.Written.{Written}
 use Rattle.lrambiguity.specs.Moves.{Move, Reduce}
 use Rattle.lrambiguity.specs.StoredItems.{items_of}
 use Rattle.lrambiguity.specs.StoredMoves.{move_of, moves_stored}
@@ -20,7 +20,7 @@ use Rattle.lrreasons.specs.Words.{words_of, first_words, with_dot}
 use Rattle.lrreasons.specs.Lines.{line_text}
 use Rattle.lrreasons.specs.Brackets.{bracketed_words}
 use Rattle.lrreasons.specs.StoredForms.{form_words}
-use Rattle.lrreasons.specs.Entries.{entry_of, other_of}
+use Rattle.lrentries.specs.Entries.{entry_of, other_of}
 use Rattle.lrreasons.specs.Texts.{conflict_line, is_same_move, move_label, contest_text, shifts, item_line, is_rule, before_line, other_token_text, likewise_line}
 
 -- the words of tokens

@@ -6,11 +6,11 @@ ghost use Rattle.std.specs.String.{string_bytes};
 ghost use Rattle.lrreasons.specs.Texts as told;
 ghost use Rattle.lrreasons.specs.StoredTexts as stored;
 
-use crate::conflicts::other_move;
 use crate::lines::push_line;
 use crate::reasons::Reason;
 use crate::texts::{INDENT, is_same_move, push_reason};
 use crate::words::symbol_word;
+use lrentries::other_move;
 use lrgrammar::grammar::YaccGrammar;
 use lrgrammar::idx::{IndexStorage, Symbol};
 use std::alloc::AllocError;

@@ -5,7 +5,6 @@
 mod ambiguities;
 mod brackets;
 mod candidates;
-mod conflicts;
 mod examples;
 mod groups;
 mod lines;
@@ -18,6 +17,7 @@ mod words;
 pub use crate::ambiguities::ProvedAmbiguity;
 pub use crate::examples::Example;
 pub use crate::precedences::drop_precedences;
-pub use crate::reasons::{Examples, Reason, Reasons, Verdict, take_apart};
+pub use crate::reasons::{Examples, Reason, Reasons, take_apart};
 pub use lrambiguity::{Ambiguity, Contest, Move, Written};
+pub use lrentries::Verdict;
 pub use lrforms::{Conflict, Form, Outlook, Ways};

@@ -11,20 +11,20 @@ ghost use Rattle.lrgrammar.specs.Symbols.{symbol_of};
 ghost use Rattle.lrtable.specs.RunAnswers.{text_of as tokens_of};
 ghost use Rattle.lrtree.specs.StoredTrees.{tree_of};
 ghost use Rattle.lrambiguity.specs.Moves.{IsTreeOfText};
-ghost use Rattle.lrreasons.specs.declared.reasons.Verdict.TheVariants.{Ambiguous};
-ghost use Rattle.lrreasons.specs.Entries.{entry_of, entries_of, one_of, other_of, token_of, lists_in, IsListed, IsRealAfter, IsNowhereReal};
+ghost use Rattle.lrentries.specs.declared.verdicts.Verdict.TheVariants.{Ambiguous};
+ghost use Rattle.lrentries.specs.Entries.{entry_of, entries_of, one_of, other_of, token_of, lists_in, IsListed, IsRealAfter, IsNowhereReal};
 ghost use Rattle.lrreasons.specs.Examples.{list_of, IsTextOf, IsOutlook, IsExampleOf};
 ghost use Rattle.lrreasons.specs.Ambiguities.{IsProofOf};
 ghost use Rattle.lrreasons.specs.Reasons.{IsReason};
 ghost use Rattle.lrreasons.specs.StoredTexts.{reason_text, reasons_text};
 
 use crate::ambiguities::{ProvedAmbiguity, prove};
-use crate::conflicts::{entries, other_move};
 use crate::examples::{Example, input, outlook};
 use crate::groups::push_reasons;
 use crate::texts::push_reason;
 use lrambiguity::Move;
 use lrcontests::Contests;
+use lrentries::{Verdict, entries, other_move};
 use lrforms::{Conflict, Forms};
 use lrgrammar::grammar::YaccGrammar;
 use lrgrammar::idx::{IndexStorage, Symbol, TIdx};
@@ -32,15 +32,6 @@ use lrtable::StateGraph;
 use lrtable::statetable::Conflicts;
 use std::alloc::AllocError;
 use std::marker::Model;
-
-/// What is known of a conflict.
-#[derive(Clone, Copy, Debug, PartialEq, Eq)]
-pub enum Verdict {
-    /// The grammar is ambiguous there: a text has two trees, which part at the conflict.
-    Ambiguous,
-    /// No such text was found in the steps allowed. That doesn't say that there is none.
-    NotKnown,
-}
 
 /// For which conflicts it is told after what they are real.
 #[derive(Clone, Copy, Debug, PartialEq, Eq)]
@@ -67,10 +58,7 @@ impl<T: IndexStorage> Reason<T> {
     pub fn verdict(&self) -> Verdict
         ensures { (result ≡ Ambiguous) ↔ IsSome self.now.ambiguity }
     {
-        match self.ambiguity {
-            Some(_) => Verdict::Ambiguous,
-            None => Verdict::NotKnown,
-        }
+        Verdict::of(self.ambiguity.is_some())
     }
 
     /// Its text, under the line of its conflict as the texts of a table's conflicts have it. The grammar is the table's. The

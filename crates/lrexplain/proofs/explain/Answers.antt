@@ -1,5 +1,5 @@
 use Rattle.std.proofs.Common.{◌∙◌}
-use Rattle.lrreasons.proofs.ListsOfGraphs.{lists_same}
+use Rattle.lrentries.proofs.ListsOfGraphs.{lists_same}
 use Rattle.lrexplain.proofs.explain.Goals as goal
 
 pub print_reasons-requires-clause-graph : goal.print_reasons-requires-clause-graph

@@ -2,8 +2,8 @@
 use Rattle.std.proofs.Common.{map}
 use Rattle.std.proofs.lemmas.List.Elements.{Contains-get_or}
 use Rattle.lrgrammar.specs.Symbols.{symbol_of}
-use Rattle.lrcontests.specs.StoredPlaces.{place_of}
-use Rattle.lrcontests.proofs.StepsOfPlaces.{contains_map}
+use Rattle.lrsearches.specs.StoredPlaces.{place_of}
+use Rattle.lrsearches.proofs.StepsOfPlaces.{contains_map}
 use Rattle.lrcontests.proofs.ReasonsOfPlaces.{reason_made}
 use Rattle.lrcontests.proofs.contests.shortest_reason.Goals as goal
 

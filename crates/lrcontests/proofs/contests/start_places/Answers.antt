@@ -2,8 +2,8 @@
 use Rattle.std.proofs.Common.{◌≡◌, ◌<◌, length, map, true, false, sym, ◌∙◌, arith}
 use Rattle.std.proofs.lemmas.List.{map-append}
 use Rattle.lrgrammar.proofs.Turns.{has_index, index_number}
-use Rattle.lrcontests.specs.StoredPlaces.{place_of}
-use Rattle.lrcontests.proofs.FingerprintsInTurn.{of_cores}
+use Rattle.lrsearches.specs.StoredPlaces.{place_of}
+use Rattle.lrsearches.proofs.FingerprintsInTurn.{of_cores}
 use Rattle.lrcontests.proofs.ReasonsOfPlaces.{next_start, other_start}
 use Rattle.lrcontests.proofs.contests.start_places.Goals as goal
 use Rattle.lrcontests.proofs.contests.start_places.Goals.{then-index-fingerprint+then-is_start+in_ok-push, then-index-fingerprint+else-is_start, else-index-fingerprint}

@@ -1,6 +1,6 @@
 -- the places at the states so far
 use Rattle.std.proofs.Common.{map}
-use Rattle.lrcontests.specs.StoredPlaces.{place_of}
+use Rattle.lrsearches.specs.StoredPlaces.{place_of}
 use Rattle.lrcontests.specs.Contests.{AreStartsBelow}
 use Rattle.lrcontests.proofs.contests.start_places.Given as goal
 

@@ -1,5 +1,5 @@
 use Rattle.std.proofs.Common.{◌∙◌}
-use Rattle.lrreasons.proofs.ListsOfGraphs.{lists_same}
+use Rattle.lrentries.proofs.ListsOfGraphs.{lists_same}
 use Rattle.lrexamples.proofs.explanations.explain.Goals as goal
 
 pub reasons-requires-clause-lists : goal.reasons-requires-clause-lists

@@ -1,6 +1,6 @@
 use Rattle.std.proofs.Common.{◌≡◌, ◌++◌}
 use Rattle.std.specs.String.{string_bytes}
-use Rattle.lrreasons.specs.Entries.{entry_of}
+use Rattle.lrentries.specs.Entries.{entry_of}
 use Rattle.lrreasons.specs.Texts.{conflict_line}
 use Rattle.lrreasons.specs.StoredTexts.{verdict_text, example_text}
 use Rattle.lrreasons.proofs.Pieces.{two_pieces, last_of_two}

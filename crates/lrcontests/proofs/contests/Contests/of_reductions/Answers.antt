@@ -6,8 +6,8 @@ use Rattle.lrspec.specs.tables.Table.{reduce_reduce_of}
 use Rattle.lrspec.specs.tables.Conflicts.{AreReductionsContested}
 use Rattle.lrgrammar.specs.Symbols.{symbol_of}
 use Rattle.lrgrammar.proofs.Turns.{has_index, index_number}
-use Rattle.lrcontests.specs.Searches.{Place}
-use Rattle.lrcontests.specs.StoredPlaces.{need_of}
+use Rattle.lrsearches.specs.Searches.{Place}
+use Rattle.lrsearches.specs.StoredPlaces.{need_of}
 use Rattle.lrcontests.specs.Contests.{IsReason, IsReductionContest, HasNoReductionContest}
 use Rattle.lrcontests.proofs.ReasonsOfPlaces.{pair_below, pair_contest, pair_none, pair_some, none_below}
 use Rattle.lrcontests.proofs.contests.Contests.of_reductions.Given as given

@@ -4,8 +4,8 @@ use Rattle.std.specs.Prelude.{Contains}
 use Rattle.lrspec.specs.grammars.Grammar.{token_count}
 use Rattle.lrspec.specs.tables.Table.{shift_reduce_of}
 use Rattle.lrgrammar.specs.Symbols.{symbol_of}
-use Rattle.lrcontests.specs.Searches.{Place, Met}
-use Rattle.lrcontests.specs.StoredPlaces.{need_of}
+use Rattle.lrsearches.specs.Searches.{Place, Met}
+use Rattle.lrsearches.specs.StoredPlaces.{need_of}
 use Rattle.lrcontests.proofs.ReasonsOfPlaces.{mix_below, mix_reason, mix_contest, some_of_map}
 use Rattle.lrcontests.proofs.contests.Contests.of_shift.Given as given
 use Rattle.lrcontests.proofs.contests.Contests.of_shift.Goals as goal

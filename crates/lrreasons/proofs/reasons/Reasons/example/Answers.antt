@@ -1,5 +1,5 @@
 use Rattle.std.specs.Option.{option_map}
-use Rattle.lrreasons.proofs.EntryTokens.{one_is}
+use Rattle.lrentries.proofs.EntryTokens.{one_is}
 use Rattle.lrreasons.proofs.reasons.Reasons.example.Goals as goal
 
 pub returns-clause-one : goal.returns-clause-one

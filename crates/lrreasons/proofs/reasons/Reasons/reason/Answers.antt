@@ -1,6 +1,6 @@
 use Rattle.std.proofs.Common.{inr, refl}
 use Rattle.std.specs.Option.{option_map}
-use Rattle.lrreasons.proofs.EntryTokens.{token_is}
+use Rattle.lrentries.proofs.EntryTokens.{token_is}
 use Rattle.lrreasons.proofs.reasons.Reasons.reason.Goals as goal
 
 pub returns-in-Ok-clause-reason : goal.returns-in-Ok-clause-reason

@@ -1,9 +1,9 @@
 use Rattle.std.proofs.Common.{refl, ap, arith}
 use Rattle.std.specs.Prelude.{slice_index_or}
 use Rattle.lrcells.proofs.HeadedTexts.{image_listed}
-use Rattle.lrreasons.specs.Entries.{entry_of, entries_of}
+use Rattle.lrentries.specs.Entries.{entry_of, entries_of}
 use Rattle.lrreasons.specs.Reasons.{IsReason}
-use Rattle.lrreasons.proofs.ListedEntries.{entries_listed}
+use Rattle.lrentries.proofs.ListedEntries.{entries_listed}
 use Rattle.lrreasons.proofs.ProvedOnes.{follows_of_some, is_ambiguous}
 use Rattle.lrreasons.proofs.ReasonsInTurn.{one_more, all_more}
 use Rattle.lrreasons.proofs.reasons.Reasons.reasons.Goals as goal

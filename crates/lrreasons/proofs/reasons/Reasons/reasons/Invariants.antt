@@ -1,7 +1,7 @@
 -- those so far
 use Rattle.std.proofs.Common.{◌≡◌, map, take}
 use Rattle.std.specs.Prelude.{All}
-use Rattle.lrreasons.specs.Entries.{entry_of, entries_of}
+use Rattle.lrentries.specs.Entries.{entry_of, entries_of}
 use Rattle.lrreasons.specs.Reasons.{IsReason}
 use Rattle.lrreasons.proofs.reasons.Reasons.reasons.Given as goal
 

@@ -1,0 +1,5 @@
+-- lemmas of entries
+pub mod AddedEntries
+pub mod ListsOfGraphs
+pub mod EntryTokens
+pub mod ListedEntries

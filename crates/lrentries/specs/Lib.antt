@@ -1,0 +1,2 @@
+-- the files of definitions
+pub mod Entries

@@ -1,7 +1,0 @@
--- the start is not chosen by those so far
-use Rattle.std.proofs.Common.{◌≡◌, drop}
-use Rattle.lrevidence.specs.ShownTexts.{chosen_in}
-use Rattle.lrevidence.proofs.names.start_of.Given as goal
-
-abbrev pub invariant-loop-prod : goal.invariant-loop-prod
-invariant-loop-prod l = chosen_in l.prod-items l.symbol ≡ chosen_in (drop l.prod-index l.prod-items) l.symbol

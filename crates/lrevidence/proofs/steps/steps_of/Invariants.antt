@@ -1,8 +1,0 @@
--- those so far
-use Rattle.std.proofs.Common.{◌≡◌, take}
-use Rattle.lrambiguity.specs.StoredMoves.{moves_stored}
-use Rattle.lrevidence.specs.Steps.{moves_by}
-use Rattle.lrevidence.proofs.steps.steps_of.Given as goal
-
-abbrev pub invariant-loop-action : goal.invariant-loop-action
-invariant-loop-action g l = moves_by l.steps.items ≡ moves_stored g.T.IndexStorage.number (take l.action-index l.moves)

@@ -1,0 +1,6 @@
+-- the cores so far have their numbers
+use Rattle.lrsearches.proofs.FingerprintsInTurn.{AreFingerprintsBelow}
+use Rattle.lrsearches.proofs.fingerprints.fingerprints.Given as goal
+
+abbrev pub invariant-loop-number : goal.invariant-loop-number
+invariant-loop-number g l = AreFingerprintsBelow l.graph l.number l.fingerprints.items

@@ -1,0 +1,2 @@
+-- texts without their ends
+pub mod TextEnds

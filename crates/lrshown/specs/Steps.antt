@@ -1,0 +1,21 @@
+-- steps by which trees are put together
+use Rattle.std.specs.Prelude.{ℕ, List, Bool, true, false, map, count_by}
+use Rattle.lrambiguity.specs.Moves.{Move, Shift, Reduce}
+use Rattle.lrshown.specs.declared.steps.Step.{Step}
+use Rattle.lrshown.specs.declared.steps.Step.TheVariants as code
+
+-- the move that a step is
+abbrev pub move_by : Step → Move
+move_by code.Shift = Shift
+move_by (code.Reduce p) = Reduce p
+
+abbrev pub moves_by : List Step → List Move
+moves_by ss = map move_by ss
+
+abbrev pub is_shift : Step → Bool
+is_shift code.Shift = true
+is_shift (code.Reduce p) = false
+
+-- how many symbols become leaves
+abbrev pub shifts : List Step → ℕ
+shifts ss = count_by is_shift ss

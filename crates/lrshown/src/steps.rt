@@ -1,0 +1,70 @@
+//! Trees, by the steps that put them together.
+
+ghost use Rattle.std.specs.Prelude.{◌≡◌, map, IfOk};
+ghost use Rattle.lrambiguity.specs.StoredMoves.{move_of, moves_stored};
+ghost use Rattle.lrshown.specs.Steps.{move_by, moves_by, shifts};
+
+use lrambiguity::Move;
+use lrgrammar::idx::IndexStorage;
+use std::alloc::{AllocError, Global};
+
+/// A step by which trees are put together, from the leaves on.
+#[derive(Clone, Copy, Debug, PartialEq, Eq)]
+pub enum Step {
+    /// The next symbol becomes a leaf.
+    Shift,
+    /// A node of the production is put over the last trees, as many as its body has symbols.
+    Reduce(usize),
+}
+
+/// Two trees of the same symbols. Each is put together by the steps before the dot and then its own, of which the first one is
+/// where they part.
+#[derive(Debug, Drop)]
+pub struct TwoTrees {
+    /// Before the dot.
+    pub before: Vec<Step>,
+    /// Behind it, to the one tree.
+    pub one: Vec<Step>,
+    /// Behind it, to the other tree.
+    pub other: Vec<Step>,
+}
+
+impl TwoTrees {
+    /// How many symbols stand before the dot.
+    pub fn dot(&self) -> usize
+        ensures { result ≡ shifts self.now.before.items }
+    {
+        self.before
+            .iter()
+            .filter(|step| **step == Step::Shift)
+            .count()
+    }
+
+    /// The steps by which the trees part.
+    pub fn candidates(&self) -> (Step, Step) {
+        let one = self.one.first().copied().unwrap_or(Step::Shift);
+        let other = self.other.first().copied().unwrap_or(Step::Shift);
+        (one, other)
+    }
+}
+
+/// The step that a move is.
+fn step_of<T: IndexStorage>(action: Move<T>) -> Step
+    ensures { move_by result ≡ move_of T.number action }
+{
+    match action {
+        Move::Shift => Step::Shift,
+        Move::Reduce(production) => Step::Reduce(usize::from(production)),
+    }
+}
+
+/// The steps that moves are.
+pub fn steps_of<T: IndexStorage>(alloc: Global, moves: &[Move<T>]) -> Result<Vec<Step>, AllocError>
+    ensures { IfOk result (λ steps. moves_by steps.items ≡ moves_stored T.number moves.now) }
+{
+    let mut steps = Vec::new(alloc);
+    for action in moves {
+        steps.push(step_of(*action))?;
+    }
+    Ok(steps)
+}
