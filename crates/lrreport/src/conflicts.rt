@@ -6,6 +6,7 @@ ghost use Rattle.lrevidence.specs.Ambiguities.{HasTwoTrees, IsProved};
 ghost use Rattle.lrreport.specs.LeftOpen.{AreLeftOpen};
 
 use crate::options::Options;
+use crate::texts::names_of_entries;
 use lrdiagnostics::{Layout, Mark, Source, Style, Teller, comma_words};
 use lrevidence::{Ambiguity, Evidence, name_of_rule, token_name};
 use lrfindings::{Entry, Findings, is_among};
@@ -31,6 +32,20 @@ pub(crate) struct Checked<'a, T: IndexStorage> {
     /// What is known of what precedences settle, where that is asked for; else nothing.
     pub(crate) settled: &'a [Evidence],
     pub(crate) options: Options,
+}
+
+/// What is said where a state goes on by a shift: at the first such place, what follows from that too.
+fn shift_label(
+    alloc: Global,
+    is_first: bool,
+    is_start: bool,
+    so: &str,
+) -> Result<String, AllocError> {
+    match (is_first, is_start) {
+        (true, false) => format!(in alloc; "shift: or go on{so}"),
+        (true, true) => format!(in alloc; "shift: or the text ends here{so}"),
+        _ => String::from_str(alloc, "or go on here"),
+    }
 }
 
 impl<'a, T: IndexStorage> Checked<'a, T> {
@@ -99,13 +114,11 @@ impl<'a, T: IndexStorage> Checked<'a, T> {
         };
         Style::Bold.push(text, word, self.options.has_colours)?;
         write!(text, ": {kinds} at ")?;
-        let mut names = Vec::new(*text.allocator());
-        for entry in entries {
-            names.push(self.token_name(entry.token))?;
-        }
+        let alloc = *text.allocator();
+        let names = names_of_entries(alloc, self.file, entries)?;
+        let words = comma_words(alloc, names.as_slice())?;
         let indent = word.len().saturating_add(2);
         let column = indent.saturating_add(kinds.len()).saturating_add(4);
-        let words = comma_words(*text.allocator(), names.as_slice())?;
         let layout = Layout::new(self.options.is_plain);
         layout.push_words(text, words.as_slice(), column, indent)?;
         text.push('\n')
@@ -225,16 +238,12 @@ impl<'a, T: IndexStorage> Checked<'a, T> {
         let items = self.shifting_items(alloc, state, entries)?;
         let mut is_first = true;
         for (production, dot) in items.iter().take(GOING_ON) {
-            let label = match (is_first, self.is_start(*production)) {
-                (true, false) => format!(in alloc; "shift: or go on{so}")?,
-                (true, true) => format!(in alloc; "shift: or the text ends here{so}")?,
-                _ => String::from_str(alloc, "or go on here")?,
-            };
+            let is_start = self.is_start(*production);
             marks.push(Mark {
                 span: self.symbol_place(*production, *dot),
                 mark: '-',
                 style: Style::Blue,
-                label,
+                label: shift_label(alloc, is_first, is_start, so)?,
             })?;
             is_first = false;
         }

@@ -1,10 +1,11 @@
 //! How conflicts can be settled.
 
 use crate::conflicts::Checked;
-use lrdiagnostics::comma_words;
+use crate::texts::{push_names, push_words};
 use lrevidence::Evidence;
 use lrfindings::precedence_token;
 use lrgrammar::idx::IndexStorage;
+use lryacc::FileGrammar;
 use std::alloc::{AllocError, Global};
 
 /// How many tokens are named at the most.
@@ -23,13 +24,55 @@ struct Levels {
     has_production: bool,
 }
 
-/// Adds words that are parted by blanks.
-fn push_words(words: &mut Vec<String>, text: &str) -> Result<(), AllocError> {
-    let alloc = *words.allocator();
-    for word in text.split(' ') {
-        words.push(String::from_str(alloc, word)?)?;
+impl Levels {
+    /// The tokens that could be given a level: that of the production first.
+    fn lacking(&self, alloc: Global) -> Result<Vec<usize>, AllocError> {
+        let mut tokens = Vec::new(alloc);
+        tokens.extend(self.of_production)?;
+        for token in &self.without {
+            if self.of_production != Some(*token) {
+                tokens.push(*token)?;
+            }
+        }
+        Ok(tokens)
     }
-    Ok(())
+}
+
+/// Adds the names of tokens, unless these are many.
+fn push_tokens(
+    words: &mut Vec<String>,
+    file: &FileGrammar,
+    tokens: &[usize],
+) -> Result<(), AllocError> {
+    match tokens {
+        [one, other] => {
+            push_names(words, file, &[*one])?;
+            push_words(words, "and")?;
+            push_names(words, file, &[*other])
+        }
+        _ if tokens.len() > NAMED => push_words(words, "these tokens"),
+        _ => push_names(words, file, tokens),
+    }
+}
+
+/// Adds what settles a conflict with a shift, where neither side has a level: that the tokens are given some.
+fn push_given(
+    words: &mut Vec<String>,
+    file: &FileGrammar,
+    levels: &Levels,
+) -> Result<(), AllocError> {
+    let tokens = levels.lacking(*words.allocator())?;
+    push_words(words, "give")?;
+    push_tokens(words, file, tokens.as_slice())?;
+    push_words(
+        words,
+        match (levels.of_production, tokens.len()) {
+            (None, _) => "a level, and this production one by %prec,",
+            (Some(_), 1) => "a level by %left or %right",
+            (Some(_), _) => "levels",
+        },
+    )?;
+    push_words(words, "to settle it")
 }
 
 impl<T: IndexStorage> Checked<'_, T> {
@@ -65,54 +108,14 @@ impl<T: IndexStorage> Checked<'_, T> {
         Some(token.precedence?.level)
     }
 
-    /// Adds the names of tokens, unless these are many.
-    fn push_tokens(&self, words: &mut Vec<String>, tokens: &[usize]) -> Result<(), AllocError> {
-        if tokens.len() > NAMED {
-            return push_words(words, "these tokens");
-        }
-        let alloc = *words.allocator();
-        if let [one, other] = tokens {
-            words.push(String::from_str(alloc, self.token_name(*one))?)?;
-            words.push(String::from_str(alloc, "and")?)?;
-            words.push(String::from_str(alloc, self.token_name(*other))?)?;
-            return Ok(());
-        }
-        let mut names = Vec::new(alloc);
-        for token in tokens {
-            names.push(self.token_name(*token))?;
-        }
-        for word in comma_words(alloc, names.as_slice())? {
-            words.push(word)?;
-        }
-        Ok(())
-    }
-
     /// How a conflict with a shift can be settled, where neither side has a level.
     fn push_help_without(
         &self,
         words: &mut Vec<String>,
         levels: &Levels,
     ) -> Result<(), AllocError> {
-        let alloc = *words.allocator();
-        let mut tokens = Vec::new(alloc);
-        tokens.extend(levels.of_production)?;
-        for token in &levels.without {
-            if levels.of_production != Some(*token) {
-                tokens.push(*token)?;
-            }
-        }
-        push_words(words, "give")?;
-        self.push_tokens(words, tokens.as_slice())?;
+        push_given(words, self.file, levels)?;
         let count = self.shifts();
-        push_words(
-            words,
-            match (levels.of_production, tokens.len()) {
-                (None, _) => "a level, and this production one by %prec,",
-                (Some(_), 1) => "a level by %left or %right",
-                (Some(_), _) => "levels",
-            },
-        )?;
-        push_words(words, "to settle it")?;
         if self.options.expected == Some(count as u64) {
             return Ok(());
         }
@@ -120,8 +123,8 @@ impl<T: IndexStorage> Checked<'_, T> {
             last.push(',')?;
         }
         push_words(words, "or say %expect")?;
-        words.push(format!(in alloc; "{count}")?)?;
-        Ok(())
+        let count = format!(in *words.allocator(); "{count}")?;
+        push_words(words, count.as_str())
     }
 
     /// How many conflicts with a shift there are.
@@ -145,7 +148,7 @@ impl<T: IndexStorage> Checked<'_, T> {
                 "both have one level of %precedence, which settles nothing between them: use %left, %right or %nonassoc",
             ),
             (false, true) => {
-                self.push_tokens(words, levels.without.as_slice())?;
+                push_tokens(words, self.file, levels.without.as_slice())?;
                 let has = if levels.without.len() == 1 {
                     "has"
                 } else {
@@ -158,7 +161,7 @@ impl<T: IndexStorage> Checked<'_, T> {
                 let Some(token) = levels.of_production else {
                     return push_words(words, "this production has no level: give it one by %prec");
                 };
-                self.push_tokens(words, &[token])?;
+                push_tokens(words, self.file, &[token])?;
                 push_words(
                     words,
                     "has no level: name it in %left or %precedence, or give this production one by %prec",

@@ -14,6 +14,7 @@ use crate::grammars::{grammar_object, productions_of_file, rules_of_file, tokens
 use crate::objects::{
     ConflictObject, FaultObject, FileObject, ItemObject, ProductionObject, SettledObject,
 };
+use crate::texts::names_of_entries;
 use crate::trees::alternatives;
 use lrdiagnostics::Source;
 use lrevidence::{Ambiguity, Evidence, body_of, names_of};
@@ -240,19 +241,6 @@ impl<'a, T: IndexStorage> Checked<'a, T> {
         Ok(objects)
     }
 
-    /// The names of the tokens of entries.
-    fn names_of_tokens(
-        &self,
-        alloc: Global,
-        entries: &[Entry],
-    ) -> Result<Vec<&'a str>, AllocError> {
-        let mut names = Vec::new(alloc);
-        for entry in entries {
-            names.push(self.token_name(entry.token))?;
-        }
-        Ok(names)
-    }
-
     /// What the table does where this meets.
     fn chosen(&self, entry: &Entry) -> &'static str {
         let (Some(state), Some(token)) = (T::from_usize(entry.state), T::from_usize(entry.token))
@@ -285,7 +273,7 @@ impl<'a, T: IndexStorage> Checked<'a, T> {
                 None => "shift/reduce",
             },
             state: entry.state,
-            tokens: self.names_of_tokens(alloc, entries.as_slice())?,
+            tokens: names_of_entries(alloc, self.file, entries.as_slice())?,
             reduce: self.production_object(alloc, entry.production)?,
             shift: match entry.other {
                 Some(_) => None,
@@ -374,7 +362,7 @@ impl<'a, T: IndexStorage> Checked<'a, T> {
         Ok(SettledObject {
             kind: "shift/reduce",
             state: first.state,
-            tokens: self.names_of_tokens(alloc, entries)?,
+            tokens: names_of_entries(alloc, self.file, entries)?,
             reduce: self.production_object(alloc, first.production)?,
             shift: self.shift_objects(alloc, first.state, entries)?,
             winner: word_of_winner(winner),

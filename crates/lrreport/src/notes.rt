@@ -5,8 +5,10 @@ ghost use Rattle.lrevidence.specs.Ambiguities.{HasTwoTrees, IsProved};
 
 use crate::conflicts::Checked;
 use crate::drawings::push_drawing;
-use crate::texts::{from_start, labels, list_words, shortened, text_words, tree_words};
-use lrdiagnostics::{Layout, Mark, comma_words, push_blanks};
+use crate::texts::{
+    from_start, labels, list_words, push_names, push_words, shortened, text_words, tree_words,
+};
+use lrdiagnostics::{Layout, Mark, push_blanks};
 use lrevidence::{
     Ambiguity, Evidence, Example, Outlook, Step, Tree, TwoTrees, list_of, names_of_tokens,
     start_of, text_of,
@@ -35,11 +37,8 @@ impl Notes {
 
     /// Adds a note of these words, which are parted by blanks.
     fn push_text(self, text: &mut String, words: &str) -> Result<(), AllocError> {
-        let alloc = *text.allocator();
-        let mut list = Vec::new(alloc);
-        for word in words.split(' ') {
-            list.push(String::from_str(alloc, word)?)?;
-        }
+        let mut list = Vec::new(*text.allocator());
+        push_words(&mut list, words)?;
         self.push(text, list.as_slice())
     }
 
@@ -105,6 +104,17 @@ impl Labels {
     }
 }
 
+/// The tokens of the entries for which there is no text with two trees.
+fn unknown(alloc: Global, meeting: &[Evidence]) -> Result<Vec<usize>, AllocError> {
+    let mut tokens = Vec::new(alloc);
+    for evidence in meeting {
+        if evidence.ambiguity.is_none() {
+            tokens.push(evidence.entry.token)?;
+        }
+    }
+    Ok(tokens)
+}
+
 /// Whether each of the entries has a text with two trees.
 fn have_texts(meeting: &[Evidence]) -> bool
     ensures { IsTrue result → All (λ evidence. IsSome evidence.ambiguity) meeting.now }
@@ -149,13 +159,14 @@ impl<T: IndexStorage> Checked<'_, T> {
         let alloc = *text.allocator();
         let (one, other) = Tree::both(alloc, self.file, trees)?;
         let labels = Labels::new(alloc, self.file, trees.candidates(), ":")?;
-        let dot = trees.dot();
-        if labels.is_other_first {
-            self.push_tree(text, notes, labels.other.as_str(), &other, dot)?;
-            return self.push_tree(text, notes, labels.one.as_str(), &one, dot);
-        }
-        self.push_tree(text, notes, labels.one.as_str(), &one, dot)?;
-        self.push_tree(text, notes, labels.other.as_str(), &other, dot)
+        let (one, other) = ((labels.one.as_str(), &one), (labels.other.as_str(), &other));
+        let (first, second) = if labels.is_other_first {
+            (other, one)
+        } else {
+            (one, other)
+        };
+        self.push_tree(text, notes, first.0, first.1, trees.dot())?;
+        self.push_tree(text, notes, second.0, second.1, trees.dot())
     }
 
     /// Adds a text with two trees, and both.
@@ -202,8 +213,7 @@ impl<T: IndexStorage> Checked<'_, T> {
         let alloc = *text.allocator();
         let name = self.token_name(token);
         let mut words = Vec::new(alloc);
-        words.push(String::from_str(alloc, "also")?)?;
-        words.push(String::from_str(alloc, "at")?)?;
+        push_words(&mut words, "also at")?;
         words.push(format!(in alloc; "{name}:")?)?;
         for word in text_words(alloc, self.file, ambiguity)? {
             words.push(word)?;
@@ -218,20 +228,10 @@ impl<T: IndexStorage> Checked<'_, T> {
         notes: Notes,
         meeting: &[Evidence],
     ) -> Result<(), AllocError> {
-        let alloc = *text.allocator();
-        let mut names = Vec::new(alloc);
-        for evidence in meeting {
-            if evidence.ambiguity.is_none() {
-                names.push(self.token_name(evidence.entry.token))?;
-            }
-        }
-        let mut words = Vec::new(alloc);
-        for word in "not known to be ambiguous at".split(' ') {
-            words.push(String::from_str(alloc, word)?)?;
-        }
-        for word in comma_words(alloc, names.as_slice())? {
-            words.push(word)?;
-        }
+        let tokens = unknown(*text.allocator(), meeting)?;
+        let mut words = Vec::new(*text.allocator());
+        push_words(&mut words, "not known to be ambiguous at")?;
+        push_names(&mut words, self.file, tokens.as_slice())?;
         notes.push(text, words.as_slice())
     }
 
@@ -301,12 +301,11 @@ impl<T: IndexStorage> Checked<'_, T> {
         notes.push_labelled(text, label, words.as_slice())
     }
 
-    /// Adds after what an entry is real, and how the text goes on.
-    fn push_example(
+    /// Adds after what an entry is real.
+    fn push_list(
         &self,
         text: &mut String,
         notes: Notes,
-        entry: &Entry,
         example: &Example,
     ) -> Result<(), AllocError> {
         let alloc = *text.allocator();
@@ -319,10 +318,21 @@ impl<T: IndexStorage> Checked<'_, T> {
         notes.push_text(text, why.as_str())?;
         let list = list_of(self.file, example.list.as_slice());
         let words = list_words(alloc, self.file, list, example.token)?;
-        notes.push_shown(text, words.as_slice())?;
+        notes.push_shown(text, words.as_slice())
+    }
+
+    /// Adds after what an entry is real, and how the text goes on.
+    fn push_example(
+        &self,
+        text: &mut String,
+        notes: Notes,
+        entry: &Entry,
+        example: &Example,
+    ) -> Result<(), AllocError> {
+        self.push_list(text, notes, example)?;
         let other = entry.other.map_or(Step::Shift, Step::Reduce);
         let candidates = (Step::Reduce(entry.production), other);
-        let labels = Labels::new(alloc, self.file, candidates, ", and go on:")?;
+        let labels = Labels::new(*text.allocator(), self.file, candidates, ", and go on:")?;
         self.push_outlook(text, notes, labels.one.as_str(), example.one.as_ref())?;
         self.push_outlook(text, notes, labels.other.as_str(), example.other.as_ref())
     }

@@ -5,6 +5,7 @@
 
 use crate::actions::push_targets;
 use crate::conflicts::Checked;
+use crate::texts::push_word;
 use lrdiagnostics::{Layout, push_blanks};
 use lrevidence::{body_of, symbol_name};
 use lrfindings::{Counts, Entry, Winner};
@@ -36,6 +37,16 @@ fn add_entry(
     } else {
         lists.insert(entry.state, vec![in alloc; entry]?)?;
     }
+    Ok(())
+}
+
+/// Adds the lines of a block, if it has some, behind an empty one, and lets it begin anew.
+fn push_block(text: &mut String, block: &mut String) -> Result<(), AllocError> {
+    if !block.is_empty() {
+        text.push('\n')?;
+        text.push_str(block.as_str())?;
+    }
+    block.clear();
     Ok(())
 }
 
@@ -130,13 +141,12 @@ impl<'a, T: IndexStorage> Listing<'a, T> {
         let mut words = vec![in alloc; format!(in alloc; "{rule}:")?]?;
         for at in 0..symbols.len() {
             if at == dot {
-                words.push(String::from_str(alloc, ".")?)?;
+                push_word(&mut words, ".")?;
             }
-            let name = symbol_name(self.checked.file, symbols[at]);
-            words.push(String::from_str(alloc, name)?)?;
+            push_word(&mut words, symbol_name(self.checked.file, symbols[at]))?;
         }
         if symbols.len() <= dot {
-            words.push(String::from_str(alloc, ".")?)?;
+            push_word(&mut words, ".")?;
         }
         Ok(words)
     }
@@ -190,25 +200,18 @@ impl<'a, T: IndexStorage> Listing<'a, T> {
     /// Adds a state: its number, the items of its core, and what the table does in it.
     fn push_state(&self, text: &mut String, state: StIdx<T>) -> Result<(), AllocError> {
         let alloc = *text.allocator();
-        let row = self.row(alloc, state)?;
-        let gotos = self.gotos(alloc, state)?;
-        let mut blocks = [
-            String::new(alloc),
-            String::new(alloc),
-            String::new(alloc),
-            String::new(alloc),
-        ];
-        self.push_items(&mut blocks[0], state)?;
-        push_targets(&mut blocks[1], row.shifts.as_slice(), "shift, and go to")?;
-        self.push_reducing(&mut blocks[2], state, &row)?;
-        push_targets(&mut blocks[3], gotos.as_slice(), "go to")?;
         write!(text, "State {}\n", usize::from(state))?;
-        for block in &blocks {
-            if !block.is_empty() {
-                text.push('\n')?;
-                text.push_str(block.as_str())?;
-            }
-        }
+        let mut block = String::new(alloc);
+        self.push_items(&mut block, state)?;
+        push_block(text, &mut block)?;
+        let row = self.row(alloc, state)?;
+        push_targets(&mut block, row.shifts.as_slice(), "shift, and go to")?;
+        push_block(text, &mut block)?;
+        self.push_reducing(&mut block, state, &row)?;
+        push_block(text, &mut block)?;
+        let gotos = self.gotos(alloc, state)?;
+        push_targets(&mut block, gotos.as_slice(), "go to")?;
+        push_block(text, &mut block)?;
         text.push_str("\n\n")
     }
 }

@@ -1,9 +1,11 @@
 //! Words of texts and of trees.
 
+use lrdiagnostics::comma_words;
 use lrevidence::{
     Ambiguity, Node, Step, Tree, Visit, name_of_rule, names_of, names_of_tokens, symbol_name,
     text_of, token_name,
 };
+use lrfindings::Entry;
 use lrgrammar::grammar::PartSymbol;
 use lryacc::FileGrammar;
 use std::alloc::{AllocError, Global};
@@ -12,26 +14,68 @@ use std::mem;
 /// How many words of a text or a tree are told on either side of the dot.
 const SIDE: usize = 40;
 
+/// Adds a word, in which blanks may be.
+pub(crate) fn push_word(words: &mut Vec<String>, word: &str) -> Result<(), AllocError> {
+    let word = String::from_str(*words.allocator(), word)?;
+    words.push(word)?;
+    Ok(())
+}
+
+/// Adds words that are parted by blanks.
+pub(crate) fn push_words(words: &mut Vec<String>, text: &str) -> Result<(), AllocError> {
+    for word in text.split(' ') {
+        push_word(words, word)?;
+    }
+    Ok(())
+}
+
+/// Adds the names of tokens, with a comma behind each but the last.
+pub(crate) fn push_names(
+    words: &mut Vec<String>,
+    file: &FileGrammar,
+    tokens: &[usize],
+) -> Result<(), AllocError> {
+    let alloc = *words.allocator();
+    let names = names_of_tokens(alloc, file, tokens)?;
+    for word in comma_words(alloc, names.as_slice())? {
+        words.push(word)?;
+    }
+    Ok(())
+}
+
+/// The names of the tokens of entries.
+pub(crate) fn names_of_entries<'a>(
+    alloc: Global,
+    file: &'a FileGrammar,
+    entries: &[Entry],
+) -> Result<Vec<&'a str>, AllocError> {
+    let mut names = Vec::new(alloc);
+    for entry in entries {
+        names.push(token_name(file, entry.token))?;
+    }
+    Ok(names)
+}
+
 /// Words with a dot among them; but those that stand far from it are left out.
 fn words_with_dot(alloc: Global, names: &[&str], dot: usize) -> Result<Vec<String>, AllocError> {
     let (first, last) = (dot.saturating_sub(SIDE), dot.saturating_add(SIDE));
     let mut words = Vec::new(alloc);
     if first > 0 {
-        words.push(String::from_str(alloc, "...")?)?;
+        push_word(&mut words, "...")?;
     }
     for (place, name) in names.iter().enumerate() {
         if place == dot {
-            words.push(String::from_str(alloc, ".")?)?;
+            push_word(&mut words, ".")?;
         }
         if first <= place && place < last {
-            words.push(String::from_str(alloc, name)?)?;
+            push_word(&mut words, name)?;
         }
     }
     if names.len() <= dot {
-        words.push(String::from_str(alloc, ".")?)?;
+        push_word(&mut words, ".")?;
     }
     if last < names.len() {
-        words.push(String::from_str(alloc, "...")?)?;
+        push_word(&mut words, "...")?;
     }
     Ok(words)
 }
@@ -40,10 +84,10 @@ fn words_with_dot(alloc: Global, names: &[&str], dot: usize) -> Result<Vec<Strin
 pub(crate) fn shortened(alloc: Global, names: &[&str]) -> Result<Vec<String>, AllocError> {
     let mut words = Vec::new(alloc);
     for name in names.iter().take(SIDE) {
-        words.push(String::from_str(alloc, name)?)?;
+        push_word(&mut words, name)?;
     }
     if names.len() > SIDE {
-        words.push(String::from_str(alloc, "...")?)?;
+        push_word(&mut words, "...")?;
     }
     Ok(words)
 }
@@ -107,7 +151,6 @@ impl Brackets {
         visit: Visit,
         dot: usize,
     ) -> Result<(), AllocError> {
-        let alloc = *self.words.allocator();
         match visit {
             Visit::Enter(number) => {
                 if let Some(Node::Inner(production)) = tree.nodes.get(number) {
@@ -119,16 +162,12 @@ impl Brackets {
                 if let Some(Node::Leaf(symbol)) = tree.nodes.get(number) {
                     self.front.push_str(symbol_name(file, *symbol))?;
                 }
-                self.push_leaf(alloc, dot)?;
-            }
-            Visit::Leave(_) if self.front.is_empty() => {
-                if let Some(last) = self.words.last_mut() {
-                    last.push(')')?;
-                }
+                self.push_leaf(dot)?;
             }
             Visit::Leave(_) => {
-                let front = mem::replace(&mut self.front, String::new(alloc));
-                self.words.push(front)?;
+                if !self.front.is_empty() {
+                    self.push_front()?;
+                }
                 if let Some(last) = self.words.last_mut() {
                     last.push(')')?;
                 }
@@ -137,13 +176,19 @@ impl Brackets {
         Ok(())
     }
 
-    /// Adds a leaf, which stands behind all that is entered before it.
-    fn push_leaf(&mut self, alloc: Global, dot: usize) -> Result<(), AllocError> {
-        if self.leaves == dot {
-            self.words.push(String::from_str(alloc, ".")?)?;
-        }
-        let front = mem::replace(&mut self.front, String::new(alloc));
+    /// Adds what stands before the next leaf as a word.
+    fn push_front(&mut self) -> Result<(), AllocError> {
+        let front = mem::replace(&mut self.front, String::new(*self.words.allocator()));
         self.words.push(front)?;
+        Ok(())
+    }
+
+    /// Adds a leaf, which stands behind all that is entered before it.
+    fn push_leaf(&mut self, dot: usize) -> Result<(), AllocError> {
+        if self.leaves == dot {
+            push_word(&mut self.words, ".")?;
+        }
+        self.push_front()?;
         self.leaves = self.leaves.saturating_add(1);
         Ok(())
     }
@@ -165,7 +210,7 @@ pub(crate) fn tree_words(
         brackets.push(file, tree, *visit, dot)?;
     }
     if brackets.leaves <= dot {
-        brackets.words.push(String::from_str(alloc, ".")?)?;
+        push_word(&mut brackets.words, ".")?;
     }
     Ok(brackets.words)
 }
