@@ -26,18 +26,27 @@ fn flag<'a>(alloc: Global, name: &'a str, help: &'a str) -> Arg<'a> {
         .help(help)
 }
 
+/// An option that tells neither the verdict alone nor the states.
+fn output<'a>(alloc: Global, name: &'a str, help: &'a str) -> Result<Arg<'a>, AllocError> {
+    flag(alloc, name, help)
+        .conflicts_with("summary")?
+        .conflicts_with("states")
+}
+
+/// The option for the states.
+fn states<'a>(alloc: Global) -> Result<Arg<'a>, AllocError> {
+    flag(alloc, "states", "Shows the states of the parser").conflicts_with("summary")
+}
+
 /// Adds the options that say what is told of each file. One of them can be given at most.
-fn add_outputs<'a>(alloc: Global, command: Command<'a>) -> Result<Command<'a>, AllocError> {
-    let summary = flag(alloc, "summary", "Tells the verdict of each file alone");
-    let command = command.arg(summary)?;
-    let states = flag(alloc, "states", "Shows the states of the parser");
-    let command = command.arg(states.conflicts_with("summary")?)?;
-    let json = flag(alloc, "json", "Tells what was found as JSON");
-    let json = json.conflicts_with("summary")?.conflicts_with("states")?;
-    let command = command.arg(json)?;
+fn add_outputs<'a>(args: &mut Vec<Arg<'a>>) -> Result<(), AllocError> {
+    let alloc = *args.allocator();
+    args.push(flag(alloc, "summary", "Tells the verdict of each file alone"))?;
+    args.push(states(alloc)?)?;
+    args.push(output(alloc, "json", "Tells what was found as JSON")?)?;
     let help = "Prints the grammar alone, as lrt reads it, or adds it to --json";
-    let grammar = flag(alloc, "grammar", help);
-    command.arg(grammar.conflicts_with("summary")?.conflicts_with("states")?)
+    args.push(output(alloc, "grammar", help)?)?;
+    Ok(())
 }
 
 /// An option that shows more than the verdict or the grammar.
@@ -47,28 +56,29 @@ fn detail<'a>(alloc: Global, name: &'a str, help: &'a str) -> Result<Arg<'a>, Al
         .conflicts_with("grammar")
 }
 
+/// The option for drawings.
+fn trees<'a>(alloc: Global) -> Result<Arg<'a>, AllocError> {
+    detail(alloc, "trees", "Draws both trees of each text")?.conflicts_with("json")
+}
+
+/// Adds the options that say what is told more than that.
+fn add_details<'a>(args: &mut Vec<Arg<'a>>) -> Result<(), AllocError> {
+    let alloc = *args.allocator();
+    let help = "Shows each conflict by itself, and not the first 20 alone";
+    args.push(detail(alloc, "all", help)?)?;
+    args.push(detail(alloc, "settled", "Shows also what precedences settle")?)?;
+    args.push(trees(alloc)?)?;
+    Ok(())
+}
+
 /// Adds the options that say how it is told, and of which grammar.
-fn add_settings<'a>(alloc: Global, command: Command<'a>) -> Result<Command<'a>, AllocError> {
-    let all = detail(
-        alloc,
-        "all",
-        "Shows each conflict by itself, and not the first 20 alone",
-    )?;
-    let command = command.arg(all)?;
-    let settled = detail(alloc, "settled", "Shows also what precedences settle")?;
-    let command = command.arg(settled)?;
-    let trees = detail(alloc, "trees", "Draws both trees of each text")?;
-    let command = command.arg(trees.conflicts_with("json")?)?;
-    let without_precedences = flag(
-        alloc,
-        "without-precedences",
-        "Leaves precedences out of the grammars",
-    );
-    let command = command.arg(without_precedences)?;
-    let plain = flag(alloc, "plain", "Uses no colours, and folds no lines");
-    let command = command.arg(plain)?;
-    let help = "Takes each file for one of grmtools";
-    command.arg(flag(alloc, "grmtools", help))
+fn add_settings<'a>(args: &mut Vec<Arg<'a>>) -> Result<(), AllocError> {
+    let alloc = *args.allocator();
+    let help = "Leaves precedences out of the grammars";
+    args.push(flag(alloc, "without-precedences", help))?;
+    args.push(flag(alloc, "plain", "Uses no colours, and folds no lines"))?;
+    args.push(flag(alloc, "grmtools", "Takes each file for one of grmtools"))?;
+    Ok(())
 }
 
 /// The number of conflicts that are expected.
@@ -109,19 +119,22 @@ fn files<'a>(alloc: Global) -> Arg<'a> {
 
 /// The words that the program can be called with.
 pub(crate) fn command_line<'a>(alloc: Global) -> Result<Command<'a>, AllocError> {
-    let command = Command::new(alloc, "lrcheck")
+    let mut args = Vec::new(alloc);
+    args.push(files(alloc))?;
+    add_outputs(&mut args)?;
+    add_details(&mut args)?;
+    add_settings(&mut args)?;
+    args.push(expect(alloc))?;
+    args.push(steps(alloc))?;
+    args.push(page(alloc)?)?;
+    Command::new(alloc, "lrcheck")
         .bin_name("lrcheck")?
         .version("0.1.0")
         .about(
             "Tells whether grammars have conflicts, where they are, and which grammars are unambiguous",
         )
         .after_help(AFTER_HELP)
-        .arg(files(alloc))?;
-    let command = add_settings(alloc, add_outputs(alloc, command)?)?;
-    command
-        .arg(expect(alloc))?
-        .arg(steps(alloc))?
-        .arg(page(alloc)?)
+        .args(args)
 }
 
 /// What is told of each file.

@@ -43,6 +43,21 @@ fn print_each(
     Ok(())
 }
 
+/// Prints reasons, each by itself or as an author reads them.
+fn print_told(
+    rt: &HostRuntime,
+    request: Request,
+    grm: &YaccGrammar<u32>,
+    reasons: &Reasons<'_, u32>,
+    told: &[Reason<u32>],
+) -> Result<(), Problem> {
+    if let Request::Each = request {
+        return print_each(rt, grm, told);
+    }
+    print!(rt; "{}", reasons.pp(told)?)?;
+    Ok(())
+}
+
 /// How many of the reasons are ambiguities.
 fn ambiguous(reasons: &[Reason<u32>]) -> usize {
     let mut count: usize = 0;
@@ -91,21 +106,15 @@ fn print_reasons(
     requires contested { AreReductionsContested grm.now graph.now }
 {
     let reasons = Reasons::new(grm, graph)?;
-    match request {
-        Request::Reasons => {
-            let told = reasons.reasons(conflicts, steps, Examples::WhereNotAmbiguous)?;
-            let printed = print!(rt; "{}", reasons.pp(told.as_slice())?);
-            take_apart(told);
-            Ok(printed?)
-        }
-        Request::Each => {
-            let told = reasons.reasons(conflicts, steps, Examples::Everywhere)?;
-            let printed = print_each(rt, grm, told.as_slice());
-            take_apart(told);
-            printed
-        }
-        Request::Times => print_times(rt, &reasons, conflicts, steps),
-    }
+    let examples = match request {
+        Request::Reasons => Examples::WhereNotAmbiguous,
+        Request::Each => Examples::Everywhere,
+        Request::Times => return print_times(rt, &reasons, conflicts, steps),
+    };
+    let told = reasons.reasons(conflicts, steps, examples)?;
+    let printed = print_told(rt, request, grm, &reasons, told.as_slice());
+    take_apart(told);
+    printed
 }
 
 /// Prints what is asked for of the grammar of the text.
