@@ -1,7 +1,7 @@
 -- the token and the production of an entry
 use Rattle.std.proofs.Common.{◌≡◌, ℕ, refl}
 use Rattle.std.specs.Prelude.{Option, None, Some}
-use Rattle.lrambiguity.specs.Moves.{Reduce}
+use Rattle.lrmoves.specs.Moves.{Reduce}
 use Rattle.lrentries.specs.Entries.{entry_by, token_of, one_of}
 
 -- whichever list it is in, these are what was given

@@ -6,7 +6,7 @@ use Rattle.lrspec.specs.merging.Graph.{Graph}
 use Rattle.lrspec.specs.tables.Table.{Lists, shift_reduce_of, reduce_reduce_of}
 use Rattle.lrforms.specs.declared.ambiguous.Conflict.{Conflict}
 use Rattle.lrcontests.specs.Contests.{IsShiftContest, IsReductionContest}
-use Rattle.lrambiguity.specs.Moves.{Move, Shift, Reduce}
+use Rattle.lrmoves.specs.Moves.{Move, Shift, Reduce}
 
 -- an entry: its token, production and state, and in the list of reduce/reduce conflicts the other
 -- production before the state

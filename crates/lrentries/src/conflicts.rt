@@ -2,13 +2,13 @@
 
 ghost use Rattle.std.specs.Prelude.{◌≡◌, ◌++◌, map, IfOk, OnOk};
 ghost use Rattle.lrrows.specs.StoredLists.{stored_shift_reduce, stored_reduce_reduce};
-ghost use Rattle.lrambiguity.specs.StoredMoves.{move_of};
+ghost use Rattle.lrmoves.specs.StoredMoves.{move_of};
 ghost use Rattle.lrentries.specs.Entries.{ShiftReduce, ReduceReduce, entries_of, entry_of, other_of};
 
-use lrambiguity::Move;
+use lrcells::statetable::Conflicts;
 use lrforms::Conflict;
 use lrgrammar::idx::{IndexStorage, PIdx, StIdx, TIdx};
-use lrtable::statetable::Conflicts;
+use lrmoves::Move;
 use std::alloc::{AllocError, Global};
 
 /// What the conflict's other candidate is: its shift, or the reduction by its other production.

@@ -4,13 +4,13 @@ use Rattle.lrspec.specs.grammars.Grammar.{Grammar}
 use Rattle.lrspec.specs.merging.Graph.{Graph}
 use Rattle.lrtable.specs.RunAnswers.{text_of}
 use Rattle.lrtree.specs.StoredTrees.{tree_of}
-use Rattle.lrambiguity.specs.StoredMoves.{moves_stored}
+use Rattle.lrmoves.specs.StoredMoves.{moves_stored}
 use Rattle.lrforms.specs.declared.ambiguous.Conflict.{Conflict}
 use Rattle.lrreasons.specs.declared.ambiguities.ProvedAmbiguity.{ProvedAmbiguity}
 use Rattle.lrreasons.specs.Ambiguities.{IsProofOf}
-use Rattle.lrevidence.specs.declared.ambiguities.Ambiguity.{Ambiguity}
+use Rattle.lrshown.specs.declared.ambiguities.Ambiguity.{Ambiguity}
 use Rattle.lrshown.specs.Steps.{moves_by}
-use Rattle.lrevidence.specs.Ambiguities.{HasTwoTrees}
+use Rattle.lrshown.specs.Ambiguities.{HasTwoTrees}
 
 -- where its steps are the moves of one that is proved, its text has both trees of that
 pub numbered :

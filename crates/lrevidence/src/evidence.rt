@@ -4,28 +4,19 @@ ghost use Rattle.std.specs.Prelude.{◌≡◌, ◌∷◌, [], ◌++◌, map, All
 ghost use Rattle.lrspec.specs.merging.Graph.{IsGraphOf};
 ghost use Rattle.lrspec.specs.tables.Conflicts.{AreReductionsContested};
 ghost use Rattle.lrentries.specs.Entries.{entry_of, IsListed};
-ghost use Rattle.lrevidence.specs.Ambiguities.{HasTwoTrees, IsProved};
 ghost use Rattle.lrevidence.specs.Entries.{AreListedIn};
+ghost use Rattle.lrshown.specs.Ambiguities.{HasTwoTrees, IsProved};
 
-use crate::ambiguities::{Ambiguity, ambiguity_at};
+use crate::ambiguities::ambiguity_at;
 use crate::conflicts::conflict_of;
-use crate::examples::{Example, Numbering};
+use crate::examples::Numbering;
 use lrfindings::{Entry, Findings, is_among};
 use lrgrammar::idx::IndexStorage;
 use lrreasons::{Conflict, Reasons};
+pub use lrshown::Evidence;
+use lrshown::{Ambiguity, Example};
 use lryacc::FileGrammar;
 use std::alloc::{AllocError, Global};
-
-/// What is known of an entry.
-#[derive(Debug, Drop)]
-pub struct Evidence {
-    /// The entry.
-    pub entry: Entry,
-    /// A text with two trees, which part at it, where one is found.
-    pub ambiguity: Option<Ambiguity>,
-    /// Where none is, after what it is real, where that is looked for; None for an entry that the table doesn't list.
-    pub example: Option<Example>,
-}
 
 /// After what a conflict that the table lists is real.
 fn example_of<T: IndexStorage>(

@@ -3,33 +3,9 @@
 use crate::ambiguities::numbers_of;
 use lrgrammar::grammar::{PartSymbol, YaccGrammar};
 use lrgrammar::idx::{IndexStorage, RIdx, Symbol};
+use lrshown::{Example, Outlook};
 use lryacc::FileGrammar;
 use std::alloc::{AllocError, Global};
-
-/// How a text goes on by one of the candidates.
-#[derive(Debug, Drop)]
-pub struct Outlook {
-    /// The items that stand in one another, from that of `$accept` on, each as its production and how many symbols stand before the
-    /// dot.
-    pub items: Vec<(usize, usize)>,
-    /// A text behind the input, from the conflict's token on; None where none is known.
-    pub rest: Option<Vec<usize>>,
-}
-
-/// After what a conflict is real.
-#[derive(Debug, Drop)]
-pub struct Example {
-    /// A list of symbols after which both candidates are real.
-    pub list: Vec<PartSymbol>,
-    /// The token on which they are: the conflict's own, or else the least one.
-    pub token: usize,
-    /// A text that the list derives; None where none is known.
-    pub input: Option<Vec<usize>>,
-    /// How the text goes on by the reduction.
-    pub one: Option<Outlook>,
-    /// How it goes on by the shift, or by the other reduction.
-    pub other: Option<Outlook>,
-}
 
 /// A grammar, and the file whose grammar it is.
 #[derive(Clone, Copy)]

@@ -7,10 +7,8 @@ mod conflicts;
 mod evidence;
 mod examples;
 
-pub use crate::ambiguities::Ambiguity;
 pub use crate::evidence::{Effort, Evidence, evidence_for, find_ambiguity};
-pub use crate::examples::{Example, Outlook};
 pub use lrshown::{
-    Node, Step, Tree, TwoTrees, Visit, body_of, list_of, name_of_rule, names_of, names_of_tokens,
-    rule_name, start_of, symbol_name, text_of, token_name,
+    Ambiguity, Example, Node, Outlook, Step, Tree, TwoTrees, Visit, body_of, list_of, name_of_rule,
+    names_of, names_of_tokens, rule_name, start_of, symbol_name, text_of, token_name,
 };

@@ -10,7 +10,7 @@ ghost use Rattle.lrtable.specs.RunAnswers.{text_of};
 use lrgrammar::grammar::YaccGrammar;
 use lrgrammar::idx::{IndexStorage, TIdx};
 use lrtable::machine::{Verdict, run};
-use lrtable::{BuildError, Minimiser, from_yacc};
+use lrtable::{BuildError, Minimiser, state_table};
 use std::alloc::Global;
 
 /// Whether the text is seen within so many steps to be a sentence of a grammar that has neither precedences nor
@@ -29,7 +29,7 @@ pub fn is_sentence<T: IndexStorage>(
         IfOk result (λ b. HasNoPrecedences grm.now → IsUncontested grm.now →
         (s : IsSentence grm.now w) → length w + nodes s.tree + 1 ≤ steps → IsTrue b) }
 {
-    let (_graph, table) = from_yacc(alloc, grm, Minimiser::Pager)?;
+    let (table, _counts) = state_table(alloc, grm, Minimiser::Pager)?;
     if grm.has_precedences() || table.conflicts().is_some() {
         return Ok(false);
     }

@@ -1,7 +1,7 @@
 //! What is searched, and what is found.
 
-use lrambiguity::Move;
 use lrgrammar::idx::{IndexStorage, PIdx, RIdx, StIdx, Symbol, TIdx};
+use lrmoves::Move;
 
 /// An entry of a table's lists of conflicts.
 #[derive(Clone, Copy, Debug, PartialEq, Eq)]

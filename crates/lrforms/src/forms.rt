@@ -9,10 +9,10 @@ use crate::searching::Searching;
 use crate::shared::Shared;
 use crate::states::{START, Way};
 use crate::typed::{typed, typed_outlook, typed_written};
-use lrambiguity::{Move, Written};
 use lrgrammar::grammar::YaccGrammar;
 use lrgrammar::idx::{IndexStorage, PIdx, StIdx, Symbol, TIdx};
-use lrtable::StateGraph;
+use lrgraphs::StateGraph;
+use lrmoves::{Move, Written};
 use std::alloc::{AllocError, Global};
 use std::cell::Cell;
 

@@ -3,8 +3,8 @@
 use crate::items::Item;
 use crate::rules::{Rules, number_of, plain_symbol};
 use lrgrammar::idx::{IndexStorage, StIdx, Symbol};
-use lrtable::StateGraph;
-use lrtable::itemset::Itemset;
+use lrgraphs::StateGraph;
+use lritems::itemset::Itemset;
 use std::alloc::{AllocError, Global};
 
 /// An edge of a state.

@@ -6,8 +6,8 @@ use crate::layers::{Layer, write_behind};
 use crate::shared::Shared;
 use crate::states::Way;
 use crate::writing::Writer;
-use lrambiguity::{Move, Written};
 use lrgrammar::idx::{IndexStorage, PIdx, SIdx, Symbol, TIdx};
+use lrmoves::{Move, Written};
 use std::alloc::{AllocError, Global};
 
 /// How a parse goes on from a conflict by one of its candidates.

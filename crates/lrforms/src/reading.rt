@@ -5,8 +5,8 @@ use crate::nodes::{Node, Side, Step};
 use crate::rules::Rules;
 use crate::shared::Shared;
 use crate::writing::Writer;
-use lrambiguity::Move;
 use lrgrammar::idx::{PIdx, RIdx, Symbol};
+use lrmoves::Move;
 use std::alloc::{AllocError, Global};
 use std::collections::VecDeque;
 

@@ -1,9 +1,9 @@
 //! The rules of a grammar by plain numbers.
 
 use crate::items::Item;
-use lrambiguity::Move;
 use lrgrammar::grammar::YaccGrammar;
 use lrgrammar::idx::{IndexStorage, PIdx, RIdx, SIdx, Symbol, TIdx};
+use lrmoves::Move;
 use std::alloc::{AllocError, Global};
 
 /// A production.

@@ -6,8 +6,8 @@ use crate::layers::{Layer, write_behind};
 use crate::shared::Shared;
 use crate::states::Way;
 use crate::writing::Writer;
-use lrambiguity::Move;
 use lrgrammar::idx::{RIdx, StIdx, Symbol, TIdx};
+use lrmoves::Move;
 use std::alloc::{AllocError, Global};
 
 /// The state to which the shortest way leads.

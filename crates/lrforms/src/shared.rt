@@ -8,7 +8,7 @@ use crate::states::States;
 use crate::texts::Texts;
 use lrgrammar::grammar::YaccGrammar;
 use lrgrammar::idx::{IndexStorage, TIdx};
-use lrtable::StateGraph;
+use lrgraphs::StateGraph;
 use std::alloc::{AllocError, Global};
 use std::cell::OnceCell;
 

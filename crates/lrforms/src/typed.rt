@@ -2,8 +2,8 @@
 
 use crate::ambiguous::{Ambiguous, Form, Sentence, Ways};
 use crate::outlooks::Outlook;
-use lrambiguity::{Move, Written};
 use lrgrammar::idx::{IndexStorage, PIdx, RIdx, SIdx, Symbol, TIdx};
+use lrmoves::{Move, Written};
 use std::alloc::{AllocError, Global};
 
 /// The value of a number.

@@ -2,14 +2,14 @@
 
 ghost use Rattle.std.specs.Prelude.{IfSome};
 ghost use Rattle.std.specs.Option.{ForSome};
-ghost use Rattle.lrevidence.specs.Ambiguities.{AreShown, IsShown};
+ghost use Rattle.lrshown.specs.Ambiguities.{AreShown, IsShown};
 
 use crate::names::push_name;
 use crate::pages::{Card, Page, push_count};
 use crate::symbols::DOT;
-use lrevidence::{Ambiguity, Evidence, Example, Outlook, Step, list_of, start_of, text_of};
 use lrfindings::Entry;
 use lrgrammar::idx::IndexStorage;
+use lrshown::{Ambiguity, Evidence, Example, Outlook, Step, list_of, start_of, text_of};
 use std::alloc::AllocError;
 
 /// How many tokens a heading names at the most.

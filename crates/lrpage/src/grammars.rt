@@ -3,9 +3,9 @@
 use crate::names::push_name;
 use crate::pages::Page;
 use crate::symbols::number_of;
-use lrevidence::{body_of, rule_name};
 use lrgrammar::grammar::{AssocKind, PartSymbol, PartToken};
 use lrgrammar::idx::IndexStorage;
+use lrshown::{body_of, rule_name};
 use lryacc::FileGrammar;
 use std::alloc::{AllocError, Global};
 

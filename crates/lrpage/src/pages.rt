@@ -1,16 +1,16 @@
 //! The page, from its head to its end.
 
 ghost use Rattle.std.specs.Prelude.{◌≡◌, ⊤, All};
-ghost use Rattle.lrevidence.specs.Ambiguities.{AreShown};
+ghost use Rattle.lrshown.specs.Ambiguities.{AreShown};
 
 use crate::grammars::is_of_file;
 use crate::names::push_name;
 use crate::script::SCRIPT;
 use crate::style::STYLE;
 use lrdiagnostics::{Mark, Source};
-use lrevidence::Evidence;
 use lrfindings::Findings;
 use lrgrammar::idx::IndexStorage;
+use lrshown::Evidence;
 use lryacc::FileGrammar;
 use std::alloc::{AllocError, Global};
 

@@ -2,9 +2,9 @@
 
 use crate::names::push_name;
 use crate::pages::Page;
-use lrevidence::{body_of, rule_name, token_name};
 use lrgrammar::grammar::PartSymbol;
 use lrgrammar::idx::IndexStorage;
+use lrshown::{body_of, rule_name, token_name};
 use std::alloc::AllocError;
 
 /// The dot of a text or an item.

@@ -1,13 +1,13 @@
 //! Texts with two trees, as the script draws them.
 
-ghost use Rattle.lrevidence.specs.Ambiguities.{IsShown};
+ghost use Rattle.lrshown.specs.Ambiguities.{IsShown};
 
 use crate::pages::Page;
 use crate::symbols::DOT;
-use lrevidence::{Ambiguity, Step, TwoTrees, text_of};
 use lrfindings::Entry;
 use lrgrammar::grammar::PartSymbol;
 use lrgrammar::idx::IndexStorage;
+use lrshown::{Ambiguity, Step, TwoTrees, text_of};
 use std::alloc::AllocError;
 
 /// How many tokens of a text are shown on either side of the dot.

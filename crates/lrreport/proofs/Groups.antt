@@ -6,7 +6,7 @@ use Rattle.std.proofs.lemmas.List.Elements.{All-nil, All-cons, All-head, All-tai
 use Rattle.std.proofs.lemmas.List.Elements.{All-same, All-map, All-weaker}
 use Rattle.std.specs.List.{All, flat_map}
 use Rattle.lrspec.specs.grammars.Grammar.{Grammar}
-use Rattle.lrevidence.specs.declared.evidence.Evidence.{Evidence}
+use Rattle.lrshown.specs.declared.evidence.Evidence.{Evidence}
 use Rattle.lrevidence.specs.Ambiguities.{IsProved, AreShown}
 
 module _ {X Y : Type 0} (P : X → Type 0) (f : Y → X) where

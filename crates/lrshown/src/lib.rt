@@ -1,10 +1,14 @@
-//! What is shown of a grammar file: the names of its symbols, and trees of its productions.
+//! What is shown of a grammar file: the names of its symbols, trees of its productions, and what is known of its conflicts.
 #![tactic(auto)]
 
+mod ambiguities;
+mod evidence;
 mod names;
 mod steps;
 mod trees;
 
+pub use crate::ambiguities::Ambiguity;
+pub use crate::evidence::{Evidence, Example, Outlook};
 pub use crate::names::{
     body_of, list_of, name_of_rule, names_of, names_of_tokens, rule_name, start_of, symbol_name,
     text_of, token_name,

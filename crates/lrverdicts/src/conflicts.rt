@@ -6,9 +6,8 @@ ghost use Rattle.lrspec.specs.tables.Table.{lists_of};
 ghost use Rattle.lrverdicts.specs.Listed.{Listing, told, listed, shift_listing, reduction_listing};
 ghost use Rattle.lrrows.specs.StoredLists.{stored_shift_reduce, stored_reduce_reduce};
 
+use lrcells::statetable::{Conflicts, StateTable};
 use lrgrammar::idx::{IndexStorage, PIdx, StIdx, TIdx};
-use lrtable::StateTable;
-use lrtable::statetable::Conflicts;
 use lryacc::{FileGrammar, Span};
 use std::alloc::{AllocError, Global};
 

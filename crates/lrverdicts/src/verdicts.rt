@@ -7,9 +7,9 @@ ghost use Rattle.lrverdicts.specs.Verdicts.{status_of};
 ghost use Rattle.lrverdicts.specs.declared.verdicts.Verdict.TheVariants.{Unambiguous};
 
 use crate::conflicts::Entry;
+use lrcells::statetable::StateTable;
 use lrgrammar::grammar::YaccGrammar;
 use lrgrammar::idx::IndexStorage;
-use lrtable::StateTable;
 use lryacc::Expected;
 use std::fmt;
 

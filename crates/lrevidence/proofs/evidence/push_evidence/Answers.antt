@@ -1,6 +1,6 @@
 use Rattle.std.proofs.Common.{map}
 use Rattle.lrreasons.proofs.ReasonsInTurn.{all_more}
-use Rattle.lrevidence.specs.Ambiguities.{IsProved}
+use Rattle.lrshown.specs.Ambiguities.{IsProved}
 use Rattle.lrevidence.proofs.EvidenceInTurn.{one_more}
 use Rattle.lrevidence.proofs.evidence.push_evidence.Goals as goal
 

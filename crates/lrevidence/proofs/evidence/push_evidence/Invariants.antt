@@ -1,7 +1,7 @@
 -- those so far
 use Rattle.std.proofs.Common.{◌≡◌, ◌++◌, map, take}
 use Rattle.std.specs.Prelude.{All}
-use Rattle.lrevidence.specs.Ambiguities.{IsProved}
+use Rattle.lrshown.specs.Ambiguities.{IsProved}
 use Rattle.lrevidence.proofs.evidence.push_evidence.Given as goal
 
 abbrev pub invariant-loop-entry : goal.invariant-loop-entry

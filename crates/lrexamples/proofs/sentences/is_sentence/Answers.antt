@@ -30,7 +30,7 @@ told Unfinished e = cc
 pub returns-clause-unambiguous : goal.returns-clause-unambiguous
 returns-clause-unambiguous g c accepted =
     let plain : HasNoPrecedences c.args.grm.now = (no_precedences c.args.grm.now).1 (λ some. let k = c.has_precedences.ensures.1 some in cc) in
-    let nothing : ListsNothing c.in_ok-_graph.table = at_none c.conflicts.result _ _ (sym c.is_some.ensures ∙ c.if-is_some.false) c.conflicts.ensures.none in
+    let nothing : ListsNothing c.in_ok-table.table = at_none c.conflicts.result _ _ (sym c.is_some.ensures ∙ c.if-is_some.false) c.conflicts.ensures.none in
     (c.in_ok-answer.ensures.recognises plain nothing).one_tree
 
 pub returns-clause-sentence : goal.returns-clause-sentence
@@ -46,15 +46,15 @@ returns-then-has_precedences-clause-seen g c plain uncontested s l =
           absurd ((no_precedences c.args.grm.now).0 plain (c.has_precedences.ensures.0 w.if-has_precedences.true))
       | then-has_precedences-via-else-has_precedences+then-is_some w ↦
           absurd (at_some w.conflicts.result _ _ (sym w.is_some.ensures ∙ w.if-is_some.true) w.conflicts.ensures.none
-          ((c.in_ok-_graph.ensures.headline.exact plain).1 uncontested))
+          ((c.in_ok-table.ensures.headline.exact plain).1 uncontested))
     ]
 
 pub returns-clause-seen : goal.returns-clause-seen
 returns-clause-seen g c plain uncontested s l =
-    let nothing : ListsNothing c.in_ok-_graph.table = at_none c.conflicts.result _ _ (sym c.is_some.ensures ∙ c.if-is_some.false) c.conflicts.ensures.none in
+    let nothing : ListsNothing c.in_ok-table.table = at_none c.conflicts.result _ _ (sym c.is_some.ensures ∙ c.if-is_some.false) c.conflicts.ensures.none in
     let text = text_of g.T.IndexStorage.number c.args.text.now in
     let by = (c.in_ok-answer.ensures.recognises plain nothing).complete c.args.steps text s l in
-    let same : verdict_of c.in_ok-answer.answer.verdict ≡ (math.run c.args.grm.now c.in_ok-_graph.table c.args.steps text).verdict =
+    let same : verdict_of c.in_ok-answer.answer.verdict ≡ (math.run c.args.grm.now c.in_ok-table.table c.args.steps text).verdict =
     ap (λ a. a.verdict) c.in_ok-answer.ensures.answer in
     let verdict : c.in_ok-answer.answer.verdict ≡ Accepted = told c.in_ok-answer.answer.verdict (same ∙ by.verdict) in
     c.eq.ensures ∙ ap (λ v. sameb the_type v Accepted) verdict

@@ -1,0 +1,41 @@
+//! What is known of conflicts.
+
+use crate::ambiguities::Ambiguity;
+use lrgrammar::grammar::PartSymbol;
+use lrverdicts::Entry;
+
+/// How a text goes on by one of the candidates.
+#[derive(Debug, Drop)]
+pub struct Outlook {
+    /// The items that stand in one another, from that of `$accept` on, each as its production and how many symbols stand before the
+    /// dot.
+    pub items: Vec<(usize, usize)>,
+    /// A text behind the input, from the conflict's token on; None where none is known.
+    pub rest: Option<Vec<usize>>,
+}
+
+/// After what a conflict is real.
+#[derive(Debug, Drop)]
+pub struct Example {
+    /// A list of symbols after which both candidates are real.
+    pub list: Vec<PartSymbol>,
+    /// The token on which they are: the conflict's own, or else the least one.
+    pub token: usize,
+    /// A text that the list derives; None where none is known.
+    pub input: Option<Vec<usize>>,
+    /// How the text goes on by the reduction.
+    pub one: Option<Outlook>,
+    /// How it goes on by the shift, or by the other reduction.
+    pub other: Option<Outlook>,
+}
+
+/// What is known of an entry.
+#[derive(Debug, Drop)]
+pub struct Evidence {
+    /// The entry.
+    pub entry: Entry,
+    /// A text with two trees, which part at it, where one is found.
+    pub ambiguity: Option<Ambiguity>,
+    /// Where none is, after what it is real, where that is looked for; None for an entry that the table doesn't list.
+    pub example: Option<Example>,
+}

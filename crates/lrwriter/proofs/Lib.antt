@@ -1,0 +1,2 @@
+-- pieces that are added one behind another
+pub mod Pieces

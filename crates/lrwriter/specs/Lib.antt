@@ -1,0 +1,2 @@
+-- what a text in the making holds
+pub mod Texts
