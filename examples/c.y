@@ -51,9 +51,9 @@ Postfix: Primary
        | Postfix '(' ')'
        | Postfix '(' Arguments ')'
        | Postfix '.' IDENTIFIER
-       | Postfix '->' IDENTIFIER
-       | Postfix '++'
-       | Postfix '--'
+       | Postfix "->" IDENTIFIER
+       | Postfix "++"
+       | Postfix "--"
        | '(' TypeName ')' '{' Initializers '}'
        | '(' TypeName ')' '{' Initializers ',' '}'
        ;
@@ -63,8 +63,8 @@ Arguments: Assignment
          ;
 
 Unary: Postfix
-     | '++' Unary
-     | '--' Unary
+     | "++" Unary
+     | "--" Unary
      | UnaryOperator Cast
      | sizeof Unary
      | sizeof '(' TypeName ')'
@@ -95,20 +95,20 @@ Additive: Multiplicative
         ;
 
 Shift: Additive
-     | Shift '<<' Additive
-     | Shift '>>' Additive
+     | Shift "<<" Additive
+     | Shift ">>" Additive
      ;
 
 Relational: Shift
           | Relational '<' Shift
           | Relational '>' Shift
-          | Relational '<=' Shift
-          | Relational '>=' Shift
+          | Relational "<=" Shift
+          | Relational ">=" Shift
           ;
 
 Equality: Relational
-        | Equality '==' Relational
-        | Equality '!=' Relational
+        | Equality "==" Relational
+        | Equality "!=" Relational
         ;
 
 And: Equality
@@ -124,11 +124,11 @@ InclusiveOr: ExclusiveOr
            ;
 
 LogicalAnd: InclusiveOr
-          | LogicalAnd '&&' InclusiveOr
+          | LogicalAnd "&&" InclusiveOr
           ;
 
 LogicalOr: LogicalAnd
-         | LogicalOr '||' LogicalAnd
+         | LogicalOr "||" LogicalAnd
          ;
 
 Conditional: LogicalOr
@@ -140,16 +140,16 @@ Assignment: Conditional
           ;
 
 AssignmentOperator: '='
-                  | '*='
-                  | '/='
-                  | '%='
-                  | '+='
-                  | '-='
-                  | '<<='
-                  | '>>='
-                  | '&='
-                  | '^='
-                  | '|='
+                  | "*="
+                  | "/="
+                  | "%="
+                  | "+="
+                  | "-="
+                  | "<<="
+                  | ">>="
+                  | "&="
+                  | "^="
+                  | "|="
                   ;
 
 Expression: Assignment
@@ -305,7 +305,7 @@ TypeQualifiers: TypeQualifier
               ;
 
 ParameterTypes: Parameters
-              | Parameters ',' '...'
+              | Parameters ',' "..."
               ;
 
 Parameters: Parameter

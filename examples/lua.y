@@ -59,7 +59,7 @@ Return: return Semicolon
 Semicolon:
          | ';'
          ;
-Label: '::' Name '::'
+Label: "::" Name "::"
      ;
 FunctionName: DottedName
             | DottedName ':' Name
@@ -91,10 +91,10 @@ Conjunction: Comparison
 Comparison: BitOr
           | Comparison '<' BitOr
           | Comparison '>' BitOr
-          | Comparison '<=' BitOr
-          | Comparison '>=' BitOr
-          | Comparison '~=' BitOr
-          | Comparison '==' BitOr
+          | Comparison "<=" BitOr
+          | Comparison ">=" BitOr
+          | Comparison "~=" BitOr
+          | Comparison "==" BitOr
           ;
 BitOr: BitXor
      | BitOr '|' BitXor
@@ -106,11 +106,11 @@ BitAnd: Shift
       | BitAnd '&' Shift
       ;
 Shift: Concatenation
-     | Shift '<<' Concatenation
-     | Shift '>>' Concatenation
+     | Shift "<<" Concatenation
+     | Shift ">>" Concatenation
      ;
 Concatenation: Sum
-             | Sum '..' Concatenation
+             | Sum ".." Concatenation
              ;
 Sum: Product
    | Sum '+' Product
@@ -119,7 +119,7 @@ Sum: Product
 Product: Unary
        | Product '*' Unary
        | Product '/' Unary
-       | Product '//' Unary
+       | Product "//" Unary
        | Product '%' Unary
        ;
 Unary: Power
@@ -136,7 +136,7 @@ Simple: nil
       | true
       | Numeral
       | LiteralString
-      | '...'
+      | "..."
       | Function
       | Prefix
       | TableConstructor
@@ -155,8 +155,8 @@ FunctionBody: '(' ')' Block end
             | '(' Parameters ')' Block end
             ;
 Parameters: Names
-          | Names ',' '...'
-          | '...'
+          | Names ',' "..."
+          | "..."
           ;
 TableConstructor: '{' '}'
                 | '{' Fields '}'

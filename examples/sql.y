@@ -12,7 +12,7 @@
 %left AND
 %right NOT
 %nonassoc IS
-%left '||'
+%left "||"
 %left '+' '-'
 %left '*' '/' '%'
 
@@ -308,11 +308,11 @@ Not:
    ;
 
 Comparison: '='
-          | '<>'
+          | "<>"
           | '<'
           | '>'
-          | '<='
-          | '>='
+          | "<="
+          | ">="
           ;
 
 Some: ALL
@@ -321,7 +321,7 @@ Some: ALL
     ;
 
 Value: Primary
-     | Value '||' Value
+     | Value "||" Value
      | Value '+' Value
      | Value '-' Value
      | Value '*' Value

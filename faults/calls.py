@@ -34,6 +34,9 @@ PLAIN = "free-"
 # A call with some hundred thousand requests. Those behind its greatest tree are the last ones, which alone are refused.
 DEEP, LAST = "parse-deep", 20
 
+# A call of searches, each of which takes what the one before it left, and lets go of that where memory is refused to it.
+SEARCHES = "reasons-reasons"
+
 LINES = "begin\nend\n{}, arguments as they were, same answer\n"
 ANSWERED, REFUSED = (LINES.format(call).encode() for call in ("answered", "out of memory"))
 
@@ -70,12 +73,15 @@ def try_requests(window, name):
     whole, calls = window.call()
     first = max(1, calls["memory"] + 1 - LAST) if name == DEEP else 1
     wrong = [] if is_right(whole, [ANSWERED]) else [wrong_at(name, 0, whole)]
+    less = 0
     for number in itertools.count(first):
         found, counts = window.call(ONE, number)
         is_met = any(found.faults)
         if not is_right(found, [ANSWERED, REFUSED] if is_met else [ANSWERED]):
             wrong.append(wrong_at(name, number, found))
-        if found.out == REFUSED and counts["held"]:
+        if found.out == REFUSED and name.startswith(SEARCHES):
+            less = less or min(0, counts["held"])
+        if found.out == REFUSED and counts["held"] not in (0, less):
             wrong.append(f"{counts['held']} blocks more are held behind the call; {wrong_at(name, number, found)}")
         if found.status is None or not is_met:
             break

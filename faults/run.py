@@ -1,7 +1,6 @@
 #!/usr/bin/env python3
-"""Has each request of lrt, lrcheck and lrexplain for memory refused in turn, and each open, read, write and close fail in turn,
-in all cases or in those that the arguments name. README.md says how the answers are judged. The last line is
-'N passed, M failed'.
+"""Has each request of lrt and lrcheck for memory refused in turn, and each open, read, write and close fail in turn, in all
+cases or in those that the arguments name. README.md says how the answers are judged. The last line is 'N passed, M failed'.
 
     run.py [CASE..]
     run.py CASE FAULT NUMBER    makes this one fault, and prints what is answered"""
@@ -25,14 +24,12 @@ sys.dont_write_bytecode = True
 import cases
 import check_cases
 import check_rules
-import explain_cases
-import explain_rules
 import rules
 from rules import Answer
 
 HERE = Path(__file__).resolve().parent
-CASES = {**cases.CASES, **check_cases.CASES, **explain_cases.CASES}
-RULES = {"lrt": rules, "lrcheck": check_rules, "lrexplain": explain_rules}
+CASES = {**cases.CASES, **check_cases.CASES}
+RULES = {"lrt": rules, "lrcheck": check_rules}
 
 
 def path_of(program):

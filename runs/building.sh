@@ -3,7 +3,7 @@
 # `slow` it leaves half a program and waits. `lrt` calls the script; in what that says, each number of seconds becomes an N.
 
 mkdir -p top/crates/low/src top/crates/lrt/src bin
-cp "$LRT" top/lrt
+cp "$TOP/lrt" top/lrt
 cp "$TOP/crates/lrt/build.sh" top/crates/lrt/
 printf 'other: low\nlrt: low std\nlow:\n' >top/crates.txt
 echo low >top/crates/low/src/lib.rt

@@ -5,83 +5,7 @@ None, and for a node a reduction, which is its production. Two trees of one text
 there both have put the same symbols on the stack, and have the same rest of the text before them.
 """
 
-MORE = 6  # So many symbols more than tokens may be on a stack.
-
-
-class Stacks:
-    """The stacks with which a text can be read, and how much of it is used then. A stack is a row of canonical states, which
-    are at most so many. Not many more places are looked at than are told."""
-
-    def __init__(self, canonical, text, tallest, most):
-        self.canonical, self.text, self.tallest, self.most = canonical, text, tallest, most
-        self.is_whole, self.before, self.sentences = True, {}, []
-        first = (0,), 0
-        self.before[first], to_do = [], [first]
-        while to_do:
-            place = to_do.pop()
-            if len(self.before) > self.most:
-                self.is_whole = False
-                break
-            for _, behind in self.steps(*place):
-                if behind not in self.before:
-                    self.before[behind] = []
-                    to_do.append(behind)
-                self.before[behind].append(place)
-        self.good = self.found_good()
-
-    def steps(self, stack, used):
-        """The moves at a place, each with the place to which it leads; of the end of the text none is told."""
-        canonical, grammar = self.canonical, self.canonical.grammar
-        state = canonical.states[stack[-1]]
-        token = self.text[used] if used < len(self.text) else len(grammar.tokens)
-        if token in state.edges and len(stack) == self.tallest:
-            self.is_whole = False
-        elif token in state.edges:
-            yield None, ((*stack, state.edges[token]), used + 1)
-        for prod, looks in canonical.complete[stack[-1]].items():
-            rule, body = grammar.prods[prod]
-            if not looks >> token & 1:
-                continue
-            if rule == b"^":
-                self.sentences.append((stack, used))
-                continue
-            left = stack[: len(stack) - len(body)]
-            if len(left) >= self.tallest:
-                self.is_whole = False
-                continue
-            yield prod, ((*left, canonical.states[left[-1]].edges[rule]), used)
-
-    def found_good(self):
-        """The places from which the text can be read to its end."""
-        good, to_do = {*self.sentences}, [*self.sentences]
-        while to_do:
-            more = {*self.before[to_do.pop()]} - good
-            good |= more
-            to_do += more
-        return good
-
-    def parting(self, used, items, wanted):
-        """Whether trees of the text part behind so many tokens, with these core items on top, by these two moves."""
-        for stack, place in self.good:
-            if place == used and self.canonical.states[stack[-1]].core.keys() == items:
-                ways = [move for move, behind in self.steps(stack, place) if behind in self.good]
-                if all(it in ways for it in wanted):
-                    return True
-        return False
-
-
-def part(canonical, text, used, items, wanted, most):
-    """Whether trees of the text part behind so many tokens, with these core items on top, by these two moves; None where more
-    would have to be looked at. Low stacks are tried first."""
-    for tallest in range(3, len(text) + 2 * MORE, 2):
-        stacks = Stacks(canonical, text, tallest, most)
-        if stacks.parting(used, items, wanted):
-            return True
-        if stacks.is_whole:
-            return False
-        if len(stacks.before) > most:
-            break
-    return None
+MORE = 3  # So many symbols more than tokens may be on a stack.
 
 
 class Rests:
@@ -104,7 +28,7 @@ class Rests:
                 length = found[stack] + least.text([symbol])
                 if length > self.length:
                     continue
-                if len(stack) > self.length + MORE // 2 or len(found) == most:
+                if len(stack) > self.length + MORE or len(found) == most:
                     self.is_whole = False
                     continue
                 found[*stack, target] = length
@@ -144,9 +68,7 @@ class Rests:
         return self.rests.get((*left, self.canonical.states[left[-1]].edges[rule]), none)
 
     def begun(self, texts, token):
-        """Those of the texts that begin with the token, or the empty one for the end token."""
-        if token == len(self.grammar.tokens):
-            return [texts[0] & 1]
+        """Those of the texts that begin with the token."""
         sizes = [self.count**length for length in range(self.length)]
         return [0, *(it & ((1 << size) - 1) << token * size for size, it in zip(sizes, texts[1:]))]
 

@@ -1,410 +1,297 @@
 #!/usr/bin/env python3
-"""reasons.py PROGRAM FIRST COUNT: whether PROGRAM, called as `lrexplain`, gives such reasons as the definitions allow for the
-conflicts of drawn grammars: as many as COUNT, of numbers from FIRST on. A number stands for the same grammar at each call.
-Prints how many there were of each kind.
+"""reasons.py LRCHECK FIRST COUNT: whether LRCHECK gives such reasons as the definitions allow for the conflicts of drawn
+grammars, without their precedences: as many as COUNT with conflicts, of numbers from FIRST on. Prints how many there were of
+each kind.
 
-For each entry of the lists of conflicts it is found out by other ways than the program's:
+The entries are worked out from the drawn text. For each it is found out by other ways than the program's, beside what texts.py
+finds out of its text and both trees, and of its list, which is told where texts are looked for by one step alone:
 
 - after its list of symbols both candidates are real by the canonical LR(1) items, and none that is shorter will do;
-- the input is a shortest text of the list; the items of each candidate stand in one another after the list; the rest of the
-  text follows from them, and none is shorter;
-- the trees of an ambiguous form have its symbols as leaves and part at the conflict; the sentence has two trees that part
-  there;
-- where no ambiguity is told, no text of at most SHORT tokens has two trees that part there.
+- the input is a shortest text of the list, and no rest by either candidate is shorter;
+- the trees part by two candidates of the entry's cell; the trees in brackets are parts of them that leave out the same in both,
+  and part there too;
+- where no text is told, no text of at most SHORT tokens has two trees that part there.
 """
 
-import random
+import json
 import subprocess
 import sys
 from collections import Counter
 from dataclasses import dataclass
-from math import inf
+from itertools import groupby
 from pathlib import Path
 
-import definitions
-import graphs
-import tables
-import told
+import brackets
+import texts
 from canonical import Canonical, TooLarge
-from partings import Rests, part
-from sentences import MANY, Behind, Least, Trees
+from drawn_grammars import Conflict, drawn_grammars
+from partings import Rests
+from sentences import Behind, Least
+from texts import END, Wrong, hold
 
-STEPS = "10000"
 SHORT = 5
 MISSED = 0  # So many entries may be missed, of those that short texts show to be ambiguous.
 MOST_STATES = 600  # Canonical ones; grammars with more are passed over.
 MOST_STACKS = 3000
-MOST_WORDS = 24  # As many are shown on a side of a dot.
-
-
-class Wrong(Exception):
-    """What the program says is not so."""
-
-
-def hold(is_so, what):
-    if not is_so:
-        raise Wrong(what)
-
-
-# Grammars.
-
-
-def drawn_body(draw, rules, tokens, share):
-    length = draw.choices(range(4), (2, 4, 4, 3))[0]
-    return " ".join(draw.choice(tokens) if draw.random() < share else draw.choice(rules) for _ in range(length))
-
-
-def drawn_context(draw, rules, tokens):
-    """A rule with tokens around it, of which the first or the last may be left out."""
-    around = (draw.choice(tokens) if draw.random() < 0.9 else "" for _ in range(2))
-    return draw.choice(rules).join(f" {it} " for it in around)
-
-
-def drawn_bodies(draw, rules, tokens):
-    """Bodies of each rule, which can be anything; or the first rule puts the others, which have few bodies, into contexts."""
-    share = draw.choice((0.4, 0.55, 0.7))
-    body = lambda: drawn_body(draw, rules, tokens, share)
-    if len(rules) == 1 or draw.random() < 0.5:
-        return {rule: [body() for _ in range(draw.choice((1, 2, 2, 3)))] for rule in rules}
-    few = [body(), draw.choice(tokens)]
-    bodies = {rule: [draw.choice(few) for _ in range(draw.choice((1, 1, 2)))] for rule in rules[1:]}
-    return {"S": [drawn_context(draw, rules[1:], tokens) for _ in range(draw.randrange(3, 9))], **bodies}
-
-
-def drawn_text(draw):
-    """A grammar text of at most four rules, with three or four tokens."""
-    rules = "SABC"[: draw.choice((1, 2, 3, 3, 4, 4))]
-    tokens = [f"'{name}'" for name in "abcd"[: draw.choice((3, 3, 4))]]
-    kinds = draw.sample(("%left", "%right", "%nonassoc"), draw.choice((0, 0, 0, 0, 1, 2)))
-    levels = [f"{kind} {name}" for kind, name in zip(kinds, tokens)]
-    return " ".join((*levels, "%%", *(f"{rule}: {' | '.join(it)};" for rule, it in drawn_bodies(draw, rules, tokens).items())))
-
-
-# An entry, and what is known of its grammar.
-
-
-@dataclass
-class Conflict:
-    """An entry of a list: its token, the moves that contend, which are productions or None for a shift, the core items of its
-    state, and all moves of its cell."""
-
-    token: int
-    pair: tuple
-    items: frozenset
-    cell: list
+ONE_STEP = ("--steps", "1")  # No text is found in it, so that the list of each entry is told.
 
 
 class Known:
     """What is found out of a grammar by other ways than the program's."""
 
-    def __init__(self, text):
-        self.grammar = definitions.meaning(definitions.read(text.encode()))
-        self.states = graphs.graph(self.grammar)
-        self.has_table = not tables.accepts_and_reduces(self.grammar, self.states)
-        if self.has_table:
-            self.canonical = Canonical(self.grammar, MOST_STATES)
-            self.least = Least(self.grammar)
-            self.lists = tables.conflicts(self.grammar, self.states)
-            self.lines = [it for it in definitions.Texts(self.grammar).conflicts(*self.lists) if it.startswith(b"   State")]
-        self.trees, self.rests, self.behind = {}, None, {}
-
-    def conflicts(self):
-        """The entries in their order."""
-        shift_reduce, reduce_reduce = self.lists
-        return [
-            *(self.conflict(token, (prod, None), state) for token, prod, state in shift_reduce),
-            *(self.conflict(token, (prod, other), state) for token, prod, other, state in reduce_reduce),
-        ]
-
-    def conflict(self, token, pair, number):
-        state = self.states[number]
-        prods = [prod for prod, looks in tables.complete(self.grammar, state).items() if looks >> token & 1]
-        return Conflict(token, pair, frozenset(state.core), [*prods, *([None] if token in state.edges else [])])
-
-    def symbol(self, word):
-        """What a word means: a token, the end token or a rule."""
-        if not word.startswith(b"'"):
-            return word
-        return [*self.grammar.tokens, b"$"].index(word[1:-1])
-
-    def symbols(self, words):
-        return [self.symbol(word) for word in words]
-
-    def trees_of(self, text):
-        if tuple(text) not in self.trees:
-            self.trees[tuple(text)] = Trees(self.grammar, text)
-        return self.trees[tuple(text)]
+    def __init__(self, grammar):
+        self.grammar, self.least, self.canonical = grammar, Least(grammar), Canonical(grammar, MOST_STATES)
+        self.rests, self.behind = None, {}
 
     def body_of(self, move):
-        """What two moves are told apart by in trees: for a reduction the rule and the body."""
-        return None if move is None else (self.grammar.prods[move][0], tuple(self.grammar.prods[move][1]))
+        """What moves are told apart by in brackets: for a reduction the rule and the body, and None for a shift."""
+        return None if move is None else texts.body_of(*self.grammar.prods[move])
 
     def shared(self, conflict, pair):
         """A short text with two trees that part at the conflict by these moves, if there is one."""
-        self.rests = self.rests or Rests(self.canonical, self.least, SHORT, MOST_STACKS)
+        self.rests = self.rests or Rests(self.canonical, self.least, SHORT + 1, MOST_STACKS)
         return self.rests.shared(conflict.items, pair, conflict.token)
 
-    def rest_behind(self, symbols, token):
-        """What must come behind the list from the token on."""
+    def shortest_rest(self, symbols, token, move):
+        """The length of a shortest rest behind the list, from the token on, by the move."""
         key = tuple(symbols), token
         if key not in self.behind:
             self.behind[key] = Behind(self.grammar, self.least, symbols, token)
-        return self.behind[key]
+        return self.behind[key].shortest(move)
 
 
-def split_at_dot(words):
-    """What stands before the dot and behind it."""
-    hold(words.count(b".") == 1, f"no dot, or several: {words}")
-    return words[: words.index(b".")], words[words.index(b".") + 1 :]
+@dataclass
+class Answer:
+    """What is told of a grammar: as JSON in groups, with each entry alone, and by one step; and in lines."""
+
+    grouped: dict
+    alone: dict
+    by_one_step: dict
+    blocks: list
 
 
-# The list, the input, and how the text goes on.
+@dataclass
+class Entry:
+    """What is told of a conflict: as JSON, in lines, and as JSON by one step."""
+
+    conflict: Conflict
+    told: dict
+    lines: brackets.Block
+    by_one_step: dict
 
 
-def check_list(known, conflict, entry):
-    """The list of symbols and the token on which both candidates are real after it."""
-    before, behind = split_at_dot(entry.reason)
-    symbols, (token,) = known.symbols(before), known.symbols(behind)
-    canonical = known.canonical
-    number = canonical.after(symbols)
-    hold(number is not None, f"nothing stands after {before}")
-    hold(canonical.states[number].core.keys() == conflict.items, f"{before} leads to other items")
+# After what an entry is real.
+
+
+def check_list(known, conflict, symbols, token):
+    """Both candidates are real after the list on the token, which is another one than the entry's only where they are real on
+    that after no list, and is the least one then. No list is shorter."""
+    canonical, number = known.canonical, known.canonical.after(symbols)
+    hold(number is not None, f"nothing stands after {symbols}")
+    hold(canonical.states[number].core.keys() == conflict.items, f"{symbols} leads to other items")
     for move in conflict.pair:
-        hold(canonical.can(number, move, token), f"move {move} is not real after {before}")
-    hold(len(symbols) == canonical.shortest(conflict.items, conflict.pair, token), f"{before} is not shortest")
-    hold((token != conflict.token) == (entry.unreal is not None), "whether the entry's token is real is not told")
-    if entry.unreal:
+        hold(canonical.can(number, move, token), f"move {move} is not real after {symbols}")
+    hold(len(symbols) == canonical.shortest(conflict.items, conflict.pair, token), f"{symbols} is not shortest")
+    if token != conflict.token:
         hold(None not in conflict.pair, "a shift is not real on its token")
-        hold(known.symbol(entry.unreal) == conflict.token, f"{entry.unreal} is not the entry's token")
         for other in (conflict.token, *range(token)):
             hold(canonical.shortest(conflict.items, conflict.pair, other) is None, f"it is real on token {other}")
-    return symbols, token
 
 
-def check_input(known, entry, symbols, token):
-    """The text of the list."""
-    least = known.least.text(symbols)
-    if entry.input is None:
-        hold(least == inf, "an input is there")
-        return None
-    before, behind = split_at_dot(entry.input)
-    hold(b"..." not in before, "the input is shortened")
-    text = known.symbols(before)
-    hold(known.symbols(behind) == [token], "the input is followed by another token")
-    hold(known.trees_of(text).count(symbols) > 0, f"{before} is no text of the list")
-    hold(len(text) == least, f"{before} is no shortest text of the list")
-    return text
-
-
-def check_items(known, move, token, symbols, items):
-    """The items stand in one another after the list, and the last is the move's. The symbols behind them, inner ones first."""
-    wanted, read, behind = b"^", [], []
-    for place, (rule, words) in enumerate(items):
-        before, after = (known.symbols(it) for it in split_at_dot(words))
-        hold(rule == wanted, f"{rule} stands where {wanted} is wanted")
-        hold((rule, before + after) in known.grammar.prods, f"{rule} has no such body: {words}")
-        read += before
-        is_last = place == len(items) - 1
-        wanted = after[0] if after and isinstance(after[0], bytes) else None
-        behind = (after if is_last else after[1:]) + behind
-    hold(read == symbols, f"the items stand after {read}")
-    rule, before = items[-1][0], known.symbols(split_at_dot(items[-1][1])[0])
-    if move is None:
-        hold(after[:1] == [token], "the last item doesn't stand before the token")
-    else:
-        hold(known.body_of(move) == (rule, tuple(before)) and not after, "the last item is none of the production")
-    return behind
-
-
-def check_outlook(known, conflict, place, outlook, symbols, token, text):
-    """How the text goes on by one of the two moves."""
-    move, other = conflict.pair[place], conflict.pair[1 - place]
-    hold(outlook.label == label(known, move, other), f"{outlook.label} stands before what move {move} does")
-    behind = check_items(known, move, token, symbols, outlook.items)
-    least = known.rest_behind(symbols, token).shortest(move)
-    if text is None or least == inf:
-        hold(outlook.then is None, "a rest is told where a rule has no text")
-        return 0
-    hold(outlook.then is not None, "no rest is told")
-    if outlook.then[-1:] == [b"..."]:
-        hold(len(outlook.then) == MOST_WORDS + 1 <= least, "the rest is shortened")
-        return 1
-    rest = known.symbols(outlook.then)
-    hold(rest[:1] == [token] or not rest and token == len(known.grammar.tokens), "the rest begins with another token")
-    hold(known.trees_of(rest).count(behind) > 0, f"{outlook.then} is not what stands behind the items")
-    hold(len(rest) == least, f"{outlook.then} is no shortest rest")
-    hold(known.trees_of(text + rest).count(known.grammar.prods[-1][1]) > 0, "the whole is no sentence")
-    return 1
-
-
-def label(known, move, other):
-    """What stands before what a candidate does."""
-    if move is None:
-        return b"shift:"
-    return b"reduce:" if other is None else b"reduce %b:" % known.grammar.prods[move][0]
+def check_after(known, told, entry, counts):
+    """The list, its input, and how that goes on by either candidate."""
+    conflict, after = entry.conflict, entry.by_one_step["after"]
+    hold(after is not None, "it is not told after what it is real")
+    symbols, token = told.symbols(after["list"]), told.symbol(after["token"])
+    check_list(known, conflict, symbols, token)
+    for check in texts.OF_LISTS:
+        check(told, entry.by_one_step, after)
+    hold(len(after["input"]) == known.least.text(symbols), f"{after['input']} is no shortest text of {after['list']}")
+    for move, outlook in zip(conflict.pair, (after["reduce"], after["other"])):
+        least = known.shortest_rest(symbols, token, move)
+        hold(len([*outlook["rest"], END]) == least, f"{outlook['rest']} is no shortest rest")
+    counts["other tokens"] += token != conflict.token
 
 
 # Ambiguities.
 
 
-def moves_of(known, tree):
-    """The moves of a tree: leaves as symbols, and nodes as pairs of a rule and a body."""
-    if isinstance(tree, bytes):
-        return [known.symbol(tree)]
-    rule, children = tree
-    body = [known.symbol(it if isinstance(it, bytes) else it[0]) for it in children]
-    hold((rule, body) in known.grammar.prods, f"{rule} has no such body: {children}")
-    return [move for child in children for move in moves_of(known, child)] + [(rule, tuple(body))]
+def check_pair(told, conflict, ambiguity):
+    """The trees part by two candidates of the entry's cell."""
+    _, moves = texts.parting(told, ambiguity)
+    pair = tuple(None if isinstance(move, int) else move[0] for move in moves)
+    hold(pair in conflict.pairs(), f"the trees part by {pair}")
+    return pair
 
 
-def pairs_of(conflict):
-    """The moves that may contend: the conflict's own, or any two of its cell, of which only one may shift."""
-    others = [(one, it) for place, one in enumerate(conflict.cell) for it in conflict.cell[place + 1 :]]
-    return [conflict.pair, *(pair for pair in others if pair != conflict.pair)]
+def check_printed_text(ambiguity, printed):
+    """The text is printed with a dot, but for tokens that are far from it."""
+    text, dot = ambiguity["text"], ambiguity["dot"]
+    whole, shown = " ".join((*text[:dot], ".", *text[dot:])), printed.removeprefix("... ").removesuffix(" ...")
+    hold(shown in whole and (shown == whole or "..." in printed), f"{printed} is printed, and not {whole}")
 
 
-def parts(known, one, other, dot, pair):
-    """Whether the moves part by this pair, first behind so many leaves. Two productions of one rule and body aren't told
-    apart."""
-    bodies = [known.body_of(move) for move in pair]
+def labels_of(known, one, other):
+    """What stands before the trees that part by these moves."""
+    if other is None:
+        return ["reduce", "shift"]
+    rules = [known.grammar.prods[move][0].decode() for move in (one, other)]
+    return ["first", "second"] if rules[0] == rules[1] else [f"as {rule}" for rule in rules]
+
+
+def left_out(form, tree):
+    """What a tree in brackets leaves out of a tree, in a row; None where it is no part of that."""
+    if isinstance(form, str):
+        return [tree] if texts.root_of(tree) == form else None
+    if isinstance(tree, str) or form[0] != tree[0] or len(form[1]) != len(tree[2]):
+        return None
+    parts = [left_out(*pair) for pair in zip(form[1], tree[2])]
+    return None if None in parts else [it for part in parts for it in part]
+
+
+def moves_of(told, form):
+    """The moves of a tree in brackets: leaves as symbols, and nodes by their bodies."""
+    if isinstance(form, str):
+        return [told.symbol(form)]
+    rule, children = form
+    body = told.symbols(texts.root_of(child) for child in children)
+    return [move for child in children for move in moves_of(told, child)] + [texts.body_of(told.symbol(rule), body)]
+
+
+def do_part(one, other, dot, bodies):
+    """Whether the moves part behind so many leaves by nodes of these bodies, where None stands for a leaf. Two productions of
+    one rule and body aren't told apart."""
     read = 0
-    for first, second in zip(one, other):
-        own = [None if it == first and not isinstance(it, tuple) else it for it in (first, second)]
-        if read == dot and (own == bodies or bodies[1] is None and first == bodies[0] and not isinstance(second, tuple)):
+    for moves in zip(one, other):
+        if read == dot and [it if isinstance(it, tuple) else None for it in moves] == bodies:
             return True
-        if first != second:
+        if moves[0] != moves[1]:
             return False
-        read += not isinstance(first, tuple)
+        read += not isinstance(moves[0], tuple)
     return False
 
 
-def check_contest(known, conflict, entry, pair):
-    """Which moves contend is told where they aren't the conflict's own."""
-    if entry.between is None:
-        hold(pair == conflict.pair, "which moves contend is not told")
-    else:
-        bodies = [known.body_of(move) for move in pair]
-        wanted = [it for body in bodies for it in ([body[0], *body[1]] if body else [b"shift"])]
-        hold(known.symbols(entry.between) == wanted, f"{entry.between} do not contend")
+def check_brackets(known, told, ambiguity, pair, trees):
+    """The trees in brackets are parts of both trees below a node of the rule that is told, and leave out the same in both. They
+    part at the dot by the pair of moves. The end of the text is not printed."""
+    labels, forms, (dot, other_dot) = zip(*trees)
+    hold([*labels] == labels_of(known, *pair), f"{labels} stand before trees that part by {pair}")
+    is_whole = ambiguity["rule"] == "$accept"
+    rule = texts.root_of(ambiguity["trees"][0]) if is_whole else ambiguity["rule"]
+    hold({*map(texts.root_of, forms)} == {rule}, f"the trees in brackets are none of {rule}")
+    parts = ([left_out(*it) for it in zip(forms, nodes)] for nodes in texts.nodes_of_both(ambiguity))
+    hold(any(one is not None and one == other for one, other in parts), "the trees in brackets are no part of both trees")
+    ways = ([*moves_of(told, form), *([END] if is_whole else [])] for form in forms)
+    bodies = [known.body_of(move) for move in pair]
+    hold(dot == other_dot and do_part(*ways, dot, bodies), "the trees in brackets part elsewhere")
 
 
-def check_form(known, conflict, entry):
-    """The form, and both its trees. The pair of moves by which they part."""
-    trees = [told.tree(words) for _, words in entry.trees]
-    ways = [moves_of(known, tree) for tree, _ in trees]
-    for tree, _ in trees:
-        hold(not isinstance(tree, bytes) and tree[0] == entry.rule, f"a tree is none of {entry.rule}")
-    leaves = [[it for it in way if not isinstance(it, tuple)] for way in ways]
-    (_, dot), (_, other_dot) = trees
-    hold(leaves[0] == leaves[1] and dot == other_dot, "the trees have other leaves, or another dot")
-    before, behind = split_at_dot(entry.form)
-    if b"..." not in before + behind:
-        hold(known.symbols(before) == leaves[0][:dot] and known.symbols(behind) == leaves[0][dot:], "they aren't the form")
-    is_alike = lambda pair: len({known.body_of(it) for it in pair}) == 1
-    for pair in pairs_of(conflict):
-        labels = [label(known, *pair), label(known, *reversed(pair))]
-        if [it for it, _ in entry.trees] == labels and parts(known, *ways, dot, pair):
-            hold(ways[0] != ways[1] or is_alike(pair), "the trees are the same")
-            return pair
-    raise Wrong("the trees don't part at the conflict")
+def check_ambiguity(known, told, entry, counts):
+    """The text and its trees, and what is printed of them."""
+    ambiguity = entry.told["ambiguity"]
+    for check in texts.OF_TEXTS:
+        check(told, entry.told, ambiguity)
+    pair = check_pair(told, entry.conflict, ambiguity)
+    check_printed_text(ambiguity, entry.lines.text)
+    check_brackets(known, told, ambiguity, pair, entry.lines.trees)
+    counts["by two others of three candidates"] += pair != entry.conflict.pair
 
 
-def check_sentence(known, conflict, entry, pair, counts):
-    """The sentence has two trees, which part at the conflict."""
-    before, behind = (known.symbols(words) for words in split_at_dot(entry.sentence))
-    if b"..." in entry.sentence:
-        counts["sentences too long to be looked at"] += 1
-        return
-    text, is_end = before + behind, conflict.token == len(known.grammar.tokens)
-    hold(behind[:1] == ([] if is_end else [conflict.token]), "the sentence goes on with another token")
-    hold(known.trees_of(text).count(known.grammar.prods[-1][1]) == MANY, "the sentence hasn't two trees")
-    answer = part(known.canonical, text, len(before), conflict.items, pair, MOST_STACKS)
-    hold(answer is not False, "no two trees of the sentence part at the conflict")
-    counts["sentences with more stacks than are looked at"] += answer is None
-
-
-def check_missed(known, conflict, counts, missed):
+def check_missed(known, conflict, counts):
     """No short text has two trees that part at the conflict."""
-    for pair in pairs_of(conflict):
+    for pair in conflict.pairs():
         if shared := known.shared(conflict, pair):
             counts["missed"] += 1
-            missed.append((pair, shared))
+            print(f"missed: {known.grammar}: {conflict}: {pair}: {shared}")
             return
     counts["not known, with more stacks than are looked at"] += not known.rests.is_whole
 
 
-# All of a grammar.
+# All of a grammar, and of all.
 
 
-def check_entry(known, conflict, entry, counts, missed):
+def check_entry(known, told, entry, counts):
     """All that is told of an entry."""
-    symbols, token = check_list(known, conflict, entry)
-    text = check_input(known, entry, symbols, token)
-    hold(len(entry.outlooks) == 2, "not both candidates are told of")
-    for place, outlook in enumerate(entry.outlooks):
-        counts["rests"] += check_outlook(known, conflict, place, outlook, symbols, token, text)
-    counts["inputs"] += text is not None
-    counts["other tokens"] += entry.unreal is not None
-    if entry.rule is None:
-        counts["not known"] += 1
-        check_missed(known, conflict, counts, missed)
+    kind = "reduce" if "other" in entry.told else "shift"
+    head = f"conflict: {kind} or reduce at {entry.told['tokens'][0]}"
+    hold(entry.lines.head == head, f"{entry.lines.head} is printed, and not {head}")
+    hold(entry.told["chosen"] == ("shift" if None in entry.conflict.cell else "reduce"), "the table does something else")
+    check_after(known, told, entry, counts)
+    counts["ambiguous" if entry.told["ambiguity"] else "not known"] += 1
+    if entry.told["ambiguity"]:
+        check_ambiguity(known, told, entry, counts)
     else:
-        pair = check_form(known, conflict, entry)
-        check_contest(known, conflict, entry, pair)
-        counts["ambiguous"] += 1
-        counts["by two others of three candidates"] += pair != conflict.pair
-        check_sentence(known, conflict, entry, pair, counts)
+        hold(entry.told["after"] == entry.by_one_step["after"], "another list is told where a text was looked for")
+        check_missed(known, entry.conflict, counts)
 
 
-def check_groups(known, conflicts, entries, told_groups):
-    """What is told together is of one state and the same candidates, and ambiguous or not; the first entry is told of."""
-    groups = {}
-    for conflict, entry in zip(conflicts, entries):
-        key = entry.line.split()[1].rstrip(b":"), conflict.pair, entry.rule is None
-        groups.setdefault(key, []).append((entry.line, conflict.token))
-    words = definitions.Texts(known.grammar).quoted
-    wanted = [(line, [words[token] for _, token in others]) for (line, _), *others in groups.values()]
-    hold(told_groups == wanted, f"together are told {told_groups}, and not {wanted}")
+def check_groups(told, alone):
+    """Entries stand in the order of the file. Those in a row that meet alike in one state, where the table does the same, are
+    told together: with the text of the first token that has one, and the list of the first token where that has none."""
+    in_order = lambda key: (key[2][0], key[0], key[2][1] or 0, key[1])
+    hold([*alone] == sorted(alone, key=in_order), f"the entries are out of order: {[*alone]}")
+    rows = groupby(alone.values(), lambda it: {**it, **dict.fromkeys(("tokens", "shift", "ambiguity", "after"))})
+    for group, (_, row) in zip(told.grouped["conflicts"], rows, strict=True):
+        row = [*row]
+        hold(group["tokens"] == [token for it in row for token in it["tokens"]], f"{group['tokens']} are told together")
+        wanted = next((it["ambiguity"] for it in row if it["ambiguity"]), None), row[0]["after"]
+        hold((group["ambiguity"], group["after"]) == wanted, f"something else is told of {group['tokens']} together")
 
 
-def check_grammar(program, text, counts):
-    """What the program says of a grammar: whether it has conflicts."""
-    known, missed = Known(text), []
-    Path("a.y").write_text(text)
-    done = subprocess.run([program, "each", "a.y", STEPS], capture_output=True)
-    if not known.has_table:
-        hold(done.returncode == 2 and not done.stdout, "there is an answer without a table")
-        counts["without a table"] += 1
-        return False
-    hold(done.returncode == 0 and not done.stderr, f"it failed: {done}")
-    entries, conflicts = told.entries(done.stdout), known.conflicts()
-    hold([it.line for it in entries] == known.lines, f"entries are {[it.line for it in entries]}, and not {known.lines}")
-    counts["entries"] += len(entries)
-    for conflict, entry in zip(conflicts, entries):
+def by_key(drawn, told, file):
+    """The entries by what tells them apart: the state, the token, and the moves that contend."""
+    pair = lambda it: tuple(drawn.lines[it[name]["line"]] if name in it else None for name in ("reduce", "other"))
+    return {(it["state"], told.symbol(it["tokens"][0]), pair(it)): it for it in file["conflicts"]}
+
+
+def check_grammar(drawn, answer, counts):
+    """All that is told of a grammar."""
+    if not drawn.derives:
+        hold(answer.grouped["verdict"] == "not read", "there is a grammar that derives no text")
+        return
+    told = texts.Told(drawn.grammar, answer.alone, answer.grouped)
+    hold(told.named == drawn.names(), f"the symbols are {[*told.named]}")
+    texts.check_numbers(told)
+    alone, by_one_step = (by_key(drawn, told, file) for file in (answer.alone, answer.by_one_step))
+    wanted = {(it.state, it.token, it.pair): it for it in drawn.conflicts}
+    hold(alone.keys() == by_one_step.keys() == wanted.keys(), f"entries are {[*alone]}, and not {[*wanted]}")
+    check_groups(told, alone)
+    known = Known(drawn.grammar) if wanted else None
+    for (key, entry), lines in zip(alone.items(), answer.blocks, strict=True):
         try:
-            check_entry(known, conflict, entry, counts, missed)
-        except (Wrong, told.Unread, ValueError) as why:
-            raise Wrong(f"{entry.line.decode().strip()}: {why}") from why
-    together = subprocess.run([program, "reasons", "a.y", STEPS], capture_output=True).stdout
-    check_groups(known, conflicts, entries, told.groups(together))
-    for pair, shared in missed:
-        print(f"missed: {text}: {pair}: {shared}")
-    return bool(entries)
+            check_entry(known, told, Entry(wanted[key], entry, lines, by_one_step[key]), counts)
+        except Wrong as why:
+            raise Wrong(f"state {key[0]}, {entry['tokens'][0]}: {why}") from why
 
 
-def main(program, first, count):
-    counts = Counter()
-    for number in range(int(first), int(first) + int(count)):
-        draw, has_conflicts = random.Random(number), False
-        while not has_conflicts:
-            text = drawn_text(draw)
-            try:
-                has_conflicts = check_grammar(program, text, counts)
-            except TooLarge:
-                counts["too large"] += 1
-            except (Wrong, told.Unread) as why:
-                sys.exit(f"grammar {number}: {text}\n{why}")
-    counts["with conflicts"] = int(count)
+def answers(lrcheck, all_drawn):
+    """What is told of each of the grammars."""
+    names = [f"{number}.y" for number in range(len(all_drawn))]
+    for name, drawn in zip(names, all_drawn):
+        Path(name).write_text(drawn.text)
+    status = max(1 if drawn.conflicts else 0 if drawn.derives else 2 for drawn in all_drawn)
+
+    def called(*options):
+        done = subprocess.run([lrcheck, "--without-precedences", *options, *names], capture_output=True, text=True)
+        hold(done.returncode == status, f"the status is {done.returncode}, with {done.stderr}")
+        return done.stdout
+
+    told = [called("--json", *options).splitlines() for options in (("--grammar",), ("--all",), ("--all", *ONE_STEP))]
+    blocks = brackets.blocks(called("--plain", "--all"))
+    for name, *files in zip(names, *told, strict=True):
+        yield Answer(*map(json.loads, files), blocks.get(name, []))
+
+
+def main(lrcheck, first, count):
+    counts, all_drawn = Counter(), [*drawn_grammars(int(first), int(count))]
+    for drawn, answer in zip(all_drawn, answers(lrcheck, all_drawn), strict=True):
+        counts["with conflicts" if drawn.conflicts else "without conflicts" if drawn.derives else "without a text"] += 1
+        try:
+            check_grammar(drawn, answer, counts)
+        except TooLarge:
+            counts["too large"] += 1
+        except Wrong as why:
+            sys.exit(f"{why}\n{drawn.text}")
     print(", ".join(f"{name}: {number}" for name, number in counts.items()))
     if counts["missed"] > MISSED or counts["too large"] > int(count) // 100:
         sys.exit("too many are missed, or too large")

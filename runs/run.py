@@ -1,12 +1,23 @@
 #!/usr/bin/env python3
-"""Calls lrt as its users do: a run for each folder here, or for those that the arguments name. README.md says what a folder
-holds. The last line is 'N passed, M failed'."""
+"""Calls lrt and lrcheck as their users do: a run for each file NAME.run here, or for those that the arguments name. README.md
+says what such a file holds. The last line is 'N passed, M failed'.
 
+    run.py NAME..               makes the runs, as many side by side as there are processors
+    run.py --accept NAME..      and writes into their files what the programs say now, and shows what that changes
+    run.py --files NAME         puts the files of the run into this folder, so that it can be called by hand
+"""
+
+import contextlib
+import difflib
 import os
-import shutil
+import re
+import shlex
+import signal
 import subprocess
 import sys
 import tempfile
+from concurrent.futures import ThreadPoolExecutor
+from dataclasses import dataclass
 from pathlib import Path
 
 sys.dont_write_bytecode = True
@@ -16,69 +27,188 @@ RUNS = Path(__file__).resolve().parent
 TOP = RUNS.parent
 SECONDS = 60
 SKIPPED = 77
+TIMED_OUT = 124
+HEAD = re.compile(rb"^-- (.+?)( \(no newline\))? --\n", re.MULTILINE)
+# The parts that are no files: what a run reads, and what it wants.
+READ = ("stdin", "defined")
+WANTED = ("out", "err", "status")
 
 
-def content(folder, name, absent=b""):
-    file = folder / name
-    return file.read_bytes() if file.exists() else absent
+@dataclass
+class Told:
+    """What a call came to."""
+
+    status: int
+    out: bytes
+    err: bytes
+
+    def differences(self, wanted):
+        for name in ("status", "out", "err"):
+            one, other = (it if isinstance(it, int) or len(it) < 400 else it[:400] + b"..." for it in (getattr(self, name), getattr(wanted, name)))
+            if getattr(self, name) != getattr(wanted, name):
+                yield f"{name}: {one!r}, wanted: {other!r}"
+
+    def parts(self):
+        """The parts of a run that wants this."""
+        status = b"%d\n" % self.status if self.status else b""
+        return {name: it for name, it in (("out", self.out), ("err", self.err), ("status", status)) if it}
 
 
-def arguments(folder):
-    args = content(folder, "args")
-    return args.removesuffix(b"\n").split(b"\n") if args else []
+@dataclass
+class Run:
+    name: str
+    call: bytes
+    parts: dict
+
+    def part(self, name):
+        return self.parts.get(name, b"")
+
+    def files(self):
+        return {name: it for name, it in self.parts.items() if name not in READ + WANTED}
+
+    def stored(self):
+        return Told(int(self.part("status") or b"0"), self.part("out"), self.part("err"))
+
+    def lay_out(self, room):
+        """Puts the files of the run into its room."""
+        for name, content in self.files().items():
+            write(room / name, content)
+
+    def text(self):
+        """What the run's file holds: all that is text."""
+        names = [it for it in [*self.files(), *READ, *WANTED] if it in self.parts and is_text(self.parts[it])]
+        return self.call + b"".join(part_text(it, self.parts[it]) for it in names)
+
+    def write(self):
+        path_of(self.name).write_bytes(self.text())
+        for name, content in self.parts.items():
+            if not is_text(content):
+                write(RUNS / self.name / name, content)
 
 
-def called(folder, room):
-    """The status, standard output and standard error of the run's call, made in that room."""
-    if not folder.is_dir():
-        raise ValueError("there is no such run")
-    if (folder / "files").exists():
-        shutil.copytree(folder / "files", room, dirs_exist_ok=True)
-    words = ["timeout", "-k", "5", str(SECONDS), "sh", "-c", content(folder, "call", b'"$LRT" "$@"'), "lrt"]
-    ran = subprocess.run([*words, *arguments(folder)], cwd=room, input=content(folder, "stdin"), capture_output=True)
-    return ran.returncode, ran.stdout, ran.stderr
+def path_of(name):
+    return RUNS / f"{name}.run"
 
 
-def wanted(folder, room):
-    """The status, standard output and standard error that the run wants."""
-    stored = int(content(folder, "status", b"0")), content(folder, "out"), content(folder, "err")
-    if not (folder / "defined").exists():
-        return stored
-    text = os.path.expandvars(content(folder, "defined").decode().strip())
-    words = [word.decode() for word in arguments(folder)] or ["start"]
-    defined = definitions.answer(words, (room / text).read_bytes(), content(folder, "stdin"))
-    if any((folder / name).exists() for name in ("out", "err")) and stored != defined:
-        raise ValueError("what is stored as wanted is not the defined answer")
-    return defined
+def write(path, content):
+    path.parent.mkdir(parents=True, exist_ok=True)
+    path.write_bytes(content)
 
 
-def differences(found, wants):
-    for name, one, other in zip(("status", "standard output", "standard error"), found, wants):
-        if one != other:
-            shown = [it if isinstance(it, int) or len(it) < 400 else it[:400] + b"..." for it in (one, other)]
-            yield f"{name}: {shown[0]!r}, wanted: {shown[1]!r}"
+def is_text(content):
+    """Whether it can stand in the file of a run."""
+    try:
+        return "\0" not in content.decode() and not HEAD.search(content)
+    except UnicodeDecodeError:
+        return False
 
 
-def outcome(folder):
-    """Makes the run: 'passed', 'failed' or 'skipped'. What is not as wanted is printed."""
-    with tempfile.TemporaryDirectory() as room:
+def part_text(name, content):
+    ends = content.endswith(b"\n") or not content
+    return b"-- %s%s --\n%s" % (name.encode(), b"" if ends else b" (no newline)", content if ends else content + b"\n")
+
+
+def read(name):
+    """The run of that name: what its file holds, and the files of its folder."""
+    call, *rest = HEAD.split(path_of(name).read_bytes())
+    parts = {}
+    for at in range(0, len(rest), 3):
+        head, mark, content = rest[at : at + 3]
+        parts[head.decode()] = content.removesuffix(b"\n") if mark else content
+    folder = RUNS / name
+    parts |= {str(it.relative_to(folder)): it.read_bytes() for it in folder.rglob("*") if it.is_file()}
+    return Run(name, call, parts)
+
+
+def called(run, room):
+    """What the call of the run comes to in that room. What it leaves running is ended."""
+    with tempfile.TemporaryFile() as out, tempfile.TemporaryFile() as err:
+        words = ["sh", "-c", run.call, "sh"]
+        process = subprocess.Popen(words, cwd=room, stdin=subprocess.PIPE, stdout=out, stderr=err, start_new_session=True)
         try:
-            found = called(folder, Path(room))
-            if found[0] == SKIPPED:
-                print(f"{folder.name}: skipped: {found[1].decode(errors='replace').strip()}")
-                return "skipped"
-            wrong = [*differences(found, wanted(folder, Path(room)))]
+            process.communicate(run.part("stdin"), SECONDS)
+            status = process.returncode
+        except subprocess.TimeoutExpired:
+            status = TIMED_OUT
+        with contextlib.suppress(ProcessLookupError):
+            os.killpg(process.pid, signal.SIGKILL)
+        process.wait()
+        return Told(status if status >= 0 else 128 - status, *(it.seek(0) or it.read() for it in (out, err)))
+
+
+def defined(run, room):
+    """What definitions.py gives for the words of the run's part `defined`, and for its standard input."""
+    words = shlex.split(os.path.expandvars(run.part("defined").decode()))
+    return Told(*definitions.answer(words, (room / words[1]).read_bytes(), run.part("stdin")))
+
+
+def wanted(run, room):
+    """What the run wants: what is stored, or what is defined, with which that must agree."""
+    if "defined" not in run.parts:
+        return run.stored()
+    found = defined(run, room)
+    if any(it in run.parts for it in ("out", "err")) and run.stored() != found:
+        raise ValueError("what is stored as wanted is not the defined answer")
+    return found
+
+
+def accept(run, told):
+    """Writes what came as what the run wants, and says what that changes in its file."""
+    old = path_of(run.name).read_bytes()
+    run.parts = {name: it for name, it in run.parts.items() if name not in WANTED} | told.parts()
+    run.write()
+    lines = [it.decode().splitlines() for it in (old, run.text())]
+    return [*difflib.unified_diff(*lines, "before", "now", lineterm="")]
+
+
+def outcome(name, accepts):
+    """Makes the run: 'passed', 'failed' or 'skipped', and what is to be said of it."""
+    with tempfile.TemporaryDirectory() as room:
+        said = []
+        try:
+            run = read(name)
+            run.lay_out(Path(room))
+            told = called(run, Path(room))
+            if told.status == SKIPPED:
+                return "skipped", ["skipped: " + told.out.decode(errors="replace").strip()]
+            if accepts:
+                said = accept(run, told)
+            wrong = [*told.differences(wanted(run, Path(room)))]
         except (OSError, ValueError) as error:
             wrong = [str(error)]
-    for it in wrong:
-        print(f"{folder.name}: {it}", flush=True)
-    return "failed" if wrong else "passed"
+    return "failed" if wrong else "passed", said + wrong
 
 
-def main(names):
-    os.environ.update(TOP=str(TOP), LRT=str(TOP / "lrt"), LRCHECK=str(TOP / "lrcheck"), LREXPLAIN=str(TOP / "out/lrexplain"))
-    names = names or sorted(it.name for it in RUNS.iterdir() if it.is_dir() and it.name != "__pycache__")
-    outcomes = [outcome(RUNS / name) for name in names]
+def find_programs(folder):
+    """Has the calls find the programs by their names: those that are named in the environment, as by LRT_PROGRAM, or else
+    those of out/."""
+    for name in ("lrt", "lrcheck"):
+        program = os.path.abspath(os.environ.get(f"{name.upper()}_PROGRAM") or TOP / "out" / name)
+        os.environ[name.upper()] = program
+        os.symlink(program, f"{folder}/{name}")
+    os.environ.update(TOP=str(TOP), PATH=f"{folder}:{os.environ['PATH']}")
+
+
+def main(words):
+    option = words.pop(0) if words and words[0].startswith("--") else ""
+    if option not in ("", "--accept", "--files"):
+        sys.exit(__doc__)
+    if option == "--files":
+        for name in words:
+            read(name).lay_out(Path())
+        return 0
+    return make(words or sorted(it.stem for it in RUNS.glob("*.run")), option == "--accept")
+
+
+def make(names, accepts):
+    """Makes the runs, side by side."""
+    outcomes = []
+    with tempfile.TemporaryDirectory() as folder, ThreadPoolExecutor(len(os.sched_getaffinity(0))) as pool:
+        find_programs(folder)
+        for name, (found, said) in zip(names, pool.map(lambda it: outcome(it, accepts), names)):
+            outcomes.append(found)
+            for it in said:
+                print(f"{name}: {it}", flush=True)
     print(f"{outcomes.count('passed')} passed, {outcomes.count('failed')} failed")
     return 1 if "failed" in outcomes else 0
 

@@ -54,13 +54,12 @@ class Behind:
 
     def __init__(self, grammar, least, symbols, token):
         self.grammar, self.least, self.symbols, self.token = grammar, least, symbols, token
-        self.is_end = token == len(grammar.tokens)
         self.settle()
 
     def settle(self):
         """The least length of what comes behind a rule whose text begins at a place of the list: of all such texts, and of
         those with which the token comes next."""
-        self.all, self.next, is_done = {(0, b"^"): 0}, {(0, b"^"): 0 if self.is_end else inf}, False
+        self.all, self.next, is_done = {(0, b"^"): 0}, {(0, b"^"): inf}, False
         while not is_done:
             is_done = True
             for end in range(len(self.symbols) + 1):
@@ -76,7 +75,7 @@ class Behind:
     def better(self, inner, outer, behind):
         """Puts in what comes behind a rule in a body and behind the rule of that body. Whether that is less than before."""
         length, around = self.least.text(behind), self.all.get(outer, inf)
-        begun = inf if self.is_end else self.least.beginning(behind, self.token) + around
+        begun = self.least.beginning(behind, self.token) + around
         if length == 0:
             begun = min(begun, self.next.get(outer, inf))
         is_less = length + around < self.all.get(inner, inf) or begun < self.next.get(inner, inf)

@@ -21,7 +21,6 @@ import json
 import subprocess
 import sys
 from collections import Counter
-from functools import cache
 from pathlib import Path
 
 import definitions
@@ -46,14 +45,12 @@ class Told:
     for its shift, and a production in a tuple for its reduction; by its body it is a pair of rule and body, and None for a
     shift."""
 
-    def __init__(self, lrcheck, path):
-        answer = lambda *options: subprocess.run([lrcheck, *options, path], capture_output=True).stdout
-        self.grammar = definitions.meaning(definitions.read(answer("--grammar")))
-        self.states = graphs.graph(self.grammar)
-        self.file = json.loads(answer("--json", "--all", "--settled"))
-        self.grouped = json.loads(answer("--json", "--grammar"))
-        self.name_symbols(self.grouped["grammar"])
-        self.entries = [*self.file["conflicts"], *self.file["settled"]]
+    def __init__(self, grammar, file, grouped):
+        """Told are the file, with each entry by itself, and the same with entries in groups and the grammar."""
+        self.grammar, self.file, self.grouped = grammar, file, grouped
+        self.states, self.trees = graphs.graph(grammar), {}
+        self.name_symbols(grouped["grammar"])
+        self.entries = [*file["conflicts"], *file["settled"]]
 
     def name_symbols(self, listed):
         """Finds what the names in JSON mean: the grammar is listed there in the same order, but without the start rule, and
@@ -82,13 +79,11 @@ class Told:
         """A production or item as rule and body."""
         return body_of(self.symbol(told["rule"]), self.symbols(told["body"]))
 
-    @cache
-    def trees_of(self, *text):
-        return Trees(self.grammar, text)
-
     def count(self, symbols, text):
         """How many rows of trees of the symbols there are over the text, up to MANY."""
-        return self.trees_of(*text).count(symbols)
+        if tuple(text) not in self.trees:
+            self.trees[tuple(text)] = Trees(self.grammar, text)
+        return self.trees[tuple(text)].count(symbols)
 
     def moves(self, tree):
         """The moves of a tree, by leaves and nodes, each node behind those below it."""
@@ -173,12 +168,16 @@ def check_trees(told, entry, ambiguity):
 
 def check_rule(told, entry, ambiguity):
     """What differs lies within a part of both trees that is one of the rule."""
-    one, other = ambiguity["trees"]
-    rules = ["$accept", root_of(one)]
-    while len(pairs := differing(one, other)) == 1:
-        one, other = pairs[0]
-        rules.append(root_of(one))
+    rules = ["$accept", *(root_of(one) for one, _ in nodes_of_both(ambiguity))]
     hold(ambiguity["rule"] in rules, f"the trees differ within {rules}, and not within {ambiguity['rule']}")
+
+
+def nodes_of_both(ambiguity):
+    """The nodes of both trees, from the roots on, below which alone they differ."""
+    nodes = [tuple(ambiguity["trees"])]
+    while len(pairs := differing(*nodes[-1])) == 1:
+        nodes += pairs
+    return nodes
 
 
 def differing(one, other):
@@ -188,16 +187,22 @@ def differing(one, other):
     return [pair for pair in zip(one[2], other[2]) if pair[0] != pair[1]]
 
 
-def check_parting(told, entry, ambiguity):
-    """The trees part at the dot, where the entry is."""
+def parting(told, ambiguity):
+    """The moves before the place where the trees part, and the two by which they do."""
     accepted = (0,)
     ways = [[*told.moves(tree), END, accepted] for tree in ambiguity["trees"]]
     place = next(place for place, (one, other) in enumerate(zip(*ways)) if one != other)
-    before, text = ways[0][:place], [*told.symbols(ambiguity["text"]), END]
+    return ways[0][:place], [way[place] for way in ways]
+
+
+def check_parting(told, entry, ambiguity):
+    """The trees part at the dot, where the entry is."""
+    before, moves = parting(told, ambiguity)
+    text = [*told.symbols(ambiguity["text"]), END]
     dot = sum(isinstance(move, int) for move in before)
     hold(ambiguity["dot"] == dot, f"the trees part at {dot}")
     hold(text[dot] in told.symbols(entry["tokens"]), "another token stands behind the dot")
-    pair = tuple(told.by_body(way[place]) for way in ways)
+    pair = tuple(told.by_body(move) for move in moves)
     hold(pair in told.pairs(entry, text[dot]), f"the trees part by {pair}")
     items = told.items_after(told.stack(before))
     hold(items == told.states[entry["state"]].core.keys(), "what stands before the dot leads to another state")
@@ -388,10 +393,18 @@ def spoil(told, counts):
     counts["an entry left out", is_seen(lambda told, *_: check_numbers(told), told, None, None)] += 1
 
 
+def told_of(lrcheck, path):
+    """What is told of a file, and of the grammar that is told too."""
+    answer = lambda *options: subprocess.run([lrcheck, *options, path], capture_output=True).stdout
+    grammar = definitions.meaning(definitions.read(answer("--grammar")))
+    file, grouped = (json.loads(answer("--json", *options)) for options in (("--all", "--settled"), ("--grammar",)))
+    return Told(grammar, file, grouped)
+
+
 def told_well(lrcheck, path):
     """What is told of a file, which is so."""
     try:
-        told = Told(lrcheck, path)
+        told = told_of(lrcheck, path)
         check(told)
     except Wrong as why:
         sys.exit(f"{path}: {why}")

@@ -73,13 +73,32 @@ fn start_state_of_assignments(rt: HostRuntime) -> Result<(), Fail> {
     Ok(())
 }
 
-/// Whether there is a text of why the grammar has conflicts, and whether that shows it to be ambiguous.
-fn explained(alloc: Global, grammar: &str) -> Result<(bool, bool), Fail> {
+/// An `else` goes with either `if`.
+const DANGLING_ELSE: &str = "%% S: 'if' 'e' 'then' S | 'if' 'e' 'then' S 'else' S | 'x';";
+
+/// What is explained of it.
+const EXPLAINED: &str = r#"   State 6: Shift("else") / Reduce(S: "if" "e" "then" "S")
+      AMBIGUOUS S: 'if' 'e' 'then' 'if' 'e' 'then' S . 'else' S
+         reduce: S('if' 'e' 'then' S('if' 'e' 'then' S) . 'else' S)
+         shift: S('if' 'e' 'then' S('if' 'e' 'then' S . 'else' S))
+         sentence: 'if' 'e' 'then' 'if' 'e' 'then' 'x' . 'else' 'x'
+"#;
+
+/// Why the grammar has conflicts, and whether that shows it to be ambiguous.
+fn explained(alloc: Global, grammar: &str) -> Result<(String, bool), Fail> {
     let grm = YaccGrammar::<u32>::from_text(alloc, grammar)?;
     match explain(alloc, &grm) {
-        Ok((text, is_ambiguous)) => Ok((!text.is_empty(), is_ambiguous)),
+        Ok(explained) => Ok(explained),
         Err(_) => Err(Fail::from("a table")),
     }
+}
+
+#[test]
+fn dangling_else_is_explained(rt: HostRuntime) -> Result<(), Fail> {
+    let (text, is_ambiguous) = explained(rt.alloc(), DANGLING_ELSE)?;
+    assert_eq!(rt; text.as_str(), EXPLAINED);
+    assert!(rt; is_ambiguous);
+    Ok(())
 }
 
 #[test]
@@ -89,8 +108,8 @@ fn conflicts_are_explained(rt: HostRuntime) -> Result<(), Fail> {
         (TOLD_APART_LATE, (true, false)),
         (TERMS_AND_FACTORS, (false, false)),
     ] {
-        let found = explained(rt.alloc(), grammar)?;
-        assert_eq!(rt; found, wanted, "{grammar}");
+        let (text, is_ambiguous) = explained(rt.alloc(), grammar)?;
+        assert_eq!(rt; (!text.is_empty(), is_ambiguous), wanted, "{grammar}");
     }
     Ok(())
 }

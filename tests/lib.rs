@@ -9,5 +9,6 @@ mod forms;
 mod grammars;
 mod graphs;
 mod machines;
+mod reasons;
 mod tables;
 mod trees;

@@ -1,9 +1,10 @@
 #!/bin/sh
-# Compiles the tests of this folder without a proof, by `rt try`, and runs them with each access checked. They are put beside
-# the crates in a copy, since `rt ci` takes no source that no proved crate has. The last line is 'N passed, M failed'.
+# Compiles the tests of this folder without a proof, by `rt try`, and runs them with each access checked. The last line is
+# 'N passed, M failed'.
 set -u
 top=$(dirname "$(dirname "$(readlink -f "$0")")")
 . "$top/crates/lrt/kit.sh"
+. "$top/tests/lay_out.sh"
 room=$(mktemp -d) || exit 1
 trap 'rm -rf "$room"' EXIT
 trap 'exit 130' HUP INT TERM
@@ -15,16 +16,7 @@ libraries() {
     done
 }
 
-# Copies the sources of all crates, and the tests as those of one crate more.
-lay_out() {
-    mkdir -p "$room/kit" "$room/crates/tests/src" && make_kit "$room/kit" &&
-        (cd "$top" && find crates -name out -prune -o -type f -exec cp --parents -t "$room" {} +) &&
-        (cd "$top/tests" && find . -name '*.rs' -exec cp --parents -t "$room/crates/tests/src" {} +) &&
-        find "$room/crates/tests" -name '*.rs' -exec sh -c 'mv "$1" "${1%.rs}.rt"' _ {} \; &&
-        { cat "$top/crates.txt" && echo "tests: $(libraries | tr '\n' ' ')"; } >"$room/crates.txt"
-}
-
-lay_out && cd "$room/crates/tests" || exit 1
+mkdir "$room/kit" && make_kit "$room/kit" && lay_out "$room" tests "$top/tests" $(libraries) && cd "$room/crates/tests" || exit 1
 "$room/kit/bin/rt" try --test --seconds 600 </dev/null 2>&1 | tee "$room/log"
 line=$(sed -n 's/^test result: .* \([0-9]*\) passed; \([0-9]*\) failed;.*/\1 passed, \2 failed/p' "$room/log")
 echo "${line:-0 passed, 1 failed}"

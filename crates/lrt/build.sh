@@ -5,9 +5,9 @@
 kept=$top/out
 log=$kept/build.log
 
-# Names the program that is built: that of a crate.
+# Names the program that is built: that of a crate. Where its own sources are no crate's, `apart` is the folder of these.
 name_program() {
-    program=$kept/$1 made=$top/crates/$1/out/$1 speaker=$1
+    program=$kept/$1 made=$top/crates/$1/out/$1 speaker=$1 apart=''
 }
 
 name_program lrt
@@ -18,8 +18,8 @@ say() {
 
 # Prints a sum over the paths and texts of all sources.
 sources() {
-    (cd "$top" && find crates crates.txt -name out -prune -o \
-        \( -name '*.rt' -o -name '*.antt' -o -name crates.txt \) -print0 |
+    (cd "$top" && find crates crates.txt $apart -name out -prune -o \
+        \( -name '*.rt' -o -name '*.rs' -o -name '*.antt' -o -name crates.txt \) -print0 |
         LC_ALL=C sort -z | xargs -0 sha256sum | sha256sum)
 }
 
@@ -55,9 +55,9 @@ duration() {
     if [ "$1" -lt 60 ]; then echo "$1 s"; else echo "$(($1 / 60)) min $(($1 % 60)) s"; fi
 }
 
-# Runs a command in the folder of a crate. It runs beside this script, which so can end it.
+# Runs a command in a folder. It runs beside this script, which so can end it.
 run_in() {
-    (cd "$top/crates/$1" && shift && exec "$@") </dev/null >"$log" 2>&1 &
+    (cd "$1" && shift && exec "$@") </dev/null >"$log" 2>&1 &
     running=$!
     wait "$running"
 }
@@ -72,9 +72,9 @@ tell_failure() {
 # Proves a crate, and builds the program. Of a program rt tells by a stamp that it is built: the status is that of the program,
 # which rt runs once.
 prove() {
-    [ "$1" = "$speaker" ] || { run_in "$1" rt lib; return; }
+    [ "$1" = "$speaker" ] || { run_in "$top/crates/$1" rt lib; return; }
     rm -f "$made.stamp"
-    run_in "$1" rt run
+    run_in "$top/crates/$1" rt run
     [ -e "$made.stamp" ]
 }
 

@@ -2,37 +2,45 @@
 
 # Names the program that is built of a crate, and is kept beside the proved one.
 name_unproved() {
-    crate=$1 program=$kept/look room=''
+    crate=$1 program=$kept/look build_room=''
     [ "$1" = lrt ] || program=$kept/look-${1#lr}
 }
 
-# Makes a kit in `room` for rt try, which removes the program that it links. Its linker leaves a copy of what it links, and the
-# checks of each access are left out, so that the program is not much slower than the proved one.
+# Makes a kit in `build_room` for rt try, which removes the program that it links. Its linker leaves a copy of what it links, and
+# the checks of each access are left out, so that the program is not much slower than the proved one.
 make_kit_of_program() {
-    make_kit "$room" && touch "$room/unchecked" && rm "$room/c/asan.a" "$room/toolchain/bin/ld.lld" &&
-        printf '!<arch>\n' >"$room/c/asan.a" || return
-    cat >"$room/toolchain/bin/ld.lld" <<'END'
+    make_kit "$build_room" && touch "$build_room/unchecked" && rm "$build_room/c/asan.a" "$build_room/toolchain/bin/ld.lld" &&
+        printf '!<arch>\n' >"$build_room/c/asan.a" || return
+    cat >"$build_room/toolchain/bin/ld.lld" <<'END'
 #!/bin/sh
 room=${0%/*}/../..
 "$room/tools/ld.lld" "$@" || exit
 while [ "$1" != -o ]; do shift; done
 cp "$2" "$room/linked" && mv "$room/linked" "$room/built"
 END
-    chmod +x "$room/toolchain/bin/ld.lld"
+    chmod +x "$build_room/toolchain/bin/ld.lld"
 }
 
-# Compiles the program, and has it read nothing. The status of rt try is then that of the program, so it is the
-# copy that tells of success. The kit lies outside of the repository, in which rt ci stops at links.
-compile() {
-    room=$(mktemp -d) || return
-    trap 'rm -rf "$room"' EXIT
-    made=$room/built log=$room/log
-    make_kit_of_program 2>"$log" && run_in "$crate" "$room/bin/rt" try --steps 1
+# Makes the folder `build_room` for what a build needs. It lies outside of the repository, in which rt ci stops at links.
+make_build_room() {
+    build_room=$(mktemp -d) || return
+    trap 'rm -rf "$build_room"' EXIT
+    made=$build_room/built log=$build_room/log
+}
+
+# Compiles the program of the crate in a folder, and has it read nothing. The status of rt try is then that of the program, so it
+# is the copy that tells of success.
+compile_in() {
+    make_kit_of_program 2>"$log" && run_in "$1" "$build_room/bin/rt" try --steps 1
     [ -e "$made" ] || tell_failure 'rt try failed'
+}
+
+compile() {
+    make_build_room && compile_in "$top/crates/$crate"
 }
 
 # Builds the program unless it is there, and tells of it on standard error.
 build_unproved() {
     build_by compile || return
-    [ -z "$room" ] || rm -rf "$room"
+    [ -z "$build_room" ] || rm -rf "$build_room"
 }

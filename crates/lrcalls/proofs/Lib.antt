@@ -1,2 +1,0 @@
--- items that fit a grammar
-mod FittingItems

@@ -1,2 +1,0 @@
--- what subjects are
-pub mod Subjects

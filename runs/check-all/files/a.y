@@ -1,2 +1,0 @@
-%%
-s: s 'a' s | s 'b' s | s 'c' s | s 'd' s | s 'e' s | 'x';

@@ -1,7 +1,0 @@
-%token A,BC/* one /* two */D// three
-%token E /* four
-// */ , F
-%%
-a:	A,B C
-D// five */
-E F;

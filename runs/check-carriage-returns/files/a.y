@@ -1,4 +1,0 @@
-%token A
-%%
-a: A // one  a: ;
- ; /* two */  %%

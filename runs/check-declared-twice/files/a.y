@@ -1,5 +1,0 @@
-%token A
-%token A
-%nterm a a
-%%
-a: A;

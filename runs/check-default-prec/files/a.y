@@ -1,5 +1,0 @@
-%left '+'
-%no-default-prec
-%%
-e: e '+' e | 'x';
-%default-prec;

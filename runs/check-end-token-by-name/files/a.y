@@ -1,3 +1,0 @@
-%token YYEOF "x"
-%%
-a: b | c; b: ; c: ;

@@ -1,3 +1,0 @@
-%token E 0 "eof"
-%%
-a: 'x' E | a 'x' "eof";

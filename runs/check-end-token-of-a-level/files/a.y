@@ -1,3 +1,0 @@
-%left E 0 "eof"
-%%
-a: a 'x' | 'x' E;

@@ -1,3 +1,0 @@
-%token END 0 "end of file"
-%%
-s: s 'a' | %empty;

@@ -1,3 +1,0 @@
-@REENTRANT@
-%%
-a: 'x';

@@ -1,3 +1,0 @@
-%Token A
-%%
-a: A %PREC A;

@@ -1,6 +1,0 @@
-%token A
-%ifdef B
-%token C
-%endif
-%%
-a: A;

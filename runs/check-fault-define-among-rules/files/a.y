@@ -1,3 +1,0 @@
-%%
-a: 'x';
-%define foo;

@@ -1,3 +1,0 @@
-%token END 0
-%%
-a: 'x' YYEOF;

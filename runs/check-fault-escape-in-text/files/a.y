@@ -1,3 +1,0 @@
-%token A "one \q"
-%%
-a: A;

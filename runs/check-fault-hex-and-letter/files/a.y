@@ -1,3 +1,0 @@
-%token A 0x4g
-%%
-a: A;

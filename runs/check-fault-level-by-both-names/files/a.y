@@ -1,5 +1,0 @@
-%left A
-%right "a"
-%token A "a"
-%%
-a: A;

@@ -1,4 +1,0 @@
-%token PLUS "+"
-%left "+" PLUS
-%%
-a: a PLUS a | 'x';

@@ -1,4 +1,0 @@
-%token A
-#line 5 A
-%%
-a: A;

@@ -1,4 +1,0 @@
-%nterm a
-%token a
-%%
-a: 'x';

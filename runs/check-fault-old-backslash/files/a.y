@@ -1,3 +1,0 @@
-\token A
-%%
-a: A \prec A;

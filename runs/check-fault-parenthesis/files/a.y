@@ -1,3 +1,0 @@
-%token END RUBY_TOKEN(END)
-%%
-a: END;

@@ -1,2 +1,0 @@
-%%
-a: 'x' %dprec 1 %dprec 2;

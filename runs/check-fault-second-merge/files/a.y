@@ -1,3 +1,0 @@
-%glr-parser
-%%
-a: 'x' %merge <f> %merge <g>;

@@ -1,3 +1,0 @@
-%token T
-%%
-a: 'x' %prec T %prec T;

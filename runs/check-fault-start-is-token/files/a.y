@@ -1,5 +1,0 @@
-%left A
-%start A
-%token A
-%%
-a: A;

@@ -1,5 +1,0 @@
-%token <a> A
-%type <b> "a"
-%token A "a"
-%%
-a: A;

@@ -1,4 +1,0 @@
-%type <a> a
-%type <b> a
-%%
-a: 'x';

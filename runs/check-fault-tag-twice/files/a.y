@@ -1,4 +1,0 @@
-%token <a> A
-%token <b> A
-%%
-a: A;

@@ -1,4 +1,0 @@
-%token A "one\
-two"
-%%
-a: A;

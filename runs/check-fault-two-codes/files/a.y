@@ -1,4 +1,0 @@
-%token A 300
-%token A 301
-%%
-a: A;

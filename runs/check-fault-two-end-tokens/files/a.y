@@ -1,3 +1,0 @@
-%token A 0 B 0
-%%
-a: A B;

@@ -1,3 +1,0 @@
-%glr_parser
-%%
-a: 'x';

@@ -1,3 +1,0 @@
-%token A "one \0"
-%%
-a: A;

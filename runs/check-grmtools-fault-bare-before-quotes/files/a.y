@@ -1,4 +1,0 @@
-%grmtools{yacckind: Grmtools}
-%%
-S -> (): X { }
-    | 'X' X { };

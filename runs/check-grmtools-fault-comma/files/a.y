@@ -1,4 +1,0 @@
-%grmtools{yacckind: Grmtools}
-%token A, B
-%%
-S -> (): A B { };

@@ -1,4 +1,0 @@
-%grmtools{yacckind: Grmtools}
-%%
-S -> (): 'x' { };
-%start S

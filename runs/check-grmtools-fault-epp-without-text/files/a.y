@@ -1,5 +1,0 @@
-%grmtools{yacckind: Grmtools}
-%epp A
-%token A
-%%
-S -> (): A { };

@@ -1,3 +1,0 @@
-%grmtools{yacckind: Grmtools}
-%%
-S 'x';

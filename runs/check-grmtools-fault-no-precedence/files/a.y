@@ -1,4 +1,0 @@
-%grmtools{yacckind: Grmtools}
-%token X
-%%
-S -> (): 'x' %prec X { };

@@ -1,4 +1,0 @@
-%grmtools{yacckind: Grmtools}
-%actiontype
-%%
-S: 'x';

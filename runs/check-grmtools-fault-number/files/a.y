@@ -1,4 +1,0 @@
-%grmtools{yacckind: Grmtools}
-%token A 258
-%%
-S -> (): A { };

@@ -1,4 +1,0 @@
-%grmtools{yacckind: Grmtools}
-%left Y
-%%
-S -> (): 'x' Y { };

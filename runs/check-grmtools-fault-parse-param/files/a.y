@@ -1,4 +1,0 @@
-%grmtools{yacckind: Grmtools}
-%parse-param p
-%%
-S -> (): 'x' { };

@@ -1,6 +1,0 @@
-%grmtools{yacckind: Grmtools}
-%start S
-%start T
-%%
-S -> (): T { };
-T -> (): 'x' { };

@@ -1,4 +1,0 @@
-%grmtools{yacckind: Grmtools}
-%token S
-%%
-S -> (): 'x' { };

@@ -1,4 +1,0 @@
-%grmtools{yacckind: Grmtools}
-%start T
-%%
-S -> (): 'x' { };

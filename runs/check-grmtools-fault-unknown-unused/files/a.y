@@ -1,4 +1,0 @@
-%grmtools{yacckind: Grmtools}
-%expect-unused T
-%%
-S -> (): 'x' { };

@@ -1,7 +1,0 @@
-%token ID
-%%
-list: item | list ',' itm
- ;
-item: ID
-	| number
- ;

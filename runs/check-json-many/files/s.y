@@ -1,7 +1,0 @@
-%token IF ELSE
-%expect 1
-%%
-s: IF s ELSE s
- | IF s
- | 'x'
- ;

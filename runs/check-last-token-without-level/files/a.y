@@ -1,4 +1,0 @@
-%left '+'
-%token T
-%%
-e: e '+' T e | T;

@@ -1,4 +1,0 @@
-%precedence '+'
-%precedence NEG
-%%
-e: '-' e %prec NEG | e '+' 'x' | 'x';

@@ -1,5 +1,0 @@
-%%
-list: %empty | list pair ;
-pair: key '=' value ';' ;
-key: 'k' ;
-value: 'v' | '{' list '}' ;

@@ -1,5 +1,0 @@
-%%
-a: b "x" | c A | b B | c B;
-b: ;
-c: ;
-%token B A "x";

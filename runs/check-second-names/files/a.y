@@ -1,4 +1,0 @@
-%token A "x" B "x"
-%token A "y"
-%%
-a: A B "y";

@@ -1,8 +1,0 @@
-%token D
-%precedence LOW T
-%precedence HIGH
-%%
-s: a T | b T | c;
-c: D T 'z';
-a: D %prec LOW;
-b: D;

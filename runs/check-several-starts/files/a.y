@@ -1,4 +1,0 @@
-%start s t
-%%
-s: 'a' s | 'a';
-t: t 'b' | s;

@@ -1,4 +1,0 @@
-%start a
-%start a
-%%
-a: 'x';

@@ -1,4 +1,0 @@
-%type <v> a B
-%token B
-%%
-a: B;

@@ -1,4 +1,0 @@
-%type <a> b
-%printer { } c
-%%
-a: 'x';

@@ -1,3 +1,0 @@
-%expect 3
-%%
-s: 'i' s | 'i' s 'e' s | 'x';

@@ -1,1 +1,0 @@
-%token y %% S: y x z;

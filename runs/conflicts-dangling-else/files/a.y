@@ -1,1 +1,0 @@
-%% S: 'if' S | 'if' S 'else' S | 'x';

@@ -1,1 +1,0 @@
-%left '-' ':' %% Expr : Expr '-' Expr | 'if' Expr ':' Expr | 'id' ;

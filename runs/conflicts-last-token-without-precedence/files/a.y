@@ -1,1 +1,0 @@
-%left '-' 'neg' %% Expr : Expr '-' Expr | 'neg' '(' Expr | 'id' ;

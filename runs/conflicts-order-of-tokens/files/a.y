@@ -1,1 +1,0 @@
-%token '*' '+' %% Expr : Expr '+' Expr | Expr '*' Expr | 'id' ;

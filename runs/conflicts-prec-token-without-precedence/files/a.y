@@ -1,1 +1,0 @@
-%token U %left '-' %% E: E '-' E | '-' E %prec U | 'n';

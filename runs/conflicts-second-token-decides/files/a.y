@@ -1,1 +1,0 @@
-%start A %% A : B 'x' | C 'x' 'x'; B : 'a'; C : 'a';

@@ -1,6 +1,0 @@
-%right '='
-%left '+'
-%left '*'
-%nonassoc '~'
-%%
-Expr : Expr '+' Expr | Expr '*' Expr | Expr '=' Expr | Expr '~' Expr | 'id' ;

@@ -1,1 +1,0 @@
-%% Expr: Term '-' Expr | Term; Term: Factor '*' Term | Factor; Factor: 'id';

@@ -1,1 +1,0 @@
-%left '+' '-' %left '*' %left U %% E: E '+' E | E '-' E | E '*' E | '-' E %prec U | 'n';

@@ -1,1 +1,0 @@
-%start A %% A: 'OPEN_BRACKET' A 'CLOSE_BRACKET' | 'a' | 'b';

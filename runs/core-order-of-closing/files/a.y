@@ -1,1 +1,0 @@
-%% S: B B S 'b'; A: A | S S 'b'; B: A S;

@@ -1,1 +1,0 @@
-%% S: 'if' 'e' 'then' S | 'if' 'e' 'then' S 'else' S | 'x';

@@ -1,1 +1,0 @@
-%% TopLevel: 'module' Exp ';'; Exp: 'try' Exp | Exp '=' Exp | Exp '|' Exp | '.';

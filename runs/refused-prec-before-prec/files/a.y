@@ -1,1 +1,0 @@
-%% S: %prec %prec 'b';

@@ -1,1 +1,0 @@
-%% S: 'a' %prec 'b'; %prec 'b'

@@ -1,3 +1,0 @@
-%start S
-%start S
-%% S: ;

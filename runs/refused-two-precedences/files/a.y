@@ -1,1 +1,0 @@
-%left a b %left b a %% S: ;

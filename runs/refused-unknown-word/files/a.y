@@ -1,1 +1,0 @@
-%% S: 'a' %precedence 'b';

@@ -1,1 +1,0 @@
-%nonassoc '~' %% E: E '~' E | 'id';

@@ -1,1 +1,0 @@
-%nonassoc U '~' %% E: '!' E %prec U | E '~' E | 'n';

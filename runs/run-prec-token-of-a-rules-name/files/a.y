@@ -1,1 +1,0 @@
-%left '-' %left '*' %left Minus %% E: E '-' E | E '*' E | Minus | 'n'; Minus: '-' E %prec Minus;

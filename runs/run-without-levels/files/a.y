@@ -1,1 +1,0 @@
-%% Expr : Expr '+' Expr | Expr '*' Expr | 'id' ;

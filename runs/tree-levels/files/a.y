@@ -1,1 +1,0 @@
-%left '+' %left '*' %% Expr : Expr '+' Expr | Expr '*' Expr | 'id' ;

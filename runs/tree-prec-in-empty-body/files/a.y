@@ -1,1 +1,0 @@
-%nonassoc low %nonassoc 'else' %% S: 'if' S Else | 'x'; Else: %prec low | 'else' S;

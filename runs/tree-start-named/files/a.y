@@ -1,1 +1,0 @@
-%start B %% A: 'a' B; B: A | 'b';

@@ -1,0 +1,7 @@
+//! Reasons for conflicts, as they are printed.
+
+mod each;
+mod limits;
+mod printed;
+mod together;
+mod without_texts;
