@@ -1,6 +1,6 @@
 //! A text in the making, which keeps its fault until it is finished.
 
-ghost use Rattle.std.specs.Prelude.{◌≡◌, ◌++◌, [], true, IfOk, IfErr, IfSome, IsTrue, string_bytes, encode_utf8};
+ghost use Rattle.std.specs.Prelude.{◌≡◌, ◌++◌, [], true, false, IfOk, IfErr, IfSome, IsTrue, string_bytes, encode_utf8};
 ghost use Rattle.std.specs.List.{repeat};
 ghost use Rattle.lrwriter.specs.Texts.{Adds, Held};
 
@@ -77,6 +77,13 @@ impl Text {
         ensures { IfSome (D.output value) (Adds self.old self.new) }
     {
         self.is_whole = self.is_whole && self.text.write_fmt(value).is_ok();
+    }
+
+    /// Takes in that memory was refused for something that belongs to the text: it stays as it is from now on.
+    pub fn give_up(&mut self)
+        ensures { self.new ≡ record { bytes = self.old.bytes; is_whole = false } }
+    {
+        self.is_whole = false;
     }
 
     /// All that was added. The error says that growth was refused.
