@@ -1,14 +1,15 @@
 -- text between tags holds no marks, and only marks are told otherwise
-use Rattle.std.proofs.Common.{◌≡◌, ◌≢◌, ℕ, ◌<◌, suc, List, [], ◌∷◌, ◌++◌, length, get_or, drop, All, refl, sym, ap, subst, ◌∙◌, arith, inl, inr, append-nil, append_assoc, encode_utf8, Bool, true, false}
+use Rattle.std.proofs.Common.{◌≡◌, ◌≢◌, ℕ, ◌<◌, suc, List, [], ◌∷◌, ◌++◌, length, get_or, drop, All, refl, sym, ap, subst, ◌∙◌, arith, inl, inr, append-nil, encode_utf8, Bool, true, false}
 use lib.Utf8.{encodes}
 use Rattle.std.proofs.lemmas.Str.{encodes-append}
-use Rattle.std.specs.Prelude.{if◌then◌else◌, ◌==◌}
+use Rattle.std.specs.Prelude.{if◌then◌else◌, ◌==◌, IsTrue}
 use Rattle.std.specs.List.{list_all}
 use Rattle.std.proofs.lemmas.Bool.{and_parts}
 use Rattle.std.proofs.lemmas.Bool.{cases_lt}
 use Rattle.std.proofs.lemmas.List.Elements.{All-nil, All-cons, All-append}
 use Rattle.std.proofs.lemmas.List.Concat.{flat_map-append}
 use Rattle.std.proofs.lemmas.Str.{inside_one}
+use Rattle.lrwriter.specs.Texts.{Adds, Held}
 use Rattle.lrdiagnostics.specs.Escapes.{entity, escaped, IsPlain}
 
 -- a byte that has no entity
@@ -62,16 +63,15 @@ all_plain [] = All-nil IsPlain
 all_plain (b ∷ text) = All-append IsPlain (entity b) (escaped text) (plain_entity b) (all_plain text)
 
 -- a further character
-pub escaped_more : (front cs : List ℕ) (c : ℕ) → (front ++ escaped (encodes cs)) ++ escaped (encode_utf8 c) ≡ front ++ escaped (encodes (cs ++ c ∷ []))
-escaped_more front cs c =
+pub escaped_more : (cs : List ℕ) (c : ℕ) → escaped (encodes cs) ++ escaped (encode_utf8 c) ≡ escaped (encodes (cs ++ c ∷ []))
+escaped_more cs c =
     let last : encodes (cs ++ c ∷ []) ≡ encodes cs ++ encode_utf8 c = encodes-append cs (c ∷ []) ∙ ap (λ x. encodes cs ++ x) (append-nil (encode_utf8 c)) in
-    append_assoc front (escaped (encodes cs)) (escaped (encode_utf8 c))
-    ∙ ap (λ x. front ++ x) (sym (flat_map-append entity (encodes cs) (encode_utf8 c)) ∙ ap escaped (sym last))
+    sym (flat_map-append entity (encodes cs) (encode_utf8 c)) ∙ ap escaped (sym last)
 
 drop_front : (front rest : List ℕ) → drop (length front) (front ++ rest) ≡ rest
 drop_front [] rest = refl
 drop_front (b ∷ front) rest = drop_front front rest
 
 -- what is added is without marks
-pub plain_behind : (front page text : List ℕ) → page ≡ front ++ escaped text → All IsPlain (drop (length front) page)
-plain_behind front page text e = rw e (rw (drop_front front (escaped text)) (all_plain text))
+pub plain_behind : (old new : Held) (text : List ℕ) → Adds old new (escaped text) → IsTrue new.is_whole → All IsPlain (drop (length old.bytes) new.bytes)
+plain_behind old new text adds whole = rw (adds.bytes whole) (rw (drop_front old.bytes (escaped text)) (all_plain text))

@@ -3,7 +3,7 @@
 use crate::lines::ShownLine;
 use crate::sources::Source;
 use crate::styles::Style;
-use crate::words::{push_blanks, push_times};
+use lrwriter::Text;
 use lryacc::{Fault, Span};
 use std::alloc::{AllocError, Global};
 
@@ -72,22 +72,27 @@ pub fn messages_of(alloc: Global, faults: &[Fault]) -> Result<Vec<Message>, Allo
 #[derive(Drop)]
 struct MarkedLine {
     line: ShownLine,
-    /// The column behind the last mark, where that ends its row and nothing is said of it.
+    /// The column behind the last mark, where nothing is said of it: its row can go on with a further mark, and is not ended yet.
     row: Option<usize>,
 }
 
 impl MarkedLine {
+    /// Ends the row of the last mark, where that is not done yet.
+    fn end_row(&self, text: &mut Text) {
+        if self.row.is_some() {
+            text.add_char('\n');
+        }
+    }
+
     /// Adds what stands before a mark at a column: the beginning of a row, or blanks behind the mark before it in its row.
-    fn begin_mark(&self, text: &mut String, from: usize, width: usize) -> Result<(), AllocError> {
+    fn begin_mark(&self, text: &mut Text, from: usize, width: usize) {
         match self.row {
-            Some(behind) if behind < from => {
-                let _ = text.pop();
-                push_blanks(text, from - behind)
-            }
+            Some(behind) if behind < from => text.add_times(' ', from - behind),
             _ => {
-                push_blanks(text, width.saturating_add(2))?;
-                text.push_str("| ")?;
-                push_blanks(text, from)
+                self.end_row(text);
+                text.add_times(' ', width.saturating_add(2));
+                text.add("| ");
+                text.add_times(' ', from);
             }
         }
     }
@@ -128,55 +133,43 @@ impl Teller<'_> {
     }
 
     /// Adds the line of a place, and answers it.
-    fn push_line(
-        self,
-        text: &mut String,
-        at: usize,
-        width: usize,
-    ) -> Result<ShownLine, AllocError> {
+    fn add_line(self, text: &mut Text, at: usize, width: usize) -> Result<ShownLine, AllocError> {
         let number = self.source.line(at);
-        let line = ShownLine::new(*text.allocator(), self.source, at)?;
-        push_blanks(text, width.saturating_sub(digits(number)))?;
-        write!(text, " {number} | ")?;
-        text.push_str(line.text.as_str())?;
-        text.push('\n')?;
+        let line = ShownLine::new(text.allocator(), self.source, at)?;
+        text.add_times(' ', width.saturating_sub(digits(number)));
+        write!(text, " {number} | ");
+        text.add(line.text.as_str());
+        text.add_char('\n');
         Ok(line)
     }
 
     /// Adds a place's mark under a line, with what is said: in the row of the mark before it, where nothing is said of that.
-    fn push_mark(
-        self,
-        text: &mut String,
-        marked: &mut MarkedLine,
-        mark: &Mark,
-        width: usize,
-    ) -> Result<(), AllocError> {
+    fn add_mark(self, text: &mut Text, marked: &mut MarkedLine, mark: &Mark, width: usize) {
         let from = marked.line.column(mark.span.start);
         let times = marked
             .line
             .column(mark.span.end)
             .saturating_sub(from)
             .max(1);
-        marked.begin_mark(text, from, width)?;
-        mark.style.begin(text, self.has_colours)?;
-        push_times(text, mark.mark, times)?;
-        if !mark.label.is_empty() {
-            text.push(' ')?;
-            text.push_str(mark.label.as_str())?;
-        }
-        Style::end(text, self.has_colours)?;
+        marked.begin_mark(text, from, width);
+        mark.style.begin(text, self.has_colours);
+        text.add_times(mark.mark, times);
         marked.row = if mark.label.is_empty() {
+            Style::end(text, self.has_colours);
             Some(from.saturating_add(times))
         } else {
+            text.add_char(' ');
+            text.add(mark.label.as_str());
+            Style::end(text, self.has_colours);
+            text.add_char('\n');
             None
         };
-        text.push('\n')
     }
 
     /// The line that stands last, where a place can be marked under it, or else the line of the place, which is added.
     fn line_of(
         self,
-        text: &mut String,
+        text: &mut Text,
         last: Option<MarkedLine>,
         at: usize,
         width: usize,
@@ -185,34 +178,39 @@ impl Teller<'_> {
             if marked.line.shows(self.source.line(at), at) {
                 return Ok(marked);
             }
+            marked.end_row(text);
         }
-        let line = self.push_line(text, at, width)?;
+        let line = self.add_line(text, at, width)?;
         Ok(MarkedLine { line, row: None })
     }
 
-    /// Adds the lines of places, each with its mark. One line serves for places that follow each other in it.
-    pub fn push_marks(self, text: &mut String, marks: &[Mark]) -> Result<(), AllocError> {
+    /// Adds the lines of places, each with its mark. One line serves for places that follow each other in it. The error says
+    /// that memory for a line was refused.
+    pub fn add_marks(self, text: &mut Text, marks: &[Mark]) -> Result<(), AllocError> {
         let width = self.width_of(marks);
-        push_blanks(text, width.saturating_add(2))?;
-        text.push_str("|\n")?;
+        text.add_times(' ', width.saturating_add(2));
+        text.add("|\n");
         let mut last = None;
         for mark in marks {
             let mut marked = self.line_of(text, last, mark.span.start, width)?;
-            self.push_mark(text, &mut marked, mark, width)?;
+            self.add_mark(text, &mut marked, mark, width);
             last = Some(marked);
+        }
+        if let Some(marked) = last {
+            marked.end_row(text);
         }
         Ok(())
     }
 
     /// Adds where the first of the places is, and then all.
-    pub fn push_placed(self, text: &mut String, marks: &[Mark]) -> Result<(), AllocError> {
+    pub fn add_placed(self, text: &mut Text, marks: &[Mark]) -> Result<(), AllocError> {
         if let Some(first) = marks.first() {
             let at = self.source.position(first.span.start);
             let name = self.source.name;
-            push_blanks(text, self.width_of(marks))?;
-            write!(text, " --> {name}:{}:{}\n", at.line, at.column)?;
+            text.add_times(' ', self.width_of(marks));
+            write!(text, " --> {name}:{}:{}\n", at.line, at.column);
         }
-        self.push_marks(text, marks)
+        self.add_marks(text, marks)
     }
 
     /// How many blanks stand before notes under places of such marks.
@@ -221,37 +219,27 @@ impl Teller<'_> {
     }
 
     /// Adds lines of notes under places of such marks.
-    pub fn push_notes(
-        self,
-        text: &mut String,
-        marks: &[Mark],
-        lines: &str,
-    ) -> Result<(), AllocError> {
-        if lines.is_empty() {
-            return Ok(());
+    pub fn add_notes(self, text: &mut Text, marks: &[Mark], lines: &str) {
+        if !lines.is_empty() {
+            text.add_times(' ', self.indent(marks));
+            text.add("|\n");
+            text.add(lines);
         }
-        push_blanks(text, self.indent(marks))?;
-        text.push_str("|\n")?;
-        text.push_str(lines)
     }
 
-    /// Adds a note under places of such marks.
-    pub fn push_note(
-        self,
-        text: &mut String,
-        marks: &[Mark],
-        note: &str,
-    ) -> Result<(), AllocError> {
-        let mut lines = String::new(*text.allocator());
-        push_blanks(&mut lines, self.indent(marks))?;
-        write!(lines, "= {note}\n")?;
-        self.push_notes(text, marks, lines.as_str())
+    /// Adds under places of such marks how many there are besides.
+    fn add_more(self, text: &mut Text, marks: &[Mark], more: usize) {
+        let indent = self.indent(marks);
+        text.add_times(' ', indent);
+        text.add("|\n");
+        text.add_times(' ', indent);
+        write!(text, "= and {more} more, which --all shows\n");
     }
 
     /// Adds what is told of places: its words, and the first of the places, so many at the most.
-    fn push_message(
+    fn add_message(
         self,
-        text: &mut String,
+        text: &mut Text,
         message: &Message,
         weight: Weight,
         most: usize,
@@ -262,29 +250,28 @@ impl Teller<'_> {
         let at = self.source.position(first.start);
         let (file, words) = (self.source.name, message.words.as_str());
         let (name, style) = weight.name();
-        write!(text, "{file}:{}:{}: ", at.line, at.column)?;
-        style.push(text, name, self.has_colours)?;
-        write!(text, ": {words}\n")?;
-        let marks = message.marks(*text.allocator(), style, most)?;
-        self.push_marks(text, marks.as_slice())?;
+        write!(text, "{file}:{}:{}: ", at.line, at.column);
+        style.add(text, name, self.has_colours);
+        write!(text, ": {words}\n");
+        let marks = message.marks(text.allocator(), style, most)?;
+        self.add_marks(text, marks.as_slice())?;
         let more = message.places.len().saturating_sub(most);
         if more > 0 {
-            let note = format!(in *text.allocator(); "and {more} more, which --all shows")?;
-            self.push_note(text, marks.as_slice(), note.as_str())?;
+            self.add_more(text, marks.as_slice(), more);
         }
         Ok(())
     }
 
     /// Adds faults, or what is warned of: the first ones, so many at the most, and how many there are besides.
-    pub fn push_messages(
+    pub fn add_messages(
         self,
-        text: &mut String,
+        text: &mut Text,
         messages: &[Message],
         weight: Weight,
         most: usize,
     ) -> Result<(), AllocError> {
         for message in messages.iter().take(most) {
-            self.push_message(text, message, weight, most)?;
+            self.add_message(text, message, weight, most)?;
         }
         let more = messages.len().saturating_sub(most);
         if more > 0 {
@@ -293,7 +280,7 @@ impl Teller<'_> {
             write!(
                 text,
                 "{file}: and {more} more {name}{ending}, which --all shows\n"
-            )?;
+            );
         }
         Ok(())
     }

@@ -10,8 +10,8 @@ mod styles;
 mod words;
 
 pub use crate::diagnostics::{Mark, Message, TOLD, Teller, Weight, messages_of};
-pub use crate::escapes::push_escaped;
-pub use crate::lines::{ShownLine, push_shown};
+pub use crate::escapes::{add_escaped, add_escaped_name};
+pub use crate::lines::{ShownLine, add_shown};
 pub use crate::sources::{Position, Source};
 pub use crate::styles::Style;
-pub use crate::words::{Layout, comma_words, push_blanks, width_of};
+pub use crate::words::{Layout, width_of};

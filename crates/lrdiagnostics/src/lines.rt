@@ -1,6 +1,7 @@
 //! Lines of a file as they are shown: what a terminal can show of them, and of long ones a part.
 
 use crate::sources::Source;
+use lrwriter::Text;
 use std::alloc::{AllocError, Global};
 use unicode_width::UnicodeWidthChar;
 
@@ -38,11 +39,10 @@ pub fn shown(character: char) -> char {
 }
 
 /// Adds a name of a file, as it is shown.
-pub fn push_shown(text: &mut String, name: &str) -> Result<(), AllocError> {
+pub fn add_shown(text: &mut Text, name: &str) {
     for character in name.chars() {
-        text.push(shown(character))?;
+        text.add_char(shown(character));
     }
-    Ok(())
 }
 
 /// Characters that stand one behind the other.
@@ -117,6 +117,62 @@ impl Cells {
     }
 }
 
+/// Which columns of a line are shown.
+#[derive(Clone, Copy)]
+struct Window {
+    from: usize,
+    to: usize,
+    /// Whether a part before them, or behind them, is left out.
+    is_cut_before: bool,
+    is_cut_behind: bool,
+}
+
+impl Window {
+    /// Whether there is more than is shown.
+    fn is_long(self) -> bool {
+        self.is_cut_before || self.is_cut_behind || self.to > SHOWN
+    }
+
+    /// What of it stands around a place.
+    fn around(self, cells: &Cells, at: usize) -> Window {
+        let column = cells.column_at(at);
+        let is_cut_before = self.is_cut_before || column > BEFORE;
+        let from = if is_cut_before {
+            cells.first_from(column.saturating_sub(BEFORE))
+        } else {
+            self.from
+        };
+        let last = from.saturating_add(SHOWN - 2 * DOTS.len());
+        Window {
+            from,
+            to: self.to.min(last),
+            is_cut_before,
+            is_cut_behind: self.is_cut_behind || self.to > last,
+        }
+    }
+
+    /// Its text.
+    fn text(self, alloc: Global, cells: &Cells) -> Result<String, AllocError> {
+        let mut text = Text::new(alloc);
+        if self.is_cut_before {
+            text.add(DOTS);
+        }
+        for cell in &cells.list {
+            if self.from <= cell.from && cell.to <= self.to {
+                text.add_char(cell.character);
+                if cell.character == ' ' {
+                    let width = cell.to.saturating_sub(cell.from);
+                    text.add_times(' ', width.saturating_sub(1));
+                }
+            }
+        }
+        if self.is_cut_behind {
+            text.add(DOTS);
+        }
+        text.finish()
+    }
+}
+
 /// A line, or a part of it, as it is shown.
 #[derive(Drop)]
 pub struct ShownLine {
@@ -124,12 +180,7 @@ pub struct ShownLine {
     number: usize,
     pub text: String,
     cells: Cells,
-    /// The columns that are shown.
-    from: usize,
-    to: usize,
-    /// Whether a part before them, or behind them, is left out.
-    is_cut_before: bool,
-    is_cut_behind: bool,
+    window: Window,
 }
 
 impl ShownLine {
@@ -139,75 +190,40 @@ impl ShownLine {
         let first = start.max(at.saturating_sub(LOOKED));
         let last = end.min(at.saturating_add(LOOKED));
         let cells = Cells::new(alloc, first, source.part(first, last))?;
-        let mut shown = ShownLine {
-            number: source.line(at),
-            text: String::new(alloc),
+        let whole = Window {
             from: 0,
             to: cells.column,
             is_cut_before: start < first,
             is_cut_behind: last < end,
-            cells,
         };
-        if shown.is_long() {
-            shown.cut(at);
-        }
-        shown.fill()?;
-        Ok(shown)
-    }
-
-    /// Whether it is longer than is shown.
-    fn is_long(&self) -> bool {
-        self.is_cut_before || self.is_cut_behind || self.to > SHOWN
-    }
-
-    /// Leaves out what is far from a place.
-    fn cut(&mut self, at: usize) {
-        let column = self.cells.column_at(at);
-        if self.is_cut_before || column > BEFORE {
-            self.from = self.cells.first_from(column.saturating_sub(BEFORE));
-            self.is_cut_before = true;
-        }
-        let last = self.from.saturating_add(SHOWN - 2 * DOTS.len());
-        if self.is_cut_behind || self.to > last {
-            self.to = self.to.min(last);
-            self.is_cut_behind = true;
-        }
-    }
-
-    /// Makes the text.
-    fn fill(&mut self) -> Result<(), AllocError> {
-        if self.is_cut_before {
-            self.text.push_str(DOTS)?;
-        }
-        for cell in &self.cells.list {
-            if self.from <= cell.from && cell.to <= self.to {
-                self.text.push(cell.character)?;
-                if cell.character == ' ' {
-                    for _ in 1..cell.to.saturating_sub(cell.from) {
-                        self.text.push(' ')?;
-                    }
-                }
-            }
-        }
-        if self.is_cut_behind {
-            self.text.push_str(DOTS)?;
-        }
-        Ok(())
+        let window = if whole.is_long() {
+            whole.around(&cells, at)
+        } else {
+            whole
+        };
+        Ok(ShownLine {
+            number: source.line(at),
+            text: window.text(alloc, &cells)?,
+            cells,
+            window,
+        })
     }
 
     /// Whether what stands at a place of a line of that number can be marked under it.
     pub fn shows(&self, number: usize, at: usize) -> bool {
         let column = self.cells.column_at(at);
         let is_far = at < self.cells.list.first().map_or(0, |cell| cell.at);
+        let window = self.window;
         self.number == number
-            && !(self.is_cut_before && (is_far || column < self.from))
-            && !(self.is_cut_behind && column >= self.to)
+            && !(window.is_cut_before && (is_far || column < window.from))
+            && !(window.is_cut_behind && column >= window.to)
     }
 
     /// The column of the text at which what stands at a place is shown, from 0.
     pub fn column(&self, at: usize) -> usize {
-        let column = self.cells.column_at(at).min(self.to);
-        let before = if self.is_cut_before { DOTS.len() } else { 0 };
-        column.saturating_sub(self.from).saturating_add(before)
+        let window = self.window;
+        let column = self.cells.column_at(at).min(window.to);
+        let before = if window.is_cut_before { DOTS.len() } else { 0 };
+        column.saturating_sub(window.from).saturating_add(before)
     }
 }

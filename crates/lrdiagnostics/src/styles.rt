@@ -1,6 +1,6 @@
 //! Colours of what is told.
 
-use std::alloc::AllocError;
+use lrwriter::Text;
 
 /// How words stand out.
 #[derive(Clone, Copy, Debug, PartialEq, Eq)]
@@ -27,25 +27,23 @@ impl Style {
     }
 
     /// Turns it on in a text, where colours are used.
-    pub fn begin(self, text: &mut String, has_colours: bool) -> Result<(), AllocError> {
+    pub(crate) fn begin(self, text: &mut Text, has_colours: bool) {
         if has_colours {
-            text.push_str(self.code())?;
+            text.add(self.code());
         }
-        Ok(())
     }
 
     /// Turns it off again.
-    pub fn end(text: &mut String, has_colours: bool) -> Result<(), AllocError> {
+    pub(crate) fn end(text: &mut Text, has_colours: bool) {
         if has_colours {
-            text.push_str("\x1b[0m")?;
+            text.add("\x1b[0m");
         }
-        Ok(())
     }
 
     /// Adds words that stand out, where colours are used.
-    pub fn push(self, text: &mut String, words: &str, has_colours: bool) -> Result<(), AllocError> {
-        self.begin(text, has_colours)?;
-        text.push_str(words)?;
-        Style::end(text, has_colours)
+    pub fn add(self, text: &mut Text, words: &str, has_colours: bool) {
+        self.begin(text, has_colours);
+        text.add(words);
+        Style::end(text, has_colours);
     }
 }

@@ -1,11 +1,12 @@
 //! The grammar of a file.
 
-use crate::names::push_name;
 use crate::pages::Page;
 use crate::symbols::number_of;
+use lrdiagnostics::add_escaped_name;
 use lrgrammar::grammar::{AssocKind, PartSymbol, PartToken};
 use lrgrammar::idx::IndexStorage;
 use lrshown::{body_of, rule_name};
+use lrwriter::Text;
 use lryacc::FileGrammar;
 use std::alloc::{AllocError, Global};
 
@@ -47,81 +48,72 @@ impl<T: IndexStorage> Page<'_, T> {
     }
 
     /// Adds a production: for the script its rule and its body by their numbers, and for readers its body.
-    fn push_production(&self, page: &mut String, production: usize) -> Result<(), AllocError> {
+    fn add_production(&self, page: &mut Text, production: usize) {
         let rule = number_of(PartSymbol::Rule(self.rule_of(production)));
-        write!(page, "<li id=\"p{production}\" data-symbols=\"{rule}")?;
+        write!(page, "<li id=\"p{production}\" data-symbols=\"{rule}");
         for symbol in body_of(self.file, production) {
             let number = number_of(*symbol);
-            write!(page, " {number}")?;
+            write!(page, " {number}");
         }
-        page.push_str("\">")?;
-        self.push_body(page, production, None)?;
+        page.add("\">");
+        self.add_body(page, production, None);
         if let Some(named) = self.file.named_precedence(production) {
-            page.push_str(" <span class=\"soft\">%prec ")?;
-            self.push_token(page, named.token)?;
-            page.push_str("</span>")?;
+            page.add(" <span class=\"soft\">%prec ");
+            self.add_token(page, named.token);
+            page.add("</span>");
         }
-        page.push_str("</li>\n")
+        page.add("</li>\n");
     }
 
     /// Adds a rule.
-    fn push_rule_part(
-        &self,
-        page: &mut String,
-        rule: usize,
-        productions: &[usize],
-    ) -> Result<(), AllocError> {
-        write!(page, "<section class=\"part\"><dfn id=\"r{rule}\">")?;
-        push_name(page, rule_name(self.file, rule))?;
-        page.push_str("</dfn>")?;
+    fn add_rule_part(&self, page: &mut Text, rule: usize, productions: &[usize]) {
+        write!(page, "<section class=\"part\"><dfn id=\"r{rule}\">");
+        add_escaped_name(page, rule_name(self.file, rule));
+        page.add("</dfn>");
         if let (Some(place), true) = (self.file.rule_places.get(rule), rule > 0) {
             let line = self.source.line(place.start);
-            write!(page, " <span class=\"soft\">line {line}</span>")?;
+            write!(page, " <span class=\"soft\">line {line}</span>");
         }
-        page.push_str("<ol class=\"body\">\n")?;
+        page.add("<ol class=\"body\">\n");
         for production in productions {
-            self.push_production(page, *production)?;
+            self.add_production(page, *production);
         }
-        page.push_str("</ol></section>\n")
+        page.add("</ol></section>\n");
     }
 
     /// Adds the token of that number, with its level. Levels are twice as many as in the file.
-    fn push_token_part(
-        &self,
-        page: &mut String,
-        number: usize,
-        token: &PartToken,
-    ) -> Result<(), AllocError> {
-        write!(page, "<li><dfn id=\"t{number}\">")?;
-        push_name(page, token.name.as_str())?;
-        page.push_str("</dfn>")?;
+    fn add_token_part(&self, page: &mut Text, number: usize, token: &PartToken) {
+        write!(page, "<li><dfn id=\"t{number}\">");
+        add_escaped_name(page, token.name.as_str());
+        page.add("</dfn>");
         if let Some(precedence) = token.precedence {
             let word = line_word(self.file, precedence.level, precedence.kind);
             let level = precedence.level / 2;
-            write!(page, " <span class=\"soft\">{word}, level {level}</span>")?;
+            write!(page, " <span class=\"soft\">{word}, level {level}</span>");
         }
-        page.push_str("</li>\n")
+        page.add("</li>\n");
     }
 
     /// Adds the tokens.
-    fn push_token_parts(&self, page: &mut String) -> Result<(), AllocError> {
-        page.push_str("<details class=\"part\"><summary><b>Tokens</b></summary>\n")?;
-        page.push_str("<ul class=\"names\">\n")?;
+    fn add_token_parts(&self, page: &mut Text) {
+        page.add("<details class=\"part\"><summary><b>Tokens</b></summary>\n");
+        page.add("<ul class=\"names\">\n");
         for (number, token) in self.file.parts.tokens.iter().enumerate() {
             if is_of_file(token) {
-                self.push_token_part(page, number, token)?;
+                self.add_token_part(page, number, token);
             }
         }
-        page.push_str("</ul></details>\n")
+        page.add("</ul></details>\n");
     }
 
-    /// Adds the rules, and the tokens.
-    pub(crate) fn push_grammar(&self, page: &mut String) -> Result<(), AllocError> {
-        page.push_str("<section id=\"grammar\"><h2>Grammar</h2>\n")?;
-        for (rule, productions) in self.productions(*page.allocator())?.iter().enumerate() {
-            self.push_rule_part(page, rule, productions.as_slice())?;
+    /// Adds the rules, and the tokens. The error says that memory for a list was refused.
+    pub(crate) fn add_grammar(&self, page: &mut Text) -> Result<(), AllocError> {
+        page.add("<section id=\"grammar\"><h2>Grammar</h2>\n");
+        for (rule, productions) in self.productions(page.allocator())?.iter().enumerate() {
+            self.add_rule_part(page, rule, productions.as_slice());
         }
-        self.push_token_parts(page)?;
-        page.push_str("</section>\n")
+        self.add_token_parts(page);
+        page.add("</section>\n");
+        Ok(())
     }
 }

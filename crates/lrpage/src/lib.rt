@@ -1,12 +1,11 @@
 //! A page that shows what was found in the grammar of a file: its conflicts with their trees, its rules, and the states.
 //!
-//! It needs nothing but itself. All text of the file goes through `lrdiagnostics::push_escaped`. Trees and edges stand in it as
-//! numbers, and its own script draws and lists them once they are looked at.
+//! It needs nothing but itself. All text of the file goes through `lrdiagnostics::add_escaped` or `add_escaped_name`. Trees and
+//! edges stand in it as numbers, and its own script draws and lists them once they are looked at.
 #![tactic(auto)]
 
 mod cards;
 mod grammars;
-mod names;
 mod pages;
 mod places;
 mod script;

@@ -4,13 +4,13 @@ ghost use Rattle.std.specs.Prelude.{◌≡◌, ⊤, All};
 ghost use Rattle.lrshown.specs.Ambiguities.{AreShown};
 
 use crate::grammars::is_of_file;
-use crate::names::push_name;
 use crate::script::SCRIPT;
 use crate::style::STYLE;
-use lrdiagnostics::{Mark, Source};
+use lrdiagnostics::{Mark, Source, add_escaped_name};
 use lrfindings::Findings;
 use lrgrammar::idx::IndexStorage;
 use lrshown::Evidence;
+use lrwriter::Text;
 use lryacc::FileGrammar;
 use std::alloc::{AllocError, Global};
 
@@ -39,9 +39,9 @@ const REAL: &str =
     "Each conflict is one of the LR(1) automaton: none is an artefact of merging states.";
 
 /// Adds how many there are of something.
-pub(crate) fn push_count(page: &mut String, count: usize, word: &str) -> Result<(), AllocError> {
+pub(crate) fn add_count(page: &mut Text, count: usize, word: &str) {
     let ending = if count == 1 { "" } else { "s" };
-    write!(page, "{count} {word}{ending}")
+    write!(page, "{count} {word}{ending}");
 }
 
 /// A conflict as it is shown: entries at which the same meets in the same state.
@@ -88,16 +88,16 @@ impl<T: IndexStorage> Clone for Page<'_, T> {
 
 impl<T: IndexStorage> Page<'_, T> {
     /// Adds all that stands before what is shown.
-    fn push_head(&self, page: &mut String) -> Result<(), AllocError> {
-        page.push_str(HEAD)?;
-        push_name(page, self.source.name)?;
-        page.push_str(" - lrcheck</title>\n<style>\n")?;
-        page.push_str(STYLE)?;
-        page.push_str("</style>\n</head>\n<body>\n")
+    fn add_head(&self, page: &mut Text) {
+        page.add(HEAD);
+        add_escaped_name(page, self.source.name);
+        page.add(" - lrcheck</title>\n<style>\n");
+        page.add(STYLE);
+        page.add("</style>\n</head>\n<body>\n");
     }
 
     /// Adds how much there is.
-    fn push_counts(&self, page: &mut String) -> Result<(), AllocError> {
+    fn add_counts(&self, page: &mut Text) {
         let parts = &self.file.parts;
         let rules = parts.rules.len().saturating_sub(1);
         let tokens = parts
@@ -106,14 +106,14 @@ impl<T: IndexStorage> Page<'_, T> {
             .filter(|token| is_of_file(token))
             .count();
         let productions = parts.prods.iter().filter(|prod| prod.rule > 0).count();
-        push_count(page, rules, "rule")?;
-        page.push_str(", ")?;
-        push_count(page, productions, "production")?;
-        page.push_str(", ")?;
-        push_count(page, tokens, "token")?;
-        page.push_str(", ")?;
-        push_count(page, self.found.states, "state")?;
-        page.push_str(". ")
+        add_count(page, rules, "rule");
+        page.add(", ");
+        add_count(page, productions, "production");
+        page.add(", ");
+        add_count(page, tokens, "token");
+        page.add(", ");
+        add_count(page, self.found.states, "state");
+        page.add(". ");
     }
 
     /// The line of the verdict without the name of the file.
@@ -126,35 +126,42 @@ impl<T: IndexStorage> Page<'_, T> {
     }
 
     /// Adds the verdict, how much there is, and the bar.
-    fn push_header(&self, page: &mut String) -> Result<(), AllocError> {
-        page.push_str("<header>\n<h1>")?;
-        push_name(page, self.source.name)?;
+    fn add_header(&self, page: &mut Text) {
+        page.add("<header>\n<h1>");
+        add_escaped_name(page, self.source.name);
         let class = if self.is_good {
             "verdict good"
         } else {
             "verdict"
         };
-        write!(page, "</h1>\n<p class=\"{class}\">")?;
-        push_name(page, self.verdict())?;
-        page.push_str("</p>\n<p class=\"soft\">")?;
-        self.push_counts(page)?;
-        page.push_str(REAL)?;
-        page.push_str("</p>\n</header>\n")?;
-        page.push_str(BAR)
+        write!(page, "</h1>\n<p class=\"{class}\">");
+        add_escaped_name(page, self.verdict());
+        page.add("</p>\n<p class=\"soft\">");
+        self.add_counts(page);
+        page.add(REAL);
+        page.add("</p>\n</header>\n");
+        page.add(BAR);
+    }
+
+    /// Adds what is shown. The error says that memory for a list was refused.
+    fn add_main(&self, page: &mut Text) -> Result<(), AllocError> {
+        page.add("<main>\n");
+        self.add_cards(page)?;
+        self.add_grammar(page)?;
+        self.add_states(page)?;
+        page.add("</main>\n");
+        Ok(())
     }
 
     /// The page. The error says that memory was refused.
     pub fn text(&self, alloc: Global) -> Result<String, AllocError> {
-        let mut page = String::new(alloc);
-        self.push_head(&mut page)?;
-        self.push_header(&mut page)?;
-        page.push_str("<main>\n")?;
-        self.push_cards(&mut page)?;
-        self.push_grammar(&mut page)?;
-        self.push_states(&mut page)?;
-        page.push_str("</main>\n<script>\n")?;
-        page.push_str(SCRIPT)?;
-        page.push_str("</script>\n</body>\n</html>\n")?;
-        Ok(page)
+        let mut page = Text::new(alloc);
+        self.add_head(&mut page);
+        self.add_header(&mut page);
+        self.add_main(&mut page)?;
+        page.add("<script>\n");
+        page.add(SCRIPT);
+        page.add("</script>\n</body>\n</html>\n");
+        page.finish()
     }
 }

@@ -2,11 +2,12 @@
 //!
 //! Around a file's grammar stands a rule more, which the file has no name for: its items are shown as those of `$accept`.
 
-use crate::pages::{Page, push_count};
+use crate::pages::{Page, add_count};
 use crate::symbols::{DOT, number_of};
 use lrgrammar::grammar::PartSymbol;
 use lrgrammar::idx::{IndexStorage, PIdx, StIdx, Symbol};
 use lrtable::StateGraph;
+use lrwriter::Text;
 use std::alloc::{AllocError, Global};
 
 /// What is needed beside a page to show its states.
@@ -56,74 +57,69 @@ impl<'a, T: IndexStorage> Page<'a, T> {
         Ok(lists)
     }
 
-    /// Adds the states, where there is a graph.
-    pub(crate) fn push_states(self, page: &mut String) -> Result<(), AllocError> {
+    /// Adds the states, where there is a graph. The error says that memory for a list was refused.
+    pub(crate) fn add_states(self, page: &mut Text) -> Result<(), AllocError> {
         let Some(graph) = &self.found.graph else {
             return Ok(());
         };
-        let alloc = *page.allocator();
+        let alloc = page.allocator();
         let states = States {
             graph,
             rules: self.rules_of_graph(alloc)?,
             cards: self.cards_of_states(alloc)?,
             page: self,
         };
-        page.push_str("<section id=\"states\"><h2>States</h2>\n")?;
+        page.add("<section id=\"states\"><h2>States</h2>\n");
         for state in graph.iter_stidxs() {
-            states.push_state(page, state)?;
+            states.add_state(page, state);
         }
-        page.push_str("</section>\n")
+        page.add("</section>\n");
+        Ok(())
     }
 }
 
 impl<T: IndexStorage> States<'_, T> {
     /// Adds an item.
-    fn push_item(
-        &self,
-        page: &mut String,
-        production: usize,
-        dot: usize,
-    ) -> Result<(), AllocError> {
-        page.push_str("<li>")?;
-        self.page.push_rule(page, self.page.rule_of(production))?;
-        page.push_str(": ")?;
-        self.page.push_body(page, production, Some(dot))?;
-        page.push_str("</li>\n")
+    fn add_item(&self, page: &mut Text, production: usize, dot: usize) {
+        page.add("<li>");
+        self.page.add_rule(page, self.page.rule_of(production));
+        page.add(": ");
+        self.page.add_body(page, production, Some(dot));
+        page.add("</li>\n");
     }
 
     /// Adds an item of the rule that stands around the grammar.
-    fn push_outer_item(&self, page: &mut String, dot: usize) -> Result<(), AllocError> {
+    fn add_outer_item(&self, page: &mut Text, dot: usize) {
         if dot > 0 {
-            page.push_str("<li>")?;
-            self.page.push_rule(page, 0)?;
-            page.push(' ')?;
-            page.push_str(DOT)?;
-            return page.push_str("</li>\n");
+            page.add("<li>");
+            self.page.add_rule(page, 0);
+            page.add_char(' ');
+            page.add(DOT);
+            page.add("</li>\n");
+            return;
         }
         for (production, prod) in self.page.file.parts.prods.iter().enumerate() {
             if prod.rule == 0 {
-                self.push_item(page, production, 0)?;
+                self.add_item(page, production, 0);
             }
         }
-        Ok(())
     }
 
     /// Adds the items of the core of a state.
-    fn push_core(&self, page: &mut String, state: StIdx<T>) -> Result<(), AllocError> {
+    fn add_core(&self, page: &mut Text, state: StIdx<T>) {
         let graph = self.graph;
         if usize::from(state) >= usize::from(graph.all_states_len()) {
-            return Ok(());
+            return;
         }
         let outer = self.page.file.parts.prods.len();
         for key in graph.core_state(state).items.keys() {
             let (production, dot) = (usize::from(key.0), usize::from(key.1));
             if production < outer {
-                self.push_item(page, production, dot)?;
+                self.add_item(page, production, dot);
             } else {
-                self.push_outer_item(page, dot)?;
+                self.add_outer_item(page, dot);
             }
         }
-        Ok(())
     }
 
     /// The number of a symbol of the graph for the script.
@@ -137,64 +133,63 @@ impl<T: IndexStorage> States<'_, T> {
     }
 
     /// Adds the edges of a state for the script: each as a symbol and a state.
-    fn push_edges(&self, page: &mut String, state: StIdx<T>) -> Result<(), AllocError> {
+    fn add_edges(&self, page: &mut Text, state: StIdx<T>) {
         let graph = self.graph;
         if usize::from(state) >= usize::from(graph.all_states_len()) {
-            return Ok(());
+            return;
         }
         let edges = graph.edges(state);
         let count = edges.len();
         if count == 0 {
-            return Ok(());
+            return;
         }
-        page.push_str("<details><summary>")?;
-        push_count(page, count, "edge")?;
-        page.push_str("</summary><p class=\"names\" data-edges=\"")?;
+        page.add("<details><summary>");
+        add_count(page, count, "edge");
+        page.add("</summary><p class=\"names\" data-edges=\"");
         let mut is_first = true;
         for (symbol, target) in edges {
             if !is_first {
-                page.push(' ')?;
+                page.add_char(' ');
             }
             let (symbol, target) = (self.number_of(*symbol), usize::from(*target));
-            write!(page, "{symbol}:{target}")?;
+            write!(page, "{symbol}:{target}");
             is_first = false;
         }
-        page.push_str("\"></p></details>\n")
+        page.add("\"></p></details>\n");
     }
 
     /// Adds links to the cards that are about a state.
-    fn push_cards(&self, page: &mut String, cards: &[usize]) -> Result<(), AllocError> {
+    fn add_cards(&self, page: &mut Text, cards: &[usize]) {
         for number in cards {
             if let Some(card) = number
                 .checked_sub(1)
                 .and_then(|place| self.page.cards.get(place))
             {
-                write!(page, "<p class=\"conflict\"><a href=\"#c{number}\">")?;
-                self.page.push_heading(page, card.meeting)?;
-                page.push_str("</a></p>\n")?;
+                write!(page, "<p class=\"conflict\"><a href=\"#c{number}\">");
+                self.page.add_heading(page, card.meeting);
+                page.add("</a></p>\n");
             }
         }
-        Ok(())
     }
 
     /// Adds a state.
-    fn push_state(&self, page: &mut String, state: StIdx<T>) -> Result<(), AllocError> {
+    fn add_state(&self, page: &mut Text, state: StIdx<T>) {
         let number = usize::from(state);
         let cards: &[usize] = self.cards.get(number).map_or(&[], |cards| cards.as_slice());
         write!(
             page,
             "<section class=\"part\" id=\"s{number}\"><h3>State {number}"
-        )?;
+        );
         if !cards.is_empty() {
-            page.push_str(" <span class=\"tag proved\">")?;
-            push_count(page, cards.len(), "conflict")?;
-            page.push_str("</span>")?;
+            page.add(" <span class=\"tag proved\">");
+            add_count(page, cards.len(), "conflict");
+            page.add("</span>");
         }
-        page.push_str("</h3>\n<ul class=\"body\">\n")?;
-        self.push_core(page, state)?;
-        page.push_str("</ul>\n")?;
-        self.push_cards(page, cards)?;
-        self.push_edges(page, state)?;
-        page.push_str("</section>\n")
+        page.add("</h3>\n<ul class=\"body\">\n");
+        self.add_core(page, state);
+        page.add("</ul>\n");
+        self.add_cards(page, cards);
+        self.add_edges(page, state);
+        page.add("</section>\n");
     }
 }

@@ -1,11 +1,11 @@
 //! Symbols and productions of a file.
 
-use crate::names::push_name;
 use crate::pages::Page;
+use lrdiagnostics::add_escaped_name;
 use lrgrammar::grammar::PartSymbol;
 use lrgrammar::idx::IndexStorage;
 use lrshown::{body_of, rule_name, token_name};
-use std::alloc::AllocError;
+use lrwriter::Text;
 
 /// The dot of a text or an item.
 pub(crate) const DOT: &str = "<b class=\"dot\">&bull;</b>";
@@ -20,26 +20,22 @@ pub(crate) fn number_of(symbol: PartSymbol) -> usize {
 
 impl<T: IndexStorage> Page<'_, T> {
     /// Adds the name of a token.
-    pub(crate) fn push_token(&self, page: &mut String, token: usize) -> Result<(), AllocError> {
-        push_name(page, token_name(self.file, token))
+    pub(crate) fn add_token(&self, page: &mut Text, token: usize) {
+        add_escaped_name(page, token_name(self.file, token));
     }
 
     /// Adds the name of a rule, which leads to it.
-    pub(crate) fn push_rule(&self, page: &mut String, rule: usize) -> Result<(), AllocError> {
-        write!(page, "<a href=\"#r{rule}\">")?;
-        push_name(page, rule_name(self.file, rule))?;
-        page.push_str("</a>")
+    pub(crate) fn add_rule(&self, page: &mut Text, rule: usize) {
+        write!(page, "<a href=\"#r{rule}\">");
+        add_escaped_name(page, rule_name(self.file, rule));
+        page.add("</a>");
     }
 
     /// Adds the name of a symbol.
-    pub(crate) fn push_symbol(
-        &self,
-        page: &mut String,
-        symbol: PartSymbol,
-    ) -> Result<(), AllocError> {
+    pub(crate) fn add_symbol(&self, page: &mut Text, symbol: PartSymbol) {
         match symbol {
-            PartSymbol::Rule(rule) => self.push_rule(page, rule),
-            PartSymbol::Token(token) => self.push_token(page, token),
+            PartSymbol::Rule(rule) => self.add_rule(page, rule),
+            PartSymbol::Token(token) => self.add_token(page, token),
         }
     }
 
@@ -52,30 +48,25 @@ impl<T: IndexStorage> Page<'_, T> {
     }
 
     /// Adds the body of a production, perhaps with a dot before one of its symbols or behind all.
-    pub(crate) fn push_body(
-        &self,
-        page: &mut String,
-        production: usize,
-        dot: Option<usize>,
-    ) -> Result<(), AllocError> {
+    pub(crate) fn add_body(&self, page: &mut Text, production: usize, dot: Option<usize>) {
         let body = body_of(self.file, production);
         let mut gap = "";
         for (place, symbol) in body.iter().enumerate() {
-            page.push_str(gap)?;
+            page.add(gap);
             if dot == Some(place) {
-                page.push_str(DOT)?;
-                page.push(' ')?;
+                page.add(DOT);
+                page.add_char(' ');
             }
-            self.push_symbol(page, *symbol)?;
+            self.add_symbol(page, *symbol);
             gap = " ";
         }
         match dot {
             Some(dot) if body.len() <= dot => {
-                page.push_str(gap)?;
-                page.push_str(DOT)
+                page.add(gap);
+                page.add(DOT);
             }
-            None if body.is_empty() => page.push_str("<span class=\"soft\">%empty</span>"),
-            _ => Ok(()),
+            None if body.is_empty() => page.add("<span class=\"soft\">%empty</span>"),
+            _ => {}
         }
     }
 }

@@ -8,7 +8,7 @@ use lrfindings::Entry;
 use lrgrammar::grammar::PartSymbol;
 use lrgrammar::idx::IndexStorage;
 use lrshown::{Ambiguity, Step, TwoTrees, text_of};
-use std::alloc::AllocError;
+use lrwriter::Text;
 
 /// How many tokens of a text are shown on either side of the dot.
 const SIDE: usize = 60;
@@ -22,134 +22,103 @@ fn class_of(entry: &Entry, step: Step) -> &'static str {
 }
 
 /// Adds steps, parted by blanks: `s` for the next leaf, or the number of a production.
-fn push_steps(page: &mut String, steps: &[Step]) -> Result<(), AllocError> {
+fn add_steps(page: &mut Text, steps: &[Step]) {
     let mut is_first = true;
     for step in steps {
         if !is_first {
-            page.push(' ')?;
+            page.add_char(' ');
         }
         match step {
-            Step::Shift => page.push('s')?,
-            Step::Reduce(production) => write!(page, "{production}")?,
+            Step::Shift => page.add_char('s'),
+            Step::Reduce(production) => write!(page, "{production}"),
         }
         is_first = false;
     }
-    Ok(())
 }
 
 impl<T: IndexStorage> Page<'_, T> {
     /// Adds tokens with a dot behind so many of them; those that stand far from it are left out.
-    pub(crate) fn push_tokens(
-        &self,
-        page: &mut String,
-        tokens: &[usize],
-        dot: usize,
-    ) -> Result<(), AllocError> {
+    pub(crate) fn add_tokens(&self, page: &mut Text, tokens: &[usize], dot: usize) {
         let (first, last) = (dot.saturating_sub(SIDE), dot.saturating_add(SIDE));
         if first > 0 {
-            page.push_str("... ")?;
+            page.add("... ");
         }
         for (place, token) in tokens.iter().enumerate() {
             if place == dot {
-                page.push_str(DOT)?;
-                page.push(' ')?;
+                page.add(DOT);
+                page.add_char(' ');
             }
             if first <= place && place < last {
-                self.push_token(page, *token)?;
-                page.push(' ')?;
+                self.add_token(page, *token);
+                page.add_char(' ');
             }
         }
         if tokens.len() <= dot {
-            page.push_str(DOT)?;
+            page.add(DOT);
         }
         if last < tokens.len() {
-            page.push_str("...")?;
+            page.add("...");
         }
-        Ok(())
     }
 
     /// Adds what a step does at the token of an entry.
-    pub(crate) fn push_candidate(
-        &self,
-        page: &mut String,
-        entry: &Entry,
-        step: Step,
-    ) -> Result<(), AllocError> {
+    pub(crate) fn add_candidate(&self, page: &mut Text, entry: &Entry, step: Step) {
         let Step::Reduce(production) = step else {
-            page.push_str("shift <code>")?;
-            self.push_token(page, entry.token)?;
-            return page.push_str("</code>");
+            page.add("shift <code>");
+            self.add_token(page, entry.token);
+            page.add("</code>");
+            return;
         };
-        page.push_str("reduce by <code>")?;
-        self.push_rule(page, self.rule_of(production))?;
-        page.push_str(": ")?;
-        self.push_body(page, production, None)?;
-        page.push_str("</code>")
+        page.add("reduce by <code>");
+        self.add_rule(page, self.rule_of(production));
+        page.add(": ");
+        self.add_body(page, production, None);
+        page.add("</code>");
     }
 
     /// Adds a tree, which is put together by the steps before the dot and by these.
-    fn push_tree(
-        &self,
-        page: &mut String,
-        entry: &Entry,
-        steps: &[Step],
-    ) -> Result<(), AllocError> {
+    fn add_tree(&self, page: &mut Text, entry: &Entry, steps: &[Step]) {
         let step = steps.first().copied().unwrap_or(Step::Shift);
         let class = class_of(entry, step);
-        write!(page, "<figure class=\"{class}\" data-steps=\"")?;
-        push_steps(page, steps)?;
-        page.push_str("\"><figcaption>")?;
-        self.push_candidate(page, entry, step)?;
-        page.push_str("</figcaption></figure>\n")
+        write!(page, "<figure class=\"{class}\" data-steps=\"");
+        add_steps(page, steps);
+        page.add("\"><figcaption>");
+        self.add_candidate(page, entry, step);
+        page.add("</figcaption></figure>\n");
     }
 
     /// Adds both trees; that of a shift comes first.
-    fn push_trees(
-        &self,
-        page: &mut String,
-        entry: &Entry,
-        trees: &TwoTrees,
-    ) -> Result<(), AllocError> {
-        page.push_str("<div class=\"trees\" data-before=\"")?;
-        push_steps(page, trees.before.as_slice())?;
-        page.push_str("\">\n")?;
+    fn add_trees(&self, page: &mut Text, entry: &Entry, trees: &TwoTrees) {
+        page.add("<div class=\"trees\" data-before=\"");
+        add_steps(page, trees.before.as_slice());
+        page.add("\">\n");
         let (mut one, mut other) = (trees.one.as_slice(), trees.other.as_slice());
         if trees.candidates().1 == Step::Shift {
             (one, other) = (other, one);
         }
-        self.push_tree(page, entry, one)?;
-        self.push_tree(page, entry, other)?;
-        page.push_str("</div>\n")
+        self.add_tree(page, entry, one);
+        self.add_tree(page, entry, other);
+        page.add("</div>\n");
     }
 
     /// Adds from which start rule a text is derived, where the file has several.
-    pub(crate) fn push_start(
-        &self,
-        page: &mut String,
-        start: Option<PartSymbol>,
-    ) -> Result<(), AllocError> {
+    pub(crate) fn add_start(&self, page: &mut Text, start: Option<PartSymbol>) {
         if let Some(rule) = start {
-            page.push_str(" from ")?;
-            self.push_symbol(page, rule)?;
+            page.add(" from ");
+            self.add_symbol(page, rule);
         }
-        Ok(())
     }
 
     /// Adds a text with two trees, and both trees of the part of it in which they differ.
-    pub(crate) fn push_ambiguity(
-        &self,
-        page: &mut String,
-        entry: &Entry,
-        ambiguity: &Ambiguity,
-    ) -> Result<(), AllocError>
+    pub(crate) fn add_ambiguity(&self, page: &mut Text, entry: &Entry, ambiguity: &Ambiguity)
         requires proved { IsShown self.now.found.now.grm ambiguity.now }
     {
-        page.push_str("<p>This text")?;
-        self.push_start(page, ambiguity.start(self.file))?;
-        page.push_str(" has two trees (proved):</p>\n<p class=\"text\">")?;
+        page.add("<p>This text");
+        self.add_start(page, ambiguity.start(self.file));
+        page.add(" has two trees (proved):</p>\n<p class=\"text\">");
         let tokens = text_of(self.file, ambiguity.tokens.as_slice());
-        self.push_tokens(page, tokens, ambiguity.dot(self.file))?;
-        page.push_str("</p>\n<p>They differ in this part of it:</p>\n")?;
-        self.push_trees(page, entry, &ambiguity.form)
+        self.add_tokens(page, tokens, ambiguity.dot(self.file));
+        page.add("</p>\n<p>They differ in this part of it:</p>\n");
+        self.add_trees(page, entry, &ambiguity.form);
     }
 }

@@ -1,13 +1,15 @@
 //! What the table does in a state.
 
 use crate::states::Listing;
-use lrdiagnostics::{comma_words, push_blanks, push_shown, width_of};
+use crate::told::Told;
+use crate::words::Words;
+use lrdiagnostics::add_shown;
 use lrevidence::{body_of, rule_name, symbol_name};
 use lrfindings::Entry;
 use lrgrammar::idx::{IndexStorage, StIdx, TIdx};
 use lrtable::Action;
+use lrwriter::Text;
 use std::alloc::{AllocError, Global};
-use std::collections::BTreeSet;
 use unicode_width::UnicodeWidthStr;
 
 /// A token of a state, and a production by which the state reduces at it, or could.
@@ -43,151 +45,137 @@ fn cells_of(alloc: Global, entries: &[Entry]) -> Result<Vec<Cell>, AllocError> {
     Ok(cells)
 }
 
-/// Adds symbols, each with the state that it leads to, one under the other.
-pub(crate) fn push_targets(
-    text: &mut String,
-    targets: &[Target<'_>],
-    how: &str,
-) -> Result<(), AllocError> {
+/// Adds symbols, each with the state that it leads to, one under the other, behind an empty line, if there are some.
+pub(crate) fn push_targets(text: &mut Text, targets: &[Target<'_>], how: &str) {
     let mut width: usize = 0;
     for target in targets {
         width = width.max(target.name.width());
     }
+    if !targets.is_empty() {
+        text.add_char('\n');
+    }
     for target in targets {
         let (name, state) = (target.name, target.state);
-        push_blanks(text, 4)?;
-        push_shown(text, name)?;
-        push_blanks(text, width.saturating_sub(name.width()))?;
-        write!(text, "  {how} state {state}\n")?;
+        text.add("    ");
+        add_shown(text, name);
+        text.add_times(' ', width.saturating_sub(name.width()));
+        write!(text, "  {how} state {state}\n");
     }
-    Ok(())
+}
+
+impl<'a> Row<'a> {
+    /// Adds what the table does at a token of that name.
+    fn add<T: IndexStorage>(
+        &mut self,
+        name: &'a str,
+        token: usize,
+        action: Action<T>,
+    ) -> Result<(), AllocError> {
+        match action {
+            Action::Shift(target) => {
+                let state = usize::from(target);
+                self.shifts.push(Target { name, state })?;
+            }
+            Action::Reduce(production) => {
+                let production = usize::from(production);
+                self.reductions.push(Cell { production, token })?;
+            }
+            Action::Accept => self.accepts = true,
+            Action::Error => {}
+        }
+        Ok(())
+    }
+}
+
+impl Told<'_> {
+    /// The words of a reduction, with a text in front and one right behind.
+    fn reduction(&self, alloc: Global, production: usize, front: &str, back: &str) -> Words {
+        let rule = self.rule_name(production);
+        let body = body_of(self.file, production);
+        let mut words = Words::new(alloc);
+        words.begin();
+        write!(words, "{front}reduce by {rule}:");
+        for symbol in body {
+            words.add(symbol_name(self.file, *symbol));
+        }
+        if body.is_empty() {
+            words.add("%empty");
+        }
+        words.add_piece(back);
+        words
+    }
+
+    /// The names of the tokens of cells, with a comma behind each but the last.
+    fn names_of_cells(&self, alloc: Global, cells: &[Cell]) -> Words {
+        let mut names = Words::new(alloc);
+        for cell in cells {
+            if let Some(token) = self.file.parts.tokens.get(cell.token) {
+                let is_first = names.is_empty();
+                names.add_listed(is_first, token.name.as_str());
+            }
+        }
+        names
+    }
+
+    /// Adds what is done at tokens: behind their names, or in a line of its own where that would get too long.
+    fn push_cells(&self, text: &mut Text, cells: &[Cell], action: &Words) {
+        let layout = self.layout();
+        let names = self.names_of_cells(text.allocator(), cells);
+        text.add("    ");
+        names.lay_out(text, layout, 4, 4);
+        let mut column: usize = 4;
+        if !names.is_empty() {
+            column = names.width().saturating_add(6);
+            if column.saturating_add(action.width()) <= layout.width {
+                text.add("  ");
+            } else {
+                text.add("\n        ");
+                column = 8;
+            }
+        }
+        action.lay_out(text, layout, column, column.min(8).saturating_add(4));
+        text.add_char('\n');
+    }
+
+    /// Adds reductions, with a text before and behind what is said of each.
+    fn push_reductions(&self, text: &mut Text, cells: &[Cell], front: &str, back: &str) {
+        for alike in cells.chunk_by(|one, other| one.production == other.production) {
+            if let Some(first) = alike.first() {
+                let action = self.reduction(text.allocator(), first.production, front, back);
+                self.push_cells(text, alike, &action);
+            }
+        }
+    }
 }
 
 impl<'a, T: IndexStorage> Listing<'a, T> {
     /// What the table does in a state.
     pub(crate) fn row(&self, alloc: Global, state: StIdx<T>) -> Result<Row<'a>, AllocError> {
+        let told = self.checked.told;
         let mut row = Row {
             shifts: Vec::new(alloc),
             reductions: Vec::new(alloc),
             accepts: false,
         };
-        for token in 0..self.checked.file.parts.tokens.len().saturating_add(1) {
+        for token in 0..told.file.parts.tokens.len().saturating_add(1) {
             if let Some(number) = T::from_usize(token) {
-                match self.checked.found.table.action(state, TIdx(number)) {
-                    Action::Shift(target) => row.shifts.push(Target {
-                        name: self.checked.token_name(token),
-                        state: usize::from(target),
-                    })?,
-                    Action::Reduce(production) => {
-                        let production = usize::from(production);
-                        row.reductions.push(Cell { production, token })?;
-                    }
-                    Action::Accept => row.accepts = true,
-                    Action::Error => {}
-                }
+                let action = self.checked.found.table.action(state, TIdx(number));
+                row.add(told.token_name(token), token, action)?;
             }
         }
         row.reductions.sort_unstable();
         Ok(row)
     }
 
-    /// The words of a reduction, with a text in front and one right behind.
-    fn reduction_words(
-        &self,
-        alloc: Global,
-        production: usize,
-        front: &str,
-        back: &str,
-    ) -> Result<Vec<String>, AllocError> {
-        let rule = self.checked.rule_name(production);
-        let mut words = Vec::new(alloc);
-        words.push(format!(in alloc; "{front}reduce by {rule}:")?)?;
-        for symbol in body_of(self.checked.file, production) {
-            let name = symbol_name(self.checked.file, *symbol);
-            words.push(String::from_str(alloc, name)?)?;
-        }
-        if words.len() == 1 {
-            words.push(String::from_str(alloc, "%empty")?)?;
-        }
-        if let Some(last) = words.last_mut() {
-            last.push_str(back)?;
-        }
-        Ok(words)
-    }
-
-    /// The names of the tokens of cells, with commas between them.
-    fn token_words(&self, alloc: Global, cells: &[Cell]) -> Result<Vec<String>, AllocError> {
-        let mut names = Vec::new(alloc);
-        for cell in cells {
-            if let Some(token) = self.checked.file.parts.tokens.get(cell.token) {
-                names.push(token.name.as_str())?;
-            }
-        }
-        comma_words(alloc, names.as_slice())
-    }
-
-    /// Adds what is done at tokens: behind their names, or in a line of its own where that would get too long.
-    fn push_cells(
-        &self,
-        text: &mut String,
-        cells: &[Cell],
-        action: &[String],
-    ) -> Result<(), AllocError> {
-        let tokens = self.token_words(*text.allocator(), cells)?;
-        let width = width_of(tokens.as_slice());
-        push_blanks(text, 4)?;
-        self.layout.push_words(text, tokens.as_slice(), 4, 4)?;
-        let mut column: usize = 4;
-        if !tokens.is_empty() {
-            column = width.saturating_add(6);
-            if column.saturating_add(width_of(action)) <= self.layout.width {
-                push_blanks(text, 2)?;
-            } else {
-                text.push('\n')?;
-                push_blanks(text, 8)?;
-                column = 8;
-            }
-        }
-        self.layout
-            .push_words(text, action, column, column.min(8).saturating_add(4))?;
-        text.push('\n')
-    }
-
-    /// Adds reductions, with a text before and behind what is said of each.
-    fn push_reductions(
-        &self,
-        text: &mut String,
-        cells: &[Cell],
-        front: &str,
-        back: &str,
-    ) -> Result<(), AllocError> {
-        for alike in cells.chunk_by(|one, other| one.production == other.production) {
-            if let Some(first) = alike.first() {
-                let alloc = *text.allocator();
-                let action = self.reduction_words(alloc, first.production, front, back)?;
-                self.push_cells(text, alike, action.as_slice())?;
-            }
-        }
-        Ok(())
-    }
-
-    /// Adds a reduction that a conflict is about, unless it is what the table does.
-    fn add_alternative(
-        &self,
-        found: &mut BTreeSet<Cell>,
-        state: StIdx<T>,
-        cell: Cell,
-    ) -> Result<(), AllocError> {
+    /// Whether the table reduces in a state as a cell says.
+    fn does(&self, state: StIdx<T>, cell: Cell) -> bool {
         let Some(token) = T::from_usize(cell.token) else {
-            return Ok(());
+            return true;
         };
         match self.checked.found.table.action(state, TIdx(token)) {
-            Action::Reduce(production) if usize::from(production) == cell.production => {}
-            _ => {
-                found.insert(cell)?;
-            }
+            Action::Reduce(production) => usize::from(production) == cell.production,
+            _ => false,
         }
-        Ok(())
     }
 
     /// The reductions that conflicts in a state are about, and that the table doesn't do.
@@ -197,32 +185,35 @@ impl<'a, T: IndexStorage> Listing<'a, T> {
         state: StIdx<T>,
         entries: &[Entry],
     ) -> Result<Vec<Cell>, AllocError> {
-        let mut found = BTreeSet::new(alloc);
+        let mut cells = cells_of(alloc, entries)?;
         for entry in entries {
-            let (production, token) = (entry.production, entry.token);
-            self.add_alternative(&mut found, state, Cell { production, token })?;
             if let Some(production) = entry.other {
-                self.add_alternative(&mut found, state, Cell { production, token })?;
+                let token = entry.token;
+                cells.push(Cell { production, token })?;
             }
         }
-        let mut cells = Vec::new(alloc);
-        for cell in &found {
-            cells.push(*cell)?;
-        }
+        cells.retain(|cell| !self.does(state, *cell));
+        cells.sort_unstable();
+        cells.dedup();
         Ok(cells)
     }
 
     /// Adds what else would be possible in a state, where there are conflicts, and what is an error by precedences.
-    fn push_others(&self, text: &mut String, state: StIdx<T>) -> Result<(), AllocError> {
-        let alloc = *text.allocator();
-        if let Some(entries) = self.conflicts.get(&usize::from(state)) {
+    fn push_others(&self, text: &mut Text, state: StIdx<T>) -> Result<(), AllocError> {
+        let (alloc, number) = (text.allocator(), usize::from(state));
+        if let Some(entries) = self.conflicts.get(&number) {
             let cells = self.alternatives(alloc, state, entries.as_slice())?;
-            self.push_reductions(text, cells.as_slice(), "[or ", "]")?;
+            self.checked
+                .told
+                .push_reductions(text, cells.as_slice(), "[or ", "]");
         }
-        if let Some(entries) = self.errors.get(&usize::from(state)) {
+        if let Some(entries) = self.errors.get(&number) {
             let cells = cells_of(alloc, entries.as_slice())?;
-            let action = vec![in alloc; String::from_str(alloc, "error (nonassociative)")?]?;
-            self.push_cells(text, cells.as_slice(), action.as_slice())?;
+            let mut action = Words::new(alloc);
+            action.add("error (nonassociative)");
+            self.checked
+                .told
+                .push_cells(text, cells.as_slice(), &action);
         }
         Ok(())
     }
@@ -233,14 +224,14 @@ impl<'a, T: IndexStorage> Listing<'a, T> {
         alloc: Global,
         state: StIdx<T>,
     ) -> Result<Vec<Target<'a>>, AllocError> {
+        let checked = self.checked;
+        let file = checked.told.file;
         let mut targets = Vec::new(alloc);
-        for rule in 0..self.checked.file.parts.rules.len() {
+        for rule in 0..file.parts.rules.len() {
             if let Some(number) = self.rules.get(&rule) {
                 if let Some(target) = self.checked.found.table.goto(state, *number) {
-                    targets.push(Target {
-                        name: rule_name(self.checked.file, rule),
-                        state: usize::from(target),
-                    })?;
+                    let (name, state) = (rule_name(file, rule), usize::from(target));
+                    targets.push(Target { name, state })?;
                 }
             }
         }
@@ -250,14 +241,15 @@ impl<'a, T: IndexStorage> Listing<'a, T> {
     /// Adds what the table does in a state where it doesn't shift, and what else would be possible in it.
     pub(crate) fn push_reducing(
         &self,
-        text: &mut String,
+        text: &mut Text,
         state: StIdx<T>,
         row: &Row<'a>,
     ) -> Result<(), AllocError> {
         self.push_others(text, state)?;
-        self.push_reductions(text, row.reductions.as_slice(), "", "")?;
+        let reductions = row.reductions.as_slice();
+        self.checked.told.push_reductions(text, reductions, "", "");
         if row.accepts {
-            text.push_str("    accept\n")?;
+            text.add("    accept\n");
         }
         Ok(())
     }

@@ -5,14 +5,13 @@ ghost use Rattle.std.specs.List.{flat_map};
 ghost use Rattle.lrevidence.specs.Ambiguities.{HasTwoTrees, IsProved};
 ghost use Rattle.lrreport.specs.LeftOpen.{AreLeftOpen};
 
-use crate::options::Options;
-use crate::texts::names_of_entries;
-use lrdiagnostics::{Layout, Mark, Source, Style, Teller, comma_words};
-use lrevidence::{Ambiguity, Evidence, name_of_rule, token_name};
+use crate::told::Told;
+use crate::words::Words;
+use lrdiagnostics::{Mark, Style};
+use lrevidence::{Ambiguity, Evidence};
 use lrfindings::{Entry, Findings, is_among};
-use lrgrammar::grammar::PartSymbol;
 use lrgrammar::idx::{IndexStorage, StIdx};
-use lryacc::{FileGrammar, Span};
+use lrwriter::Text;
 use std::alloc::{AllocError, Global};
 
 /// How many productions are told that go on by a shift.
@@ -22,16 +21,10 @@ const GOING_ON: usize = 3;
 pub(crate) const DONE: &str = "; the table does this";
 
 /// A file's grammar, with what was found in it.
-#[derive(Clone, Copy)]
+#[derive(Drop)]
 pub(crate) struct Checked<'a, T: IndexStorage> {
-    pub(crate) source: &'a Source<'a>,
-    pub(crate) file: &'a FileGrammar,
+    pub(crate) told: Told<'a>,
     pub(crate) found: &'a Findings<T>,
-    /// What is known of the conflicts that are left open.
-    pub(crate) evidence: &'a [Evidence],
-    /// What is known of what precedences settle, where that is asked for; else nothing.
-    pub(crate) settled: &'a [Evidence],
-    pub(crate) options: Options,
 }
 
 /// What is said where a state goes on by a shift: at the first such place, what follows from that too.
@@ -48,115 +41,134 @@ fn shift_label(
     }
 }
 
-impl<'a, T: IndexStorage> Checked<'a, T> {
-    /// Where the body of a production stands.
-    pub(crate) fn place(&self, production: usize) -> Span {
-        let place = self.file.production_places.get(production);
-        place.copied().unwrap_or(Span::new(0, 0))
-    }
-
-    /// Whether a production is one of `$accept`.
-    fn is_start(&self, production: usize) -> bool {
-        match self.file.parts.prods.get(production) {
-            Some(prod) => prod.rule == 0,
-            None => false,
-        }
-    }
-
-    /// The name of a token.
-    pub(crate) fn token_name(&self, token: usize) -> &'a str {
-        token_name(self.file, token)
-    }
-
-    /// The name of the rule of a production.
-    pub(crate) fn rule_name(&self, production: usize) -> &'a str {
-        name_of_rule(self.file, production)
-    }
-
-    /// Whether the symbol behind the dot of an item is the token of one of the entries.
-    fn is_shifted(&self, production: usize, dot: usize, entries: &[Entry]) -> bool {
-        let Some(prod) = self.file.parts.prods.get(production) else {
-            return false;
-        };
-        let Some(PartSymbol::Token(token)) = prod.symbols.get(dot) else {
-            return false;
-        };
-        entries.iter().any(|entry| entry.token == *token)
-    }
-
-    /// Where the symbol behind the dot of an item stands.
-    fn symbol_place(&self, production: usize, dot: usize) -> Span {
-        let places = self.file.symbol_places.get(production);
-        match places.and_then(|places| places.get(dot).copied()) {
-            Some(place) => place,
-            None => self.place(production),
-        }
-    }
-
-    /// Where the places of the file are told.
-    pub(crate) fn teller(&self) -> Teller<'a> {
-        Teller {
-            source: self.source,
-            has_colours: self.options.has_colours,
-        }
-    }
-
+impl Told<'_> {
     /// Adds what is told first of entries that meet alike: a word, what meets, and the tokens at which it does.
-    pub(crate) fn push_heading(
-        &self,
-        text: &mut String,
-        word: &str,
-        entries: &[Entry],
-    ) -> Result<(), AllocError> {
+    pub(crate) fn push_heading(&self, text: &mut Text, word: &str, entries: &[Entry]) {
         let kinds = match entries.first() {
             Some(Entry { other: Some(_), .. }) => "reduce or reduce",
             _ => "shift or reduce",
         };
-        Style::Bold.push(text, word, self.options.has_colours)?;
-        write!(text, ": {kinds} at ")?;
-        let alloc = *text.allocator();
-        let names = names_of_entries(alloc, self.file, entries)?;
-        let words = comma_words(alloc, names.as_slice())?;
+        let mut names = Words::new(text.allocator());
+        for (place, entry) in entries.iter().enumerate() {
+            names.add_listed(place == 0, self.token_name(entry.token));
+        }
+        Style::Bold.add(text, word, self.options.has_colours);
+        write!(text, ": {kinds} at ");
         let indent = word.len().saturating_add(2);
         let column = indent.saturating_add(kinds.len()).saturating_add(4);
-        let layout = Layout::new(self.options.is_plain);
-        layout.push_words(text, words.as_slice(), column, indent)?;
-        text.push('\n')
+        names.lay_out(text, self.layout(), column, indent);
+        text.add_char('\n');
     }
 
-    /// The items of a state, as production and dot, in which it goes on by the token of one of the entries.
+    /// Adds the place of a production by which a state can reduce, and what follows from that.
+    pub(crate) fn push_reduction(
+        &self,
+        marks: &mut Vec<Mark>,
+        production: usize,
+        so: &str,
+    ) -> Result<(), AllocError> {
+        let rule = self.rule_name(production);
+        marks.push(Mark {
+            span: self.place(production),
+            mark: '^',
+            style: Style::Red,
+            label: format!(in *marks.allocator(); "reduce: {rule} can end here{so}")?,
+        })?;
+        Ok(())
+    }
+
+    /// Adds the place of another production by which it could reduce.
+    fn push_other(&self, marks: &mut Vec<Mark>, production: usize) -> Result<(), AllocError> {
+        let rule = self.rule_name(production);
+        marks.push(Mark {
+            span: self.place(production),
+            mark: '-',
+            style: Style::Blue,
+            label: format!(in *marks.allocator(); "reduce: or {rule}")?,
+        })?;
+        Ok(())
+    }
+
+    /// Adds the places of the first of the items by which a state goes on, and what follows from that.
+    fn push_items(
+        &self,
+        marks: &mut Vec<Mark>,
+        items: &[(usize, usize)],
+        so: &str,
+    ) -> Result<(), AllocError> {
+        let alloc = *marks.allocator();
+        let mut is_first = true;
+        for (production, dot) in items.iter().take(GOING_ON) {
+            let is_start = self.is_start(*production);
+            marks.push(Mark {
+                span: self.symbol_place(*production, *dot),
+                mark: '-',
+                style: Style::Blue,
+                label: shift_label(alloc, is_first, is_start, so)?,
+            })?;
+            is_first = false;
+        }
+        Ok(())
+    }
+}
+
+impl<T: IndexStorage> Checked<'_, T> {
+    /// The items of the state of entries, as production and dot, in which it goes on by the token of one of them.
     pub(crate) fn shifting_items(
         &self,
         alloc: Global,
-        state: usize,
         entries: &[Entry],
     ) -> Result<Vec<(usize, usize)>, AllocError> {
         let mut list = Vec::new(alloc);
-        let (Some(graph), Some(number)) = (&self.found.graph, T::from_usize(state)) else {
+        let (Some(graph), Some(first)) = (&self.found.graph, entries.first()) else {
             return Ok(list);
         };
-        if state >= usize::from(graph.all_states_len()) {
+        let Some(number) = T::from_usize(first.state) else {
+            return Ok(list);
+        };
+        if first.state >= usize::from(graph.all_states_len()) {
             return Ok(list);
         }
         for key in graph.closed_state(StIdx(number)).items.keys() {
             let (production, dot) = (usize::from(key.0), usize::from(key.1));
-            if self.is_shifted(production, dot, entries) {
+            if self.told.is_shifted(production, dot, entries) {
                 list.push((production, dot))?;
             }
         }
         Ok(list)
     }
 
+    /// Adds the places at which the state of entries goes on by one of their tokens, and what follows from that.
+    pub(crate) fn push_shifts(
+        &self,
+        marks: &mut Vec<Mark>,
+        entries: &[Entry],
+        so: &str,
+    ) -> Result<(), AllocError> {
+        let items = self.shifting_items(*marks.allocator(), entries)?;
+        self.told.push_items(marks, items.as_slice(), so)
+    }
+
     /// The places of what meets.
     pub(crate) fn marks(&self, alloc: Global, entries: &[Entry]) -> Result<Vec<Mark>, AllocError> {
-        let Some(first) = entries.first() else {
-            return Ok(Vec::new(alloc));
-        };
-        if let Some(other) = first.other {
-            return self.marks_of_reductions(alloc, first.production, other);
+        let mut marks = Vec::new(alloc);
+        match entries.first() {
+            Some(
+                Entry {
+                    production,
+                    other: Some(other),
+                    ..
+                },
+            ) => {
+                self.told.push_reduction(&mut marks, *production, DONE)?;
+                self.told.push_other(&mut marks, *other)?;
+            }
+            Some(Entry { production, .. }) => {
+                self.told.push_reduction(&mut marks, *production, "")?;
+                self.push_shifts(&mut marks, entries, DONE)?;
+            }
+            None => {}
         }
-        let mut marks = vec![in alloc; self.mark_of_reduction(alloc, first.production, "")?]?;
-        self.push_marks_of_shifts(&mut marks, entries, DONE)?;
         Ok(marks)
     }
 
@@ -181,87 +193,32 @@ impl<'a, T: IndexStorage> Checked<'a, T> {
     }
 
     /// Adds a conflict: entries at which the same meets in the same state, and what is known of them.
-    fn push_meeting(&self, text: &mut String, meeting: &[Evidence]) -> Result<(), AllocError>
+    fn push_meeting(&self, text: &mut Text, meeting: &[Evidence]) -> Result<(), AllocError>
         requires proved { All (IsProved self.now.found.now.grm) meeting.now }
     {
-        let alloc = *text.allocator();
+        let alloc = text.allocator();
         let entries = entries_of(alloc, meeting)?;
-        self.push_heading(text, "conflict", entries.as_slice())?;
         let marks = self.marks(alloc, entries.as_slice())?;
-        self.teller().push_placed(text, marks.as_slice())?;
+        self.told.push_heading(text, "conflict", entries.as_slice());
+        self.told.teller().add_placed(text, marks.as_slice())?;
         self.push_notes(text, marks.as_slice(), meeting)?;
-        text.push('\n')
-    }
-
-    /// The places of the productions of which one is as good as the other.
-    fn marks_of_reductions(
-        &self,
-        alloc: Global,
-        production: usize,
-        other: usize,
-    ) -> Result<Vec<Mark>, AllocError> {
-        let taken = self.mark_of_reduction(alloc, production, DONE)?;
-        let left = Mark {
-            span: self.place(other),
-            mark: '-',
-            style: Style::Blue,
-            label: format!(in alloc; "reduce: or {}", self.rule_name(other))?,
-        };
-        Ok(vec![in alloc; taken, left]?)
-    }
-
-    /// The place of a production by which a state can reduce, and what follows from that.
-    pub(crate) fn mark_of_reduction(
-        &self,
-        alloc: Global,
-        production: usize,
-        so: &str,
-    ) -> Result<Mark, AllocError> {
-        let rule = self.rule_name(production);
-        Ok(Mark {
-            span: self.place(production),
-            mark: '^',
-            style: Style::Red,
-            label: format!(in alloc; "reduce: {rule} can end here{so}")?,
-        })
-    }
-
-    /// Adds the places at which the state of entries goes on by one of their tokens, and what follows from that.
-    pub(crate) fn push_marks_of_shifts(
-        &self,
-        marks: &mut Vec<Mark>,
-        entries: &[Entry],
-        so: &str,
-    ) -> Result<(), AllocError> {
-        let alloc = *marks.allocator();
-        let state = entries.first().map_or(0, |entry| entry.state);
-        let items = self.shifting_items(alloc, state, entries)?;
-        let mut is_first = true;
-        for (production, dot) in items.iter().take(GOING_ON) {
-            let is_start = self.is_start(*production);
-            marks.push(Mark {
-                span: self.symbol_place(*production, *dot),
-                mark: '-',
-                style: Style::Blue,
-                label: shift_label(alloc, is_first, is_start, so)?,
-            })?;
-            is_first = false;
-        }
+        text.add_char('\n');
         Ok(())
     }
 
     /// Adds the conflicts: the first ones, so many at the most, and how many there are besides.
-    pub(crate) fn push_conflicts(&self, text: &mut String, most: usize) -> Result<(), AllocError>
-        requires proved { All (IsProved self.now.found.now.grm) self.now.evidence.now }
+    pub(crate) fn push_conflicts(&self, text: &mut Text, most: usize) -> Result<(), AllocError>
+        requires proved { All (IsProved self.now.found.now.grm) self.now.told.evidence.now }
     {
-        let tells_all = self.options.tells_all;
-        let meetings = meetings(*text.allocator(), self.evidence, tells_all)?;
+        let tells_all = self.told.options.tells_all;
+        let meetings = meetings(text.allocator(), self.told.evidence, tells_all)?;
         for (place, meeting) in meetings.iter().enumerate() {
             if place < most {
                 self.push_meeting(text, meeting)?;
             }
         }
-        push_more(text, meetings.len().saturating_sub(most))
+        push_more(text, meetings.len().saturating_sub(most));
+        Ok(())
     }
 }
 
@@ -308,9 +265,8 @@ pub(crate) fn entries_of(alloc: Global, evidence: &[Evidence]) -> Result<Vec<Ent
 }
 
 /// Adds how many are not told.
-pub(crate) fn push_more(text: &mut String, more: usize) -> Result<(), AllocError> {
+pub(crate) fn push_more(text: &mut Text, more: usize) {
     if more > 0 {
-        write!(text, "and {more} more, which --all shows\n\n")?;
+        write!(text, "and {more} more, which --all shows\n\n");
     }
-    Ok(())
 }

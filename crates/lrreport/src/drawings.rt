@@ -1,7 +1,9 @@
 //! Drawings of trees, a line a node.
 
-use lrdiagnostics::{push_blanks, push_shown};
-use lrevidence::{Node, Tree, Visit, name_of_rule, symbol_name};
+use crate::texts::node_name;
+use lrdiagnostics::add_shown;
+use lrevidence::{Tree, Visit};
+use lrwriter::Text;
 use lryacc::FileGrammar;
 use std::alloc::AllocError;
 
@@ -40,67 +42,60 @@ struct Drawing<'a> {
 }
 
 impl Drawing<'_> {
-    /// Adds the line of a node below those of which it is told whether they are the last of their row; the highest one is in no
-    /// row.
-    fn push_line(
-        &self,
-        text: &mut String,
-        number: usize,
-        above: &[bool],
-        has_dot: bool,
-    ) -> Result<(), AllocError> {
-        push_blanks(text, self.indent)?;
+    /// Adds what stands before a node below those of which it is told whether they are the last of their row; the highest one is in
+    /// no row.
+    fn push_branch(&self, text: &mut Text, number: usize, above: &[bool]) {
+        text.add_times(' ', self.indent);
         for is_last in above.iter().skip(1) {
-            text.push_str(if *is_last { "   " } else { self.pen.past })?;
+            text.add(if *is_last { "   " } else { self.pen.past });
         }
         if !above.is_empty() {
             let is_last = self.tree.is_last(self.file, number);
-            text.push_str(if is_last {
+            text.add(if is_last {
                 self.pen.end
             } else {
                 self.pen.branch
-            })?;
+            });
         }
+    }
+
+    /// Adds the line of a node below such nodes.
+    fn push_line(&self, text: &mut Text, number: usize, above: &[bool], has_dot: bool) {
+        self.push_branch(text, number, above);
         if has_dot {
-            text.push_str(". ")?;
+            text.add(". ");
         }
-        let name = match self.tree.nodes.get(number) {
-            Some(Node::Leaf(symbol)) => symbol_name(self.file, *symbol),
-            Some(Node::Inner(production)) => name_of_rule(self.file, *production),
-            None => "",
-        };
-        push_shown(text, name)?;
-        text.push('\n')
+        add_shown(text, node_name(self.file, self.tree, number));
+        text.add_char('\n');
     }
 }
 
 /// Adds the drawing of a tree behind so many blanks, with the dot before that leaf.
 pub(crate) fn push_drawing(
-    text: &mut String,
+    text: &mut Text,
     file: &FileGrammar,
     tree: &Tree,
     dot: usize,
     indent: usize,
     is_plain: bool,
 ) -> Result<(), AllocError> {
-    let pen = if is_plain { PLAIN } else { BOXES };
     let drawing = Drawing {
         file,
         tree,
-        pen,
+        pen: if is_plain { PLAIN } else { BOXES },
         indent,
     };
-    let alloc = *text.allocator();
-    let mut above = Vec::new(alloc);
+    let visits = tree.visits(text.allocator())?;
+    let mut above = Vec::new(text.allocator());
     let mut leaves: usize = 0;
-    for visit in &tree.visits(alloc)? {
+    for visit in &visits {
         match visit {
             Visit::Enter(number) => {
-                drawing.push_line(text, *number, above.as_slice(), false)?;
+                drawing.push_line(text, *number, above.as_slice(), false);
                 above.push(tree.is_last(file, *number))?;
             }
             Visit::Leaf(number) => {
-                drawing.push_line(text, *number, above.as_slice(), leaves == dot)?;
+                drawing.push_line(text, *number, above.as_slice(), leaves == dot);
                 leaves = leaves.saturating_add(1);
             }
             Visit::Leave(_) => {

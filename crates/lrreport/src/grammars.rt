@@ -1,10 +1,10 @@
 //! The grammar of a file, as it is told.
 
-use crate::objects::{GrammarObject, RuleObject, TokenObject};
-use lrevidence::{names_of, rule_name, token_name};
-use lrgrammar::grammar::{AssocKind, PartProd, PartToken};
+use crate::json_parts::add_symbols;
+use crate::json_texts::JsonText;
+use lrevidence::{rule_name, token_name};
+use lrgrammar::grammar::{AssocKind, PartProd, PartToken, Precedence};
 use lryacc::FileGrammar;
-use std::alloc::{AllocError, Global};
 
 /// How many rules the file has, without `$accept`.
 pub(crate) fn rules_of_file(file: &FileGrammar) -> usize {
@@ -64,84 +64,80 @@ fn kind_of(file: &FileGrammar, level: u64, kind: AssocKind) -> &'static str {
     }
 }
 
-/// A token. Levels are twice as many as in the file.
-fn token_object<'a>(file: &FileGrammar, token: &'a PartToken) -> TokenObject<'a> {
-    TokenObject {
-        name: token.name.as_str(),
-        level: token.precedence.map(|precedence| precedence.level / 2),
-        kind: token.precedence.map(|precedence| kind_of(file, precedence.level, precedence.kind)),
-    }
+/// Adds a token. Levels are twice as many as in the file.
+fn add_token(json: &mut JsonText, file: &FileGrammar, token: &PartToken) {
+    let (level, kind) = match token.precedence {
+        Some(Precedence { level, kind }) => (
+            Some((level / 2) as usize),
+            Some(kind_of(file, level, kind)),
+        ),
+        None => (None, None),
+    };
+    json.begin_object();
+    json.key("name");
+    json.string(token.name.as_str());
+    json.key("level");
+    json.number_or_null(level);
+    json.key("kind");
+    json.string_or_null(kind);
+    json.end_object();
 }
 
-/// The tokens of the file.
-fn token_objects<'a>(
-    alloc: Global,
-    file: &'a FileGrammar,
-) -> Result<Vec<TokenObject<'a>>, AllocError> {
-    let mut objects = Vec::new(alloc);
-    for number in 0..file.parts.tokens.len() {
+/// Adds the tokens of the file.
+fn add_tokens_of_file(json: &mut JsonText, file: &FileGrammar) {
+    json.begin_array();
+    for (number, token) in file.parts.tokens.iter().enumerate() {
         if is_of_file(file, number) {
-            objects.push(token_object(file, &file.parts.tokens[number]))?;
+            add_token(json, file, token);
         }
     }
-    Ok(objects)
+    json.end_array();
 }
 
-/// The level of a token.
-pub(crate) fn level_of(file: &FileGrammar, token: usize) -> Option<u64> {
-    let precedence = file.parts.tokens.get(token)?.precedence?;
-    Some(precedence.level)
+/// Adds the names of the rules of the file.
+fn add_rules(json: &mut JsonText, file: &FileGrammar) {
+    json.begin_array();
+    for name in file.parts.rules.iter().skip(1) {
+        json.string(name.as_str());
+    }
+    json.end_array();
 }
 
-/// A production.
-fn rule_object<'a>(
-    alloc: Global,
-    file: &'a FileGrammar,
-    number: usize,
-    prod: &PartProd,
-) -> Result<RuleObject<'a>, AllocError> {
-    let prec = match file.named_precedence(number) {
+/// Adds a production, and the token that it names for its precedence.
+fn add_production(json: &mut JsonText, file: &FileGrammar, number: usize, prod: &PartProd) {
+    let named = match file.named_precedence(number) {
         Some(named) => Some(token_name(file, named.token)),
         None => None,
     };
-    Ok(RuleObject {
-        rule: rule_name(file, prod.rule),
-        body: names_of(alloc, file, prod.symbols.as_slice())?,
-        prec,
-    })
+    json.begin_object();
+    json.key("rule");
+    json.string(rule_name(file, prod.rule));
+    json.key("body");
+    add_symbols(json, file, prod.symbols.as_slice());
+    json.key("prec");
+    json.string_or_null(named);
+    json.end_object();
 }
 
-/// The productions of the file.
-fn rule_objects<'a>(
-    alloc: Global,
-    file: &'a FileGrammar,
-) -> Result<Vec<RuleObject<'a>>, AllocError> {
-    let mut objects = Vec::new(alloc);
+/// Adds the productions of the file.
+fn add_productions(json: &mut JsonText, file: &FileGrammar) {
+    json.begin_array();
     for (number, prod) in file.parts.prods.iter().enumerate() {
         if prod.rule > 0 {
-            objects.push(rule_object(alloc, file, number, prod)?)?;
+            add_production(json, file, number, prod);
         }
     }
-    Ok(objects)
+    json.end_array();
 }
 
-/// The names of the rules of the file.
-fn names_of_rules<'a>(alloc: Global, file: &'a FileGrammar) -> Result<Vec<&'a str>, AllocError> {
-    let mut names = Vec::new(alloc);
-    for name in file.parts.rules.iter().skip(1) {
-        names.push(name.as_str())?;
-    }
-    Ok(names)
-}
-
-/// The grammar of a file.
-pub(crate) fn grammar_object<'a>(
-    alloc: Global,
-    file: &'a FileGrammar,
-) -> Result<GrammarObject<'a>, AllocError> {
-    Ok(GrammarObject {
-        tokens: token_objects(alloc, file)?,
-        rules: names_of_rules(alloc, file)?,
-        productions: rule_objects(alloc, file)?,
-    })
+/// Adds the grammar of a file, without `$accept`.
+pub(crate) fn add_grammar(json: &mut JsonText, file: &FileGrammar) {
+    json.begin_object();
+    json.key("tokens");
+    add_tokens_of_file(json, file);
+    json.key("rules");
+    add_rules(json, file);
+    json.key("productions");
+    add_productions(json, file);
+    json.end_object();
 }

@@ -1,10 +1,9 @@
 //! How conflicts can be settled.
 
-use crate::conflicts::Checked;
-use crate::texts::{push_names, push_words};
+use crate::texts::add_names;
+use crate::told::Told;
+use crate::words::Words;
 use lrevidence::Evidence;
-use lrfindings::precedence_token;
-use lrgrammar::idx::IndexStorage;
 use lryacc::FileGrammar;
 use std::alloc::{AllocError, Global};
 
@@ -16,8 +15,6 @@ const NAMED: usize = 4;
 struct Levels {
     /// Tokens without a level.
     without: Vec<usize>,
-    /// Whether all tokens have a level.
-    have_tokens: bool,
     /// The token whose level the production has, or would have.
     of_production: Option<usize>,
     /// Whether that has one.
@@ -39,62 +36,60 @@ impl Levels {
 }
 
 /// Adds the names of tokens, unless these are many.
-fn push_tokens(
-    words: &mut Vec<String>,
-    file: &FileGrammar,
-    tokens: &[usize],
-) -> Result<(), AllocError> {
+fn add_tokens(words: &mut Words, file: &FileGrammar, tokens: &[usize]) {
     match tokens {
         [one, other] => {
-            push_names(words, file, &[*one])?;
-            push_words(words, "and")?;
-            push_names(words, file, &[*other])
+            add_names(words, file, &[*one]);
+            words.add("and");
+            add_names(words, file, &[*other]);
         }
-        _ if tokens.len() > NAMED => push_words(words, "these tokens"),
-        _ => push_names(words, file, tokens),
+        _ if tokens.len() > NAMED => words.add_all("these tokens"),
+        _ => add_names(words, file, tokens),
     }
 }
 
 /// Adds what settles a conflict with a shift, where neither side has a level: that the tokens are given some.
-fn push_given(
-    words: &mut Vec<String>,
-    file: &FileGrammar,
-    levels: &Levels,
-) -> Result<(), AllocError> {
-    let tokens = levels.lacking(*words.allocator())?;
-    push_words(words, "give")?;
-    push_tokens(words, file, tokens.as_slice())?;
-    push_words(
-        words,
-        match (levels.of_production, tokens.len()) {
-            (None, _) => "a level, and this production one by %prec,",
-            (Some(_), 1) => "a level by %left or %right",
-            (Some(_), _) => "levels",
-        },
-    )?;
-    push_words(words, "to settle it")
+fn add_given(words: &mut Words, file: &FileGrammar, levels: &Levels) -> Result<(), AllocError> {
+    let tokens = levels.lacking(words.allocator())?;
+    words.add("give");
+    add_tokens(words, file, tokens.as_slice());
+    words.add_all(match (levels.of_production, tokens.len()) {
+        (None, _) => "a level, and this production one by %prec,",
+        (Some(_), 1) => "a level by %left or %right",
+        (Some(_), _) => "levels",
+    });
+    words.add_all("to settle it");
+    Ok(())
 }
 
-impl<T: IndexStorage> Checked<'_, T> {
+impl Told<'_> {
     /// Which of the tokens and the production of a conflict with a shift have a level.
-    fn levels(&self, alloc: Global, meeting: &[Evidence]) -> Result<Levels, AllocError> {
-        let production = meeting.first().map_or(0, |first| first.entry.production);
-        let of_production = match self.file.parts.prods.get(production) {
-            Some(prod) => precedence_token(prod).filter(|token| self.can_have_level(*token)),
-            None => None,
+    fn levels(
+        &self,
+        alloc: Global,
+        production: usize,
+        meeting: &[Evidence],
+    ) -> Result<Levels, AllocError> {
+        let (of_production, has_production) = match self.token_of(production) {
+            Some(token) if self.can_have_level(token) => (Some(token), self.has_level(token)),
+            _ => (None, false),
         };
         let mut without = Vec::new(alloc);
         for evidence in meeting {
-            if self.level(evidence.entry.token).is_none() {
+            if !self.has_level(evidence.entry.token) {
                 without.push(evidence.entry.token)?;
             }
         }
         Ok(Levels {
-            have_tokens: without.is_empty(),
             without,
-            has_production: of_production.and_then(|token| self.level(token)).is_some(),
             of_production,
+            has_production,
         })
+    }
+
+    /// Whether a token has a level.
+    fn has_level(&self, token: usize) -> bool {
+        self.precedence(token).is_some()
     }
 
     /// Whether a token is one to which an author would give a level.
@@ -102,92 +97,74 @@ impl<T: IndexStorage> Checked<'_, T> {
         !matches!(self.token_name(token), "$end" | "$undefined" | "error")
     }
 
-    /// The level of a token.
-    fn level(&self, token: usize) -> Option<u64> {
-        let token = self.file.parts.tokens.get(token)?;
-        Some(token.precedence?.level)
-    }
-
-    /// How a conflict with a shift can be settled, where neither side has a level.
-    fn push_help_without(
-        &self,
-        words: &mut Vec<String>,
-        levels: &Levels,
-    ) -> Result<(), AllocError> {
-        push_given(words, self.file, levels)?;
+    /// Adds that the conflicts with a shift can be expected, unless they are.
+    fn add_expected(&self, words: &mut Words) {
         let count = self.shifts();
-        if self.options.expected == Some(count as u64) {
-            return Ok(());
+        if self.options.expected != Some(count as u64) {
+            words.add_piece(",");
+            words.add_all("or say %expect");
+            words.begin();
+            write!(words, "{count}");
         }
-        if let Some(last) = words.last_mut() {
-            last.push(',')?;
-        }
-        push_words(words, "or say %expect")?;
-        let count = format!(in *words.allocator(); "{count}")?;
-        push_words(words, count.as_str())
     }
 
     /// How many conflicts with a shift there are.
     fn shifts(&self) -> usize {
-        self.evidence
-            .iter()
-            .filter(|it| it.entry.other.is_none())
-            .count()
+        let mut count: usize = 0;
+        for evidence in self.evidence {
+            if evidence.entry.other.is_none() {
+                count = count.saturating_add(1);
+            }
+        }
+        count
     }
 
-    /// How a conflict with a shift can be settled.
-    fn push_help_of_shift(
+    /// Adds how a conflict of a production with a shift can be settled.
+    fn add_help_of_shift(
         &self,
-        words: &mut Vec<String>,
+        words: &mut Words,
+        production: usize,
         meeting: &[Evidence],
     ) -> Result<(), AllocError> {
-        let levels = self.levels(*words.allocator(), meeting)?;
-        match (levels.have_tokens, levels.has_production) {
-            (true, true) => push_words(
-                words,
+        let levels = self.levels(words.allocator(), production, meeting)?;
+        match (levels.without.as_slice(), levels.of_production) {
+            ([], Some(_)) if levels.has_production => words.add_all(
                 "both have one level of %precedence, which settles nothing between them: use %left, %right or %nonassoc",
             ),
-            (false, true) => {
-                push_tokens(words, self.file, levels.without.as_slice())?;
-                let has = if levels.without.len() == 1 {
-                    "has"
-                } else {
-                    "have"
-                };
-                push_words(words, has)?;
-                push_words(words, "no level: use %left, %right or %precedence")
-            }
-            (true, false) => {
-                let Some(token) = levels.of_production else {
-                    return push_words(words, "this production has no level: give it one by %prec");
-                };
-                push_tokens(words, self.file, &[token])?;
-                push_words(
-                    words,
+            ([], Some(token)) => {
+                add_tokens(words, self.file, &[token]);
+                words.add_all(
                     "has no level: name it in %left or %precedence, or give this production one by %prec",
-                )
+                );
             }
-            (false, false) => self.push_help_without(words, &levels),
+            ([], None) => words.add_all("this production has no level: give it one by %prec"),
+            (without, _) if levels.has_production => {
+                add_tokens(words, self.file, without);
+                words.add(if without.len() == 1 { "has" } else { "have" });
+                words.add_all("no level: use %left, %right or %precedence");
+            }
+            _ => {
+                add_given(words, self.file, &levels)?;
+                self.add_expected(words);
+            }
         }
+        Ok(())
     }
 
-    /// The words that say how a conflict can be settled; none where precedences are left out.
-    pub(crate) fn help_words(
-        &self,
-        alloc: Global,
-        meeting: &[Evidence],
-    ) -> Result<Vec<String>, AllocError> {
-        let mut words = Vec::new(alloc);
-        if self.options.ignores_precedences {
+    /// How a conflict can be settled; no words where precedences are left out.
+    pub(crate) fn help(&self, alloc: Global, meeting: &[Evidence]) -> Result<Words, AllocError> {
+        let mut words = Words::new(alloc);
+        let (Some(first), false) = (meeting.first(), self.options.ignores_precedences) else {
             return Ok(words);
-        }
-        push_words(&mut words, "help:")?;
-        match meeting.first() {
-            Some(Evidence { entry, .. }) if entry.other.is_some() || entry.token == 0 => push_words(
-                &mut words,
+        };
+        let entry = first.entry;
+        words.add("help:");
+        if entry.other.is_some() || entry.token == 0 {
+            words.add_all(
                 "precedences settle no such conflict: drop one of the productions, or rewrite the rules",
-            )?,
-            _ => self.push_help_of_shift(&mut words, meeting)?,
+            );
+        } else {
+            self.add_help_of_shift(&mut words, entry.production, meeting)?;
         }
         Ok(words)
     }

@@ -2,23 +2,19 @@
 
 ghost use Rattle.std.specs.Prelude.{◌≡◌, ◌⊎◌, All, IfOk, IfSome, IsSome, IsTrue};
 ghost use Rattle.std.specs.List.{flat_map};
-ghost use Rattle.std.specs.String.{string_bytes};
 ghost use Rattle.lrspec.specs.tables.Recognition.{IsUnambiguous};
 ghost use Rattle.lrverdicts.specs.declared.verdicts.Verdict.TheVariants.{Unambiguous};
 ghost use Rattle.lrevidence.specs.Ambiguities.{HasTwoTrees, IsProved};
-ghost use Rattle.json.specs.Lex.{tokens};
-ghost use Rattle.json.specs.Print.{print};
 
 use crate::conflicts::{Checked, entries_of};
-use crate::grammars::{grammar_object, productions_of_file, rules_of_file, tokens_of_file};
-use crate::objects::{
-    ConflictObject, FaultObject, FileObject, ItemObject, ProductionObject, SettledObject,
-};
-use crate::texts::names_of_entries;
+use crate::grammars::{add_grammar, productions_of_file, rules_of_file, tokens_of_file};
+use crate::json_parts::{add_faults, add_tokens_of, add_unplaced};
+use crate::json_texts::JsonText;
+use crate::settled::won_by;
 use crate::trees::alternatives;
 use lrdiagnostics::Source;
-use lrevidence::{Ambiguity, Evidence, body_of, names_of};
-use lrfindings::{Entry, Settled, Verdict, Winner};
+use lrevidence::{Ambiguity, Evidence};
+use lrfindings::{Counts, Entry, Verdict, Winner};
 use lrgrammar::idx::{IndexStorage, StIdx, TIdx};
 use lrtable::Action;
 use lryacc::{Expected, Fault, FileGrammar};
@@ -45,52 +41,79 @@ fn word_of_winner(winner: Winner) -> &'static str {
     }
 }
 
-/// An object as JSON, with no blank between its parts. The error says that memory was refused.
-fn text_of(alloc: Global, object: &FileObject<'_>) -> Result<String, AllocError>
-    ensures compact { IfOk result (λ s. string_bytes s ≡ print (tokens (string_bytes s))) }
-{
-    match serde_json::to_string(alloc, object) {
-        Ok(text) => Ok(text),
-        Err(_) => Err(AllocError),
+/// Adds the name of a file, its verdict, and whether that is proved.
+fn add_verdict(json: &mut JsonText, name: &str, verdict: &str, is_proved: bool) {
+    json.key("file");
+    json.string(name);
+    json.key("verdict");
+    json.string(verdict);
+    json.key("proved");
+    json.boolean(is_proved);
+}
+
+/// Adds how many conflicts there are, and how many are expected, where that is said.
+fn add_counts(json: &mut JsonText, counts: Option<Counts>, expected: Expected) {
+    let (shift_reduce, reduce_reduce) = match counts {
+        Some(counts) => (Some(counts.shift_reduce), Some(counts.reduce_reduce)),
+        None => (None, None),
+    };
+    json.key("shift_reduce");
+    json.number_or_null(shift_reduce);
+    json.key("reduce_reduce");
+    json.number_or_null(reduce_reduce);
+    json.key("expected");
+    if expected == Expected::default() {
+        return json.null();
+    }
+    json.begin_array();
+    json.number(expected.shift_reduce.unwrap_or(0) as usize);
+    json.number(expected.reduce_reduce.unwrap_or(0) as usize);
+    json.end_array();
+}
+
+/// Adds how large a grammar and its graph are.
+fn add_sizes(json: &mut JsonText, file: Option<&FileGrammar>, states: Option<usize>) {
+    json.key("rules");
+    json.number_or_null(file.map(rules_of_file));
+    json.key("productions");
+    json.number_or_null(file.map(productions_of_file));
+    json.key("tokens");
+    json.number_or_null(file.map(tokens_of_file));
+    json.key("states");
+    json.number_or_null(states);
+}
+
+/// Adds that nothing was found in a grammar.
+fn add_nothing_found(json: &mut JsonText) {
+    for name in [
+        "conflicts",
+        "settled",
+        "unused_precedences",
+        "unused_tokens",
+    ] {
+        json.key(name);
+        json.begin_array();
+        json.end_array();
     }
 }
 
-/// The line of an object.
-fn line_of(alloc: Global, object: &FileObject<'_>) -> Result<String, AllocError> {
-    let mut line = text_of(alloc, object)?;
+/// Ends the line of a file, with its grammar where that is asked for.
+fn end_line(
+    mut json: JsonText,
+    file: Option<&FileGrammar>,
+    tells_grammar: bool,
+) -> Result<String, AllocError> {
+    if tells_grammar {
+        json.key("grammar");
+        match file {
+            Some(file) => add_grammar(&mut json, file),
+            None => json.null(),
+        }
+    }
+    json.end_object();
+    let mut line = json.finish()?;
     line.push('\n')?;
     Ok(line)
-}
-
-/// A fault, or a warning.
-fn fault_object(
-    alloc: Global,
-    source: &Source<'_>,
-    fault: &Fault,
-) -> Result<FaultObject, AllocError> {
-    let from = source.position(fault.span.start);
-    let to = source.position(fault.span.end);
-    let kind = fault.kind;
-    Ok(FaultObject {
-        line: Some(from.line),
-        column: Some(from.column),
-        end_line: Some(to.line),
-        end_column: Some(to.column),
-        message: format!(in alloc; "{kind}")?,
-    })
-}
-
-/// Faults, or warnings.
-fn fault_objects(
-    alloc: Global,
-    source: &Source<'_>,
-    faults: &[Fault],
-) -> Result<Vec<FaultObject>, AllocError> {
-    let mut objects = Vec::new(alloc);
-    for fault in faults {
-        objects.push(fault_object(alloc, source, fault)?)?;
-    }
-    Ok(objects)
 }
 
 /// The line of a file that is no grammar.
@@ -100,91 +123,74 @@ pub(crate) fn json_of_faults(
     faults: &[Fault],
     tells_grammar: bool,
 ) -> Result<String, AllocError> {
-    let mut object = FileObject::new(alloc, source.name, tells_grammar);
-    object.errors = fault_objects(alloc, source, faults)?;
-    line_of(alloc, &object)
-}
-
-/// What is told of a file by its grammar alone.
-fn object_of_file<'a>(
-    alloc: Global,
-    source: &Source<'a>,
-    file: &'a FileGrammar,
-    warnings: &[Fault],
-    tells_grammar: bool,
-) -> Result<FileObject<'a>, AllocError> {
-    let mut object = FileObject::new(alloc, source.name, tells_grammar);
-    object.rules = Some(rules_of_file(file));
-    object.productions = Some(productions_of_file(file));
-    object.tokens = Some(tokens_of_file(file));
-    object.warnings = fault_objects(alloc, source, warnings)?;
-    if tells_grammar {
-        object.grammar = Some(Some(grammar_object(alloc, file)?));
-    }
-    Ok(object)
+    let mut json = JsonText::new(alloc);
+    json.begin_object();
+    add_verdict(&mut json, source.name, "not read", false);
+    add_counts(&mut json, None, Expected::default());
+    add_sizes(&mut json, None, None);
+    add_nothing_found(&mut json);
+    json.key("warnings");
+    add_faults(&mut json, source, &[])?;
+    json.key("errors");
+    add_faults(&mut json, source, faults)?;
+    end_line(json, None, tells_grammar)
 }
 
 /// The line of a file with a grammar in which nothing could be found, and why.
-pub(crate) fn json_of_refusal<'a>(
+pub(crate) fn json_of_refusal(
     alloc: Global,
-    source: &Source<'a>,
-    file: &'a FileGrammar,
+    source: &Source<'_>,
+    file: &FileGrammar,
     warnings: &[Fault],
-    message: String,
+    message: &str,
     tells_grammar: bool,
 ) -> Result<String, AllocError> {
-    let mut object = object_of_file(alloc, source, file, warnings, tells_grammar)?;
-    object.errors.push(FaultObject {
-        line: None,
-        column: None,
-        end_line: None,
-        end_column: None,
-        message,
-    })?;
-    line_of(alloc, &object)
-}
-
-/// How many conflicts are expected: of shifts, and of reductions alone.
-fn numbers_of(expected: Expected) -> Option<(u64, u64)> {
-    if expected == Expected::default() {
-        return None;
-    }
-    Some((
-        expected.shift_reduce.unwrap_or(0),
-        expected.reduce_reduce.unwrap_or(0),
-    ))
+    let mut json = JsonText::new(alloc);
+    json.begin_object();
+    add_verdict(&mut json, source.name, "not read", false);
+    add_counts(&mut json, None, Expected::default());
+    add_sizes(&mut json, Some(file), None);
+    add_nothing_found(&mut json);
+    json.key("warnings");
+    add_faults(&mut json, source, warnings)?;
+    json.key("errors");
+    json.begin_array();
+    add_unplaced(&mut json, message);
+    json.end_array();
+    end_line(json, Some(file), tells_grammar)
 }
 
 /// The line of a file in whose grammar this was found, with so many conflicts expected.
 pub(crate) fn json_of_findings<T: IndexStorage>(
     alloc: Global,
-    checked: Checked<'_, T>,
+    checked: &Checked<'_, T>,
     warnings: &[Fault],
     expected: Expected,
     verdict: Verdict,
 ) -> Result<String, AllocError>
-    requires proved { All (IsProved checked.found.now.grm) checked.evidence.now }
-    requires settled { All (IsProved checked.found.now.grm) checked.settled.now }
-    requires unambiguous { verdict ≡ Unambiguous → IsUnambiguous checked.found.now.grm }
+    requires proved { All (IsProved checked.now.found.now.grm) checked.now.told.evidence.now }
+    requires settled { All (IsProved checked.now.found.now.grm) checked.now.told.settled.now }
+    requires unambiguous { verdict ≡ Unambiguous → IsUnambiguous checked.now.found.now.grm }
 {
-    let tells_grammar = checked.options.tells_grammar;
-    let counts = verdict.counts();
-    let mut object = object_of_file(alloc, checked.source, checked.file, warnings, tells_grammar)?;
+    let told = checked.told;
     let shown = checked
-        .ambiguity_but_at(checked.evidence, None)
-        .map(|told| told.1);
-    object.verdict = word_of(verdict, shown.is_some());
-    object.proved = checked.is_proved(verdict, shown);
-    object.shift_reduce = Some(counts.shift_reduce);
-    object.reduce_reduce = Some(counts.reduce_reduce);
-    object.expected = numbers_of(expected);
-    object.states = Some(checked.found.states);
-    let alternatives = alternatives(alloc, checked.file)?;
-    object.conflicts = checked.conflict_objects(alloc, alternatives.as_slice())?;
-    object.settled = checked.settled_objects(alloc, alternatives.as_slice())?;
-    object.unused_precedences = checked.precedence_objects(alloc)?;
-    object.unused_tokens = checked.unused_objects(alloc)?;
-    line_of(alloc, &object)
+        .ambiguity_but_at(told.evidence, None)
+        .map(|shown| shown.1);
+    let (word, is_proved) = (
+        word_of(verdict, shown.is_some()),
+        checked.is_proved(verdict, shown),
+    );
+    let mut json = JsonText::new(alloc);
+    json.begin_object();
+    add_verdict(&mut json, told.source.name, word, is_proved);
+    add_counts(&mut json, Some(verdict.counts()), expected);
+    add_sizes(&mut json, Some(told.file), Some(checked.found.states));
+    checked.add_findings(&mut json)?;
+    json.key("warnings");
+    add_faults(&mut json, told.source, warnings)?;
+    json.key("errors");
+    add_faults(&mut json, told.source, &[])?;
+    end_line(json, Some(told.file), told.options.tells_grammar)
 }
 
 impl<'a, T: IndexStorage> Checked<'a, T> {
@@ -200,45 +206,21 @@ impl<'a, T: IndexStorage> Checked<'a, T> {
         }
     }
 
-    /// The names of the symbols of a production.
-    fn body(&self, alloc: Global, production: usize) -> Result<Vec<&'a str>, AllocError> {
-        names_of(alloc, self.file, body_of(self.file, production))
-    }
-
-    /// A production.
-    pub(crate) fn production_object(
-        &self,
-        alloc: Global,
-        production: usize,
-    ) -> Result<ProductionObject<'a>, AllocError> {
-        let place = self.place(production);
-        let from = self.source.position(place.start);
-        let to = self.source.position(place.end);
-        Ok(ProductionObject {
-            rule: self.rule_name(production),
-            body: self.body(alloc, production)?,
-            line: from.line,
-            column: from.column,
-            end_line: to.line,
-            end_column: to.column,
-        })
-    }
-
-    /// The items of a state in which it goes on by the token of one of the entries.
-    fn shift_objects(
-        &self,
-        alloc: Global,
-        state: usize,
-        entries: &[Entry],
-    ) -> Result<Vec<ItemObject<'a>>, AllocError> {
-        let mut objects = Vec::new(alloc);
-        for (production, dot) in &self.shifting_items(alloc, state, entries)? {
-            objects.push(ItemObject {
-                production: self.production_object(alloc, *production)?,
-                dot: *dot,
-            })?;
-        }
-        Ok(objects)
+    /// Adds what was found.
+    fn add_findings(&self, json: &mut JsonText) -> Result<(), AllocError>
+        requires proved { All (IsProved self.now.found.now.grm) self.now.told.evidence.now }
+        requires settled { All (IsProved self.now.found.now.grm) self.now.told.settled.now }
+    {
+        let alternatives = alternatives(json.allocator(), self.told.file)?;
+        json.key("conflicts");
+        self.add_conflicts(json, alternatives.as_slice())?;
+        json.key("settled");
+        self.add_settled(json, alternatives.as_slice())?;
+        json.key("unused_precedences");
+        self.told.add_idle_precedences(json);
+        json.key("unused_tokens");
+        self.told.add_unused_tokens(json);
+        Ok(())
     }
 
     /// What the table does where this meets.
@@ -255,81 +237,98 @@ impl<'a, T: IndexStorage> Checked<'a, T> {
         }
     }
 
-    /// A conflict: entries at which the same meets in the same state, and of which the table makes the same.
-    fn conflict_object(
+    /// Adds the items of a state in which it goes on by the token of one of the entries.
+    fn add_shifts(&self, json: &mut JsonText, entries: &[Entry]) -> Result<(), AllocError> {
+        let items = self.shifting_items(json.allocator(), entries)?;
+        json.key("shift");
+        self.told.add_items(json, items.as_slice());
+        Ok(())
+    }
+
+    /// Adds what meets in entries: where, at which tokens, and the productions; either with `shift` or with `other`.
+    fn add_meeting(&self, json: &mut JsonText, entries: &[Entry]) -> Result<(), AllocError> {
+        let Some(first) = entries.first() else {
+            return Ok(());
+        };
+        json.key("kind");
+        json.string(match first.other {
+            Some(_) => "reduce/reduce",
+            None => "shift/reduce",
+        });
+        json.key("state");
+        json.number(first.state);
+        json.key("tokens");
+        add_tokens_of(json, self.told.file, entries);
+        json.key("reduce");
+        self.told.add_production(json, first.production);
+        match first.other {
+            Some(other) => {
+                json.key("other");
+                self.told.add_production(json, other);
+                Ok(())
+            }
+            None => self.add_shifts(json, entries),
+        }
+    }
+
+    /// Adds a conflict: entries at which the same meets in the same state, and of which the table makes the same.
+    fn add_conflict(
         &self,
-        alloc: Global,
-        first: &Evidence,
+        json: &mut JsonText,
         meeting: &[Evidence],
         alternatives: &[usize],
-    ) -> Result<ConflictObject<'a>, AllocError>
+    ) -> Result<(), AllocError>
         requires proved { All (IsProved self.now.found.now.grm) meeting.now }
     {
-        let entry = first.entry;
-        let entries = entries_of(alloc, meeting)?;
-        Ok(ConflictObject {
-            kind: match entry.other {
-                Some(_) => "reduce/reduce",
-                None => "shift/reduce",
-            },
-            state: entry.state,
-            tokens: names_of_entries(alloc, self.file, entries.as_slice())?,
-            reduce: self.production_object(alloc, entry.production)?,
-            shift: match entry.other {
-                Some(_) => None,
-                None => Some(self.shift_objects(alloc, entry.state, entries.as_slice())?),
-            },
-            other: match entry.other {
-                Some(other) => Some(self.production_object(alloc, other)?),
-                None => None,
-            },
-            chosen: self.chosen(&entry),
-            ambiguity: self.first_ambiguity_object(alloc, meeting, alternatives)?,
-            after: self.after_object(alloc, first)?,
-        })
+        let Some(first) = meeting.first() else {
+            return Ok(());
+        };
+        let entries = entries_of(json.allocator(), meeting)?;
+        json.begin_object();
+        self.add_meeting(json, entries.as_slice())?;
+        json.key("chosen");
+        json.string(self.chosen(&first.entry));
+        json.key("ambiguity");
+        self.add_first_ambiguity(json, meeting, alternatives)?;
+        json.key("after");
+        self.told.add_example(json, first);
+        json.end_object();
+        Ok(())
     }
 
     /// What is known of the conflicts, in groups, in each of which the same meets in the same state, and the table does the same;
     /// each entry by itself where all are told.
     fn alike(&self, alloc: Global) -> Result<Vec<&'a [Evidence]>, AllocError>
         ensures { IfOk result (λ groups.
-            flat_map (λ group. group.now) groups.items ≡ self.now.evidence.now) }
+            flat_map (λ group. group.now) groups.items ≡ self.now.told.evidence.now) }
     {
-        self.evidence
+        self.told
+            .evidence
             .chunk_by(|one, other| {
-                !self.options.tells_all
+                !self.told.options.tells_all
                     && one.entry.meets_like(&other.entry)
                     && self.chosen(&one.entry) == self.chosen(&other.entry)
             })
             .collect(alloc)
     }
 
-    /// The conflicts, in the order of the file: each entry by itself where all are told.
-    fn conflict_objects(
-        &self,
-        alloc: Global,
-        alternatives: &[usize],
-    ) -> Result<Vec<ConflictObject<'a>>, AllocError>
-        requires proved { All (IsProved self.now.found.now.grm) self.now.evidence.now }
+    /// Adds the conflicts, in the order of the file: each entry by itself where all are told.
+    fn add_conflicts(&self, json: &mut JsonText, alternatives: &[usize]) -> Result<(), AllocError>
+        requires proved { All (IsProved self.now.found.now.grm) self.now.told.evidence.now }
     {
-        let mut objects = Vec::new(alloc);
-        for meeting in &self.alike(alloc)? {
-            if let Some(first) = meeting.first() {
-                objects.push(self.conflict_object(alloc, first, meeting, alternatives)?)?;
-            }
+        json.begin_array();
+        for meeting in &self.alike(json.allocator())? {
+            self.add_conflict(json, meeting, alternatives)?;
         }
-        Ok(objects)
+        json.end_array();
+        Ok(())
     }
 
-    /// What precedences settle, in the order of the file.
-    fn settled_objects(
-        &self,
-        alloc: Global,
-        alternatives: &[usize],
-    ) -> Result<Vec<SettledObject<'a>>, AllocError>
-        requires proved { All (IsProved self.now.found.now.grm) self.now.settled.now }
+    /// Adds what precedences settle, in the order of the file.
+    fn add_settled(&self, json: &mut JsonText, alternatives: &[usize]) -> Result<(), AllocError>
+        requires proved { All (IsProved self.now.found.now.grm) self.now.told.settled.now }
     {
-        let mut objects = Vec::new(alloc);
+        json.begin_array();
         for meeting in self
             .found
             .settled
@@ -337,47 +336,37 @@ impl<'a, T: IndexStorage> Checked<'a, T> {
             .chunk_by(|one, other| one.entry.meets_like(&other.entry))
         {
             for winner in [Winner::Shift, Winner::Reduce, Winner::Neither] {
-                let entries = won_by(alloc, meeting, winner)?;
-                if let Some(first) = entries.first() {
-                    let mut object = self.settled_object(alloc, first, entries.as_slice(), winner)?;
-                    if let Some(ambiguity) = self.decided(entries.as_slice()) {
-                        let told = self.ambiguity_object(alloc, ambiguity, alternatives)?;
-                        object.ambiguity = Some(told);
-                    }
-                    objects.push(object)?;
-                }
+                let entries = won_by(json.allocator(), meeting, winner)?;
+                self.add_settling(json, entries.as_slice(), winner, alternatives)?;
             }
         }
-        Ok(objects)
+        json.end_array();
+        Ok(())
     }
 
-    /// What precedences settle alike in a state, for the same production.
-    fn settled_object(
+    /// Adds what precedences settle alike in a state, for the same production, if there is something.
+    fn add_settling(
         &self,
-        alloc: Global,
-        first: &Entry,
+        json: &mut JsonText,
         entries: &[Entry],
         winner: Winner,
-    ) -> Result<SettledObject<'a>, AllocError> {
-        Ok(SettledObject {
-            kind: "shift/reduce",
-            state: first.state,
-            tokens: names_of_entries(alloc, self.file, entries)?,
-            reduce: self.production_object(alloc, first.production)?,
-            shift: self.shift_objects(alloc, first.state, entries)?,
-            winner: word_of_winner(winner),
-            ambiguity: None,
-        })
-    }
-}
-
-/// The entries of which one wins.
-fn won_by(alloc: Global, settled: &[Settled], winner: Winner) -> Result<Vec<Entry>, AllocError> {
-    let mut entries = Vec::new(alloc);
-    for one in settled {
-        if one.winner == winner {
-            entries.push(one.entry)?;
+        alternatives: &[usize],
+    ) -> Result<(), AllocError>
+        requires proved { All (IsProved self.now.found.now.grm) self.now.told.settled.now }
+    {
+        if entries.is_empty() {
+            return Ok(());
         }
+        json.begin_object();
+        self.add_meeting(json, entries)?;
+        json.key("winner");
+        json.string(word_of_winner(winner));
+        json.key("ambiguity");
+        match self.decided(entries) {
+            Some(ambiguity) => self.add_ambiguity(json, ambiguity, alternatives)?,
+            None => json.null(),
+        }
+        json.end_object();
+        Ok(())
     }
-    Ok(entries)
 }

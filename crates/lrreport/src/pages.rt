@@ -8,31 +8,26 @@ use lrevidence::Evidence;
 use lrfindings::Verdict;
 use lrgrammar::idx::IndexStorage;
 use lrpage::{Card, Page};
+use lrwriter::Text;
 use std::alloc::{AllocError, Global};
 
-/// Words in a row, with a blank between them.
-fn joined(alloc: Global, words: &[String]) -> Result<String, AllocError> {
-    let mut text = String::new(alloc);
-    for word in words {
-        if !text.is_empty() {
-            text.push(' ')?;
-        }
-        text.push_str(word.as_str())?;
-    }
-    Ok(text)
-}
-
 impl<T: IndexStorage> Checked<'_, T> {
+    /// How entries at which the same meets can be settled, in one line.
+    fn help_line(&self, alloc: Global, meeting: &[Evidence]) -> Result<String, AllocError> {
+        let mut line = Text::new(alloc);
+        self.told.help(alloc, meeting)?.join(&mut line);
+        line.finish()
+    }
+
     /// The card of entries at which the same meets.
     fn card<'a>(&self, alloc: Global, meeting: &'a [Evidence]) -> Result<Card<'a>, AllocError>
         ensures { IfOk result (λ card. card.meeting.now ≡ meeting.now) }
     {
         let entries = entries_of(alloc, meeting)?;
-        let help = self.help_words(alloc, meeting)?;
         Ok(Card {
             meeting,
             marks: self.marks(alloc, entries.as_slice())?,
-            help: joined(alloc, help.as_slice())?,
+            help: self.help_line(alloc, meeting)?,
         })
     }
 
@@ -43,20 +38,20 @@ impl<T: IndexStorage> Checked<'_, T> {
         verdict: Verdict,
         line: &str,
     ) -> Result<String, AllocError>
-        requires proved { All (IsProved self.now.found.now.grm) self.now.evidence.now }
+        requires proved { All (IsProved self.now.found.now.grm) self.now.told.evidence.now }
     {
         let mut cards = Vec::new(alloc);
-        for meeting in &meetings(alloc, self.evidence, false)? {
+        for meeting in &meetings(alloc, self.told.evidence, false)? {
             cards.push(self.card(alloc, meeting)?)?;
         }
         let page = Page {
-            source: self.source,
-            file: self.file,
+            source: self.told.source,
+            file: self.told.file,
             found: self.found,
             verdict: line,
             is_good: verdict.status() == 0,
             cards: cards.as_slice(),
-            steps: self.options.steps,
+            steps: self.told.options.steps,
         };
         page.text(alloc)
     }

@@ -16,10 +16,12 @@ ghost use Rattle.lrreport.specs.Conclusions.{IsConcluded};
 use crate::conflicts::{Checked, left_open};
 use crate::json_lines::{json_of_faults, json_of_findings, json_of_refusal};
 use crate::options::{Options, Output};
+use crate::told::Told;
 use lrdiagnostics::{Layout, Source, TOLD, Teller, Weight, messages_of};
 use lrevidence::{Ambiguity, Effort, Evidence, evidence_for, find_ambiguity};
-use lrfindings::{Entry, FindError, Findings, Settled, Verdict, find, small_text};
+use lrfindings::{Entry, FindError, Findings, Idle, Settled, Verdict, find, small_text};
 use lrgrammar::idx::IndexStorage;
+use lrwriter::Text;
 use lryacc::{Expected, Fault, FileGrammar, FileRead, read_file};
 use std::alloc::{AllocError, Global};
 
@@ -91,15 +93,19 @@ fn report_on_faults(
         let text = json_of_faults(alloc, source, faults, options.tells_grammar)?;
         return Ok(Report::unread(text));
     }
-    let mut text = String::new(alloc);
     let teller = Teller {
         source,
         has_colours: options.has_colours,
     };
     let messages = messages_of(alloc, faults)?;
-    let most = most_told(options);
-    teller.push_messages(&mut text, messages.as_slice(), Weight::Error, most)?;
-    Ok(Report::unread(text))
+    let mut text = Text::new(alloc);
+    teller.add_messages(
+        &mut text,
+        messages.as_slice(),
+        Weight::Error,
+        most_told(options),
+    )?;
+    Ok(Report::unread(text.finish()?))
 }
 
 /// The report on a grammar that can't be checked.
@@ -115,17 +121,15 @@ fn report_on_refusal(
     if let FindError::Memory = why {
         return Err(AllocError);
     }
-    let name = read.source.name;
+    let (name, why) = (read.source.name, format!(in alloc; "{why}")?);
     let text = if options.output == Output::Json {
-        let why = format!(in alloc; "{why}")?;
-        let tells_grammar = options.tells_grammar;
         json_of_refusal(
             alloc,
             read.source,
             read.file,
             read.warnings,
-            why,
-            tells_grammar,
+            why.as_str(),
+            options.tells_grammar,
         )?
     } else {
         format!(in alloc; "{name}: error: {why}\n")?
@@ -204,6 +208,24 @@ fn known_of<T: IndexStorage>(
     })
 }
 
+/// What is told of a file, and how.
+fn told_of<'a>(read: Read<'a>, idle: &'a Idle, known: &'a Known, options: Options) -> Told<'a>
+    ensures evidence { result.evidence.now ≡ known.now.evidence.items }
+    ensures settled { result.settled.now ≡ known.now.settled.items }
+{
+    Told {
+        source: read.source,
+        file: read.file,
+        evidence: known.evidence.as_slice(),
+        settled: known.settled.as_slice(),
+        idle,
+        options: Options {
+            expected: options.beside(read.expected).shift_reduce,
+            ..options
+        },
+    }
+}
+
 /// The lines on what was found in the grammar of a file, with that verdict.
 fn lines_on_findings<T: IndexStorage>(
     alloc: Global,
@@ -218,37 +240,30 @@ fn lines_on_findings<T: IndexStorage>(
     requires decided { IfSome known.now.decided (HasTwoTrees found.now.grm) }
     requires unambiguous { verdict ≡ Unambiguous → IsUnambiguous found.now.grm }
 {
-    let expected = options.beside(read.expected);
     let checked = Checked {
-        source: read.source,
-        file: read.file,
+        told: told_of(read, &found.idle, known, options),
         found,
-        evidence: known.evidence.as_slice(),
-        settled: known.settled.as_slice(),
-        options: Options {
-            expected: expected.shift_reduce,
-            ..options
-        },
     };
     if options.output == Output::Json {
-        return json_of_findings(alloc, checked, read.warnings, expected, verdict);
+        let expected = options.beside(read.expected);
+        return json_of_findings(alloc, &checked, read.warnings, expected, verdict);
     }
-    let mut text = String::new(alloc);
+    let mut text = Text::new(alloc);
     if options.output == Output::States {
         checked.push_states(&mut text)?;
     }
     if options.output == Output::Report {
         let most = most_told(options);
-        checked.push_warnings(&mut text, read.warnings, most)?;
+        checked.told.push_warnings(&mut text, read.warnings, most)?;
         checked.push_conflicts(&mut text, most)?;
         if options.tells_settled {
             checked.push_settled(&mut text, most)?;
         }
     }
-    let line = checked.verdict_line(alloc, verdict, known.decided.as_ref(), options)?;
+    let line = checked.verdict_line(alloc, verdict, known.decided.as_ref(), options.output)?;
     let layout = Layout::new(options.is_plain || options.output == Output::Summary);
-    layout.push_line(&mut text, line.as_str(), 4)?;
-    Ok(text)
+    layout.add_line(&mut text, line.as_str(), 4);
+    text.finish()
 }
 
 /// The page on what was found in the grammar of a file, with that verdict, where one is made.
@@ -268,21 +283,10 @@ fn page_on_findings<T: IndexStorage>(
         return Ok(None);
     }
     let checked = Checked {
-        source: read.source,
-        file: read.file,
+        told: told_of(read, &found.idle, known, options),
         found,
-        evidence: known.evidence.as_slice(),
-        settled: known.settled.as_slice(),
-        options: Options {
-            expected: options.beside(read.expected).shift_reduce,
-            ..options
-        },
     };
-    let summary = Options {
-        output: Output::Summary,
-        ..options
-    };
-    let line = checked.verdict_line(alloc, verdict, known.decided.as_ref(), summary)?;
+    let line = checked.verdict_line(alloc, verdict, known.decided.as_ref(), Output::Summary)?;
     Ok(Some(checked.page(alloc, verdict, line.as_str())?))
 }
 

@@ -4,11 +4,12 @@ ghost use Rattle.std.specs.Prelude.{All, IfSome};
 ghost use Rattle.lrevidence.specs.Ambiguities.{HasTwoTrees, IsProved};
 
 use crate::conflicts::{Checked, DONE, push_more};
-use lrdiagnostics::push_shown;
+use crate::told::Told;
+use lrdiagnostics::add_shown;
 use lrevidence::Ambiguity;
-use lrfindings::{Entry, Settled, Winner, precedence_token};
-use lrgrammar::grammar::Precedence;
+use lrfindings::{Entry, Settled, Winner};
 use lrgrammar::idx::IndexStorage;
+use lrwriter::Text;
 use std::alloc::{AllocError, Global};
 
 /// Why a shift or a reduction wins, or neither.
@@ -75,17 +76,22 @@ impl Settling {
     }
 }
 
-impl<'a, T: IndexStorage> Checked<'a, T> {
-    /// The token by which a production has its precedence.
-    fn token_of(&self, production: usize) -> Option<usize> {
-        precedence_token(self.file.parts.prods.get(production)?)
+/// The entries of which one wins.
+pub(crate) fn won_by(
+    alloc: Global,
+    settled: &[Settled],
+    winner: Winner,
+) -> Result<Vec<Entry>, AllocError> {
+    let mut entries = Vec::new(alloc);
+    for one in settled {
+        if one.winner == winner {
+            entries.push(one.entry)?;
+        }
     }
+    Ok(entries)
+}
 
-    /// The precedence of a token.
-    fn precedence(&self, token: usize) -> Option<Precedence> {
-        self.file.parts.tokens.get(token)?.precedence
-    }
-
+impl Told<'_> {
     /// Whether the token of an entry and its production have one level.
     fn is_level(&self, entry: Entry) -> bool {
         let level = match self.token_of(entry.production) {
@@ -117,9 +123,9 @@ impl<'a, T: IndexStorage> Checked<'a, T> {
     }
 
     /// What is settled, put together where the same meets in the same state, and wins for the same reason.
-    fn settlings(&self, alloc: Global) -> Result<Vec<Settling>, AllocError> {
+    fn settlings(&self, alloc: Global, settled: &[Settled]) -> Result<Vec<Settling>, AllocError> {
         let mut list: Vec<Settling> = Vec::new(alloc);
-        for (entry, reason) in &self.reasoned(alloc, self.found.settled.as_slice())? {
+        for (entry, reason) in &self.reasoned(alloc, settled)? {
             match list.last_mut() {
                 Some(last) if last.is_like(entry, *reason) => last.entries.push(*entry)?,
                 _ => list.push(Settling {
@@ -131,24 +137,10 @@ impl<'a, T: IndexStorage> Checked<'a, T> {
         Ok(list)
     }
 
-    /// A text with two trees that part at one of the entries, where one is found.
-    pub(crate) fn decided(&self, entries: &[Entry]) -> Option<&'a Ambiguity>
-        requires proved { All (IsProved self.now.found.now.grm) self.now.settled.now }
-        ensures { IfSome result (λ a. HasTwoTrees self.now.found.now.grm a.now) }
-    {
-        for entry in entries {
-            if let Ok(at) = self.settled.binary_search_by_key(entry, |it| it.entry) {
-                if let Some(ambiguity) = &self.settled[at].ambiguity {
-                    return Some(ambiguity);
-                }
-            }
-        }
-        None
-    }
-
     /// Why the same wins at all the entries.
-    fn push_reason(&self, text: &mut String, settling: &Settling) -> Result<(), AllocError> {
-        text.push_str(match settling.reason {
+    fn reason(&self, alloc: Global, settling: &Settling) -> Result<String, AllocError> {
+        let mut text = Text::new(alloc);
+        text.add(match settling.reason {
             Reason::Token if settling.entries.len() > 1 => "the tokens have the higher level",
             Reason::Token => "the token has the higher level",
             Reason::Right => "both have one level, and it is %right",
@@ -156,51 +148,72 @@ impl<'a, T: IndexStorage> Checked<'a, T> {
             Reason::Left => "both have one level, and it is %left",
             Reason::Nonassoc =>
                 "both have one level, and it is %nonassoc: the token is an error here",
-        })?;
+        });
         if let (Reason::Production, Some(entry)) = (settling.reason, settling.entries.first()) {
             if let Some(token) = self.token_of(entry.production) {
-                text.push_str(", that of ")?;
-                push_shown(text, self.token_name(token))?;
+                text.add(", that of ");
+                add_shown(&mut text, self.token_name(token));
             }
         }
-        Ok(())
+        text.finish()
+    }
+}
+
+impl<'a, T: IndexStorage> Checked<'a, T> {
+    /// A text with two trees that part at one of the entries, where one is found.
+    pub(crate) fn decided(&self, entries: &[Entry]) -> Option<&'a Ambiguity>
+        requires proved { All (IsProved self.now.found.now.grm) self.now.told.settled.now }
+        ensures { IfSome result (λ a. HasTwoTrees self.now.found.now.grm a.now) }
+    {
+        let settled = self.told.settled;
+        for entry in entries {
+            if let Ok(at) = settled.binary_search_by_key(entry, |it| it.entry) {
+                if let Some(ambiguity) = &settled[at].ambiguity {
+                    return Some(ambiguity);
+                }
+            }
+        }
+        None
     }
 
     /// Adds what is settled.
-    fn push_settling(&self, text: &mut String, settling: &Settling) -> Result<(), AllocError>
-        requires proved { All (IsProved self.now.found.now.grm) self.now.settled.now }
+    fn push_settling(&self, text: &mut Text, settling: &Settling) -> Result<(), AllocError>
+        requires proved { All (IsProved self.now.found.now.grm) self.now.told.settled.now }
     {
         let entries = settling.entries.as_slice();
         let Some(first) = entries.first() else {
             return Ok(());
         };
-        let alloc = *text.allocator();
-        self.push_heading(text, "settled", entries)?;
+        let alloc = text.allocator();
         let (reduced, shifted) = settling.reason.done();
-        let reduction = self.mark_of_reduction(alloc, first.production, reduced)?;
-        let mut marks = vec![in alloc; reduction]?;
-        self.push_marks_of_shifts(&mut marks, entries, shifted)?;
-        self.teller().push_placed(text, marks.as_slice())?;
-        let mut reason = String::new(alloc);
-        self.push_reason(&mut reason, settling)?;
+        let mut marks = Vec::new(alloc);
+        self.told
+            .push_reduction(&mut marks, first.production, reduced)?;
+        self.push_shifts(&mut marks, entries, shifted)?;
+        self.told.push_heading(text, "settled", entries);
+        self.told.teller().add_placed(text, marks.as_slice())?;
+        let (why, kept) = (self.told.reason(alloc, settling)?, settling.reason.kept());
         self.push_decided(
             text,
             marks.as_slice(),
-            reason.as_str(),
-            settling.reason.kept(),
+            why.as_str(),
+            kept,
             self.decided(entries),
         )?;
-        text.push('\n')
+        text.add_char('\n');
+        Ok(())
     }
 
     /// Adds what precedences settle: the first ones, so many at the most, and how many there are besides.
-    pub(crate) fn push_settled(&self, text: &mut String, most: usize) -> Result<(), AllocError>
-        requires proved { All (IsProved self.now.found.now.grm) self.now.settled.now }
+    pub(crate) fn push_settled(&self, text: &mut Text, most: usize) -> Result<(), AllocError>
+        requires proved { All (IsProved self.now.found.now.grm) self.now.told.settled.now }
     {
-        let settlings = self.settlings(*text.allocator())?;
+        let settled = self.found.settled.as_slice();
+        let settlings = self.told.settlings(text.allocator(), settled)?;
         for settling in settlings.iter().take(most) {
             self.push_settling(text, settling)?;
         }
-        push_more(text, settlings.len().saturating_sub(most))
+        push_more(text, settlings.len().saturating_sub(most));
+        Ok(())
     }
 }

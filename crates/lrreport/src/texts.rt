@@ -1,248 +1,206 @@
 //! Words of texts and of trees.
 
-use lrdiagnostics::comma_words;
+use crate::words::Words;
 use lrevidence::{
     Ambiguity, Node, Step, Tree, Visit, name_of_rule, names_of, names_of_tokens, symbol_name,
     text_of, token_name,
 };
-use lrfindings::Entry;
 use lrgrammar::grammar::PartSymbol;
+use lrwriter::Text;
 use lryacc::FileGrammar;
-use std::alloc::{AllocError, Global};
-use std::mem;
+use std::alloc::AllocError;
 
 /// How many words of a text or a tree are told on either side of the dot.
 const SIDE: usize = 40;
 
-/// Adds a word, in which blanks may be.
-pub(crate) fn push_word(words: &mut Vec<String>, word: &str) -> Result<(), AllocError> {
-    let word = String::from_str(*words.allocator(), word)?;
-    words.push(word)?;
-    Ok(())
-}
-
-/// Adds words that are parted by blanks.
-pub(crate) fn push_words(words: &mut Vec<String>, text: &str) -> Result<(), AllocError> {
-    for word in text.split(' ') {
-        push_word(words, word)?;
-    }
-    Ok(())
-}
-
 /// Adds the names of tokens, with a comma behind each but the last.
-pub(crate) fn push_names(
-    words: &mut Vec<String>,
-    file: &FileGrammar,
-    tokens: &[usize],
-) -> Result<(), AllocError> {
-    let alloc = *words.allocator();
-    let names = names_of_tokens(alloc, file, tokens)?;
-    for word in comma_words(alloc, names.as_slice())? {
-        words.push(word)?;
+pub(crate) fn add_names(words: &mut Words, file: &FileGrammar, tokens: &[usize]) {
+    for (place, token) in tokens.iter().enumerate() {
+        words.add_listed(place == 0, token_name(file, *token));
     }
-    Ok(())
 }
 
-/// The names of the tokens of entries.
-pub(crate) fn names_of_entries<'a>(
-    alloc: Global,
-    file: &'a FileGrammar,
-    entries: &[Entry],
-) -> Result<Vec<&'a str>, AllocError> {
-    let mut names = Vec::new(alloc);
-    for entry in entries {
-        names.push(token_name(file, entry.token))?;
-    }
-    Ok(names)
-}
-
-/// Words with a dot among them; but those that stand far from it are left out.
-fn words_with_dot(alloc: Global, names: &[&str], dot: usize) -> Result<Vec<String>, AllocError> {
+/// Adds names with a dot among them; but those that stand far from it are left out.
+fn add_with_dot(words: &mut Words, names: &[&str], dot: usize) {
     let (first, last) = (dot.saturating_sub(SIDE), dot.saturating_add(SIDE));
-    let mut words = Vec::new(alloc);
     if first > 0 {
-        push_word(&mut words, "...")?;
+        words.add("...");
     }
     for (place, name) in names.iter().enumerate() {
         if place == dot {
-            push_word(&mut words, ".")?;
+            words.add(".");
         }
         if first <= place && place < last {
-            push_word(&mut words, name)?;
+            words.add(name);
         }
     }
     if names.len() <= dot {
-        push_word(&mut words, ".")?;
+        words.add(".");
     }
     if last < names.len() {
-        push_word(&mut words, "...")?;
+        words.add("...");
     }
-    Ok(words)
 }
 
-/// The first words of many, and that there are more.
-pub(crate) fn shortened(alloc: Global, names: &[&str]) -> Result<Vec<String>, AllocError> {
-    let mut words = Vec::new(alloc);
+/// Adds the first of many names, and that there are more.
+pub(crate) fn add_shortened(words: &mut Words, names: &[&str]) {
     for name in names.iter().take(SIDE) {
-        push_word(&mut words, name)?;
+        words.add(name);
     }
     if names.len() > SIDE {
-        push_word(&mut words, "...")?;
+        words.add("...");
     }
-    Ok(words)
 }
 
-/// The words of a text with two trees, with a dot where they part.
-pub(crate) fn text_words(
-    alloc: Global,
+/// Adds the words of a text with two trees, with a dot where they part.
+pub(crate) fn add_text(
+    words: &mut Words,
     file: &FileGrammar,
     ambiguity: &Ambiguity,
-) -> Result<Vec<String>, AllocError> {
-    let names = names_of_tokens(alloc, file, text_of(file, ambiguity.tokens.as_slice()))?;
-    words_with_dot(alloc, names.as_slice(), ambiguity.dot(file))
+) -> Result<(), AllocError> {
+    let tokens = text_of(file, ambiguity.tokens.as_slice());
+    let names = names_of_tokens(words.allocator(), file, tokens)?;
+    add_with_dot(words, names.as_slice(), ambiguity.dot(file));
+    Ok(())
 }
 
-/// From which start rule a text is derived, as words behind others; empty where the file has no several.
-pub(crate) fn from_start(
-    alloc: Global,
-    file: &FileGrammar,
-    start: Option<PartSymbol>,
-) -> Result<String, AllocError> {
-    match start {
-        Some(rule) => {
-            let name = symbol_name(file, rule);
-            format!(in alloc; " from {name}")
-        }
-        None => String::from_str(alloc, ""),
+/// Adds from which start rule a text is derived, where the file has several.
+pub(crate) fn add_start(words: &mut Words, file: &FileGrammar, start: Option<PartSymbol>) {
+    if let Some(rule) = start {
+        words.add("from");
+        words.add_all(symbol_name(file, rule));
     }
 }
 
-/// The words of a list of symbols with a dot behind it, and then a token.
-pub(crate) fn list_words(
-    alloc: Global,
+/// Adds the words of a list of symbols with a dot behind it, and then a token.
+pub(crate) fn add_list(
+    words: &mut Words,
     file: &FileGrammar,
     list: &[PartSymbol],
     token: usize,
-) -> Result<Vec<String>, AllocError> {
-    let mut names = names_of(alloc, file, list)?;
+) -> Result<(), AllocError> {
+    let mut names = names_of(words.allocator(), file, list)?;
     let dot = names.len();
     if token > 0 {
         names.push(token_name(file, token))?;
     }
-    words_with_dot(alloc, names.as_slice(), dot)
+    add_with_dot(words, names.as_slice(), dot);
+    Ok(())
 }
 
-/// Words of a tree in brackets, in the making.
-#[derive(Drop)]
-struct Brackets {
-    words: Vec<String>,
-    /// What stands before the next leaf.
-    front: String,
-    /// How many leaves there are so far.
-    leaves: usize,
+/// The name of what stands at a node: a symbol, or the rule of a production.
+pub(crate) fn node_name<'a>(file: &'a FileGrammar, tree: &Tree, number: usize) -> &'a str {
+    match tree.nodes.get(number) {
+        Some(Node::Leaf(symbol)) => symbol_name(file, *symbol),
+        Some(Node::Inner(production)) => name_of_rule(file, *production),
+        None => "",
+    }
 }
 
-impl Brackets {
-    /// Adds what one comes to, going through the tree, and the dot before that leaf.
-    fn push(
-        &mut self,
-        file: &FileGrammar,
-        tree: &Tree,
-        visit: Visit,
-        dot: usize,
-    ) -> Result<(), AllocError> {
-        match visit {
+/// Whether what one comes to, going through a tree, goes on a word: behind an opening bracket, or by a closing one.
+fn goes_on(before: Visit, visit: Visit) -> bool {
+    matches!(before, Visit::Enter(_)) || matches!(visit, Visit::Leave(_))
+}
+
+/// Adds a word of a tree in brackets.
+fn add_tree_word(words: &mut Words, file: &FileGrammar, tree: &Tree, visits: &[Visit]) {
+    words.begin();
+    for visit in visits {
+        match *visit {
             Visit::Enter(number) => {
-                if let Some(Node::Inner(production)) = tree.nodes.get(number) {
-                    self.front.push_str(name_of_rule(file, *production))?;
-                }
-                self.front.push('(')?;
+                words.add_piece(node_name(file, tree, number));
+                words.add_piece("(");
             }
-            Visit::Leaf(number) => {
-                if let Some(Node::Leaf(symbol)) = tree.nodes.get(number) {
-                    self.front.push_str(symbol_name(file, *symbol))?;
-                }
-                self.push_leaf(dot)?;
-            }
-            Visit::Leave(_) => {
-                if !self.front.is_empty() {
-                    self.push_front()?;
-                }
-                if let Some(last) = self.words.last_mut() {
-                    last.push(')')?;
-                }
-            }
+            Visit::Leaf(number) => words.add_piece(node_name(file, tree, number)),
+            Visit::Leave(_) => words.add_piece(")"),
         }
-        Ok(())
-    }
-
-    /// Adds what stands before the next leaf as a word.
-    fn push_front(&mut self) -> Result<(), AllocError> {
-        let front = mem::replace(&mut self.front, String::new(*self.words.allocator()));
-        self.words.push(front)?;
-        Ok(())
-    }
-
-    /// Adds a leaf, which stands behind all that is entered before it.
-    fn push_leaf(&mut self, dot: usize) -> Result<(), AllocError> {
-        if self.leaves == dot {
-            push_word(&mut self.words, ".")?;
-        }
-        self.push_front()?;
-        self.leaves = self.leaves.saturating_add(1);
-        Ok(())
     }
 }
 
-/// The words of a tree in brackets, as `E(E(E '+' E) . '+' E)`, with a dot before that leaf.
-pub(crate) fn tree_words(
-    alloc: Global,
+/// Adds the words of a tree in brackets, as `E(E(E '+' E) . '+' E)`, with a dot before that leaf.
+pub(crate) fn add_tree_words(
+    words: &mut Words,
     file: &FileGrammar,
     tree: &Tree,
     dot: usize,
-) -> Result<Vec<String>, AllocError> {
-    let mut brackets = Brackets {
-        words: Vec::new(alloc),
-        front: String::new(alloc),
-        leaves: 0,
-    };
-    for visit in &tree.visits(alloc)? {
-        brackets.push(file, tree, *visit, dot)?;
+) -> Result<(), AllocError> {
+    let visits = tree.visits(words.allocator())?;
+    let mut leaves: usize = 0;
+    for word in visits
+        .as_slice()
+        .chunk_by(|before, visit| goes_on(*before, *visit))
+    {
+        if word.iter().any(|visit| matches!(visit, Visit::Leaf(_))) {
+            if leaves == dot {
+                words.add(".");
+            }
+            leaves = leaves.saturating_add(1);
+        }
+        add_tree_word(words, file, tree, word);
     }
-    if brackets.leaves <= dot {
-        push_word(&mut brackets.words, ".")?;
+    if leaves <= dot {
+        words.add(".");
     }
-    Ok(brackets.words)
+    Ok(())
 }
 
-/// How what two candidates come to is told apart: by what they do, or, where both reduce, by their rules.
-pub(crate) fn labels(
-    alloc: Global,
-    file: &FileGrammar,
-    one: Step,
-    other: Step,
-) -> Result<(String, String), AllocError> {
-    let (Step::Reduce(one), Step::Reduce(other)) = (one, other) else {
-        let is_reduction = one != Step::Shift;
-        let (one, other) = if is_reduction {
-            ("reduce", "shift")
-        } else {
-            ("shift", "reduce")
-        };
-        return Ok((
-            String::from_str(alloc, one)?,
-            String::from_str(alloc, other)?,
-        ));
-    };
-    let (one, other) = (name_of_rule(file, one), name_of_rule(file, other));
-    if one == other {
-        return Ok((
-            String::from_str(alloc, "first")?,
-            String::from_str(alloc, "second")?,
-        ));
+/// What stands before what a candidate comes to.
+#[derive(Clone, Copy)]
+pub(crate) struct Label<'a> {
+    front: &'static str,
+    name: &'a str,
+    behind: &'static str,
+    /// How many blanks make it as long as the label of the other candidate.
+    pub(crate) blanks: usize,
+}
+
+impl<'a> Label<'a> {
+    /// That with a name beside which the longer one has so many bytes.
+    fn new(front: &'static str, name: &'a str, behind: &'static str, longer: usize) -> Label<'a> {
+        Label {
+            front,
+            name,
+            behind,
+            blanks: longer.saturating_sub(name.len()),
+        }
     }
-    Ok((
-        format!(in alloc; "as {one}")?,
-        format!(in alloc; "as {other}")?,
-    ))
+
+    /// How long it is with its blanks.
+    pub(crate) fn width(self) -> usize {
+        self.front
+            .len()
+            .saturating_add(self.name.len())
+            .saturating_add(self.behind.len())
+            .saturating_add(self.blanks)
+    }
+
+    /// Adds it, without its blanks.
+    pub(crate) fn push(self, text: &mut Text) {
+        text.add(self.front);
+        text.add(self.name);
+        text.add(self.behind);
+    }
+}
+
+/// The labels of two candidates, by what they do, or, where both reduce, by their rules, with a text behind.
+pub(crate) fn labels<'a>(
+    file: &'a FileGrammar,
+    candidates: (Step, Step),
+    behind: &'static str,
+) -> (Label<'a>, Label<'a>) {
+    let (front, one, other) = match candidates {
+        (Step::Shift, _) => ("", "shift", "reduce"),
+        (_, Step::Shift) => ("", "reduce", "shift"),
+        (Step::Reduce(one), Step::Reduce(other)) => {
+            match (name_of_rule(file, one), name_of_rule(file, other)) {
+                (one, other) if one == other => ("", "first", "second"),
+                (one, other) => ("as ", one, other),
+            }
+        }
+    };
+    let longer = one.len().max(other.len());
+    (
+        Label::new(front, one, behind, longer),
+        Label::new(front, other, behind, longer),
+    )
 }

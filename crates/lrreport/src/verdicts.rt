@@ -6,61 +6,57 @@ ghost use Rattle.lrverdicts.specs.declared.verdicts.Verdict.TheVariants.{Unambig
 ghost use Rattle.lrevidence.specs.Ambiguities.{HasTwoTrees, IsProved};
 
 use crate::conflicts::Checked;
-use crate::options::{Options, Output};
-use lrevidence::Ambiguity;
+use crate::options::Output;
+use crate::told::Told;
+use lrevidence::{Ambiguity, Evidence};
 use lrfindings::Verdict;
 use lrgrammar::idx::IndexStorage;
+use lrwriter::Text;
 use std::alloc::{AllocError, Global};
 
-impl<T: IndexStorage> Checked<'_, T> {
-    /// At how many of the conflicts a text with two trees parts.
-    fn texts(&self) -> usize {
-        let mut count: usize = 0;
-        for evidence in self.evidence {
-            if evidence.ambiguity.is_some() {
-                count = count.saturating_add(1);
-            }
+/// For how many entries a text with two trees is known.
+pub(crate) fn texts_of(evidence: &[Evidence]) -> usize {
+    let mut count: usize = 0;
+    for one in evidence {
+        if one.ambiguity.is_some() {
+            count = count.saturating_add(1);
         }
-        count
     }
+    count
+}
 
-    /// What is known of the conflicts, of which so many have a text.
-    fn known_texts(&self, alloc: Global, texts: usize) -> Result<String, AllocError> {
+impl Told<'_> {
+    /// Adds what is known of the conflicts, of which so many have a text.
+    fn push_texts(&self, line: &mut Text, texts: usize) {
         match (texts, self.evidence.len()) {
-            (1, 1) => String::from_str(alloc, "a text with two trees for it"),
-            (texts, all) if texts == all => {
-                String::from_str(alloc, "a text with two trees for each")
-            }
-            (texts, _) => format!(in alloc; "a text with two trees for {texts} of them"),
+            (1, 1) => line.add("a text with two trees for it"),
+            (texts, all) if texts == all => line.add("a text with two trees for each"),
+            (texts, _) => write!(line, "a text with two trees for {texts} of them"),
         }
     }
+}
 
+impl<T: IndexStorage> Checked<'_, T> {
     /// Adds the verdict, and what is known of the conflicts where it was looked for.
-    fn push_verdict(
-        &self,
-        line: &mut String,
-        verdict: Verdict,
-        steps: usize,
-    ) -> Result<(), AllocError>
-        requires proved { All (IsProved self.now.found.now.grm) self.now.evidence.now }
+    fn push_verdict(&self, line: &mut Text, verdict: Verdict)
+        requires proved { All (IsProved self.now.found.now.grm) self.now.told.evidence.now }
         requires unambiguous { verdict ≡ Unambiguous → IsUnambiguous self.now.found.now.grm }
     {
-        let texts = self.texts();
-        if self.evidence.is_empty() || steps == 0 {
+        let (told, conflicts) = (&self.told, self.told.evidence.len());
+        if conflicts == 0 || told.options.steps == 0 {
             return write!(line, "{verdict}");
         }
-        if texts == 0 {
-            let it = if self.evidence.len() == 1 {
-                "not"
-            } else {
-                "none"
-            };
-            return write!(line, "{verdict}, {it} known to be ambiguous");
-        }
-        let known = self.known_texts(*line.allocator(), texts)?;
-        match verdict {
-            Verdict::Conflicts(_) => write!(line, "ambiguous (proved): {verdict}, {known}"),
-            _ => write!(line, "{verdict}; ambiguous (proved): {known}"),
+        match (texts_of(told.evidence), verdict) {
+            (0, _) if conflicts == 1 => write!(line, "{verdict}, not known to be ambiguous"),
+            (0, _) => write!(line, "{verdict}, none known to be ambiguous"),
+            (texts, Verdict::Conflicts(_)) => {
+                write!(line, "ambiguous (proved): {verdict}, ");
+                told.push_texts(line, texts);
+            }
+            (texts, _) => {
+                write!(line, "{verdict}; ambiguous (proved): ");
+                told.push_texts(line, texts);
+            }
         }
     }
 
@@ -71,27 +67,28 @@ impl<T: IndexStorage> Checked<'_, T> {
         alloc: Global,
         verdict: Verdict,
         decided: Option<&Ambiguity>,
-        options: Options,
+        output: Output,
     ) -> Result<String, AllocError>
-        requires proved { All (IsProved self.now.found.now.grm) self.now.evidence.now }
+        requires proved { All (IsProved self.now.found.now.grm) self.now.told.evidence.now }
         requires unambiguous { verdict ≡ Unambiguous → IsUnambiguous self.now.found.now.grm }
         requires decided { IfSome decided (λ a. HasTwoTrees self.now.found.now.grm a.now) }
     {
-        let name = self.source.name;
-        let mut line = format!(in alloc; "{name}: ")?;
-        self.push_verdict(&mut line, verdict, options.steps)?;
+        let mut line = Text::new(alloc);
+        line.add(self.told.source.name);
+        line.add(": ");
+        self.push_verdict(&mut line, verdict);
         let settled = self.found.settled.len();
         if settled > 0 {
             let counts = verdict.counts();
             let more = if counts.is_zero() { "" } else { " more" };
-            write!(line, "; precedences settle {settled}{more}")?;
-            if options.output == Output::Report && !options.tells_settled {
-                line.push_str(" (--settled)")?;
+            write!(line, "; precedences settle {settled}{more}");
+            if output == Output::Report && !self.told.options.tells_settled {
+                line.add(" (--settled)");
             }
         }
         if decided.is_some() {
-            line.push_str("; without them ambiguous (proved)")?;
+            line.add("; without them ambiguous (proved)");
         }
-        Ok(line)
+        line.finish()
     }
 }

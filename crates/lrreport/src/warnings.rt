@@ -1,25 +1,28 @@
 //! What a file is warned of: by its reading, of precedences that settle nothing, and of tokens that are in no rule.
 
-use crate::conflicts::Checked;
-use crate::grammars::level_of;
-use crate::objects::{PrecedenceObject, UnusedObject};
+use crate::json_parts::add_place;
+use crate::json_texts::JsonText;
+use crate::told::Told;
 use lrdiagnostics::{Message, Weight, messages_of};
-use lrgrammar::idx::IndexStorage;
+use lrwriter::Text;
 use lryacc::{Fault, Span};
 use std::alloc::{AllocError, Global};
 
 /// Where a message stands among others: by its first place.
 fn place_of(message: &Message) -> usize {
-    message.places.first().map_or(0, |place| place.start)
+    match message.places.first() {
+        Some(place) => place.start,
+        None => 0,
+    }
 }
 
-impl<'a, T: IndexStorage> Checked<'a, T> {
+impl<'a> Told<'a> {
     /// The tokens whose places in precedence lines settle nothing.
     fn idle_levels(&self) -> &'a [usize] {
         if self.options.ignores_precedences {
             &[]
         } else {
-            self.found.idle.levels.as_slice()
+            self.idle.levels.as_slice()
         }
     }
 
@@ -28,15 +31,21 @@ impl<'a, T: IndexStorage> Checked<'a, T> {
         if self.options.ignores_precedences {
             &[]
         } else {
-            self.found.idle.productions.as_slice()
+            self.idle.productions.as_slice()
         }
+    }
+
+    /// The level of a token.
+    fn level(&self, token: usize) -> Option<u64> {
+        Some(self.precedence(token)?.level)
     }
 
     /// Adds a message for each precedence line with tokens that settle nothing.
     fn add_idle_lines(&self, messages: &mut Vec<Message>) -> Result<(), AllocError> {
         let alloc = *messages.allocator();
-        for line in self.idle_levels().chunk_by(|one, other| level_of(self.file, *one)
-            == level_of(self.file, *other))
+        for line in self
+            .idle_levels()
+            .chunk_by(|one, other| self.level(*one) == self.level(*other))
         {
             messages.push(Message {
                 words: String::from_str(alloc, "this precedence settles nothing")?,
@@ -50,9 +59,7 @@ impl<'a, T: IndexStorage> Checked<'a, T> {
     fn level_places(&self, alloc: Global, tokens: &[usize]) -> Result<Vec<Span>, AllocError> {
         let mut places = Vec::new(alloc);
         for token in tokens {
-            if let Some(place) = self.file.level_place(*token) {
-                places.push(place)?;
-            }
+            places.extend(self.file.level_place(*token))?;
         }
         Ok(places)
     }
@@ -81,120 +88,107 @@ impl<'a, T: IndexStorage> Checked<'a, T> {
         messages: &mut Vec<Message>,
         faults: &[Fault],
     ) -> Result<(), AllocError> {
-        let alloc = *messages.allocator();
-        let places = self.prec_places(alloc, faults)?;
-        let words = match places.len() {
-            0 => return Ok(()),
-            1 => String::from_str(alloc, "this %prec settles nothing")?,
-            count => format!(in alloc; "{count} %prec settle nothing")?,
-        };
-        messages.push(Message { words, places })?;
-        Ok(())
+        let places = self.prec_places(*messages.allocator(), faults)?;
+        add_message(
+            messages,
+            places,
+            "this %prec settles nothing",
+            "%prec settle nothing",
+        )
     }
 
     /// Where the tokens are declared that are in no rule.
     fn unused_places(&self, alloc: Global) -> Result<Vec<Span>, AllocError> {
         let mut places = Vec::new(alloc);
-        for token in &self.found.idle.tokens {
-            if let Some(place) = self.file.declared_place(*token) {
-                places.push(place)?;
-            }
+        for token in &self.idle.tokens {
+            places.extend(self.file.declared_place(*token))?;
         }
         Ok(places)
     }
 
     /// Adds a message of the tokens that are in no rule.
-    fn add_unused_tokens(&self, messages: &mut Vec<Message>) -> Result<(), AllocError> {
-        let alloc = *messages.allocator();
-        let places = self.unused_places(alloc)?;
-        let words = match places.len() {
-            0 => return Ok(()),
-            1 => String::from_str(alloc, "a token is in no rule")?,
-            count => format!(in alloc; "{count} tokens are in no rule")?,
-        };
-        messages.push(Message { words, places })?;
-        Ok(())
+    fn add_unused(&self, messages: &mut Vec<Message>) -> Result<(), AllocError> {
+        let places = self.unused_places(*messages.allocator())?;
+        add_message(
+            messages,
+            places,
+            "a token is in no rule",
+            "tokens are in no rule",
+        )
     }
 
     /// Adds what the file is warned of, in its order: the first warnings, so many at the most, and how many there are besides.
     pub(crate) fn push_warnings(
         &self,
-        text: &mut String,
+        text: &mut Text,
         faults: &[Fault],
         most: usize,
     ) -> Result<(), AllocError> {
-        let mut messages = messages_of(*text.allocator(), faults)?;
-        self.add_unused_tokens(&mut messages)?;
+        let mut messages = messages_of(text.allocator(), faults)?;
+        self.add_unused(&mut messages)?;
         self.add_idle_lines(&mut messages)?;
         self.add_idle_productions(&mut messages, faults)?;
         messages.sort_by_key(place_of)?;
         self.teller()
-            .push_messages(text, messages.as_slice(), Weight::Warning, most)
+            .add_messages(text, messages.as_slice(), Weight::Warning, most)
     }
 
-    /// A precedence that settles nothing.
-    fn precedence_object(
-        &self,
-        kind: &'static str,
-        token: usize,
-        place: Span,
-    ) -> PrecedenceObject<'a> {
-        let from = self.source.position(place.start);
-        let to = self.source.position(place.end);
-        PrecedenceObject {
-            kind,
-            token: self.token_name(token),
-            line: from.line,
-            column: from.column,
-            end_line: to.line,
-            end_column: to.column,
-        }
+    /// Adds a precedence that settles nothing: what it is one of, its token, and its place.
+    fn add_idle(&self, json: &mut JsonText, kind: &str, token: usize, place: Span) {
+        json.begin_object();
+        json.key("kind");
+        json.string(kind);
+        json.key("token");
+        json.string(self.token_name(token));
+        add_place(json, self.source, place);
+        json.end_object();
     }
 
-    /// Adds the tokens whose places in precedence lines settle nothing.
-    fn add_level_objects(&self, objects: &mut Vec<PrecedenceObject<'a>>) -> Result<(), AllocError> {
+    /// Adds the precedences that settle nothing: tokens of precedence lines, and then those behind `%prec`.
+    pub(crate) fn add_idle_precedences(&self, json: &mut JsonText) {
+        json.begin_array();
         for token in self.idle_levels() {
             if let Some(place) = self.file.level_place(*token) {
-                objects.push(self.precedence_object("level", *token, place))?;
+                self.add_idle(json, "level", *token, place);
             }
         }
-        Ok(())
-    }
-
-    /// The precedences that settle nothing: tokens of precedence lines, and then those behind `%prec`.
-    pub(crate) fn precedence_objects(
-        &self,
-        alloc: Global,
-    ) -> Result<Vec<PrecedenceObject<'a>>, AllocError> {
-        let mut objects = Vec::new(alloc);
-        self.add_level_objects(&mut objects)?;
         for production in self.idle_productions() {
             if let Some(named) = self.file.named_precedence(*production) {
-                objects.push(self.precedence_object("prec", named.token, named.place))?;
+                self.add_idle(json, "prec", named.token, named.place);
             }
         }
-        Ok(objects)
+        json.end_array();
     }
 
-    /// The tokens that are in no rule.
-    pub(crate) fn unused_objects(
-        &self,
-        alloc: Global,
-    ) -> Result<Vec<UnusedObject<'a>>, AllocError> {
-        let mut objects = Vec::new(alloc);
-        for token in &self.found.idle.tokens {
+    /// Adds the tokens that are in no rule, each with the place of its declaration.
+    pub(crate) fn add_unused_tokens(&self, json: &mut JsonText) {
+        json.begin_array();
+        for token in &self.idle.tokens {
             if let Some(place) = self.file.declared_place(*token) {
-                let from = self.source.position(place.start);
-                let to = self.source.position(place.end);
-                objects.push(UnusedObject {
-                    name: self.token_name(*token),
-                    line: from.line,
-                    column: from.column,
-                    end_line: to.line,
-                    end_column: to.column,
-                })?;
+                json.begin_object();
+                json.key("name");
+                json.string(self.token_name(*token));
+                add_place(json, self.source, place);
+                json.end_object();
             }
         }
-        Ok(objects)
+        json.end_array();
     }
+}
+
+/// Adds a message of places, if there are some: with these words where there is one, and else with how many there are.
+fn add_message(
+    messages: &mut Vec<Message>,
+    places: Vec<Span>,
+    of_one: &str,
+    of_many: &str,
+) -> Result<(), AllocError> {
+    let alloc = *messages.allocator();
+    let words = match places.len() {
+        0 => return Ok(()),
+        1 => String::from_str(alloc, of_one)?,
+        count => format!(in alloc; "{count} {of_many}")?,
+    };
+    messages.push(Message { words, places })?;
+    Ok(())
 }

@@ -8,7 +8,7 @@ invariant_of-page g c =
     let cards = c.loop-meeting.cards.items in
     let each =
     in_told (IsProved checked.found.now.grm) (λ meeting. meeting.now) c.deref-meeting-items.result.now
-    checked.evidence.now (rw c.deref-meeting-items.ensures.value c.in_ok-meetings.ensures) c.requires.proved
+    checked.told.evidence.now (rw c.deref-meeting-items.ensures.value c.in_ok-meetings.ensures) c.requires.proved
     (λ card. card.meeting.now) cards c.loop-meeting.meeting-index c.loop-meeting-test.false c.loop-meeting.invariant in
     record {
       proved =

@@ -6,7 +6,7 @@ pub push_meeting-requires : goal.push_meeting-requires
 push_meeting-requires g c =
     let checked = c.args.self.now in
     record {
-      proved = in_group (IsProved checked.found.now.grm) (λ meeting. meeting.now) c.deref-meeting-items.result.now checked.evidence.now
+      proved = in_group (IsProved checked.found.now.grm) (λ meeting. meeting.now) c.deref-meeting-items.result.now checked.told.evidence.now
           (rw c.deref-meeting-items.ensures.value c.in_ok-meetings.ensures) c.requires.proved
           c.loop-place.place c.meeting-item.result c.loop-place-test.true c.meeting-item.is;
     }

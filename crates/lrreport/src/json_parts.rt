@@ -1,0 +1,119 @@
+//! Names, places and productions of a file, and its faults, as JSON.
+
+use crate::json_texts::JsonText;
+use crate::told::Told;
+use lrdiagnostics::Source;
+use lrevidence::{body_of, symbol_name, token_name};
+use lrfindings::Entry;
+use lrgrammar::grammar::PartSymbol;
+use lryacc::{Fault, FileGrammar, Span};
+use std::alloc::AllocError;
+
+/// Adds the names of symbols.
+pub(crate) fn add_symbols(json: &mut JsonText, file: &FileGrammar, symbols: &[PartSymbol]) {
+    json.begin_array();
+    for symbol in symbols {
+        json.string(symbol_name(file, *symbol));
+    }
+    json.end_array();
+}
+
+/// Adds the names of tokens.
+pub(crate) fn add_tokens(json: &mut JsonText, file: &FileGrammar, tokens: &[usize]) {
+    json.begin_array();
+    for token in tokens {
+        json.string(token_name(file, *token));
+    }
+    json.end_array();
+}
+
+/// Adds the names of the tokens of entries.
+pub(crate) fn add_tokens_of(json: &mut JsonText, file: &FileGrammar, entries: &[Entry]) {
+    json.begin_array();
+    for entry in entries {
+        json.string(token_name(file, entry.token));
+    }
+    json.end_array();
+}
+
+/// Adds where a place begins and ends, as members of an object.
+pub(crate) fn add_place(json: &mut JsonText, source: &Source<'_>, place: Span) {
+    let from = source.position(place.start);
+    let to = source.position(place.end);
+    json.key("line");
+    json.number(from.line);
+    json.key("column");
+    json.number(from.column);
+    json.key("end_line");
+    json.number(to.line);
+    json.key("end_column");
+    json.number(to.column);
+}
+
+/// Adds that something has no place, as members of an object.
+fn add_no_place(json: &mut JsonText) {
+    for name in ["line", "column", "end_line", "end_column"] {
+        json.key(name);
+        json.null();
+    }
+}
+
+/// Adds a fault that has no place in the file.
+pub(crate) fn add_unplaced(json: &mut JsonText, message: &str) {
+    json.begin_object();
+    add_no_place(json);
+    json.key("message");
+    json.string(message);
+    json.end_object();
+}
+
+/// Adds faults, or warnings.
+pub(crate) fn add_faults(
+    json: &mut JsonText,
+    source: &Source<'_>,
+    faults: &[Fault],
+) -> Result<(), AllocError> {
+    json.begin_array();
+    for fault in faults {
+        let kind = fault.kind;
+        let message = format!(in json.allocator(); "{kind}")?;
+        json.begin_object();
+        add_place(json, source, fault.span);
+        json.key("message");
+        json.string(message.as_str());
+        json.end_object();
+    }
+    json.end_array();
+    Ok(())
+}
+
+impl Told<'_> {
+    /// Adds a production, and where its body stands, as members of an object.
+    fn add_members(&self, json: &mut JsonText, production: usize) {
+        json.key("rule");
+        json.string(self.rule_name(production));
+        json.key("body");
+        add_symbols(json, self.file, body_of(self.file, production));
+        add_place(json, self.source, self.place(production));
+    }
+
+    /// Adds a production, and where its body stands.
+    pub(crate) fn add_production(&self, json: &mut JsonText, production: usize) {
+        json.begin_object();
+        self.add_members(json, production);
+        json.end_object();
+    }
+
+    /// Adds items: productions, each with how many of its symbols stand before the dot.
+    pub(crate) fn add_items(&self, json: &mut JsonText, items: &[(usize, usize)]) {
+        json.begin_array();
+        for (production, dot) in items {
+            json.begin_object();
+            self.add_members(json, *production);
+            json.key("dot");
+            json.number(*dot);
+            json.end_object();
+        }
+        json.end_array();
+    }
+}

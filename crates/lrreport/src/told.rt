@@ -1,0 +1,96 @@
+//! What is told of a file, whatever its graph and its table are stored in.
+
+use crate::options::Options;
+use lrdiagnostics::{Layout, Source, Teller};
+use lrevidence::{Evidence, name_of_rule, token_name};
+use lrfindings::{Entry, Idle, precedence_token};
+use lrgrammar::grammar::{PartProd, PartSymbol, Precedence};
+use lryacc::{FileGrammar, Span};
+
+/// A file's grammar, what is known of its conflicts, and how that is told.
+#[derive(Clone, Copy)]
+pub(crate) struct Told<'a> {
+    pub(crate) source: &'a Source<'a>,
+    pub(crate) file: &'a FileGrammar,
+    /// What is known of the conflicts that are left open.
+    pub(crate) evidence: &'a [Evidence],
+    /// What is known of what precedences settle, where that is asked for; else nothing.
+    pub(crate) settled: &'a [Evidence],
+    /// Which precedences settle nothing, and which tokens are in no rule.
+    pub(crate) idle: &'a Idle,
+    pub(crate) options: Options,
+}
+
+impl<'a> Told<'a> {
+    /// A production.
+    pub(crate) fn production(&self, production: usize) -> Option<&'a PartProd> {
+        self.file.parts.prods.get(production)
+    }
+
+    /// Where the body of a production stands.
+    pub(crate) fn place(&self, production: usize) -> Span {
+        let place = self.file.production_places.get(production);
+        place.copied().unwrap_or(Span::new(0, 0))
+    }
+
+    /// Whether a production is one of `$accept`.
+    pub(crate) fn is_start(&self, production: usize) -> bool {
+        match self.production(production) {
+            Some(prod) => prod.rule == 0,
+            None => false,
+        }
+    }
+
+    /// The name of a token.
+    pub(crate) fn token_name(&self, token: usize) -> &'a str {
+        token_name(self.file, token)
+    }
+
+    /// The name of the rule of a production.
+    pub(crate) fn rule_name(&self, production: usize) -> &'a str {
+        name_of_rule(self.file, production)
+    }
+
+    /// The precedence of a token.
+    pub(crate) fn precedence(&self, token: usize) -> Option<Precedence> {
+        self.file.parts.tokens.get(token)?.precedence
+    }
+
+    /// The token by which a production has its precedence.
+    pub(crate) fn token_of(&self, production: usize) -> Option<usize> {
+        precedence_token(self.production(production)?)
+    }
+
+    /// Whether the symbol behind the dot of an item is the token of one of the entries.
+    pub(crate) fn is_shifted(&self, production: usize, dot: usize, entries: &[Entry]) -> bool {
+        let Some(prod) = self.production(production) else {
+            return false;
+        };
+        let Some(PartSymbol::Token(token)) = prod.symbols.get(dot) else {
+            return false;
+        };
+        entries.iter().any(|entry| entry.token == *token)
+    }
+
+    /// Where the symbol behind the dot of an item stands.
+    pub(crate) fn symbol_place(&self, production: usize, dot: usize) -> Span {
+        let places = self.file.symbol_places.get(production);
+        match places.and_then(|places| places.get(dot).copied()) {
+            Some(place) => place,
+            None => self.place(production),
+        }
+    }
+
+    /// Where the places of the file are told.
+    pub(crate) fn teller(&self) -> Teller<'a> {
+        Teller {
+            source: self.source,
+            has_colours: self.options.has_colours,
+        }
+    }
+
+    /// How lines of words are made.
+    pub(crate) fn layout(&self) -> Layout {
+        Layout::new(self.options.is_plain)
+    }
+}
