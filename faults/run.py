@@ -52,7 +52,9 @@ STOOD_IN_FOR = (
 )
 HARMLESS = (
     "memcpy memmove memset memcmp bcmp strlen __errno_location __xpg_strerror_r __sysv_signal __x86_get_cpuid_feature_leaf "
-    "clock_gettime environ getenv isatty"
+    "clock_gettime environ getenv isatty "
+    # (for the file of a page, which no case makes)
+    "fchmod fdatasync flock fsync ftruncate realpath rename statx unlink"
 )
 
 

@@ -3,6 +3,7 @@
 ghost use Rattle.std.specs.Prelude.{◌≡◌, IfOk, OnOk, IfSome, string_bytes};
 ghost use Rattle.std.specs.Io.KnownBytes.{Appends};
 
+use crate::pages::write_page;
 use crate::terminals::Progress;
 use lrreport::{Options, Report, report_on};
 use std::alloc::{AllocError, Global};
@@ -91,14 +92,14 @@ fn tell(rt: &HostRuntime, name: &str, outcome: &Outcome) -> Result<u8, Stop> {
 }
 
 /// Writes the page of what came of a file to a path, where there is one, and answers the exit status.
-fn write_page(rt: &HostRuntime, outcome: &Outcome, path: &str) -> u8 {
+fn put_page(rt: &HostRuntime, outcome: &Outcome, path: &str) -> u8 {
     let Outcome::Checked(report) = outcome else {
         return 0;
     };
     let Some(page) = &report.page else {
         return 0;
     };
-    match fs::write(rt, path, page.as_str()) {
+    match write_page(rt, path, page.as_str()) {
         Ok(()) => 0,
         Err(error) => {
             let _ = eprintln!(rt; "lrcheck: cannot write {path}: {error}");
@@ -123,7 +124,7 @@ pub(crate) fn check_all(
         let outcome = outcome?;
         status = tell(rt, names[k], &outcome)?.max(status);
         if let Some(path) = page {
-            status = write_page(rt, &outcome, path).max(status);
+            status = put_page(rt, &outcome, path).max(status);
         }
     }
     Ok(status)

@@ -3,10 +3,12 @@
 
 mod command_line;
 mod files;
+mod pages;
 mod terminals;
 
 use crate::command_line::{command_line, options_of};
 use crate::files::{INPUT, Stop, check_all};
+use crate::pages::is_over_input;
 use crate::terminals::{Progress, has_colours};
 use clap::error::ErrorKind;
 use clap::{ArgMatches, Command};
@@ -39,7 +41,7 @@ fn tell_usage(rt: &HostRuntime, error: &clap::Error) -> Result<u8, Stop> {
 }
 
 /// Why files of these names can't be checked in one call; None where they can.
-fn refusal(names: &[&str], page: Option<&str>) -> Option<&'static str> {
+fn refusal(rt: &HostRuntime, names: &[&str], page: Option<&str>) -> Option<&'static str> {
     if names.iter().filter(|name| **name == INPUT).count() > 1 {
         return Some("standard input, -, can be read once only");
     }
@@ -47,7 +49,7 @@ fn refusal(names: &[&str], page: Option<&str>) -> Option<&'static str> {
     if names.len() > 1 {
         return Some("a page, --page, can be of one file only");
     }
-    if names.iter().any(|name| *name == page) {
+    if names.iter().any(|name| is_over_input(rt, page, name)) {
         return Some("a page, --page, can't be written over the file itself");
     }
     None
@@ -62,7 +64,7 @@ fn check_named(
 ) -> Result<u8, Stop> {
     let names: &[&str] = matches.get_strs("FILE").unwrap_or(&[]);
     let page = matches.get_str("page");
-    if let Some(message) = refusal(names, page) {
+    if let Some(message) = refusal(rt, names, page) {
         let error = command.error(ErrorKind::TooManyValues, message)?;
         return tell_usage(rt, &error);
     }
