@@ -152,7 +152,7 @@ fn output_of(matches: &ArgMatches<'_>) -> Output {
     }
 }
 
-/// How a report is made, without colours.
+/// How a report is made, where it goes to no terminal.
 pub(crate) fn options_of(matches: &ArgMatches<'_>) -> Options {
     Options {
         output: output_of(matches),
@@ -161,6 +161,7 @@ pub(crate) fn options_of(matches: &ArgMatches<'_>) -> Options {
         steps: matches.get_one::<usize>("steps").unwrap_or(STEPS),
         draws_trees: matches.get_flag("trees"),
         ignores_precedences: matches.get_flag("without-precedences"),
+        columns: None,
         is_plain: matches.get_flag("plain"),
         has_colours: false,
         tells_grammar: matches.get_flag("grammar"),

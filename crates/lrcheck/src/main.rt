@@ -9,7 +9,7 @@ mod terminals;
 use crate::command_line::{command_line, options_of};
 use crate::files::{INPUT, Stop, check_all};
 use crate::pages::is_over_input;
-use crate::terminals::{Progress, has_colours};
+use crate::terminals::{Progress, columns, has_colours};
 use clap::error::ErrorKind;
 use clap::{ArgMatches, Command};
 use lrreport::Options;
@@ -69,9 +69,9 @@ fn check_named(
         return tell_usage(rt, &error);
     }
     let options = options_of(matches);
-    let has_colours = has_colours(rt, options)?;
     let options = Options {
-        has_colours,
+        columns: columns(rt, options)?,
+        has_colours: has_colours(rt, options)?,
         ..options
     };
     check_all(rt, names, options, page, progress)

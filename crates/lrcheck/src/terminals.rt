@@ -19,6 +19,23 @@ fn refuses_colours(rt: &HostRuntime) -> Result<bool, AllocError> {
     }
 }
 
+/// How many columns a terminal has that tells nothing of it.
+const COLUMNS: usize = 80;
+
+/// How many columns the lines of a report have at the most, which are folded at a terminal alone: as many as COLUMNS says, between
+/// 60 and 120.
+pub(crate) fn columns(rt: &HostRuntime, options: Options) -> Result<Option<usize>, AllocError> {
+    if options.is_plain || !rt.stdout().is_terminal() {
+        return Ok(None);
+    }
+    let told = match env::var(rt, "COLUMNS") {
+        Ok(value) => value.parse::<usize>().ok(),
+        Err(VarError::OutOfMemory) => return Err(AllocError),
+        Err(_) => None,
+    };
+    Ok(Some(told.unwrap_or(COLUMNS).clamp(60, 120)))
+}
+
 /// Whether a report has colours. What other programs read has none.
 pub(crate) fn has_colours(rt: &HostRuntime, options: Options) -> Result<bool, AllocError> {
     let is_for_programs = matches!(options.output, Output::Json | Output::Grammar);

@@ -4,9 +4,6 @@ use crate::lines::add_shown;
 use lrwriter::Text;
 use unicode_width::UnicodeWidthStr;
 
-/// How many columns a line has at the most, unless a word alone is wider.
-const COLUMNS: usize = 80;
-
 /// How many columns words take, with a blank between them.
 pub fn width_of(words: &[String]) -> usize {
     let mut width = words.len().saturating_sub(1);
@@ -28,15 +25,15 @@ struct Line {
 /// How lines are made.
 #[derive(Clone, Copy)]
 pub struct Layout {
-    /// How many columns a line has at the most.
+    /// How many columns a line has at the most, unless a word alone is wider.
     pub width: usize,
 }
 
 impl Layout {
-    /// Lines of at most 80 columns, or such as are not folded.
-    pub fn new(is_plain: bool) -> Layout {
+    /// Lines of at most so many columns, or such as are not folded.
+    pub fn new(columns: Option<usize>) -> Layout {
         Layout {
-            width: if is_plain { usize::MAX } else { COLUMNS },
+            width: columns.unwrap_or(usize::MAX),
         }
     }
 

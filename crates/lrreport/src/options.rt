@@ -34,7 +34,9 @@ pub struct Options {
     pub draws_trees: bool,
     /// Whether precedences are left out of the grammar.
     pub ignores_precedences: bool,
-    /// Whether lines are as long as they come, and not folded at 80 columns.
+    /// How many columns a line has at the most, unless a word alone is wider; None where lines are not folded.
+    pub columns: Option<usize>,
+    /// Whether trees are drawn by plain letters, without the lines that boxes are drawn by.
     pub is_plain: bool,
     /// Whether colours are used.
     pub has_colours: bool,

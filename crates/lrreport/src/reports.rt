@@ -261,7 +261,11 @@ fn lines_on_findings<T: IndexStorage>(
         }
     }
     let line = checked.verdict_line(alloc, verdict, known.decided.as_ref(), options.output)?;
-    let layout = Layout::new(options.is_plain || options.output == Output::Summary);
+    let columns = match options.output {
+        Output::Summary => None,
+        _ => options.columns,
+    };
+    let layout = Layout::new(columns);
     layout.add_line(&mut text, line.as_str(), 4);
     text.finish()
 }

@@ -91,6 +91,6 @@ impl<'a> Told<'a> {
 
     /// How lines of words are made.
     pub(crate) fn layout(&self) -> Layout {
-        Layout::new(self.options.is_plain)
+        Layout::new(self.options.columns)
     }
 }

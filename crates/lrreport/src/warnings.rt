@@ -129,8 +129,12 @@ impl<'a> Told<'a> {
         self.add_idle_lines(&mut messages)?;
         self.add_idle_productions(&mut messages, faults)?;
         messages.sort_by_key(place_of)?;
-        self.teller()
-            .add_messages(text, messages.as_slice(), Weight::Warning, most)
+        let teller = self.teller();
+        teller.add_messages(text, messages.as_slice(), Weight::Warning, most)?;
+        if !messages.is_empty() {
+            text.add_char('\n');
+        }
+        Ok(())
     }
 
     /// Adds a precedence that settles nothing: what it is one of, its token, and its place.
