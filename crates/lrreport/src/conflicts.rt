@@ -8,9 +8,10 @@ ghost use Rattle.lrreport.specs.LeftOpen.{AreLeftOpen};
 use crate::told::Told;
 use crate::words::Words;
 use lrdiagnostics::{Mark, Style};
-use lrevidence::{Ambiguity, Evidence};
+use lrevidence::{Ambiguity, Evidence, Step};
 use lrfindings::{Entry, Findings, is_among};
-use lrgrammar::idx::{IndexStorage, StIdx};
+use lrgrammar::idx::{IndexStorage, StIdx, TIdx};
+use lrtable::Action;
 use lrwriter::Text;
 use std::alloc::{AllocError, Global};
 
@@ -19,6 +20,19 @@ const GOING_ON: usize = 3;
 
 /// What is said of what the table does.
 pub(crate) const DONE: &str = "; the table does this";
+
+/// What the table does in the cell of an entry.
+#[derive(Clone, Copy, PartialEq, Eq)]
+pub(crate) enum Choice {
+    /// It shifts.
+    Shift,
+    /// It reduces by the production of the entry.
+    Reduce,
+    /// It reduces by the other production of the entry.
+    Other,
+    /// It does nothing of what meets there.
+    Neither,
+}
 
 /// A file's grammar, with what was found in it.
 #[derive(Drop)]
@@ -38,6 +52,30 @@ fn shift_label(
         (true, false) => format!(in alloc; "shift: or go on{so}"),
         (true, true) => format!(in alloc; "shift: or the text ends here{so}"),
         _ => String::from_str(alloc, "or go on here"),
+    }
+}
+
+/// The steps that meet in an entry.
+pub(crate) fn candidates_of(entry: &Entry) -> (Step, Step) {
+    let other = entry.other.map_or(Step::Shift, Step::Reduce);
+    (Step::Reduce(entry.production), other)
+}
+
+/// Whether the trees of a text part by what meets in an entry, and not by something else that meets in the same cell.
+pub(crate) fn part_by(ambiguity: &Ambiguity, entry: &Entry) -> bool {
+    let (one, other) = ambiguity.trees.candidates();
+    let meeting = candidates_of(entry);
+    (one, other) == meeting || (other, one) == meeting
+}
+
+/// What is said of what the table does, where it is the same for all entries: behind their production, and behind what that meets.
+fn said_of(choice: Option<Choice>, is_shift: bool) -> (&'static str, &'static str) {
+    match choice {
+        Some(Choice::Reduce) => (DONE, ""),
+        Some(Choice::Shift) if !is_shift => ("", "; the table shifts"),
+        Some(Choice::Shift | Choice::Other) => ("", DONE),
+        Some(Choice::Neither) => ("", "; the table does neither"),
+        None => ("", ""),
     }
 }
 
@@ -77,14 +115,19 @@ impl Told<'_> {
         Ok(())
     }
 
-    /// Adds the place of another production by which it could reduce.
-    fn push_other(&self, marks: &mut Vec<Mark>, production: usize) -> Result<(), AllocError> {
+    /// Adds the place of another production by which it could reduce, and what follows from that.
+    fn push_other(
+        &self,
+        marks: &mut Vec<Mark>,
+        production: usize,
+        so: &str,
+    ) -> Result<(), AllocError> {
         let rule = self.rule_name(production);
         marks.push(Mark {
             span: self.place(production),
             mark: '-',
             style: Style::Blue,
-            label: format!(in *marks.allocator(); "reduce: or {rule}")?,
+            label: format!(in *marks.allocator(); "reduce: or {rule}{so}")?,
         })?;
         Ok(())
     }
@@ -113,6 +156,31 @@ impl Told<'_> {
 }
 
 impl<T: IndexStorage> Checked<'_, T> {
+    /// What the table does in the cell of an entry.
+    pub(crate) fn choice(&self, entry: &Entry) -> Choice {
+        let (Some(state), Some(token)) = (T::from_usize(entry.state), T::from_usize(entry.token))
+        else {
+            return Choice::Neither;
+        };
+        match self.found.table.action(StIdx(state), TIdx(token)) {
+            Action::Shift(_) => Choice::Shift,
+            Action::Reduce(chosen) if usize::from(chosen) == entry.production => Choice::Reduce,
+            Action::Reduce(chosen) if Some(usize::from(chosen)) == entry.other => Choice::Other,
+            _ => Choice::Neither,
+        }
+    }
+
+    /// What it does in the cells of all the entries, where that is the same.
+    fn choice_of(&self, entries: &[Entry]) -> Option<Choice> {
+        let choice = self.choice(entries.first()?);
+        for entry in entries {
+            if self.choice(entry) != choice {
+                return None;
+            }
+        }
+        Some(choice)
+    }
+
     /// The items of the state of entries, as production and dot, in which it goes on by the token of one of them.
     pub(crate) fn shifting_items(
         &self,
@@ -152,22 +220,15 @@ impl<T: IndexStorage> Checked<'_, T> {
     /// The places of what meets.
     pub(crate) fn marks(&self, alloc: Global, entries: &[Entry]) -> Result<Vec<Mark>, AllocError> {
         let mut marks = Vec::new(alloc);
-        match entries.first() {
-            Some(
-                Entry {
-                    production,
-                    other: Some(other),
-                    ..
-                },
-            ) => {
-                self.told.push_reduction(&mut marks, *production, DONE)?;
-                self.told.push_other(&mut marks, *other)?;
-            }
-            Some(Entry { production, .. }) => {
-                self.told.push_reduction(&mut marks, *production, "")?;
-                self.push_shifts(&mut marks, entries, DONE)?;
-            }
-            None => {}
+        let Some(first) = entries.first() else {
+            return Ok(marks);
+        };
+        let (reduced, met) = said_of(self.choice_of(entries), first.other.is_none());
+        self.told
+            .push_reduction(&mut marks, first.production, reduced)?;
+        match first.other {
+            Some(other) => self.told.push_other(&mut marks, other, met)?,
+            None => self.push_shifts(&mut marks, entries, met)?,
         }
         Ok(marks)
     }

@@ -1,10 +1,12 @@
 //! How conflicts can be settled.
 
+use crate::conflicts::part_by;
 use crate::texts::add_names;
 use crate::told::Told;
 use crate::words::Words;
 use lrevidence::Evidence;
-use lryacc::FileGrammar;
+use lrwriter::Text;
+use lryacc::{Dialect, FileGrammar};
 use std::alloc::{AllocError, Global};
 
 /// How many tokens are named at the most.
@@ -21,17 +23,11 @@ struct Levels {
     has_production: bool,
 }
 
-impl Levels {
-    /// The tokens that could be given a level: that of the production first.
-    fn lacking(&self, alloc: Global) -> Result<Vec<usize>, AllocError> {
-        let mut tokens = Vec::new(alloc);
-        tokens.extend(self.of_production)?;
-        for token in &self.without {
-            if self.of_production != Some(*token) {
-                tokens.push(*token)?;
-            }
-        }
-        Ok(tokens)
+/// The precedence line that makes no group.
+fn plain_line(dialect: Dialect) -> &'static str {
+    match dialect {
+        Dialect::Bison => "%precedence",
+        Dialect::Grmtools => "%nonassoc",
     }
 }
 
@@ -48,18 +44,43 @@ fn add_tokens(words: &mut Words, file: &FileGrammar, tokens: &[usize]) {
     }
 }
 
-/// Adds what settles a conflict with a shift, where neither side has a level: that the tokens are given some.
-fn add_given(words: &mut Words, file: &FileGrammar, levels: &Levels) -> Result<(), AllocError> {
-    let tokens = levels.lacking(words.allocator())?;
-    words.add("give");
-    add_tokens(words, file, tokens.as_slice());
-    words.add_all(match (levels.of_production, tokens.len()) {
-        (None, _) => "a level, and this production one by %prec,",
-        (Some(_), 1) => "a level by %left or %right",
-        (Some(_), _) => "levels",
-    });
-    words.add_all("to settle it");
-    Ok(())
+/// Adds what settles a conflict with a shift, where neither side has a level: that both are given one.
+fn add_given(words: &mut Words, file: &FileGrammar, levels: &Levels, dialect: Dialect) {
+    let without = levels.without.as_slice();
+    match levels.of_production {
+        Some(token) if without.contains(&token) => {
+            words.add("give");
+            add_tokens(words, file, without);
+            words.add_all("one level by %left or %right to settle it");
+        }
+        Some(token) => {
+            words.add_all("to keep the shift, give");
+            add_tokens(words, file, &[token]);
+            words.add_all("a level by");
+            words.add(plain_line(dialect));
+            words.add_piece(",");
+            words.add("and");
+            add_tokens(words, file, without);
+            words.add_all("one in a line below it");
+        }
+        None => {
+            words.add("give");
+            add_tokens(words, file, without);
+            words.add_all("a level, and this production one by %prec, to settle it");
+        }
+    }
+}
+
+/// Whether a text is known whose trees part by what meets in one of the entries.
+fn is_ambiguous(meeting: &[Evidence]) -> bool {
+    for evidence in meeting {
+        if let Some(ambiguity) = &evidence.ambiguity {
+            if part_by(ambiguity, &evidence.entry) {
+                return true;
+            }
+        }
+    }
+    false
 }
 
 impl Told<'_> {
@@ -97,26 +118,23 @@ impl Told<'_> {
         !matches!(self.token_name(token), "$end" | "$undefined" | "error")
     }
 
-    /// Adds that the conflicts with a shift can be expected, unless they are.
-    fn add_expected(&self, words: &mut Words) {
-        let count = self.shifts();
-        if self.options.expected != Some(count as u64) {
-            words.add_piece(",");
-            words.add_all("or say %expect");
-            words.begin();
-            write!(words, "{count}");
+    /// Adds that the conflicts can be expected, unless they are, where each is one with a shift.
+    pub(crate) fn push_expected(&self, text: &mut Text) {
+        let count = self.evidence.len();
+        let with_shifts = self.evidence.iter().all(|it| it.entry.other.is_none());
+        let is_expected = self.options.expected == Some(count as u64);
+        if count > 0 && with_shifts && !is_expected && !self.options.ignores_precedences {
+            write!(
+                text,
+                "help: if the table does what is wanted, say %expect {count}\n\n"
+            );
         }
     }
 
-    /// How many conflicts with a shift there are.
-    fn shifts(&self) -> usize {
-        let mut count: usize = 0;
-        for evidence in self.evidence {
-            if evidence.entry.other.is_none() {
-                count = count.saturating_add(1);
-            }
-        }
-        count
+    /// Whether a production stands for an action in the middle of another one.
+    fn is_action(&self, production: usize) -> bool {
+        let rule = self.rule_name(production);
+        rule.starts_with("$@") || rule.starts_with('@')
     }
 
     /// Adds how a conflict of a production with a shift can be settled.
@@ -133,20 +151,19 @@ impl Told<'_> {
             ),
             ([], Some(token)) => {
                 add_tokens(words, self.file, &[token]);
-                words.add_all(
-                    "has no level: name it in %left or %precedence, or give this production one by %prec",
-                );
+                words.add_all("has no level: name it in %left or");
+                words.add(plain_line(self.options.dialect));
+                words.add_piece(",");
+                words.add_all("or give this production one by %prec");
             }
             ([], None) => words.add_all("this production has no level: give it one by %prec"),
             (without, _) if levels.has_production => {
                 add_tokens(words, self.file, without);
                 words.add(if without.len() == 1 { "has" } else { "have" });
-                words.add_all("no level: use %left, %right or %precedence");
+                words.add_all("no level: use %left, %right or");
+                words.add(plain_line(self.options.dialect));
             }
-            _ => {
-                add_given(words, self.file, &levels)?;
-                self.add_expected(words);
-            }
+            _ => add_given(words, self.file, &levels, self.options.dialect),
         }
         Ok(())
     }
@@ -159,7 +176,15 @@ impl Told<'_> {
         };
         let entry = first.entry;
         words.add("help:");
-        if entry.other.is_some() || entry.token == 0 {
+        if self.is_action(entry.production) {
+            words.add_all(
+                "this action must run before it is known which alternative it is: put it at the end, or into a rule of its own",
+            );
+        } else if !is_ambiguous(meeting) {
+            words.add_all(
+                "this may need more lookahead than one token; levels would then make the parser reject valid input",
+            );
+        } else if entry.other.is_some() || entry.token == 0 {
             words.add_all(
                 "precedences settle no such conflict: drop one of the productions, or rewrite the rules",
             );

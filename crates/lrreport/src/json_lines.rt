@@ -6,7 +6,7 @@ ghost use Rattle.lrspec.specs.tables.Recognition.{IsUnambiguous};
 ghost use Rattle.lrverdicts.specs.declared.verdicts.Verdict.TheVariants.{Unambiguous};
 ghost use Rattle.lrevidence.specs.Ambiguities.{HasTwoTrees, IsProved};
 
-use crate::conflicts::{Checked, entries_of};
+use crate::conflicts::{Checked, Choice, entries_of};
 use crate::grammars::{add_grammar, productions_of_file, rules_of_file, tokens_of_file};
 use crate::json_parts::{add_faults, add_tokens_of, add_unplaced};
 use crate::json_texts::JsonText;
@@ -15,8 +15,7 @@ use crate::trees::alternatives;
 use lrdiagnostics::Source;
 use lrevidence::{Ambiguity, Evidence};
 use lrfindings::{Counts, Entry, Verdict, Winner};
-use lrgrammar::idx::{IndexStorage, StIdx, TIdx};
-use lrtable::Action;
+use lrgrammar::idx::IndexStorage;
 use lryacc::{Expected, Fault, FileGrammar};
 use std::alloc::{AllocError, Global};
 
@@ -38,6 +37,16 @@ fn word_of_winner(winner: Winner) -> &'static str {
         Winner::Shift => "shift",
         Winner::Reduce => "reduce",
         Winner::Neither => "neither",
+    }
+}
+
+/// What the table does where entries meet, in a word.
+fn word_of_choice(choice: Choice) -> &'static str {
+    match choice {
+        Choice::Shift => "shift",
+        Choice::Reduce => "reduce",
+        Choice::Other => "other",
+        Choice::Neither => "neither",
     }
 }
 
@@ -223,20 +232,6 @@ impl<'a, T: IndexStorage> Checked<'a, T> {
         Ok(())
     }
 
-    /// What the table does where this meets.
-    fn chosen(&self, entry: &Entry) -> &'static str {
-        let (Some(state), Some(token)) = (T::from_usize(entry.state), T::from_usize(entry.token))
-        else {
-            return "neither";
-        };
-        match self.found.table.action(StIdx(state), TIdx(token)) {
-            Action::Shift(_) => "shift",
-            Action::Reduce(production) if Some(usize::from(production)) == entry.other => "other",
-            Action::Reduce(_) => "reduce",
-            Action::Accept | Action::Error => "neither",
-        }
-    }
-
     /// Adds the items of a state in which it goes on by the token of one of the entries.
     fn add_shifts(&self, json: &mut JsonText, entries: &[Entry]) -> Result<(), AllocError> {
         let items = self.shifting_items(json.allocator(), entries)?;
@@ -287,7 +282,7 @@ impl<'a, T: IndexStorage> Checked<'a, T> {
         json.begin_object();
         self.add_meeting(json, entries.as_slice())?;
         json.key("chosen");
-        json.string(self.chosen(&first.entry));
+        json.string(word_of_choice(self.choice(&first.entry)));
         json.key("ambiguity");
         self.add_first_ambiguity(json, meeting, alternatives)?;
         json.key("after");
@@ -307,7 +302,7 @@ impl<'a, T: IndexStorage> Checked<'a, T> {
             .chunk_by(|one, other| {
                 !self.told.options.tells_all
                     && one.entry.meets_like(&other.entry)
-                    && self.chosen(&one.entry) == self.chosen(&other.entry)
+                    && self.choice(&one.entry) == self.choice(&other.entry)
             })
             .collect(alloc)
     }

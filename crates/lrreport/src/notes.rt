@@ -3,7 +3,7 @@
 ghost use Rattle.std.specs.Prelude.{All, IfSome, IsSome, IsTrue};
 ghost use Rattle.lrevidence.specs.Ambiguities.{HasTwoTrees, IsProved};
 
-use crate::conflicts::Checked;
+use crate::conflicts::{Checked, candidates_of, part_by};
 use crate::drawings::push_drawing;
 use crate::texts::{
     Label, add_list, add_names, add_shortened, add_start, add_text, add_tree_words, labels,
@@ -215,9 +215,7 @@ impl Told<'_> {
         entry: &Entry,
         example: &Example,
     ) -> Result<(), AllocError> {
-        let other = entry.other.map_or(Step::Shift, Step::Reduce);
-        let candidates = (Step::Reduce(entry.production), other);
-        let (label, other_label) = labels(self.file, candidates, ", and go on:");
+        let (label, other_label) = labels(self.file, candidates_of(entry), ", and go on:");
         self.push_list(text, notes, example)?;
         self.push_outlook(text, notes, label, example.one.as_ref())?;
         self.push_outlook(text, notes, other_label, example.other.as_ref())
@@ -225,18 +223,23 @@ impl Told<'_> {
 }
 
 impl<T: IndexStorage> Checked<'_, T> {
-    /// Adds a text with two trees, and both.
+    /// Adds a text with two trees, and both. Where these part by something else that meets in the cell of the entry, it is said so.
     fn push_ambiguity(
         &self,
         text: &mut Text,
         notes: Notes,
+        entry: &Entry,
         ambiguity: &Ambiguity,
     ) -> Result<(), AllocError>
         requires proved { HasTwoTrees self.now.found.now.grm ambiguity.now }
     {
         let file = self.told.file;
         let mut words = Words::new(text.allocator());
-        words.add_all("ambiguous (proved): this text");
+        words.add_all(if part_by(ambiguity, entry) {
+            "ambiguous (proved): this text"
+        } else {
+            "ambiguous (proved), though by something else that meets here: this text"
+        });
         add_start(&mut words, file, ambiguity.start(file));
         words.add_all("has two trees");
         notes.push(text, &words);
@@ -323,7 +326,9 @@ impl<T: IndexStorage> Checked<'_, T> {
         requires proved { All (IsProved self.now.found.now.grm) meeting.now }
     {
         if let Some((token, ambiguity)) = self.ambiguity_but_at(meeting, None) {
-            self.push_ambiguity(text, notes, ambiguity)?;
+            if let Some(first) = meeting.first() {
+                self.push_ambiguity(text, notes, &first.entry, ambiguity)?;
+            }
             return self.push_others(text, notes, meeting, token);
         }
         if let Some(

@@ -256,6 +256,7 @@ fn lines_on_findings<T: IndexStorage>(
         let most = most_told(options);
         checked.told.push_warnings(&mut text, read.warnings, most)?;
         checked.push_conflicts(&mut text, most)?;
+        checked.told.push_expected(&mut text);
         if options.tells_settled {
             checked.push_settled(&mut text, most)?;
         }

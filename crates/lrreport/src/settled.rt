@@ -150,7 +150,7 @@ impl Told<'_> {
                 "both have one level, and it is %nonassoc: the token is an error here",
         });
         if let (Reason::Production, Some(entry)) = (settling.reason, settling.entries.first()) {
-            if let Some(token) = self.token_of(entry.production) {
+            if let Some(token) = self.named_token_of(entry.production) {
                 text.add(", that of ");
                 add_shown(&mut text, self.token_name(token));
             }
