@@ -6,7 +6,7 @@ use crate::faults::{Fault, FaultKind};
 use crate::places::Span;
 
 /// What ends a piece of code.
-#[derive(Clone, Copy, Debug, PartialEq, Eq)]
+#[derive(Clone, Copy, PartialEq, Eq)]
 pub(crate) enum Ending {
     /// The brace that closes the one before the code.
     Brace,

@@ -4,7 +4,7 @@ use crate::lexemes::Lexeme;
 use crate::places::Span;
 
 /// How the tokens of a precedence line group.
-#[derive(Clone, Copy, Debug, PartialEq, Eq)]
+#[derive(Clone, Copy, PartialEq, Eq)]
 pub(crate) enum LevelKind {
     /// `%left`.
     Left,
@@ -17,7 +17,7 @@ pub(crate) enum LevelKind {
 }
 
 /// What a declaration says of one symbol or of the whole file.
-#[derive(Clone, Copy, Debug, PartialEq, Eq)]
+#[derive(Clone, Copy)]
 pub(crate) enum Statement {
     /// The symbol is a token.
     Token(Lexeme),
@@ -52,7 +52,7 @@ pub(crate) enum Statement {
 }
 
 /// A part of a body.
-#[derive(Clone, Copy, Debug, PartialEq, Eq)]
+#[derive(Clone, Copy)]
 pub(crate) enum BodyPart {
     /// A symbol.
     Symbol(Lexeme),
@@ -70,7 +70,7 @@ impl BodyPart {
 }
 
 /// One body of a rule.
-#[derive(Debug, Drop)]
+#[derive(Drop)]
 pub(crate) struct Alternative {
     /// The name of its rule.
     pub(crate) rule: Lexeme,
@@ -83,7 +83,7 @@ pub(crate) struct Alternative {
 }
 
 /// What a grammar file says.
-#[derive(Debug, Drop)]
+#[derive(Drop)]
 pub(crate) struct Contents {
     /// In the order of the file.
     pub(crate) statements: Vec<Statement>,

@@ -10,7 +10,7 @@ use crate::places::Span;
 use crate::quotes::{between_quotes, character};
 
 /// What a lexeme is.
-#[derive(Clone, Copy, Debug, PartialEq, Eq)]
+#[derive(Clone, Copy, PartialEq, Eq)]
 pub enum LexemeKind {
     /// `expr`.
     Name,
@@ -59,7 +59,7 @@ pub enum LexemeKind {
 }
 
 /// A lexeme, and where it stands.
-#[derive(Clone, Copy, Debug, PartialEq, Eq)]
+#[derive(Clone, Copy)]
 pub struct Lexeme {
     /// What it is.
     pub kind: LexemeKind,

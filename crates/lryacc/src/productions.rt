@@ -7,7 +7,7 @@ use lrgrammar::grammar::PartProd;
 use std::alloc::{AllocError, Global};
 
 /// Productions with their places.
-#[derive(Debug, Drop)]
+#[derive(Drop)]
 pub(crate) struct Productions {
     pub(crate) prods: Vec<PartProd>,
     /// By production, where its body stands.

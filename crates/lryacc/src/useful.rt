@@ -362,7 +362,7 @@ fn taken_name(alloc: Global, names: &mut Vec<String>, at: usize) -> String {
 }
 
 /// What was taken out of a grammar.
-#[derive(Debug, Drop)]
+#[derive(Drop)]
 pub(crate) struct Useless {
     /// Where the rules are named that are not reached, or derive no text.
     pub(crate) rules: Vec<Span>,
