@@ -1,10 +1,11 @@
 //! What a grammar file says, before its names have their meaning.
 
+use crate::faults::Fault;
 use crate::lexemes::Lexeme;
 use crate::places::Span;
 
 /// How the tokens of a precedence line group.
-#[derive(Clone, Copy, PartialEq, Eq)]
+#[derive(Clone, Copy)]
 pub(crate) enum LevelKind {
     /// `%left`.
     Left,
@@ -82,11 +83,12 @@ pub(crate) struct Alternative {
     pub(crate) span: Span,
 }
 
-/// What a grammar file says.
+/// What a grammar file says, and what is wrong with it so far.
 #[derive(Drop)]
 pub(crate) struct Contents {
     /// In the order of the file.
     pub(crate) statements: Vec<Statement>,
     /// In the order of the file.
     pub(crate) alternatives: Vec<Alternative>,
+    pub(crate) faults: Vec<Fault>,
 }

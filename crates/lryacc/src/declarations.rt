@@ -2,7 +2,7 @@
 
 use crate::contents::{LevelKind, Statement};
 use crate::directives::{Form, form_of, is_name_in_any_case};
-use crate::faults::{Fault, FaultKind, Halt, OldForm, Wanted};
+use crate::faults::{FaultKind, Halt, OldForm, Wanted};
 use crate::lexemes::{Lexeme, LexemeKind};
 use crate::reader::Reader;
 use std::alloc::AllocError;
@@ -18,6 +18,39 @@ fn unknown(directive: &[u8]) -> FaultKind {
         [b'%', name @ ..] if is_name_in_any_case(name) => OldForm::Capitals,
         _ => return FaultKind::UnknownDirective,
     })
+}
+
+/// What a declaration says of each of its symbols.
+#[derive(Clone, Copy)]
+pub(crate) enum Said {
+    /// It is a token. A number and a text may stand behind it.
+    DeclaredToken,
+    /// It is a rule. What may stand behind a token is read behind it, too: then it is told to be a fault.
+    DeclaredRule,
+    /// It is one of the precedence line in hand. A number may stand behind it.
+    Operator,
+    /// It is named.
+    Mention,
+    /// It is a start rule.
+    Start,
+    /// Of grmtools: it is a token.
+    Token,
+    /// Of grmtools: it is one of the precedence line in hand.
+    InLevel,
+    /// Of grmtools: it is a token that lexers pass over.
+    PassedOver,
+    /// Of grmtools: it need not be in a rule.
+    NotInRules,
+}
+
+impl Said {
+    /// What should stand where a symbol is missing.
+    fn wanted(self) -> Wanted {
+        match self {
+            Said::DeclaredToken | Said::DeclaredRule => Wanted::Declared,
+            _ => Wanted::Symbol,
+        }
+    }
 }
 
 /// Symbols behind a directive, some of them perhaps behind tags.
@@ -40,22 +73,21 @@ impl Listing {
 }
 
 impl<'a> Reader<'a> {
-    /// Reads a declaration.
-    pub(crate) fn declaration(&mut self) -> Result<(), Halt> {
+    /// Reads a declaration of a file for Bison.
+    pub(crate) fn bison_declaration(&mut self) -> Result<(), Halt> {
         let Some(directive) = self.take(LexemeKind::Directive) else {
             return Err(self.wants(Wanted::Declaration));
         };
         let Some(form) = self.form(directive) else {
             let kind = unknown(self.bytes(directive));
-            let span = directive.span;
-            return Err(Halt::Fault(Fault { kind, span }));
+            return Err(self.fault(kind, directive.span));
         };
         match form {
-            Form::Tokens => self.declared(true),
-            Form::Rules => self.declared(false),
+            Form::Tokens => self.listing(Said::DeclaredToken),
+            Form::Rules => self.listing(Said::DeclaredRule),
             Form::Level(kind) => self.level(kind, directive),
-            Form::Types => self.typed(),
-            Form::Starts => self.starts(),
+            Form::Types => self.listing(Said::Mention),
+            Form::Starts => self.said(Said::Start),
             Form::DefaultPrecedence(is_on) => Ok(self.state(Statement::DefaultPrecedence(is_on))?),
             Form::ShiftReduce => self.expected(true),
             Form::ReduceReduce => self.expected(false),
@@ -88,50 +120,53 @@ impl<'a> Reader<'a> {
         match form {
             Form::CodeForSymbols => self.code_for_symbols(),
             Form::NamedCode => {
-                let _ = self.take(LexemeKind::Name);
+                let _ = self.skip(LexemeKind::Name);
                 self.codes(1)
             }
             Form::Code => self.codes(1),
             Form::Codes => self.codes(self.lexemes.len()),
             Form::Definition => self.defined(),
             Form::OptionalText => {
-                let _ = self.take(LexemeKind::Text);
+                let _ = self.skip(LexemeKind::Text);
                 Ok(())
             }
             Form::Text => {
-                let _ = self.take(LexemeKind::Equals);
-                let _ = self.want(LexemeKind::Text, Wanted::Text)?;
-                Ok(())
+                let _ = self.skip(LexemeKind::Equals);
+                self.pass_wanted(LexemeKind::Text, Wanted::Text)
             }
             // The others stand in bodies.
             _ => {
                 let kind = FaultKind::Wanted(Wanted::Declaration);
-                let span = directive.span;
-                Err(Halt::Fault(Fault { kind, span }))
+                Err(self.fault(kind, directive.span))
             }
         }
     }
 
-    /// Reads the symbols of a `%token` or a `%nterm`, each perhaps with a number and a text.
-    fn declared(&mut self, is_token: bool) -> Result<(), Halt> {
+    /// Reads symbols, at least one, some of them perhaps behind tags.
+    fn listing(&mut self, said: Said) -> Result<(), Halt> {
         let mut listing = Listing::new();
         for _ in 0..self.lexemes.len() {
             if self.take_tag(&mut listing) {
                 continue;
             }
-            if self.kind() == Some(LexemeKind::Text) {
-                break;
-            }
-            let Some(symbol) = self.take_symbol() else {
+            let Some(symbol) = self.take_listed(said) else {
                 break;
             };
-            self.declared_symbol(symbol, is_token)?;
+            self.say(said, symbol)?;
             self.listed(symbol, &mut listing)?;
         }
         if listing.wants_symbol {
-            return Err(self.wants(Wanted::Declared));
+            return Err(self.wants(said.wanted()));
         }
         Ok(())
+    }
+
+    /// Takes a symbol of which that may be said: a text is not declared by itself.
+    fn take_listed(&mut self, said: Said) -> Option<Lexeme> {
+        match (said, self.kind()) {
+            (Said::DeclaredToken | Said::DeclaredRule, Some(LexemeKind::Text)) => None,
+            _ => self.take_symbol(),
+        }
     }
 
     /// Takes a tag, which is for the symbols behind it; false where none stands here, or another one stands right before it.
@@ -156,90 +191,69 @@ impl<'a> Reader<'a> {
         }
     }
 
-    /// Reads what stands behind a symbol of a `%token` or a `%nterm`.
-    fn declared_symbol(&mut self, symbol: Lexeme, is_token: bool) -> Result<(), Halt> {
-        self.state(if is_token {
-            Statement::Token(symbol)
-        } else {
-            Statement::Rule(symbol)
-        })?;
-        if let Some(number) = self.take(LexemeKind::Number) {
-            self.state(Statement::Code(symbol, number))?;
+    /// Reads symbols, at least one.
+    pub(crate) fn said(&mut self, said: Said) -> Result<(), Halt> {
+        let first = self.want_symbol()?;
+        self.say(said, first)?;
+        for _ in 0..self.lexemes.len() {
+            let Some(symbol) = self.take_symbol() else {
+                break;
+            };
+            self.say(said, symbol)?;
         }
+        Ok(())
+    }
+
+    /// Adds what is said of a symbol, and what stands behind it.
+    fn say(&mut self, said: Said, symbol: Lexeme) -> Result<(), AllocError> {
+        self.state(match said {
+            Said::DeclaredToken | Said::Token | Said::PassedOver => Statement::Token(symbol),
+            Said::DeclaredRule => Statement::Rule(symbol),
+            Said::Operator | Said::InLevel => Statement::InLevel(symbol),
+            Said::Mention | Said::NotInRules => Statement::Mention(symbol),
+            Said::Start => Statement::Start(symbol),
+        })?;
+        match said {
+            Said::DeclaredToken | Said::DeclaredRule => self.code_and_alias(symbol),
+            Said::Operator if symbol.kind != LexemeKind::Text => self.code(symbol),
+            Said::PassedOver | Said::NotInRules => self.state(Statement::NotInRules(symbol)),
+            _ => Ok(()),
+        }
+    }
+
+    /// Reads the number of a symbol, if one stands here.
+    fn code(&mut self, symbol: Lexeme) -> Result<(), AllocError> {
+        match self.take(LexemeKind::Number) {
+            Some(number) => self.state(Statement::Code(symbol, number)),
+            None => Ok(()),
+        }
+    }
+
+    /// Reads the number of a symbol and the text that is another name of it, where they stand here.
+    fn code_and_alias(&mut self, symbol: Lexeme) -> Result<(), AllocError> {
+        self.code(symbol)?;
         let alias = match self.take(LexemeKind::Text) {
             Some(text) => Some(text),
             None => self.take(LexemeKind::TranslatedText),
         };
-        if let Some(text) = alias {
-            self.state(Statement::Alias(symbol, text))?;
+        match alias {
+            Some(text) => self.state(Statement::Alias(symbol, text)),
+            None => Ok(()),
         }
-        Ok(())
     }
 
     /// Reads the tokens of a precedence line.
     fn level(&mut self, kind: LevelKind, directive: Lexeme) -> Result<(), Halt> {
         self.state(Statement::Level(kind, directive))?;
-        let mut listing = Listing::new();
-        for _ in 0..self.lexemes.len() {
-            if self.take_tag(&mut listing) {
-                continue;
-            }
-            let Some(symbol) = self.take_symbol() else {
-                break;
-            };
-            self.state(Statement::InLevel(symbol))?;
-            if symbol.kind != LexemeKind::Text {
-                if let Some(number) = self.take(LexemeKind::Number) {
-                    self.state(Statement::Code(symbol, number))?;
-                }
-            }
-            self.listed(symbol, &mut listing)?;
-        }
-        if listing.wants_symbol {
-            return Err(self.wants(Wanted::Symbol));
-        }
-        Ok(())
-    }
-
-    /// Reads the symbols behind `%type`.
-    fn typed(&mut self) -> Result<(), Halt> {
-        let mut listing = Listing::new();
-        for _ in 0..self.lexemes.len() {
-            if self.take_tag(&mut listing) {
-                continue;
-            }
-            let Some(symbol) = self.take_symbol() else {
-                break;
-            };
-            self.state(Statement::Mention(symbol))?;
-            self.listed(symbol, &mut listing)?;
-        }
-        if listing.wants_symbol {
-            return Err(self.wants(Wanted::Symbol));
-        }
-        Ok(())
-    }
-
-    /// Reads the symbols behind `%start`.
-    fn starts(&mut self) -> Result<(), Halt> {
-        let first = self.want_symbol()?;
-        self.state(Statement::Start(first))?;
-        for _ in 0..self.lexemes.len() {
-            let Some(symbol) = self.take_symbol() else {
-                break;
-            };
-            self.state(Statement::Start(symbol))?;
-        }
-        Ok(())
+        self.listing(Said::Operator)
     }
 
     /// Reads the code behind `%printer` or `%destructor`, and the symbols and tags behind that.
     fn code_for_symbols(&mut self) -> Result<(), Halt> {
-        let _ = self.want(LexemeKind::Action, Wanted::Code)?;
+        self.pass_wanted(LexemeKind::Action, Wanted::Code)?;
         let mut is_first = true;
         for _ in 0..self.lexemes.len() {
-            let is_tag = self.take(LexemeKind::Tag).is_some()
-                || self.take(LexemeKind::AnyTag).is_some();
+            let is_tag = self.skip(LexemeKind::Tag) || self.skip(LexemeKind::AnyTag);
             if !is_tag {
                 let Some(symbol) = self.take_symbol() else {
                     break;
@@ -256,9 +270,9 @@ impl<'a> Reader<'a> {
 
     /// Reads one piece of code, and so many at the most.
     fn codes(&mut self, most: usize) -> Result<(), Halt> {
-        let _ = self.want(LexemeKind::Action, Wanted::Code)?;
+        self.pass_wanted(LexemeKind::Action, Wanted::Code)?;
         for _ in 1..most {
-            if self.take(LexemeKind::Action).is_none() {
+            if !self.skip(LexemeKind::Action) {
                 break;
             }
         }
@@ -267,7 +281,7 @@ impl<'a> Reader<'a> {
 
     /// Reads the name behind `%define`, and its value.
     fn defined(&mut self) -> Result<(), Halt> {
-        let _ = self.want(LexemeKind::Name, Wanted::Name)?;
+        self.pass_wanted(LexemeKind::Name, Wanted::Name)?;
         if let Some(LexemeKind::Name | LexemeKind::Text | LexemeKind::Action) = self.kind() {
             self.pass();
         }

@@ -3,7 +3,7 @@
 use crate::contents::LevelKind;
 
 /// What stands behind a directive.
-#[derive(Clone, Copy, PartialEq, Eq)]
+#[derive(Clone, Copy)]
 pub(crate) enum Form {
     /// Tokens, each perhaps with a number and a text.
     Tokens,

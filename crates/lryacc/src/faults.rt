@@ -159,10 +159,20 @@ pub enum OldForm {
 /// Why reading stops.
 #[derive(Clone, Copy)]
 pub(crate) enum Halt {
-    /// The file has a fault here.
-    Fault(Fault),
+    /// For a fault, which is told.
+    Fault,
     /// Memory was refused.
     Memory,
+}
+
+impl Halt {
+    /// Why reading stops behind a fault that was to be told.
+    pub(crate) fn behind(told: Result<(), AllocError>) -> Halt {
+        match told {
+            Ok(()) => Halt::Fault,
+            Err(_) => Halt::Memory,
+        }
+    }
 }
 
 impl From<AllocError> for Halt {
@@ -206,9 +216,10 @@ impl fmt::Display for OldForm {
     }
 }
 
-impl fmt::Display for FaultKind {
-    fn fmt<W: fmt::Write>(&self, f: &mut fmt::Formatter<W>) -> fmt::Result {
-        let words = match self {
+impl FaultKind {
+    /// The words that tell of it. What should stand at a place, and which form is old, they do not say.
+    fn words(&self) -> &'static str {
+        match self {
             FaultKind::InvalidCharacter => "invalid character",
             FaultKind::OpenBrace => "this brace is never closed",
             FaultKind::OpenPrologue => "this prologue is never closed by %}",
@@ -223,9 +234,9 @@ impl fmt::Display for FaultKind {
             FaultKind::EscapeOutOfRange => "the number of an escape is from 1 to 255",
             FaultKind::InvalidName => "a name begins with a letter, `_` or `.`",
             FaultKind::InvalidBracket => "a bracket holds one name",
-            FaultKind::Wanted(wanted) => return write!(f, "{wanted} should stand here"),
+            FaultKind::Wanted(_) => "something else should stand here",
             FaultKind::UnknownDirective => "unknown directive",
-            FaultKind::Old(form) => return write!(f, "{form}"),
+            FaultKind::Old(_) => "this is a form of old Yacc",
             FaultKind::Twice => "this stands in the body already",
             FaultKind::NotEmpty => "`%empty` in a body that is not empty",
             FaultKind::NoRules => "the file has no rule",
@@ -252,7 +263,16 @@ impl fmt::Display for FaultKind {
             FaultKind::UselessProduction => "this derives no text",
             FaultKind::UnknownPrecedence => "nothing else names this token",
             FaultKind::SecondName => "this is no name of the symbol, since one of them has another",
-        };
-        f.write_str(words)
+        }
+    }
+}
+
+impl fmt::Display for FaultKind {
+    fn fmt<W: fmt::Write>(&self, f: &mut fmt::Formatter<W>) -> fmt::Result {
+        match self {
+            FaultKind::Wanted(wanted) => write!(f, "{wanted} should stand here"),
+            FaultKind::Old(form) => write!(f, "{form}"),
+            _ => f.write_str(self.words()),
+        }
     }
 }

@@ -112,20 +112,6 @@ fn fault_at(kind: FaultKind, start: usize, end: usize) -> Fault {
     Fault { kind, span }
 }
 
-/// The place behind the blanks from `from` on.
-pub(crate) fn blanks_end(text: &[u8], from: usize) -> usize
-    requires { from ≤ length text.now }
-    ensures from { from ≤ result }
-    ensures inside { result ≤ length text.now }
-{
-    for at in from..text.len() {
-        if !matches!(text[at], b' ' | b'\t' | b'\n' | 0x0b | 0x0c | b'\r') {
-            return at;
-        }
-    }
-    text.len()
-}
-
 /// The place from `from` on at which a lexeme begins, or the text's length if none does.
 pub(crate) fn gap_end(text: &[u8], from: usize, dialect: Dialect) -> Result<usize, Fault>
     requires { from ≤ length text.now }

@@ -1,53 +1,20 @@
 //! Declarations and rules of a file of grmtools.
 
 use crate::contents::{BodyPart, LevelKind, Statement};
+use crate::declarations::Said;
 use crate::directives::Form;
 use crate::faults::{FaultKind, Halt, Wanted};
 use crate::lexemes::{Lexeme, LexemeKind};
 use crate::reader::Reader;
-use crate::rules::{Body, fault_at};
-use std::alloc::AllocError;
-
-/// What a declaration says of each of its symbols.
-#[derive(Clone, Copy)]
-enum Said {
-    /// It is a token.
-    Token,
-    /// It is one of the precedence line in hand.
-    InLevel,
-    /// It is a token that lexers pass over.
-    PassedOver,
-    /// It need not be in a rule.
-    NotInRules,
-}
+use crate::rules::Body;
 
 impl<'a> Reader<'a> {
-    /// Reads the section `%grmtools{ .. }`, where the file has one, and declarations up to the first `%%`.
-    pub(crate) fn grmtools_declarations(&mut self) -> Result<(), AllocError> {
-        let read = self.header();
-        self.settle(read)?;
-        for _ in 0..self.lexemes.len() {
-            match self.kind() {
-                None | Some(LexemeKind::Separator) => break,
-                Some(LexemeKind::DirectiveLine) => self.pass(),
-                Some(_) => {
-                    let read = self.grmtools_declaration();
-                    self.settle(read)?;
-                }
-            }
-        }
-        if self.take(LexemeKind::Separator).is_none() && self.faults.is_empty() {
-            self.note(self.wants(Wanted::Declaration))?;
-        }
-        Ok(())
-    }
-
     /// Passes over the section `%grmtools{ .. }`, which holds settings.
-    fn header(&mut self) -> Result<(), Halt> {
+    pub(crate) fn header(&mut self) -> Result<(), Halt> {
         if let Some(first) = self.here() {
             if self.bytes(first) == b"%grmtools".as_slice() {
                 self.pass();
-                self.want_unless_broken(LexemeKind::Action, Wanted::Code)?;
+                return self.want_unless_broken(LexemeKind::Action, Wanted::Code);
             }
         }
         Ok(())
@@ -56,14 +23,15 @@ impl<'a> Reader<'a> {
     /// Takes the next lexeme, which is to be of that kind, or to be missing at the end of a file that has faults already: one of
     /// them may be that code never ends.
     fn want_unless_broken(&mut self, kind: LexemeKind, wanted: Wanted) -> Result<(), Halt> {
-        if self.here().is_some() || self.faults.is_empty() {
-            let _ = self.want(kind, wanted)?;
+        if self.here().is_some() || self.is_whole() {
+            self.pass_wanted(kind, wanted)
+        } else {
+            Ok(())
         }
-        Ok(())
     }
 
     /// Reads a declaration.
-    fn grmtools_declaration(&mut self) -> Result<(), Halt> {
+    pub(crate) fn grmtools_declaration(&mut self) -> Result<(), Halt> {
         let Some(directive) = self.take(LexemeKind::Directive) else {
             let halt = self.wants(Wanted::Declaration);
             self.pass();
@@ -80,33 +48,7 @@ impl<'a> Reader<'a> {
             b"%start" => self.once(directive, Form::Starts),
             b"%expect" => self.once(directive, Form::ShiftReduce),
             b"%expect-rr" => self.once(directive, Form::ReduceReduce),
-            _ => Err(fault_at(FaultKind::UnknownDirective, directive)),
-        }
-    }
-
-    /// Reads symbols, at least one.
-    fn said(&mut self, said: Said) -> Result<(), Halt> {
-        let first = self.want_symbol()?;
-        self.say(said, first)?;
-        for _ in 0..self.lexemes.len() {
-            let Some(symbol) = self.take_symbol() else {
-                break;
-            };
-            self.say(said, symbol)?;
-        }
-        Ok(())
-    }
-
-    /// Adds what is said of a symbol.
-    fn say(&mut self, said: Said, symbol: Lexeme) -> Result<(), AllocError> {
-        self.state(match said {
-            Said::Token | Said::PassedOver => Statement::Token(symbol),
-            Said::InLevel => Statement::InLevel(symbol),
-            Said::NotInRules => Statement::Mention(symbol),
-        })?;
-        match said {
-            Said::PassedOver | Said::NotInRules => self.state(Statement::NotInRules(symbol)),
-            Said::Token | Said::InLevel => Ok(()),
+            _ => Err(self.fault(FaultKind::UnknownDirective, directive.span)),
         }
     }
 
@@ -144,89 +86,37 @@ impl<'a> Reader<'a> {
     /// Reads what stands behind a directive that may stand in a file once.
     fn once(&mut self, directive: Lexeme, form: Form) -> Result<(), Halt> {
         if self.is_second(directive) {
-            return Err(fault_at(FaultKind::SecondDirective, directive));
+            return Err(self.fault(FaultKind::SecondDirective, directive.span));
         }
-        if form == Form::Starts {
-            let name = self.want(LexemeKind::Name, Wanted::Name)?;
-            self.state(Statement::Start(name))?;
-            return Ok(());
+        match form {
+            Form::Starts => self.start(),
+            Form::ShiftReduce => self.expected(true),
+            _ => self.expected(false),
         }
-        self.expected(form == Form::ShiftReduce)
     }
 
-    /// Reads rules up to the second `%%` or the end.
-    pub(crate) fn grmtools_rules(&mut self) -> Result<(), AllocError> {
-        for _ in 0..self.lexemes.len() {
-            let read = match self.kind() {
-                None | Some(LexemeKind::Separator) => break,
-                Some(LexemeKind::RuleName | LexemeKind::Name) => self.grmtools_rule(),
-                Some(_) => {
-                    let halt = self.wants(Wanted::Rule);
-                    self.pass();
-                    Err(halt)
-                }
-            };
-            self.settle(read)?;
-        }
+    /// Reads the start rule.
+    fn start(&mut self) -> Result<(), Halt> {
+        let name = self.want(LexemeKind::Name, Wanted::Name)?;
+        self.state(Statement::Start(name))?;
         Ok(())
     }
 
     /// Reads a rule: its name, perhaps its type, and its bodies up to `;`.
-    fn grmtools_rule(&mut self) -> Result<(), Halt> {
+    pub(crate) fn grmtools_rule(&mut self) -> Result<(), Halt> {
         let Some(name) = self.here() else {
             return Ok(());
         };
         self.pass();
-        let _ = self.take(LexemeKind::RuleType);
-        let mut mark = self.want(LexemeKind::Colon, Wanted::Colon)?;
+        let _ = self.skip(LexemeKind::RuleType);
+        let colon = self.want(LexemeKind::Colon, Wanted::Colon)?;
         self.state(Statement::LeftSide(name))?;
-        for _ in 0..self.lexemes.len() {
-            self.grmtools_alternative(name, mark)?;
-            match self.take(LexemeKind::Bar) {
-                Some(bar) => mark = bar,
-                None => break,
-            }
-        }
+        self.alternatives(name, colon)?;
         self.want_unless_broken(LexemeKind::Semicolon, Wanted::Semicolon)
     }
 
-    /// Reads a body, which begins behind a mark.
-    fn grmtools_alternative(&mut self, rule: Lexeme, mark: Lexeme) -> Result<(), Halt> {
-        let mut body = Body::new(*self.faults.allocator());
-        for _ in 0..self.lexemes.len() {
-            let Some(lexeme) = self.here() else {
-                break;
-            };
-            let goes_on = match lexeme.kind {
-                LexemeKind::Directive => self.grmtools_body_directive(&mut body, lexeme)?,
-                _ => self.grmtools_part(&mut body, lexeme)?,
-            };
-            if !goes_on {
-                break;
-            }
-        }
-        self.end_body(rule, mark, body)
-    }
-
-    /// Reads a directive of a body, and what stands behind it; false where the body ends before it.
-    fn grmtools_body_directive(
-        &mut self,
-        body: &mut Body,
-        directive: Lexeme,
-    ) -> Result<bool, Halt> {
-        let form = match self.bytes(directive) {
-            b"%prec" => Form::Precedence,
-            b"%empty" => Form::Empty,
-            _ => return Ok(false),
-        };
-        self.pass();
-        body.reach(directive);
-        self.body_directive(body, form, directive)?;
-        Ok(true)
-    }
-
     /// Reads a symbol or an action of a body; false where the body ends before the lexeme. A name in quotes is a token.
-    fn grmtools_part(&mut self, body: &mut Body, lexeme: Lexeme) -> Result<bool, Halt> {
+    pub(crate) fn grmtools_part(&mut self, body: &mut Body, lexeme: Lexeme) -> Result<bool, Halt> {
         match lexeme.kind {
             LexemeKind::Name => body.add(BodyPart::Symbol(lexeme), lexeme)?,
             LexemeKind::QuotedName => {
@@ -248,8 +138,7 @@ impl<'a> Reader<'a> {
         match self.here() {
             Some(lexeme) => match lexeme.kind {
                 LexemeKind::Name | LexemeKind::QuotedName | LexemeKind::Action => true,
-                LexemeKind::Directive => matches!(self.bytes(lexeme), b"%prec" | b"%empty"),
-                _ => false,
+                _ => self.form_in_body(lexeme).is_some(),
             },
             None => false,
         }

@@ -5,53 +5,8 @@ ghost use Rattle.std.specs.Prelude.{◌≡◌, ◌+◌, ◌<◌, ◌≤◌, leng
 use crate::faults::{Fault, FaultKind, Wanted};
 use crate::lexemes::{LexemeKind, invalid};
 use crate::places::Span;
+use crate::runs::Run;
 use crate::rust_code::rust_code_end;
-
-/// Whether a name may have the byte.
-fn is_name_byte(byte: u8) -> bool {
-    byte.is_ascii_alphanumeric() || byte == b'_'
-}
-
-/// The place from `from` on at which a name ends.
-fn name_end(text: &[u8], from: usize) -> usize
-    requires { from ≤ length text.now }
-    ensures from { from ≤ result }
-    ensures inside { result ≤ length text.now }
-{
-    for at in from..text.len() {
-        if !is_name_byte(text[at]) {
-            return at;
-        }
-    }
-    text.len()
-}
-
-/// The place from `from` on at which the name of a directive ends, which may have `-`.
-fn directive_end(text: &[u8], from: usize) -> usize
-    requires { from ≤ length text.now }
-    ensures from { from ≤ result }
-    ensures inside { result ≤ length text.now }
-{
-    let len = text[from..]
-        .iter()
-        .take_while(|byte| is_name_byte(**byte) || **byte == b'-')
-        .count();
-    from + len
-}
-
-/// The place from `from` on at which a line ends.
-fn line_end(text: &[u8], from: usize) -> usize
-    requires { from ≤ length text.now }
-    ensures from { from ≤ result }
-    ensures inside { result ≤ length text.now }
-{
-    for at in from..text.len() {
-        if matches!(text[at], b'\n' | b'\r') {
-            return at;
-        }
-    }
-    text.len()
-}
 
 /// The fault that something else should stand at a place.
 fn wants(wanted: Wanted, start: usize, end: usize) -> Fault {
@@ -61,15 +16,15 @@ fn wants(wanted: Wanted, start: usize, end: usize) -> Fault {
     }
 }
 
-/// The place behind a number that begins at a place, and behind the name that stands right behind it, which is a fault.
-fn number_end(text: &[u8], from: usize) -> Result<usize, Fault>
+/// The number that begins at a place. A name that stands right behind it is a fault.
+fn number(text: &[u8], from: usize) -> Result<(LexemeKind, usize), Fault>
     requires { from < length text.now }
-    ensures from { IfOk result (λ end. from < end) }
-    ensures inside { IfOk result (λ end. end ≤ length text.now) }
+    ensures from { IfOk result (λ found. from < found.1) }
+    ensures inside { IfOk result (λ found. found.1 ≤ length text.now) }
 {
-    let end = name_end(text, from + 1);
-    if text[from..end].iter().all(|byte| byte.is_ascii_digit()) {
-        return Ok(end);
+    let end = Run::Word.end(text, from + 1);
+    if Run::Digits.is_all(&text[from..end]) {
+        return Ok((LexemeKind::Number, end));
     }
     Err(Fault {
         kind: FaultKind::InvalidName,
@@ -180,12 +135,12 @@ fn directive(text: &[u8], from: usize) -> Result<(LexemeKind, usize), Fault>
     ensures from { IfOk result (λ found. from < found.1) }
     ensures inside { IfOk result (λ found. found.1 ≤ length text.now) }
 {
-    let end = directive_end(text, from + 1);
+    let end = Run::Directive.end(text, from + 1);
     match &text[from..end] {
         b"%actiontype" | b"%parse-param" | b"%parse-generics" => {}
         _ => return Ok((LexemeKind::Directive, end)),
     }
-    let behind = line_end(text, end);
+    let behind = Run::Line.end(text, end);
     let line = &text[end..behind];
     if line.trim_ascii().is_empty() {
         return Err(wants(Wanted::Type, end, end));
@@ -209,6 +164,16 @@ fn behind_percent(text: &[u8], from: usize) -> Result<(LexemeKind, usize), Fault
     }
 }
 
+/// The action whose brace stands at a place.
+fn action(text: &[u8], from: usize) -> Result<(LexemeKind, usize), Fault>
+    requires { from < length text.now }
+    ensures from { IfOk result (λ found. from < found.1) }
+    ensures inside { IfOk result (λ found. found.1 ≤ length text.now) }
+{
+    let opening = Span::new(from, from + 1);
+    Ok((LexemeKind::Action, rust_code_end(text, opening, from + 1)?))
+}
+
 /// The lexeme of a file of grmtools that begins at a place.
 pub(crate) fn grmtools_lexeme_at(text: &[u8], from: usize) -> Result<(LexemeKind, usize), Fault>
     requires { from < length text.now }
@@ -218,18 +183,14 @@ pub(crate) fn grmtools_lexeme_at(text: &[u8], from: usize) -> Result<(LexemeKind
     let first = text[from];
     match first {
         b'%' => behind_percent(text, from),
-        b'{' => {
-            let opening = Span::new(from, from + 1);
-            let end = rust_code_end(text, opening, from + 1)?;
-            Ok((LexemeKind::Action, end))
-        }
+        b'{' => action(text, from),
         b'-' if text.get(from + 1) == Some(&b'>') => rule_type(text, from),
         b'\'' | b'"' => quoted(text, from),
         b':' => Ok((LexemeKind::Colon, from + 1)),
         b'|' => Ok((LexemeKind::Bar, from + 1)),
         b';' => Ok((LexemeKind::Semicolon, from + 1)),
-        _ if first.is_ascii_digit() => Ok((LexemeKind::Number, number_end(text, from)?)),
-        _ if is_name_byte(first) => Ok((LexemeKind::Name, name_end(text, from + 1))),
+        _ if first.is_ascii_digit() => number(text, from),
+        _ if Run::Word.has(first) => Ok((LexemeKind::Name, Run::Word.end(text, from + 1))),
         _ => Err(invalid(from)),
     }
 }

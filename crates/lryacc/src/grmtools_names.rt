@@ -2,12 +2,12 @@
 //! quotes, a body has a token only behind the place that makes it one.
 
 use crate::contents::{Alternative, BodyPart, Contents, Statement};
-use crate::faults::{Fault, FaultKind};
+use crate::faults::FaultKind;
 use crate::lexemes::{Lexeme, LexemeKind};
 use crate::meaning::Meaning;
 use crate::places::Span;
 use crate::symbols::{Class, Symbol};
-use std::alloc::{AllocError, Global};
+use std::alloc::AllocError;
 use std::collections::BTreeSet;
 
 impl<'a> Meaning<'a> {
@@ -43,12 +43,8 @@ impl<'a> Meaning<'a> {
     }
 
     /// The names that `%expect-unused` has, or `%epp`.
-    fn mentioned(
-        &self,
-        alloc: Global,
-        statements: &[Statement],
-    ) -> Result<BTreeSet<&'a [u8]>, AllocError> {
-        let mut names = BTreeSet::new(alloc);
+    fn mentioned(&self, statements: &[Statement]) -> Result<BTreeSet<&'a [u8]>, AllocError> {
+        let mut names = BTreeSet::new(*self.faults.allocator());
         for statement in statements {
             if let Statement::Mention(name) = statement {
                 names.insert(self.symbols.name(*name))?;
@@ -57,22 +53,21 @@ impl<'a> Meaning<'a> {
         Ok(names)
     }
 
-    /// The places of useless rules, without those that are expected to be so.
-    pub(crate) fn unexpected(
-        &self,
-        alloc: Global,
+    /// Warns of useless rules at these places, but for those that are expected to be so.
+    pub(crate) fn warn_unless_expected(
+        &mut self,
         contents: &Contents,
-        rules: Vec<Span>,
-    ) -> Result<Vec<Span>, AllocError> {
-        let names = self.mentioned(alloc, contents.statements.as_slice())?;
-        let mut places = Vec::new(alloc);
-        for span in rules {
+        places: &[Span],
+    ) -> Result<(), AllocError> {
+        let names = self.mentioned(contents.statements.as_slice())?;
+        for span in places {
             let kind = LexemeKind::RuleName;
-            if !names.contains(&self.symbols.name(Lexeme { kind, span })) {
-                places.push(span)?;
+            let name = self.symbols.name(Lexeme { kind, span: *span });
+            if !names.contains(&name) {
+                self.warn(FaultKind::UselessRule, *span)?;
             }
         }
-        Ok(places)
+        Ok(())
     }
 
     /// The symbol that a name is.
@@ -83,36 +78,30 @@ impl<'a> Meaning<'a> {
 
     /// Whether a name is that of a rule, or of a token that is one before a place.
     fn is_known_before(&self, name: Lexeme, end: usize) -> bool {
-        match self.symbol_of(name) {
-            Some(symbol) if symbol.class == Class::Rule => true,
-            Some(symbol) => symbol.declared.is_some_and(|first| first.span.start < end),
+        let Some(symbol) = self.symbol_of(name) else {
+            return false;
+        };
+        match symbol.declared {
+            _ if symbol.class == Class::Rule => true,
+            Some(first) => first.start < end,
             None => false,
         }
     }
 
     /// Tells of a name that is neither that of a rule nor of a token before a place.
     fn tell_unless_known(&mut self, name: Lexeme, end: usize) -> Result<(), AllocError> {
-        if !self.is_known_before(name, end) {
-            self.faults.push(Fault {
-                kind: FaultKind::Undefined,
-                span: name.span,
-            })?;
+        if self.is_known_before(name, end) {
+            return Ok(());
         }
-        Ok(())
+        self.tell(FaultKind::Undefined, name.span)
     }
 
     /// Tells of what stands behind `%prec` and is no token, or has no precedence.
     fn tell_unless_leveled(&mut self, name: Lexeme) -> Result<(), AllocError> {
         self.tell_unless_known(name, usize::MAX)?;
-        let has_level = self
-            .symbol_of(name)
-            .is_some_and(|symbol| symbol.level.is_some());
-        if !has_level {
-            self.faults.push(Fault {
-                kind: FaultKind::NoPrecedence,
-                span: name.span,
-            })?;
+        match self.symbol_of(name) {
+            Some(symbol) if symbol.level.is_some() => Ok(()),
+            _ => self.tell(FaultKind::NoPrecedence, name.span),
         }
-        Ok(())
     }
 }

@@ -5,9 +5,10 @@ ghost use Rattle.std.specs.Prelude.{◌+◌, ◌<◌, ◌≤◌, length, IfOk};
 use crate::code::{Ending, code_end};
 use crate::dialects::Dialect;
 use crate::faults::{Fault, FaultKind};
-use crate::gaps::{blanks_end, gap_end};
+use crate::gaps::gap_end;
 use crate::places::Span;
-use crate::quotes::{between_quotes, character};
+use crate::quotes::{Quoted, between_quotes};
+use crate::runs::Run;
 
 /// What a lexeme is.
 #[derive(Clone, Copy, PartialEq, Eq)]
@@ -58,6 +59,16 @@ pub enum LexemeKind {
     DirectiveLine,
 }
 
+impl LexemeKind {
+    /// Whether it is a symbol, as it stands in a body: a name, a character or a text; of grmtools a name, perhaps in quotes.
+    pub(crate) fn is_of_symbol(self) -> bool {
+        matches!(
+            self,
+            LexemeKind::Name | LexemeKind::Character(_) | LexemeKind::Text | LexemeKind::QuotedName
+        )
+    }
+}
+
 /// A lexeme, and where it stands.
 #[derive(Clone, Copy)]
 pub struct Lexeme {
@@ -72,41 +83,23 @@ pub(crate) fn is_name_start(byte: u8) -> bool {
     byte.is_ascii_alphabetic() || matches!(byte, b'.' | b'_')
 }
 
-/// Whether a name may go on with the byte.
-fn is_name_byte(byte: u8) -> bool {
-    byte.is_ascii_alphanumeric() || matches!(byte, b'.' | b'_' | b'-')
-}
-
-/// The place from `from` on at which a name ends.
-pub(crate) fn name_end(text: &[u8], from: usize) -> usize
-    requires { from ≤ length text.now }
-    ensures from { from ≤ result }
-    ensures inside { result ≤ length text.now }
-{
-    for at in from..text.len() {
-        if !is_name_byte(text[at]) {
-            return at;
-        }
+/// Whether a word that begins with a digit is a number, perhaps a hexadecimal one.
+fn is_number(word: &[u8]) -> bool {
+    match word {
+        [b'0', b'x' | b'X', digits @ ..] => { !digits.is_empty() && Run::HexDigits.is_all(digits) }
+        _ => Run::Digits.is_all(word),
     }
-    text.len()
 }
 
-/// The place behind a number that begins at a place, and behind the name that stands right behind it, which is a fault.
-fn number_end(text: &[u8], from: usize) -> Result<usize, Fault>
+/// The number that begins at a place. A name that stands right behind it is a fault.
+fn number(text: &[u8], from: usize) -> Result<(LexemeKind, usize), Fault>
     requires { from < length text.now }
-    ensures from { IfOk result (λ end. from < end) }
-    ensures inside { IfOk result (λ end. end ≤ length text.now) }
+    ensures from { IfOk result (λ found. from < found.1) }
+    ensures inside { IfOk result (λ found. found.1 ≤ length text.now) }
 {
-    let end = name_end(text, from + 1);
-    let digits = &text[from..end];
-    let is_number = match digits {
-        [b'0', b'x' | b'X', hex @ ..] => {
-            !hex.is_empty() && hex.iter().all(|byte| byte.is_ascii_hexdigit())
-        }
-        _ => digits.iter().all(|byte| byte.is_ascii_digit()),
-    };
-    if is_number {
-        return Ok(end);
+    let end = Run::Name.end(text, from + 1);
+    if is_number(&text[from..end]) {
+        return Ok((LexemeKind::Number, end));
     }
     let span = Span::new(from, end);
     Err(Fault {
@@ -142,23 +135,23 @@ fn tag_end(text: &[u8], from: usize) -> Result<usize, Fault>
     })
 }
 
-/// The place behind the bracket that begins at a place: a name, perhaps between blanks.
-fn bracket_end(text: &[u8], from: usize) -> Result<usize, Fault>
+/// The bracket that begins at a place: a name, perhaps between blanks.
+fn bracket(text: &[u8], from: usize) -> Result<(LexemeKind, usize), Fault>
     requires { from < length text.now }
-    ensures from { IfOk result (λ end. from < end) }
-    ensures inside { IfOk result (λ end. end ≤ length text.now) }
+    ensures from { IfOk result (λ found. from < found.1) }
+    ensures inside { IfOk result (λ found. found.1 ≤ length text.now) }
 {
     let name = gap_end(text, from + 1, Dialect::Bison)?;
-    let behind = gap_end(text, name_end(text, name), Dialect::Bison)?;
-    let begins = text.get(name).is_some_and(|byte| is_name_start(*byte));
+    let behind = gap_end(text, Run::Name.end(text, name), Dialect::Bison)?;
+    let begins = matches!(text.get(name), Some(byte) if is_name_start(*byte));
     if begins && text.get(behind) == Some(&b']') {
-        return Ok(behind + 1);
+        return Ok((LexemeKind::BracketName, behind + 1));
     }
     let wrong = if begins { behind } else { name };
     let span = if wrong == text.len() {
         Span::new(from, from + 1)
     } else {
-        Span::new(wrong, name_end(text, wrong).max(wrong + 1))
+        Span::new(wrong, Run::Name.end(text, wrong).max(wrong + 1))
     };
     Err(Fault {
         kind: FaultKind::InvalidBracket,
@@ -207,7 +200,7 @@ fn behind_percent(text: &[u8], from: usize) -> Result<(LexemeKind, usize), Fault
         b'%' => Ok((LexemeKind::Separator, from + 2)),
         b'{' => code(text, from, 2, LexemeKind::Prologue, Ending::PrologueMark),
         b'?' => {
-            let brace = blanks_end(text, from + 2);
+            let brace = Run::Blanks.end(text, from + 2);
             if text.get(brace) != Some(&b'{') {
                 return Err(invalid(from));
             }
@@ -215,7 +208,7 @@ fn behind_percent(text: &[u8], from: usize) -> Result<(LexemeKind, usize), Fault
             code(text, from, mark, LexemeKind::Predicate, Ending::Brace)
         }
         b'<' | b'>' | b'0' | b'2' => Ok((LexemeKind::Directive, from + 2)),
-        byte if is_name_start(byte) => Ok((LexemeKind::Directive, name_end(text, from + 1))),
+        byte if is_name_start(byte) => Ok((LexemeKind::Directive, Run::Name.end(text, from + 1))),
         _ => Err(invalid(from)),
     }
 }
@@ -229,7 +222,7 @@ fn behind_backslash(text: &[u8], from: usize) -> Result<(LexemeKind, usize), Fau
     match text.get(from + 1) {
         Some(b'\\') => Ok((LexemeKind::Separator, from + 2)),
         Some(byte) if is_name_start(*byte) => {
-            Ok((LexemeKind::Directive, name_end(text, from + 1)))
+            Ok((LexemeKind::Directive, Run::Name.end(text, from + 1)))
         }
         _ => Err(invalid(from)),
     }
@@ -252,13 +245,35 @@ fn colon(text: &[u8], from: usize) -> Result<(LexemeKind, usize), Fault>
     ensures from { IfOk result (λ found. from < found.1) }
     ensures inside { IfOk result (λ found. found.1 ≤ length text.now) }
 {
-    if text
-        .get(from + 1)
-        .is_some_and(|byte| !may_follow_colon(*byte))
-    {
-        return Err(invalid(from));
+    match text.get(from + 1) {
+        Some(byte) if !may_follow_colon(*byte) => Err(invalid(from)),
+        _ => Ok((LexemeKind::Colon, from + 1)),
     }
-    Ok((LexemeKind::Colon, from + 1))
+}
+
+/// The character whose quote stands at a place.
+fn character(text: &[u8], from: usize) -> Result<(LexemeKind, usize), Fault>
+    requires { from < length text.now }
+    ensures from { IfOk result (λ found. from < found.1) }
+    ensures inside { IfOk result (λ found. found.1 ≤ length text.now) }
+{
+    let Quoted { end, bytes, last } = between_quotes(text, from, b'\'')?;
+    let kind = match bytes {
+        0 => FaultKind::EmptyCharacter,
+        1 => return Ok((LexemeKind::Character(last), end)),
+        _ => FaultKind::LongCharacter,
+    };
+    let span = Span::new(from, end);
+    Err(Fault { kind, span })
+}
+
+/// The text whose quote stands at a place.
+fn quoted_text(text: &[u8], from: usize) -> Result<(LexemeKind, usize), Fault>
+    requires { from < length text.now }
+    ensures from { IfOk result (λ found. from < found.1) }
+    ensures inside { IfOk result (λ found. found.1 ≤ length text.now) }
+{
+    Ok((LexemeKind::Text, between_quotes(text, from, b'"')?.end))
 }
 
 /// The text to be translated that begins at a place with `_(`.
@@ -301,18 +316,15 @@ pub(crate) fn lexeme_at(text: &[u8], from: usize) -> Result<(LexemeKind, usize),
         b'\\' => behind_backslash(text, from),
         b'{' => code(text, from, 1, LexemeKind::Action, Ending::Brace),
         b'<' => tag(text, from),
-        b'[' => Ok((LexemeKind::BracketName, bracket_end(text, from)?)),
-        b'\'' => {
-            let (byte, end) = character(text, from)?;
-            Ok((LexemeKind::Character(byte), end))
-        }
-        b'"' => Ok((LexemeKind::Text, between_quotes(text, from, b'"')?.end)),
+        b'[' => bracket(text, from),
+        b'\'' => character(text, from),
+        b'"' => quoted_text(text, from),
         b':' => colon(text, from),
         b'|' => Ok((LexemeKind::Bar, from + 1)),
         b';' => Ok((LexemeKind::Semicolon, from + 1)),
         b'=' => Ok((LexemeKind::Equals, from + 1)),
-        _ if is_name_start(first) => Ok((LexemeKind::Name, name_end(text, from + 1))),
-        _ if first.is_ascii_digit() => Ok((LexemeKind::Number, number_end(text, from)?)),
+        _ if is_name_start(first) => Ok((LexemeKind::Name, Run::Name.end(text, from + 1))),
+        _ if first.is_ascii_digit() => number(text, from),
         _ => Err(invalid(from)),
     }
 }

@@ -22,6 +22,7 @@ mod productions;
 mod quotes;
 mod reader;
 mod rules;
+mod runs;
 mod rust_code;
 mod scanner;
 mod symbols;

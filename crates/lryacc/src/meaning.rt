@@ -6,7 +6,8 @@ use crate::faults::{Fault, FaultKind};
 use crate::lexemes::{Lexeme, LexemeKind};
 use crate::numbers::value_of;
 use crate::places::Span;
-use crate::symbols::{Class, Symbols};
+use crate::symbols::{Class, Symbol, Symbols};
+use crate::useful::Useless;
 use std::alloc::{AllocError, Global};
 use std::collections::BTreeMap;
 
@@ -20,6 +21,14 @@ pub struct Expected {
     pub shift_reduce: Option<u64>,
     /// By `%expect-rr`.
     pub reduce_reduce: Option<u64>,
+}
+
+/// Adds the same fault at each of the places.
+fn add_at(faults: &mut Vec<Fault>, kind: FaultKind, places: &[Span]) -> Result<(), AllocError> {
+    for span in places {
+        faults.push(Fault { kind, span: *span })?;
+    }
+    Ok(())
 }
 
 /// What is known of the symbols of a file so far.
@@ -44,12 +53,7 @@ pub(crate) struct Meaning<'a> {
 
 impl<'a> Meaning<'a> {
     /// Nothing is known.
-    pub(crate) fn new(
-        alloc: Global,
-        text: &'a [u8],
-        dialect: Dialect,
-        faults: Vec<Fault>,
-    ) -> Meaning<'a> {
+    pub(crate) fn new(alloc: Global, text: &'a [u8], dialect: Dialect) -> Meaning<'a> {
         Meaning {
             symbols: Symbols::new(alloc, text, dialect),
             levels: Vec::new(alloc),
@@ -58,21 +62,46 @@ impl<'a> Meaning<'a> {
             end: None,
             has_default_precedence: true,
             expected: Expected::default(),
-            faults,
+            faults: Vec::new(alloc),
             warnings: Vec::new(alloc),
         }
     }
 
     /// Tells a fault.
-    fn tell(&mut self, kind: FaultKind, span: Span) -> Result<(), AllocError> {
+    pub(crate) fn tell(&mut self, kind: FaultKind, span: Span) -> Result<(), AllocError> {
         self.faults.push(Fault { kind, span })?;
         Ok(())
     }
 
     /// Warns of something.
-    fn warn(&mut self, kind: FaultKind, span: Span) -> Result<(), AllocError> {
+    pub(crate) fn warn(&mut self, kind: FaultKind, span: Span) -> Result<(), AllocError> {
         self.warnings.push(Fault { kind, span })?;
         Ok(())
+    }
+
+    /// Tells of start symbols that derive no text, and warns of what is useless.
+    pub(crate) fn tell_useless(
+        &mut self,
+        contents: &Contents,
+        useless: &Useless,
+    ) -> Result<(), AllocError> {
+        let starts = useless.starts.as_slice();
+        add_at(&mut self.faults, FaultKind::StartIsUnproductive, starts)?;
+        self.warn_of_rules(contents, useless.rules.as_slice())?;
+        let productions = useless.productions.as_slice();
+        add_at(
+            &mut self.warnings,
+            FaultKind::UselessProduction,
+            productions,
+        )
+    }
+
+    /// Warns of useless rules at these places.
+    fn warn_of_rules(&mut self, contents: &Contents, places: &[Span]) -> Result<(), AllocError> {
+        match self.symbols.dialect {
+            Dialect::Bison => add_at(&mut self.warnings, FaultKind::UselessRule, places),
+            Dialect::Grmtools => self.warn_unless_expected(contents, places),
+        }
     }
 
     /// The number of the symbol that a lexeme names, which is to be of that class.
@@ -107,41 +136,64 @@ impl<'a> Meaning<'a> {
     /// Takes in what a declaration says.
     fn take_statement(&mut self, statement: Statement) -> Result<(), AllocError> {
         match statement {
-            Statement::Token(symbol) => self.take_token(symbol)?,
-            Statement::Rule(symbol) => self.take_rule_name(symbol)?,
-            Statement::Code(symbol, number) => self.take_code(symbol, number)?,
-            Statement::Alias(symbol, text) => self.take_alias(symbol, text)?,
-            Statement::Level(kind, directive) => {
-                self.levels.push(kind)?;
-                self.level_start = directive.span.start;
-            }
-            Statement::InLevel(symbol) => self.take_in_level(symbol)?,
-            Statement::Mention(symbol) => {
-                let _ = self.symbols.named(symbol)?;
-            }
-            Statement::NotInRules(_) => {}
-            Statement::Tagged(symbol, tag) => self.take_tag(symbol, tag)?,
+            Statement::Token(symbol) => self.take_token(symbol),
+            Statement::Rule(symbol) => self.take_rule_name(symbol),
+            Statement::Code(symbol, number) => self.take_code(symbol, number),
+            Statement::Alias(symbol, text) => self.take_alias(symbol, text),
+            Statement::Level(kind, directive) => self.begin_level(kind, directive),
+            Statement::InLevel(symbol) => self.take_in_level(symbol),
+            Statement::Mention(symbol) => self.take_mention(symbol),
+            Statement::NotInRules(_) => Ok(()),
+            Statement::Tagged(symbol, tag) => self.take_tag(symbol, tag),
             Statement::LeftSide(rule) => {
-                let _ = self.classed(rule, Class::Rule, FaultKind::RuleOfToken)?;
+                self.take_class(rule, Class::Rule, FaultKind::RuleOfToken)
             }
             Statement::NamedPrecedence(token) => {
-                let _ = self.classed(token, Class::Token, FaultKind::PrecedenceOfRule)?;
+                self.take_class(token, Class::Token, FaultKind::PrecedenceOfRule)
             }
-            Statement::Start(symbol) => self.take_start(symbol)?,
-            Statement::DefaultPrecedence(is_on) => self.has_default_precedence = is_on,
+            Statement::Start(symbol) => self.take_start(symbol),
+            Statement::DefaultPrecedence(is_on) => {
+                self.has_default_precedence = is_on;
+                Ok(())
+            }
             Statement::ExpectShiftReduce(number) => {
                 self.expected.shift_reduce = self.number(number)?;
+                Ok(())
             }
             Statement::ExpectReduceReduce(number) => {
                 self.expected.reduce_reduce = self.number(number)?;
+                Ok(())
             }
         }
+    }
+
+    /// Takes in that a symbol is named.
+    fn take_mention(&mut self, symbol: Lexeme) -> Result<(), AllocError> {
+        let _ = self.symbols.named(symbol)?;
+        Ok(())
+    }
+
+    /// Takes in that a symbol is of that class.
+    fn take_class(
+        &mut self,
+        symbol: Lexeme,
+        class: Class,
+        otherwise: FaultKind,
+    ) -> Result<(), AllocError> {
+        let _ = self.classed(symbol, class, otherwise)?;
+        Ok(())
+    }
+
+    /// Takes in that a precedence line begins with a directive.
+    fn begin_level(&mut self, kind: LevelKind, directive: Lexeme) -> Result<(), AllocError> {
+        self.levels.push(kind)?;
+        self.level_start = directive.span.start;
         Ok(())
     }
 
     /// The number that a lexeme is; None where it is too large, which is told.
     fn number(&mut self, number: Lexeme) -> Result<Option<u64>, AllocError> {
-        let value = value_of(self.symbols.bytes(number));
+        let value = value_of(self.symbols.bytes(number.span));
         if value.is_none() {
             self.tell(FaultKind::LargeNumber, number.span)?;
         }
@@ -160,7 +212,7 @@ impl<'a> Meaning<'a> {
         let mut is_declared = false;
         if let Some(symbol) = self.symbols.list.get_mut(number) {
             is_declared = symbol.declared.is_some();
-            symbol.declared = symbol.declared.or(Some(lexeme));
+            symbol.declared = symbol.declared.or(Some(lexeme.span));
         }
         if is_declared && self.symbols.dialect == Dialect::Bison {
             self.warn(FaultKind::DeclaredTwice, lexeme.span)?;
@@ -206,7 +258,7 @@ impl<'a> Meaning<'a> {
         }
         let mut is_other = false;
         if let Some(symbol) = self.symbols.list.get_mut(symbol) {
-            is_other = symbol.code.is_some_and(|known| known != code);
+            is_other = matches!(symbol.code, Some(known) if known != code);
             symbol.code = symbol.code.or(Some(code));
         }
         if is_other {
@@ -218,29 +270,46 @@ impl<'a> Meaning<'a> {
         Ok(())
     }
 
-    /// The codes of symbols, with the places of these, in their order.
-    fn codes_in_order(&self) -> Result<BTreeMap<usize, (u64, Span)>, AllocError> {
-        let mut codes = BTreeMap::new(*self.faults.allocator());
-        for symbol in &self.symbols.list {
-            if let Some(code) = symbol.code {
-                codes.insert(symbol.place(), (code, symbol.span()))?;
+    /// Tells what is wrong with symbols: two levels, a code of another symbol, no meaning.
+    fn tell_symbols(&mut self) -> Result<(), AllocError> {
+        let mut first = BTreeMap::new(*self.faults.allocator());
+        for number in 0..self.symbols.list.len() {
+            if let Some(symbol) = self.symbols.list.get(number).copied() {
+                self.tell_symbol(&mut first, symbol)?;
             }
         }
-        Ok(codes)
+        Ok(())
     }
 
-    /// Tells of each symbol whose code one before it has.
-    fn tell_codes(&mut self) -> Result<(), AllocError> {
-        let alloc = *self.faults.allocator();
-        let ordered = self.codes_in_order()?;
-        let mut found = BTreeMap::new(alloc);
-        for (code, span) in ordered.values() {
-            if found.get(code).is_some() {
-                self.tell(FaultKind::CodeOfOther, *span)?;
-            } else {
-                found.insert(*code, *span)?;
-            }
+    /// Tells what is wrong with a symbol. Of those before it, the first ones by their codes are known.
+    fn tell_symbol(
+        &mut self,
+        first: &mut BTreeMap<u64, Span>,
+        symbol: Symbol,
+    ) -> Result<(), AllocError> {
+        if let Some(span) = self.second_level(symbol) {
+            self.tell(FaultKind::LevelTwice, span)?;
         }
+        if let Some(code) = symbol.code {
+            self.tell_code(first, code, symbol.span())?;
+        }
+        self.tell_undefined(symbol)
+    }
+
+    /// Tells of the later one of a symbol with a code and the first other one that has it. Takes in which is the first one then.
+    fn tell_code(
+        &mut self,
+        first: &mut BTreeMap<u64, Span>,
+        code: u64,
+        span: Span,
+    ) -> Result<(), AllocError> {
+        if let Some(other) = first.get(&code).copied() {
+            if other.start < span.start {
+                return self.tell(FaultKind::CodeOfOther, span);
+            }
+            self.tell(FaultKind::CodeOfOther, other)?;
+        }
+        first.insert(code, span)?;
         Ok(())
     }
 
@@ -251,13 +320,13 @@ impl<'a> Meaning<'a> {
             return self.tell(FaultKind::TagTwice, lexeme.span);
         }
         if let Some(symbol) = self.symbols.list.get_mut(number) {
-            symbol.tag = Some((tag, lexeme));
+            symbol.tag = Some((tag.span, lexeme.span));
         }
         Ok(())
     }
 
     /// The tag that a symbol has by this name, and where that is said.
-    fn tag(&self, number: usize) -> Option<(Lexeme, Lexeme)> {
+    fn tag(&self, number: usize) -> Option<(Span, Span)> {
         self.symbols.list.get(number)?.tag
     }
 
@@ -277,12 +346,12 @@ impl<'a> Meaning<'a> {
         if self.symbols.bytes(tag) == self.symbols.bytes(other_tag) {
             return Ok(());
         }
-        let later = if here.span.start < there.span.start {
+        let later = if here.start < there.start {
             there
         } else {
             here
         };
-        self.tell(FaultKind::TagTwice, later.span)
+        self.tell(FaultKind::TagTwice, later)
     }
 
     /// The class of a symbol.
@@ -350,19 +419,8 @@ impl<'a> Meaning<'a> {
         Ok(())
     }
 
-    /// Tells of each token that has a level by both of its names.
-    fn tell_levels(&mut self) -> Result<(), AllocError> {
-        for number in 0..self.symbols.list.len() {
-            if let Some(span) = self.second_level(number) {
-                self.tell(FaultKind::LevelTwice, span)?;
-            }
-        }
-        Ok(())
-    }
-
     /// Where a symbol stands in a precedence line behind one in which its other name stands.
-    fn second_level(&self, number: usize) -> Option<Span> {
-        let symbol = self.symbols.list.get(number)?;
+    fn second_level(&self, symbol: Symbol) -> Option<Span> {
         let partner = self.symbols.list.get(symbol.partner?)?;
         let (_, here) = symbol.level?;
         let (_, there) = partner.level?;
@@ -428,21 +486,15 @@ impl<'a> Meaning<'a> {
         }
     }
 
-    /// Tells which symbols are nothing, though bodies have them, and warns of those that are only named by declarations.
-    fn tell_undefined(&mut self) -> Result<(), AllocError> {
-        for number in 0..self.symbols.list.len() {
-            if let Some(symbol) = self.symbols.list.get(number).copied() {
-                if symbol.class != Class::Unknown {
-                    continue;
-                }
-                if symbol.is_used {
-                    self.tell(FaultKind::Undefined, symbol.mention.span)?;
-                } else {
-                    self.warn(FaultKind::Undefined, symbol.mention.span)?;
-                }
+    /// Tells that a symbol is nothing, though a body has it, and warns of one that only declarations name.
+    fn tell_undefined(&mut self, symbol: Symbol) -> Result<(), AllocError> {
+        match symbol.class {
+            Class::Unknown if symbol.is_used => {
+                self.tell(FaultKind::Undefined, symbol.mention.span)
             }
+            Class::Unknown => self.warn(FaultKind::Undefined, symbol.mention.span),
+            Class::Token | Class::Rule => Ok(()),
         }
-        Ok(())
     }
 
     /// Tells of start symbols that are no rules.
@@ -480,11 +532,13 @@ impl<'a> Meaning<'a> {
         self.take_statements(contents.statements.as_slice())?;
         self.take_bodies(contents.alternatives.as_slice())?;
         self.warn_of_precedences(contents.alternatives.as_slice())?;
-        self.tell_levels()?;
-        self.tell_codes()?;
         self.find_end();
-        self.tell_undefined()?;
-        self.tell_starts()
+        self.tell_symbols()?;
+        self.tell_starts()?;
+        match self.symbols.dialect {
+            Dialect::Bison => Ok(()),
+            Dialect::Grmtools => self.tell_unknown(contents),
+        }
     }
 
     /// Takes `YYEOF` for the end token where no symbol has the code 0.
@@ -493,10 +547,8 @@ impl<'a> Meaning<'a> {
             return;
         }
         self.end = self.symbols.find_name(b"YYEOF");
-        if let Some(symbol) = self.end.and_then(|end| self.symbols.list.get_mut(end)) {
-            if symbol.class == Class::Unknown {
-                symbol.class = Class::Token;
-            }
+        if let Some(end) = self.end {
+            self.symbols.take_for_token(end);
         }
     }
 
@@ -505,6 +557,14 @@ impl<'a> Meaning<'a> {
         match self.partner(number) {
             Some(partner) => partner.min(number),
             None => number,
+        }
+    }
+
+    /// The symbol that a lexeme names, by the name by which bodies and precedences go.
+    pub(crate) fn find(&self, lexeme: Lexeme) -> Option<usize> {
+        match self.symbols.find(lexeme) {
+            Some(number) => Some(self.canonical(number)),
+            None => None,
         }
     }
 

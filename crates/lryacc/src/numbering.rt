@@ -109,6 +109,30 @@ struct Numbering<'m, 'a> {
     grammar: FileGrammar,
 }
 
+/// The symbols of a body, and their places.
+#[derive(Drop)]
+struct PlacedSymbols {
+    symbols: Vec<PartSymbol>,
+    places: Vec<Span>,
+}
+
+impl PlacedSymbols {
+    /// No symbol.
+    fn new(alloc: Global) -> PlacedSymbols {
+        PlacedSymbols {
+            symbols: Vec::new(alloc),
+            places: Vec::new(alloc),
+        }
+    }
+
+    /// Adds a symbol that stands at a place.
+    fn add(&mut self, symbol: PartSymbol, place: Span) -> Result<(), AllocError> {
+        self.symbols.push(symbol)?;
+        self.places.push(place)?;
+        Ok(())
+    }
+}
+
 /// How tokens of a level group, in a grammar. Those of `%precedence` stand in a level by themselves.
 fn kind_of(kind: LevelKind) -> AssocKind
     ensures { result ≡ group_of kind }
@@ -166,6 +190,16 @@ impl<'m, 'a> Numbering<'m, 'a> {
     /// The memory that the parts take.
     fn allocator(&self) -> Global {
         *self.grammar.rule_places.allocator()
+    }
+
+    /// Adds the tokens and the rules, and where declarations have them.
+    fn add_symbols(&mut self, starts: &[Lexeme], contents: &Contents) -> Result<(), AllocError> {
+        self.add_tokens()?;
+        self.add_tokens_below()?;
+        self.add_marks(starts)?;
+        self.add_rules(contents.alternatives.as_slice())?;
+        self.add_bare_rules()?;
+        self.add_token_places(contents)
     }
 
     /// A symbol of the file.
@@ -365,7 +399,7 @@ impl<'m, 'a> Numbering<'m, 'a> {
     /// Adds a token below the tokens of each `%precedence` line.
     fn add_tokens_below(&mut self) -> Result<(), AllocError> {
         for at in 0..self.meaning.levels.len() {
-            if self.meaning.levels.get(at) == Some(&LevelKind::Precedence) {
+            if matches!(self.meaning.levels.get(at), Some(LevelKind::Precedence)) {
                 self.add_token_below(at.saturating_add(1))?;
             }
         }
@@ -396,20 +430,25 @@ impl<'m, 'a> Numbering<'m, 'a> {
             return Ok(());
         }
         for start in starts {
-            let name = name_text(self.allocator(), self.meaning.symbols.name(*start))?;
-            let told = format!(in self.allocator(); "YY_PARSE_{name}")?;
-            let mark = match self.token_named(told.as_str()) {
+            let name = self.mark_name(*start)?;
+            let mark = match self.token_named(name.as_str()) {
                 Some(token) => token,
-                None => self.add_token(told, None)?,
+                None => self.add_token(name, None)?,
             };
             self.marks.push(mark)?;
         }
         Ok(())
     }
 
+    /// The name of the token before a start rule.
+    fn mark_name(&self, start: Lexeme) -> Result<String, AllocError> {
+        let name = name_text(self.allocator(), self.meaning.symbols.name(start))?;
+        format!(in self.allocator(); "YY_PARSE_{name}")
+    }
+
     /// The symbol of a body that a lexeme names, if it is one.
     fn symbol(&self, lexeme: Lexeme) -> Option<PartSymbol> {
-        let number = self.meaning.canonical(self.meaning.symbols.find(lexeme)?);
+        let number = self.meaning.find(lexeme)?;
         if let Some(rule) = self.rules.get(&number) {
             return Some(PartSymbol::Rule(*rule));
         }
@@ -465,17 +504,15 @@ impl<'m, 'a> Numbering<'m, 'a> {
     }
 
     /// The symbols of a body, and their places.
-    fn body(&self, alternative: &Alternative) -> Result<(Vec<PartSymbol>, Vec<Span>), AllocError> {
-        let mut symbols = Vec::new(self.allocator());
-        let mut places = Vec::new(self.allocator());
+    fn body(&self, alternative: &Alternative) -> Result<PlacedSymbols, AllocError> {
+        let mut body = PlacedSymbols::new(self.allocator());
         for at in 0..alternative.parts.len() {
             let part = alternative.parts[at];
             if let Some(symbol) = self.symbol_of(part, is_last(alternative, at)) {
-                symbols.push(symbol)?;
-                places.push(part.span())?;
+                body.add(symbol, part.span())?;
             }
         }
-        Ok((symbols, places))
+        Ok(body)
     }
 
     /// The last token of a body.
@@ -492,7 +529,7 @@ impl<'m, 'a> Numbering<'m, 'a> {
 
     /// The token below the `%precedence` line in which a token stands.
     fn below_of(&self, token: Lexeme) -> Option<usize> {
-        let number = self.meaning.canonical(self.meaning.symbols.find(token)?);
+        let number = self.meaning.find(token)?;
         self.below.get(&self.level(number)?).copied()
     }
 
@@ -523,7 +560,7 @@ impl<'m, 'a> Numbering<'m, 'a> {
         ensures { OnOk result (Adds productions.old productions.new (body_places alternative.now)) }
     {
         self.add_empty_productions(productions, alternative)?;
-        let (symbols, places) = self.body(alternative)?;
+        let PlacedSymbols { symbols, places } = self.body(alternative)?;
         let prod = PartProd {
             rule: self.rule_of(alternative.rule),
             symbols,
@@ -609,13 +646,10 @@ fn start_rules(
     ensures { IfOk result (λ rules.
         rules.items ≡ start_rules_of meaning.now.starts.items alternatives.now) }
 {
-    let mut starts = Vec::from_slice(alloc, meaning.starts.as_slice())?;
-    if starts.is_empty() {
-        if let Some(first) = alternatives.first() {
-            starts.push(first.rule)?;
-        }
+    match alternatives {
+        [first, ..] if meaning.starts.is_empty() => Ok(vec![in alloc; first.rule]?),
+        _ => Ok(Vec::from_slice(alloc, meaning.starts.as_slice())?),
     }
-    Ok(starts)
 }
 
 /// The grammar of what a file says. The error says that memory was refused.
@@ -631,12 +665,7 @@ pub(crate) fn file_grammar(
     let alternatives = contents.alternatives.as_slice();
     let starts = start_rules(alloc, meaning, alternatives)?;
     let mut numbering = Numbering::new(alloc, meaning);
-    numbering.add_tokens()?;
-    numbering.add_tokens_below()?;
-    numbering.add_marks(starts.as_slice())?;
-    numbering.add_rules(alternatives)?;
-    numbering.add_bare_rules()?;
-    numbering.add_token_places(contents)?;
+    numbering.add_symbols(starts.as_slice(), contents)?;
     let productions = numbering.productions(starts.as_slice(), alternatives)?;
     Ok(numbering.grammar.with_productions(productions))
 }

@@ -148,19 +148,3 @@ pub(crate) fn between_quotes(text: &[u8], from: usize, quote: u8) -> Result<Quot
     let span = Span::new(from, from + 1);
     Err(Fault { kind, span })
 }
-
-/// The byte of the character whose quote stands at a place, and the place behind it.
-pub(crate) fn character(text: &[u8], from: usize) -> Result<(u8, usize), Fault>
-    requires { from < length text.now }
-    ensures from { IfOk result (λ found. from < found.1) }
-    ensures inside { IfOk result (λ found. found.1 ≤ length text.now) }
-{
-    let Quoted { end, bytes, last } = between_quotes(text, from, b'\'')?;
-    let kind = match bytes {
-        0 => FaultKind::EmptyCharacter,
-        1 => return Ok((last, end)),
-        _ => FaultKind::LongCharacter,
-    };
-    let span = Span::new(from, end);
-    Err(Fault { kind, span })
-}

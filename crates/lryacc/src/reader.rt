@@ -3,6 +3,7 @@
 ghost use Rattle.std.specs.Prelude.{◌≤◌, length};
 
 use crate::contents::{Contents, Statement};
+use crate::dialects::Dialect;
 use crate::faults::{Fault, FaultKind, Halt, Wanted};
 use crate::lexemes::{Lexeme, LexemeKind};
 use crate::places::Span;
@@ -12,30 +13,42 @@ use std::alloc::{AllocError, Global};
 #[derive(Drop)]
 pub(crate) struct Reader<'a> {
     pub(crate) text: &'a [u8],
+    pub(crate) dialect: Dialect,
     pub(crate) lexemes: &'a [Lexeme],
     pub(crate) at: usize,
     pub(crate) contents: Contents,
-    pub(crate) faults: Vec<Fault>,
 }
 
 impl<'a> Reader<'a> {
-    /// Nothing was read.
+    /// Nothing was read of a file with these lexemes and faults.
     pub(crate) fn new(
         alloc: Global,
         text: &'a [u8],
+        dialect: Dialect,
         lexemes: &'a [Lexeme],
         faults: Vec<Fault>,
     ) -> Reader<'a> {
         Reader {
             text,
+            dialect,
             lexemes,
             at: 0,
             contents: Contents {
                 statements: Vec::new(alloc),
                 alternatives: Vec::new(alloc),
+                faults,
             },
-            faults,
         }
+    }
+
+    /// Whether nothing is wrong so far.
+    pub(crate) fn is_whole(&self) -> bool {
+        self.contents.faults.is_empty()
+    }
+
+    /// The memory that is used.
+    pub(crate) fn allocator(&self) -> Global {
+        *self.contents.faults.allocator()
     }
 
     /// The next lexeme.
@@ -58,12 +71,24 @@ impl<'a> Reader<'a> {
 
     /// Takes the next lexeme, if it is of that kind.
     pub(crate) fn take(&mut self, kind: LexemeKind) -> Option<Lexeme> {
-        let lexeme = self.here()?;
-        if lexeme.kind != kind {
-            return None;
+        match self.here() {
+            Some(lexeme) if lexeme.kind == kind => {
+                self.pass();
+                Some(lexeme)
+            }
+            _ => None,
         }
-        self.pass();
-        Some(lexeme)
+    }
+
+    /// Passes over the next lexeme, if it is of that kind; false where it is not.
+    pub(crate) fn skip(&mut self, kind: LexemeKind) -> bool {
+        match self.here() {
+            Some(lexeme) if lexeme.kind == kind => {
+                self.pass();
+                true
+            }
+            _ => false,
+        }
     }
 
     /// Takes the next lexeme, which is to be of that kind.
@@ -74,17 +99,33 @@ impl<'a> Reader<'a> {
         }
     }
 
-    /// The fault that something else should stand here.
-    pub(crate) fn wants(&self, wanted: Wanted) -> Halt {
+    /// Passes over the next lexeme, which is to be of that kind.
+    pub(crate) fn pass_wanted(&mut self, kind: LexemeKind, wanted: Wanted) -> Result<(), Halt> {
+        if self.skip(kind) {
+            Ok(())
+        } else {
+            Err(self.wants(wanted))
+        }
+    }
+
+    /// Tells that something else should stand here.
+    pub(crate) fn tell_wanted(&mut self, wanted: Wanted) -> Result<(), AllocError> {
         let end = self.text.len();
         let span = match self.here() {
             Some(lexeme) => lexeme.span,
             None => Span::new(end, end),
         };
-        Halt::Fault(Fault {
-            kind: FaultKind::Wanted(wanted),
-            span,
-        })
+        self.tell(FaultKind::Wanted(wanted), span)
+    }
+
+    /// Stops, since something else should stand here, which is told.
+    pub(crate) fn wants(&mut self, wanted: Wanted) -> Halt {
+        Halt::behind(self.tell_wanted(wanted))
+    }
+
+    /// Stops for a fault, which is told.
+    pub(crate) fn fault(&mut self, kind: FaultKind, span: Span) -> Halt {
+        Halt::behind(self.tell(kind, span))
     }
 
     /// The bytes of a lexeme.
@@ -93,14 +134,10 @@ impl<'a> Reader<'a> {
         text.get(lexeme.span.start..lexeme.span.end).unwrap_or(b"")
     }
 
-    /// Takes a symbol, as it stands in a body: a name, a character or a text; of grmtools a name, perhaps in quotes.
+    /// Takes a symbol.
     pub(crate) fn take_symbol(&mut self) -> Option<Lexeme> {
-        let lexeme = self.here()?;
-        match lexeme.kind {
-            LexemeKind::Name
-            | LexemeKind::Character(_)
-            | LexemeKind::Text
-            | LexemeKind::QuotedName => {
+        match self.here() {
+            Some(lexeme) if lexeme.kind.is_of_symbol() => {
                 self.pass();
                 Some(lexeme)
             }
@@ -124,7 +161,7 @@ impl<'a> Reader<'a> {
 
     /// Tells a fault.
     pub(crate) fn tell(&mut self, kind: FaultKind, span: Span) -> Result<(), AllocError> {
-        self.faults.push(Fault { kind, span })?;
+        self.contents.faults.push(Fault { kind, span })?;
         Ok(())
     }
 }

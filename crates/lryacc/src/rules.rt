@@ -3,8 +3,9 @@
 ghost use Rattle.std.specs.Prelude.{◌≡◌, [], ◌∷◌, ◌++◌, OnOk};
 
 use crate::contents::{Alternative, BodyPart, Statement};
+use crate::dialects::Dialect;
 use crate::directives::Form;
-use crate::faults::{Fault, FaultKind, Halt, OldForm, Wanted};
+use crate::faults::{FaultKind, Halt, OldForm, Wanted};
 use crate::lexemes::{Lexeme, LexemeKind};
 use crate::places::Span;
 use crate::reader::Reader;
@@ -25,16 +26,14 @@ pub(crate) struct Body {
 }
 
 /// Whether a directive of that form may stand in a body.
-fn is_of_body(form: Form) -> bool {
-    matches!(
-        form,
-        Form::Empty
-            | Form::Precedence
-            | Form::ShiftReduce
-            | Form::ReduceReduce
-            | Form::BodyNumber
-            | Form::BodyTag
-    )
+fn is_of_body(form: Form, dialect: Dialect) -> bool {
+    match form {
+        Form::Empty | Form::Precedence => true,
+        Form::ShiftReduce | Form::ReduceReduce | Form::BodyNumber | Form::BodyTag => {
+            dialect == Dialect::Bison
+        }
+        _ => false,
+    }
 }
 
 /// Whether a directive of that form may stand before the rules alone.
@@ -52,15 +51,9 @@ fn is_before_rules(form: Form) -> bool {
     )
 }
 
-/// A fault at a lexeme.
-pub(crate) fn fault_at(kind: FaultKind, lexeme: Lexeme) -> Halt {
-    let span = lexeme.span;
-    Halt::Fault(Fault { kind, span })
-}
-
 impl Body {
     /// Nothing was read.
-    pub(crate) fn new(alloc: Global) -> Body {
+    fn new(alloc: Global) -> Body {
         Body {
             parts: Vec::new(alloc),
             precedence: None,
@@ -72,7 +65,7 @@ impl Body {
     }
 
     /// Has the body reach to the end of a lexeme.
-    pub(crate) fn reach(&mut self, lexeme: Lexeme) {
+    fn reach(&mut self, lexeme: Lexeme) {
         let start = match self.span {
             Some(span) => span.start,
             None => lexeme.span.start,
@@ -86,25 +79,74 @@ impl Body {
         self.parts.push(part)?;
         Ok(())
     }
+
+    /// The `%empty`, if the body is not empty. It may have an action.
+    fn misplaced_empty(&self) -> Option<Span> {
+        match self.parts.as_slice() {
+            [] | [BodyPart::Action(..)] => None,
+            _ => self.empty,
+        }
+    }
+
+    /// The body of a rule, which begins behind a mark.
+    fn alternative(self, rule: Lexeme, mark: Lexeme) -> Alternative {
+        let Body {
+            parts,
+            precedence,
+            span,
+            ..
+        } = self;
+        let behind = Span::new(mark.span.end, mark.span.end);
+        Alternative {
+            rule,
+            parts,
+            precedence,
+            span: span.unwrap_or(behind),
+        }
+    }
 }
 
 impl<'a> Reader<'a> {
+    /// Reads the whole file.
+    pub(crate) fn file(&mut self) -> Result<(), AllocError> {
+        if self.dialect == Dialect::Grmtools {
+            let read = self.header();
+            self.settle(read)?;
+        }
+        self.declarations()?;
+        self.rules()?;
+        if self.contents.alternatives.is_empty() && self.is_whole() {
+            let end = self.text.len();
+            self.tell(FaultKind::NoRules, Span::new(end, end))?;
+        }
+        Ok(())
+    }
+
     /// Reads declarations up to the first `%%`.
-    pub(crate) fn declarations(&mut self) -> Result<(), AllocError> {
+    fn declarations(&mut self) -> Result<(), AllocError> {
         for _ in 0..self.lexemes.len() {
             match self.kind() {
                 None | Some(LexemeKind::Separator) => break,
-                Some(LexemeKind::Semicolon | LexemeKind::Prologue) => self.pass(),
+                Some(LexemeKind::Prologue | LexemeKind::DirectiveLine) => self.pass(),
+                Some(LexemeKind::Semicolon) if self.dialect == Dialect::Bison => self.pass(),
                 Some(_) => {
                     let read = self.declaration();
                     self.settle(read)?;
                 }
             }
         }
-        if !self.separator()? && self.faults.is_empty() {
-            self.note(self.wants(Wanted::Declaration))?;
+        if !self.separator()? && self.is_whole() {
+            self.tell_wanted(Wanted::Declaration)?;
         }
         Ok(())
+    }
+
+    /// Reads a declaration.
+    fn declaration(&mut self) -> Result<(), Halt> {
+        match self.dialect {
+            Dialect::Bison => self.bison_declaration(),
+            Dialect::Grmtools => self.grmtools_declaration(),
+        }
     }
 
     /// Takes `%%`, and tells of the old form of it; false where it doesn't stand here.
@@ -118,12 +160,20 @@ impl<'a> Reader<'a> {
         Ok(true)
     }
 
-    /// Tells the fault that was come by, and passes over lexemes up to where something new may begin.
-    pub(crate) fn settle(&mut self, read: Result<(), Halt>) -> Result<(), AllocError> {
-        let Err(halt) = read else {
-            return Ok(());
-        };
-        self.note(halt)?;
+    /// Goes on behind a fault that stopped reading.
+    fn settle(&mut self, read: Result<(), Halt>) -> Result<(), AllocError> {
+        match read {
+            Ok(()) => Ok(()),
+            Err(Halt::Fault) => {
+                self.pass_on();
+                Ok(())
+            }
+            Err(Halt::Memory) => Err(AllocError),
+        }
+    }
+
+    /// Passes over lexemes up to where something new may begin.
+    fn pass_on(&mut self) {
         for _ in 0..self.lexemes.len() {
             match self.kind() {
                 None | Some(LexemeKind::Separator | LexemeKind::Directive | LexemeKind::RuleName) =>
@@ -135,72 +185,73 @@ impl<'a> Reader<'a> {
                 Some(_) => self.pass(),
             }
         }
-        Ok(())
     }
 
-    /// Tells a fault.
-    pub(crate) fn note(&mut self, halt: Halt) -> Result<(), AllocError> {
-        match halt {
-            Halt::Fault(fault) => self.tell(fault.kind, fault.span),
-            Halt::Memory => Err(AllocError),
-        }
-    }
-
-    /// Reads rules, and declarations among them, up to the second `%%` or the end.
-    pub(crate) fn rules(&mut self) -> Result<(), AllocError> {
+    /// Reads rules, and for Bison declarations among them, up to the second `%%` or the end.
+    fn rules(&mut self) -> Result<(), AllocError> {
         let mut is_first = true;
         for _ in 0..self.lexemes.len() {
-            match self.kind() {
+            let read = match self.kind() {
                 None | Some(LexemeKind::Separator) => break,
-                Some(LexemeKind::Semicolon) if !self.faults.is_empty() => self.pass(),
-                Some(LexemeKind::RuleName) => {
-                    let read = self.rule();
-                    self.settle(read)?;
-                }
-                Some(LexemeKind::Directive) => {
-                    let read = self.declaration_among_rules();
-                    self.settle(read)?;
-                }
-                Some(_) => {
-                    let halt = self.wants(Wanted::Rule);
-                    self.pass();
-                    self.settle(Err(halt))?;
-                }
-            }
+                Some(kind) => self.rule_from(kind),
+            };
+            self.settle(read)?;
             is_first = false;
         }
-        if is_first && self.faults.is_empty() {
-            self.note(self.wants(Wanted::Rule))?;
+        if is_first && self.is_whole() && self.dialect == Dialect::Bison {
+            self.tell_wanted(Wanted::Rule)?;
         }
         let _ = self.separator()?;
         Ok(())
     }
 
+    /// Reads the rule that begins with a lexeme of that kind, or what else may stand among rules.
+    fn rule_from(&mut self, kind: LexemeKind) -> Result<(), Halt> {
+        match (self.dialect, kind) {
+            (Dialect::Bison, LexemeKind::RuleName) => self.rule(),
+            (Dialect::Bison, LexemeKind::Directive) => self.declaration_among_rules(),
+            (Dialect::Bison, LexemeKind::Semicolon) if !self.is_whole() => {
+                self.pass();
+                Ok(())
+            }
+            (Dialect::Grmtools, LexemeKind::RuleName | LexemeKind::Name) => self.grmtools_rule(),
+            _ => {
+                let halt = self.wants(Wanted::Rule);
+                self.pass();
+                Err(halt)
+            }
+        }
+    }
+
     /// Reads a declaration, and the `;` that ends it among rules.
     fn declaration_among_rules(&mut self) -> Result<(), Halt> {
         if let Some(directive) = self.here() {
-            if self
-                .form(directive)
-                .is_some_and(|form| is_before_rules(form))
-            {
+            if matches!(self.form(directive), Some(form) if is_before_rules(form)) {
                 self.pass();
-                return Err(fault_at(FaultKind::Wanted(Wanted::Rule), directive));
+                return Err(self.fault(FaultKind::Wanted(Wanted::Rule), directive.span));
             }
         }
         self.declaration()?;
-        let _ = self.want(LexemeKind::Semicolon, Wanted::Semicolon)?;
-        Ok(())
+        self.pass_wanted(LexemeKind::Semicolon, Wanted::Semicolon)
     }
 
     /// Reads a rule.
     fn rule(&mut self) -> Result<(), Halt> {
         let name = self.want(LexemeKind::RuleName, Wanted::Rule)?;
         self.state(Statement::LeftSide(name))?;
-        let _ = self.take(LexemeKind::BracketName);
-        let mut mark = self.want(LexemeKind::Colon, Wanted::Rule)?;
+        let _ = self.skip(LexemeKind::BracketName);
+        let colon = self.want(LexemeKind::Colon, Wanted::Rule)?;
+        self.alternatives(name, colon)
+    }
+
+    /// Reads the bodies of a rule, the first of which begins behind a colon. For Bison, `;` may stand before `|`.
+    pub(crate) fn alternatives(&mut self, rule: Lexeme, colon: Lexeme) -> Result<(), Halt> {
+        let mut mark = colon;
         for _ in 0..self.lexemes.len() {
-            self.alternative(name, mark)?;
-            self.pass_semicolons();
+            self.alternative(rule, mark)?;
+            if self.dialect == Dialect::Bison {
+                self.pass_semicolons();
+            }
             match self.take(LexemeKind::Bar) {
                 Some(bar) => mark = bar,
                 None => break,
@@ -212,7 +263,7 @@ impl<'a> Reader<'a> {
     /// Passes over `;`.
     fn pass_semicolons(&mut self) {
         for _ in 0..self.lexemes.len() {
-            if self.take(LexemeKind::Semicolon).is_none() {
+            if !self.skip(LexemeKind::Semicolon) {
                 break;
             }
         }
@@ -220,38 +271,63 @@ impl<'a> Reader<'a> {
 
     /// Reads a body, which begins behind a mark.
     fn alternative(&mut self, rule: Lexeme, mark: Lexeme) -> Result<(), Halt> {
-        let mut body = Body::new(*self.faults.allocator());
+        let mut body = Body::new(self.allocator());
+        self.parts(&mut body)?;
+        self.end_body(rule, mark, body)?;
+        Ok(())
+    }
+
+    /// Reads the parts and directives of a body.
+    fn parts(&mut self, body: &mut Body) -> Result<(), Halt> {
         for _ in 0..self.lexemes.len() {
             let Some(lexeme) = self.here() else {
                 break;
             };
             let goes_on = match self.form_in_body(lexeme) {
-                Some(form) => {
-                    self.pass();
-                    body.reach(lexeme);
-                    self.body_directive(&mut body, form, lexeme)?;
-                    true
-                }
-                None => self.part(&mut body, lexeme)?,
+                Some(form) => self.directive_in_body(body, form, lexeme)?,
+                None => self.part(body, lexeme)?,
             };
             if !goes_on {
                 break;
             }
         }
-        self.end_body(rule, mark, body)
+        Ok(())
+    }
+
+    /// Reads a directive of a body, and what stands behind it. The body goes on behind that.
+    fn directive_in_body(
+        &mut self,
+        body: &mut Body,
+        form: Form,
+        directive: Lexeme,
+    ) -> Result<bool, Halt> {
+        self.pass();
+        body.reach(directive);
+        self.body_directive(body, form, directive)?;
+        Ok(true)
     }
 
     /// What stands behind a directive that may stand in a body; None for any other lexeme.
-    fn form_in_body(&self, lexeme: Lexeme) -> Option<Form> {
+    pub(crate) fn form_in_body(&self, lexeme: Lexeme) -> Option<Form> {
         if lexeme.kind != LexemeKind::Directive {
             return None;
         }
-        let form = self.form(lexeme)?;
-        if is_of_body(form) { Some(form) } else { None }
+        match self.form(lexeme) {
+            Some(form) if is_of_body(form, self.dialect) => Some(form),
+            _ => None,
+        }
     }
 
     /// Reads a part of a body; false where the body ends before the lexeme.
     fn part(&mut self, body: &mut Body, lexeme: Lexeme) -> Result<bool, Halt> {
+        match self.dialect {
+            Dialect::Bison => self.bison_part(body, lexeme),
+            Dialect::Grmtools => self.grmtools_part(body, lexeme),
+        }
+    }
+
+    /// Reads a part of a body of a file for Bison; false where the body ends before the lexeme.
+    fn bison_part(&mut self, body: &mut Body, lexeme: Lexeme) -> Result<bool, Halt> {
         match lexeme.kind {
             LexemeKind::Name | LexemeKind::Character(_) | LexemeKind::Text => {
                 body.add(BodyPart::Symbol(lexeme), lexeme)?;
@@ -264,7 +340,7 @@ impl<'a> Reader<'a> {
             }
             LexemeKind::Tag => {
                 self.pass();
-                if self.kind() != Some(LexemeKind::Action) {
+                if !matches!(self.kind(), Some(LexemeKind::Action)) {
                     return Err(self.wants(Wanted::Code));
                 }
                 return Ok(true);
@@ -273,14 +349,14 @@ impl<'a> Reader<'a> {
             _ => return Ok(false),
         }
         self.pass();
-        let _ = self.take(LexemeKind::BracketName);
+        let _ = self.skip(LexemeKind::BracketName);
         Ok(true)
     }
 
     /// Passes over the `=` that old Yacc has before an action, and tells of it; false where no action stands behind it.
     fn old_equals(&mut self, equals: Lexeme) -> Result<bool, Halt> {
         let behind = self.lexemes.get(self.at.saturating_add(1));
-        if !behind.is_some_and(|lexeme| lexeme.kind == LexemeKind::Action) {
+        if !matches!(behind, Some(lexeme) if lexeme.kind == LexemeKind::Action) {
             return Ok(false);
         }
         self.pass();
@@ -289,7 +365,7 @@ impl<'a> Reader<'a> {
     }
 
     /// Reads what stands behind a directive of a body.
-    pub(crate) fn body_directive(
+    fn body_directive(
         &mut self,
         body: &mut Body,
         form: Form,
@@ -297,63 +373,52 @@ impl<'a> Reader<'a> {
     ) -> Result<(), Halt> {
         match form {
             Form::Empty => {
-                if body.empty.is_some() {
-                    return Err(fault_at(FaultKind::Twice, directive));
-                }
+                self.only(body.empty.is_none(), directive)?;
                 body.empty = Some(directive.span);
             }
-            Form::Precedence => {
-                let symbol = self.want_symbol()?;
-                if body.precedence.is_some() {
-                    return Err(fault_at(FaultKind::Twice, symbol));
-                }
-                self.state(Statement::NamedPrecedence(symbol))?;
-                body.precedence = Some(symbol);
-                body.reach(symbol);
-            }
+            Form::Precedence => self.body_precedence(body)?,
             Form::BodyTag => {
                 let tag = self.want(LexemeKind::Tag, Wanted::Tag)?;
-                if body.has_tag {
-                    return Err(fault_at(FaultKind::Twice, tag));
-                }
+                self.only(!body.has_tag, tag)?;
                 body.has_tag = true;
             }
             Form::BodyNumber => {
                 let number = self.want(LexemeKind::Number, Wanted::Number)?;
-                if body.has_number {
-                    return Err(fault_at(FaultKind::Twice, number));
-                }
+                self.only(!body.has_number, number)?;
                 body.has_number = true;
             }
-            _ => {
-                let _ = self.want(LexemeKind::Number, Wanted::Number)?;
-            }
+            _ => self.pass_wanted(LexemeKind::Number, Wanted::Number)?,
         }
         Ok(())
     }
 
-    /// Adds the body to the contents.
-    pub(crate) fn end_body(&mut self, rule: Lexeme, mark: Lexeme, body: Body) -> Result<(), Halt> {
-        let Body {
-            parts,
-            precedence,
-            empty,
-            span,
-            ..
-        } = body;
-        if let Some(empty) = empty {
-            if !matches!(parts.as_slice(), [] | [BodyPart::Action(..)]) {
-                self.tell(FaultKind::NotEmpty, empty)?;
-            }
-        }
-        let behind = Span::new(mark.span.end, mark.span.end);
-        self.add_alternative(Alternative {
-            rule,
-            parts,
-            precedence,
-            span: span.unwrap_or(behind),
-        })?;
+    /// Reads the token behind `%prec`.
+    fn body_precedence(&mut self, body: &mut Body) -> Result<(), Halt> {
+        let symbol = self.want_symbol()?;
+        self.only(body.precedence.is_none(), symbol)?;
+        self.state(Statement::NamedPrecedence(symbol))?;
+        body.precedence = Some(symbol);
+        body.reach(symbol);
         Ok(())
+    }
+
+    /// Stops at a lexeme of which a body has one at most, unless it is the first one.
+    fn only(&mut self, is_first: bool, lexeme: Lexeme) -> Result<(), Halt> {
+        if is_first {
+            Ok(())
+        } else {
+            Err(self.fault(FaultKind::Twice, lexeme.span))
+        }
+    }
+
+    /// Adds the body to the contents.
+    fn end_body(&mut self, rule: Lexeme, mark: Lexeme, body: Body) -> Result<(), AllocError> {
+        let misplaced = body.misplaced_empty();
+        self.add_alternative(body.alternative(rule, mark))?;
+        match misplaced {
+            Some(empty) => self.tell(FaultKind::NotEmpty, empty),
+            None => Ok(()),
+        }
     }
 
     /// Adds a body.

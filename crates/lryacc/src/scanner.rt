@@ -156,23 +156,36 @@ fn name_rule(lexemes: &mut Vec<Lexeme>) {
 }
 
 /// The lexemes of a file, and what is wrong among them.
-pub(crate) fn lexemes(
-    alloc: Global,
-    text: &[u8],
-    dialect: Dialect,
-) -> Result<(Vec<Lexeme>, Vec<Fault>), AllocError> {
-    let mut lexemes = Vec::new(alloc);
-    let mut faults = Vec::new(alloc);
-    for found in Scanner::new(text, dialect) {
+#[derive(Drop)]
+pub(crate) struct Scanned {
+    pub(crate) lexemes: Vec<Lexeme>,
+    pub(crate) faults: Vec<Fault>,
+}
+
+impl Scanned {
+    /// Adds what a scanner found.
+    fn add(&mut self, found: Result<Lexeme, Fault>) -> Result<(), AllocError> {
         match found {
             Ok(lexeme) => {
                 if lexeme.kind == LexemeKind::Colon {
-                    name_rule(&mut lexemes);
+                    name_rule(&mut self.lexemes);
                 }
-                lexemes.push(lexeme)?;
+                self.lexemes.push(lexeme)?;
             }
-            Err(fault) => faults.push(fault)?,
+            Err(fault) => self.faults.push(fault)?,
         }
+        Ok(())
     }
-    Ok((lexemes, faults))
+}
+
+/// The lexemes of a file, and what is wrong among them.
+pub(crate) fn scan(alloc: Global, text: &[u8], dialect: Dialect) -> Result<Scanned, AllocError> {
+    let mut scanned = Scanned {
+        lexemes: Vec::new(alloc),
+        faults: Vec::new(alloc),
+    };
+    for found in Scanner::new(text, dialect) {
+        scanned.add(found)?;
+    }
+    Ok(scanned)
 }

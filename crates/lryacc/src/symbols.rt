@@ -24,9 +24,9 @@ pub(crate) struct Symbol {
     pub(crate) mention: Lexeme,
     pub(crate) class: Class,
     /// Where the first `%token` or `%nterm` names it.
-    pub(crate) declared: Option<Lexeme>,
+    pub(crate) declared: Option<Span>,
     /// The tag of its values, and where that is said.
-    pub(crate) tag: Option<(Lexeme, Lexeme)>,
+    pub(crate) tag: Option<(Span, Span)>,
     /// The number by which its lexer calls it: that of a character, or where the file gives it one.
     pub(crate) code: Option<u64>,
     /// The precedence line that it stands in, counted from 1, and the line up to where it is named there.
@@ -60,7 +60,7 @@ impl Symbol {
 
     /// Where it is declared, or else where it is named first.
     pub(crate) fn span(&self) -> Span {
-        self.declared.unwrap_or(self.mention).span
+        self.declared.unwrap_or(self.mention.span)
     }
 
     /// The place by which it is ordered among the others of its class.
@@ -91,10 +91,10 @@ impl<'a> Symbols<'a> {
         }
     }
 
-    /// The bytes of a lexeme.
-    pub(crate) fn bytes(&self, lexeme: Lexeme) -> &'a [u8] {
+    /// The bytes at a place.
+    pub(crate) fn bytes(&self, place: Span) -> &'a [u8] {
         let text = self.text;
-        text.get(lexeme.span.start..lexeme.span.end).unwrap_or(b"")
+        text.get(place.start..place.end).unwrap_or(b"")
     }
 
     /// The number of the symbol of that name, which has a meaning of its own for Bison.
@@ -113,7 +113,7 @@ impl<'a> Symbols<'a> {
     /// The bytes that name a symbol: those of a text to be translated are those of the text, and `YYerror` is `error`. Quotes of
     /// grmtools are no part of a name.
     pub(crate) fn name(&self, lexeme: Lexeme) -> &'a [u8] {
-        let bytes = self.bytes(lexeme);
+        let bytes = self.bytes(lexeme.span);
         match lexeme.kind {
             LexemeKind::TranslatedText => match bytes {
                 [b'_', b'(', quoted @ .., b')'] => quoted,
@@ -142,6 +142,15 @@ impl<'a> Symbols<'a> {
         if let Some(symbol) = self.list.get_mut(number) {
             if lexeme.span.start < symbol.mention.span.start {
                 symbol.mention = lexeme;
+            }
+        }
+    }
+
+    /// Takes a symbol for a token, if nothing says what it is.
+    pub(crate) fn take_for_token(&mut self, number: usize) {
+        if let Some(symbol) = self.list.get_mut(number) {
+            if symbol.class == Class::Unknown {
+                symbol.class = Class::Token;
             }
         }
     }

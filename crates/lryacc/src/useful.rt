@@ -73,15 +73,37 @@ fn empty_lists(alloc: Global, count: usize) -> Result<Vec<Vec<usize>>, AllocErro
     Ok(lists)
 }
 
-/// By rule, the productions whose bodies have it, as often as they do; by production, how often it has a rule.
-fn uses(alloc: Global, parts: &GrammarParts) -> Result<(Vec<Vec<usize>>, Vec<usize>), AllocError> {
-    let mut by_rule = empty_lists(alloc, parts.rules.len())?;
-    let mut counts: Vec<usize> = Vec::new(alloc);
-    for prod in 0..parts.prods.len() {
-        let symbols = parts.prods[prod].symbols.as_slice();
-        counts.push(add_uses(&mut by_rule, prod, symbols)?)?;
+/// Where the bodies of productions have rules.
+#[derive(Drop)]
+struct Uses {
+    /// By rule, the productions whose bodies have it, as often as they do.
+    by_rule: Vec<Vec<usize>>,
+    /// By production, how often it has a rule that is not found yet.
+    counts: Vec<usize>,
+}
+
+impl Uses {
+    /// Adds a production. Its rule is found where its body has no rule.
+    fn add(&mut self, search: &mut Search, at: usize, prod: &PartProd) -> Result<(), AllocError> {
+        let count = add_uses(&mut self.by_rule, at, prod.symbols.as_slice())?;
+        self.counts.push(count)?;
+        if count == 0 {
+            search.find(prod.rule)?;
+        }
+        Ok(())
     }
-    Ok((by_rule, counts))
+}
+
+/// Where the bodies of a grammar have rules. Finds the rules of those that have none.
+fn uses_of(alloc: Global, parts: &GrammarParts, search: &mut Search) -> Result<Uses, AllocError> {
+    let mut uses = Uses {
+        by_rule: empty_lists(alloc, parts.rules.len())?,
+        counts: Vec::new(alloc),
+    };
+    for prod in 0..parts.prods.len() {
+        uses.add(search, prod, &parts.prods[prod])?;
+    }
+    Ok(uses)
 }
 
 /// Adds a production to those of the rules among the symbols of its body, and answers how many these are.
@@ -102,22 +124,27 @@ fn add_uses(
 
 /// Which rules derive a text.
 fn productive(alloc: Global, parts: &GrammarParts) -> Result<Search, AllocError> {
-    let (by_rule, mut counts) = uses(alloc, parts)?;
     let mut search = Search::new(alloc, parts.rules.len())?;
-    for prod in 0..parts.prods.len() {
-        if counts.get(prod) == Some(&0) {
-            search.find(parts.prods[prod].rule)?;
-        }
-    }
+    let mut uses = uses_of(alloc, parts, &mut search)?;
+    find_productive(&mut search, &mut uses, parts)?;
+    Ok(search)
+}
+
+/// Finds the rules that derive a text by those that are found.
+fn find_productive(
+    search: &mut Search,
+    uses: &mut Uses,
+    parts: &GrammarParts,
+) -> Result<(), AllocError> {
     for _ in 0..parts.rules.len() {
         let Some(rule) = search.todo.pop() else {
             break;
         };
-        if let Some(prods) = by_rule.get(rule) {
-            count_down(&mut search, &mut counts, parts, prods.as_slice())?;
+        if let Some(prods) = uses.by_rule.get(rule) {
+            count_down(search, &mut uses.counts, parts, prods.as_slice())?;
         }
     }
-    Ok(search)
+    Ok(())
 }
 
 /// Notes that a rule of these productions derives a text.
@@ -155,16 +182,27 @@ fn prods_of_rules(alloc: Global, parts: &GrammarParts) -> Result<Vec<Vec<usize>>
 fn reached(alloc: Global, parts: &GrammarParts, productive: &Search) -> Result<Search, AllocError> {
     let by_rule = prods_of_rules(alloc, parts)?;
     let mut search = Search::new(alloc, parts.rules.len())?;
+    find_reached(&mut search, by_rule.as_slice(), parts, productive)?;
+    Ok(search)
+}
+
+/// Finds the rules that are reached from rule 0 over productions that derive a text.
+fn find_reached(
+    search: &mut Search,
+    by_rule: &[Vec<usize>],
+    parts: &GrammarParts,
+    productive: &Search,
+) -> Result<(), AllocError> {
     search.find(0)?;
     for _ in 0..parts.rules.len() {
         let Some(rule) = search.todo.pop() else {
             break;
         };
         if let Some(prods) = by_rule.get(rule) {
-            find_behind(&mut search, parts, prods.as_slice(), productive)?;
+            find_behind(search, parts, prods.as_slice(), productive)?;
         }
     }
-    Ok(search)
+    Ok(())
 }
 
 /// Finds the rules in the bodies of those of the productions that derive a text.
@@ -199,14 +237,21 @@ fn new_numbers(alloc: Global, kept: &Search) -> Result<Vec<Option<usize>>, Alloc
     let mut numbers = Vec::new(alloc);
     let mut next: usize = 0;
     for is_kept in &kept.found {
-        if *is_kept {
-            numbers.push(Some(next))?;
-            next = next.saturating_add(1);
-        } else {
-            numbers.push(None)?;
-        }
+        numbers.push(if *is_kept { Some(next) } else { None })?;
+        next = next.saturating_add(usize::from(*is_kept));
     }
     Ok(numbers)
+}
+
+/// A symbol, if it is a rule by its new number.
+fn renumbered_symbol(symbol: PartSymbol, numbers: &[Option<usize>]) -> PartSymbol {
+    match symbol {
+        PartSymbol::Rule(rule) => match numbers.get(rule) {
+            Some(Some(number)) => PartSymbol::Rule(*number),
+            _ => PartSymbol::Rule(0),
+        },
+        PartSymbol::Token(_) => symbol,
+    }
 }
 
 /// The symbols with the rules by their new numbers.
@@ -217,13 +262,7 @@ fn renumbered(
 ) -> Result<Vec<PartSymbol>, AllocError> {
     let mut list = Vec::new(alloc);
     for symbol in symbols {
-        match *symbol {
-            PartSymbol::Rule(rule) => {
-                let number = numbers.get(rule).copied().flatten();
-                list.push(PartSymbol::Rule(number.unwrap_or(0)))?;
-            }
-            PartSymbol::Token(_) => list.push(*symbol)?,
-        }
+        list.push(renumbered_symbol(*symbol, numbers))?;
     }
     Ok(list)
 }

@@ -6,8 +6,9 @@ use crate::code::{CodeReader, Ending};
 use crate::contents::BodyPart;
 use crate::dialects::Dialect;
 use crate::gaps::gap_end;
-use crate::lexemes::{Lexeme, is_name_start, name_end};
+use crate::lexemes::{Lexeme, is_name_start};
 use crate::numbers::value_of;
+use crate::runs::Run;
 use crate::symbols::Symbols;
 use std::alloc::{AllocError, Global};
 use std::collections::BTreeMap;
@@ -44,28 +45,6 @@ fn behind_tag(code: &[u8], from: usize) -> Option<usize>
     None
 }
 
-/// The place from `from` on at which digits end.
-fn digits_end(code: &[u8], from: usize) -> usize
-    requires { from ≤ length code.now }
-    ensures from { from ≤ result }
-    ensures inside { result ≤ length code.now }
-{
-    for at in from..code.len() {
-        if !code[at].is_ascii_digit() {
-            return at;
-        }
-    }
-    code.len()
-}
-
-/// A name up to its first `.` or `-`: what stands behind that is of the host language where the name has no brackets.
-fn plain_part(name: &[u8]) -> &[u8] {
-    match name.iter().position(|byte| matches!(byte, b'.' | b'-')) {
-        Some(end) => name.get(..end).unwrap_or(name),
-        None => name,
-    }
-}
-
 /// The value that is called so behind the `$` before a place, and the place behind what calls it.
 fn value_at(code: &[u8], from: usize) -> Option<(Value<'_>, usize)>
     requires { from ≤ length code.now }
@@ -76,17 +55,18 @@ fn value_at(code: &[u8], from: usize) -> Option<(Value<'_>, usize)>
         return Some((Value::Own, start + 1));
     }
     if first.is_ascii_digit() {
-        let end = digits_end(code, start);
+        let end = Run::Digits.end(code, start);
         return Some((Value::Numbered(value_of(&code[start..end])?), end));
     }
     if is_name_start(first) {
-        let end = name_end(code, start);
-        return Some((Value::Named(plain_part(&code[start..end])), end));
+        // What stands behind a `.` or `-` is of the host language where the name has no brackets.
+        let name = &code[start..Run::Word.end(code, start)];
+        return Some((Value::Named(name), Run::Name.end(code, start)));
     }
     if first != b'[' || !is_name_start(*code.get(start + 1)?) {
         return None;
     }
-    let end = name_end(code, start + 1);
+    let end = Run::Name.end(code, start + 1);
     if *code.get(end)? != b']' {
         return None;
     }
@@ -108,31 +88,12 @@ fn value_of_mark(code: &[u8], at: usize) -> (Option<Value<'_>>, usize)
     }
 }
 
-/// The values that an action uses. What stands in its quotes and comments uses none.
-fn values(alloc: Global, code: &[u8]) -> Result<Vec<Value<'_>>, AllocError> {
-    let mut values = Vec::new(alloc);
-    let mut reader = CodeReader::new(Ending::File);
-    // The place behind the last mark.
-    let mut behind: usize = 0;
-    for at in 0..code.len() {
-        if behind <= at && reader.is_in_code() {
-            let (value, end) = value_of_mark(code, at);
-            behind = end;
-            if let Some(value) = value {
-                values.push(value)?;
-            }
-        }
-        let _ = reader.take(at, code[at]);
-    }
-    Ok(values)
-}
-
 /// The name between brackets.
 fn name_between(bracket: &[u8]) -> &[u8] {
     match bracket {
         [b'[', inner @ ..] => {
             let start = gap_end(inner, 0, Dialect::Bison).unwrap_or(0);
-            let end = name_end(inner, start);
+            let end = Run::Name.end(inner, start);
             inner.get(start..end).unwrap_or(inner)
         }
         _ => bracket,
@@ -153,20 +114,53 @@ impl<'a> Uses<'a> {
     fn part(&self, at: usize, value: Value<'a>) -> Option<usize> {
         match value {
             Value::Own => Some(at),
-            Value::Numbered(number) => usize::try_from(number).ok()?.checked_sub(1),
+            Value::Numbered(number) => (number as usize).checked_sub(1),
             Value::Named(name) => self.names.get(&name).copied(),
         }
     }
 
-    /// Takes in the values that the action at a place of the body uses.
-    fn take(&mut self, at: usize, values: &[Value<'a>]) {
-        for value in values {
-            if let Some(part) = self.part(at, *value) {
-                if let Some(used) = self.used.get_mut(part) {
-                    *used = true;
-                }
+    /// Takes in that the action at a place of the body uses a value.
+    fn take(&mut self, at: usize, value: Value<'a>) {
+        if let Some(part) = self.part(at, value) {
+            if let Some(used) = self.used.get_mut(part) {
+                *used = true;
             }
         }
+    }
+
+    /// Takes in the values that the action at a place of the body uses. What stands in its quotes and comments uses none.
+    fn take_code(&mut self, at: usize, code: &'a [u8]) {
+        let mut reader = CodeReader::new(Ending::File);
+        // The place behind the last mark.
+        let mut behind: usize = 0;
+        for place in 0..code.len() {
+            if behind <= place && reader.is_in_code() {
+                let (value, end) = value_of_mark(code, place);
+                behind = end;
+                if let Some(value) = value {
+                    self.take(at, value);
+                }
+            }
+            let _ = reader.take(place, code[place]);
+        }
+    }
+
+    /// Takes in a part of a body, which is the last one or is not.
+    fn take_part(
+        &mut self,
+        symbols: &Symbols<'a>,
+        at: usize,
+        part: BodyPart,
+        is_last: bool,
+    ) -> Result<(), AllocError> {
+        if let BodyPart::Action(action, name) = part {
+            if let (Some(name), false) = (name, is_last) {
+                self.names
+                    .insert(name_between(symbols.bytes(name.span)), at)?;
+            }
+            self.take_code(at, symbols.bytes(action.span));
+        }
+        Ok(())
     }
 }
 
@@ -182,13 +176,8 @@ pub(crate) fn used_values(
         used: vec![in alloc; false; parts.len()]?,
     };
     for at in 0..parts.len() {
-        if let BodyPart::Action(action, name) = parts[at] {
-            if let (Some(name), true) = (name, at.saturating_add(1) < parts.len()) {
-                uses.names.insert(name_between(symbols.bytes(name)), at)?;
-            }
-            let values = values(alloc, symbols.bytes(action))?;
-            uses.take(at, values.as_slice());
-        }
+        let is_last = at.saturating_add(1) == parts.len();
+        uses.take_part(symbols, at, parts[at], is_last)?;
     }
     Ok(uses.used)
 }
