@@ -96,10 +96,10 @@ impl<'a> Reader<'a> {
         }
     }
 
-    /// What stands behind a directive; None where Bison doesn't know it.
+    /// What stands behind a directive; None for an unknown one.
     pub(crate) fn form(&self, directive: Lexeme) -> Option<Form> {
         match self.bytes(directive) {
-            [b'%', name @ ..] => form_of(name),
+            [b'%', name @ ..] => form_of(name, self.dialect),
             _ => None,
         }
     }

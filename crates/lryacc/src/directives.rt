@@ -1,6 +1,7 @@
 //! The directives, and what stands behind each.
 
 use crate::contents::LevelKind;
+use crate::dialects::Dialect;
 
 /// What stands behind a directive.
 #[derive(Clone, Copy)]
@@ -45,6 +46,12 @@ pub(crate) enum Form {
     BodyNumber,
     /// In a body: a tag.
     BodyTag,
+    /// Of grmtools: tokens that lexers pass over.
+    PassedOver,
+    /// Of grmtools: symbols that need not be in a rule.
+    NotInRules,
+    /// Of grmtools: a token, and the text by which messages tell it.
+    ShownText,
 }
 
 /// The names of the directives, without `%`.
@@ -110,6 +117,23 @@ static UNDERSCORED: [(&str, Form); 9] = [
     ("fixed_output_files", Form::Nothing),
 ];
 
+/// The names of the directives of grmtools, without `%`.
+static GRMTOOLS: [(&str, Form); 13] = [
+    ("token", Form::Tokens),
+    ("avoid_insert", Form::Tokens),
+    ("implicit_tokens", Form::PassedOver),
+    ("left", Form::Level(LevelKind::Left)),
+    ("right", Form::Level(LevelKind::Right)),
+    ("nonassoc", Form::Level(LevelKind::Nonassoc)),
+    ("expect-unused", Form::NotInRules),
+    ("epp", Form::ShownText),
+    ("start", Form::Starts),
+    ("expect", Form::ShiftReduce),
+    ("expect-rr", Form::ReduceReduce),
+    ("prec", Form::Precedence),
+    ("empty", Form::Empty),
+];
+
 /// What stands behind the directive of that name in a list.
 fn form_in(names: &[(&str, Form)], name: &[u8]) -> Option<Form> {
     for (listed, form) in names {
@@ -127,10 +151,18 @@ pub(crate) fn is_name_in_any_case(name: &[u8]) -> bool {
         .any(|(listed, _)| listed.as_bytes().eq_ignore_ascii_case(name))
 }
 
-/// What stands behind the directive of that name, which is written without its `%`; None where there is no such one.
-pub(crate) fn form_of(name: &[u8]) -> Option<Form> {
+/// What stands behind the directive of that name, which is written without its `%`; None where Bison has no such one.
+fn bison_form_of(name: &[u8]) -> Option<Form> {
     match form_in(&NAMES, name) {
         Some(form) => Some(form),
         None => form_in(&UNDERSCORED, name),
+    }
+}
+
+/// What stands behind the directive of that name in a file of a dialect; None where there is no such one.
+pub(crate) fn form_of(name: &[u8], dialect: Dialect) -> Option<Form> {
+    match dialect {
+        Dialect::Bison => bison_form_of(name),
+        Dialect::Grmtools => form_in(&GRMTOOLS, name),
     }
 }

@@ -37,17 +37,15 @@ impl<'a> Reader<'a> {
             self.pass();
             return Err(halt);
         };
-        match self.bytes(directive) {
-            b"%token" | b"%avoid_insert" => self.said(Said::Token),
-            b"%implicit_tokens" => self.said(Said::PassedOver),
-            b"%left" => self.grmtools_level(LevelKind::Left, directive),
-            b"%right" => self.grmtools_level(LevelKind::Right, directive),
-            b"%nonassoc" => self.grmtools_level(LevelKind::Nonassoc, directive),
-            b"%expect-unused" => self.said(Said::NotInRules),
-            b"%epp" => self.shown_text(),
-            b"%start" => self.once(directive, Form::Starts),
-            b"%expect" => self.once(directive, Form::ShiftReduce),
-            b"%expect-rr" => self.once(directive, Form::ReduceReduce),
+        match self.form(directive) {
+            Some(Form::Tokens) => self.said(Said::Token),
+            Some(Form::PassedOver) => self.said(Said::PassedOver),
+            Some(Form::Level(kind)) => self.grmtools_level(kind, directive),
+            Some(Form::NotInRules) => self.said(Said::NotInRules),
+            Some(Form::ShownText) => self.shown_text(),
+            Some(Form::Starts) => self.once(directive, Form::Starts),
+            Some(Form::ShiftReduce) => self.once(directive, Form::ShiftReduce),
+            Some(Form::ReduceReduce) => self.once(directive, Form::ReduceReduce),
             _ => Err(self.fault(FaultKind::UnknownDirective, directive.span)),
         }
     }

@@ -129,6 +129,24 @@ fn rule_type(text: &[u8], from: usize) -> Result<(LexemeKind, usize), Fault>
     }
 }
 
+/// The directives with which the rest of the line is Rust.
+static LINE_DIRECTIVES: [&str; 3] = ["%actiontype", "%parse-param", "%parse-generics"];
+
+/// Whether the rest of the line belongs to the directive of that name.
+fn has_line(name: &[u8]) -> bool {
+    for listed in &LINE_DIRECTIVES {
+        if listed.as_bytes() == name {
+            return true;
+        }
+    }
+    false
+}
+
+/// Whether a directive that names a parameter lacks the colon before its type.
+fn lacks_colon(name: &[u8], line: &[u8]) -> bool {
+    name == b"%parse-param".as_slice() && !line.contains(&b':')
+}
+
 /// The directive whose `%` stands at a place, with the rest of its line where that is Rust.
 fn directive(text: &[u8], from: usize) -> Result<(LexemeKind, usize), Fault>
     requires { from < length text.now }
@@ -136,16 +154,16 @@ fn directive(text: &[u8], from: usize) -> Result<(LexemeKind, usize), Fault>
     ensures inside { IfOk result (λ found. found.1 ≤ length text.now) }
 {
     let end = Run::Directive.end(text, from + 1);
-    match &text[from..end] {
-        b"%actiontype" | b"%parse-param" | b"%parse-generics" => {}
-        _ => return Ok((LexemeKind::Directive, end)),
+    let name = &text[from..end];
+    if !has_line(name) {
+        return Ok((LexemeKind::Directive, end));
     }
     let behind = Run::Line.end(text, end);
     let line = &text[end..behind];
     if line.trim_ascii().is_empty() {
         return Err(wants(Wanted::Type, end, end));
     }
-    if &text[from..end] == b"%parse-param".as_slice() && !line.contains(&b':') {
+    if lacks_colon(name, line) {
         return Err(wants(Wanted::Colon, behind, behind));
     }
     Ok((LexemeKind::DirectiveLine, behind))
