@@ -1,5 +1,5 @@
 -- the precedence lines of a file, and the precedences of its tokens
-use Rattle.std.specs.Prelude.{◌≡◌, ℕ, ◌-◌, ◌*◌, List, Option, None, Some, slice_get}
+use Rattle.std.specs.Prelude.{◌≡◌, ℕ, ◌-◌, ◌*◌, List, Option, Some, slice_get}
 use Rattle.std.specs.Option.{option_map, option_and_then, option_or}
 use Rattle.lrgrammar.specs.declared.grammar.AssocKind.{AssocKind}
 use Rattle.lrgrammar.specs.declared.grammar.AssocKind.TheVariants as group
