@@ -16,8 +16,8 @@ fn is_one(one: &Metadata, other: &Metadata) -> bool {
     one.is_file() && one.dev() == other.dev() && one.ino() == other.ino()
 }
 
-/// Whether a page at that path would take the place of the file that is read under that name. Where the system doesn't tell which
-/// file standard input is, each file that is there might be it.
+/// Whether a page at that path would take the place of the file that is read under that name. Where the system doesn't tell
+/// which file standard input is, each file that is there might be it.
 pub(crate) fn is_over_input(rt: &HostRuntime, path: &str, name: &str) -> bool {
     let Ok(page) = fs::metadata(rt, path) else {
         return false;
@@ -61,8 +61,8 @@ fn replace(rt: &HostRuntime, path: &str, page: &str) -> io::Result<()> {
     replaced
 }
 
-/// Writes a page to a path. Where that fails, the file that was there stays as it was. A link stays a link, and what is no file, as a
-/// device, is written to as it is.
+/// Writes a page to a path. Where that fails, the file that was there stays as it was. A link stays a link, and what is no file,
+/// as a device, is written to as it is.
 pub(crate) fn write_page(rt: &HostRuntime, path: &str, page: &str) -> io::Result<()> {
     match fs::metadata(rt, path) {
         Ok(found) if !found.is_file() => fs::write(rt, path, page),

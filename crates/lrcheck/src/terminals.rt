@@ -22,8 +22,8 @@ fn refuses_colours(rt: &HostRuntime) -> Result<bool, AllocError> {
 /// How many columns a terminal has that tells nothing of it.
 const COLUMNS: usize = 80;
 
-/// How many columns the lines of a report have at the most, which are folded at a terminal alone: as many as COLUMNS says, between
-/// 60 and 120.
+/// How many columns the lines of a report have at the most, which are folded at a terminal alone: as many as COLUMNS says,
+/// between 60 and 120.
 pub(crate) fn columns(rt: &HostRuntime, options: Options) -> Result<Option<usize>, AllocError> {
     if options.is_plain || !rt.stdout().is_terminal() {
         return Ok(None);

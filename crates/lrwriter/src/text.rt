@@ -88,7 +88,8 @@ impl Text {
 
     /// All that was added. The error says that growth was refused.
     pub fn finish(self) -> Result<String, AllocError>
-        ensures ok { IfOk result (λ s. self ≡ record { bytes = string_bytes s; is_whole = true }) }
+        ensures ok { IfOk result (λ s.
+            self ≡ record { bytes = string_bytes s; is_whole = true }) }
         ensures err { IfErr result (λ _. IsTrue self.is_whole → ⊥) }
     {
         if self.is_whole {
