@@ -1,5 +1,23 @@
-"""Large grammar files with conflicts, for which texts with two trees are looked for: each as a number and how the text is made
-of it."""
+#!/usr/bin/env python3
+"""Measures `lrcheck` on small files that could keep it busy for long, and on large ones.
+
+    hostile_conflicts.py LRCHECK
+
+Each file is checked once with the options that stand by it, or with none. A line tells the seconds of processor time and the MB
+at the most, and how many there may be; a call is ended after LONGEST seconds. Ends with status 1 where it took more, or did not
+end with status 0, 1 or 2.
+
+CONFLICTS are large grammar files with conflicts, for which texts with two trees are looked for, as `hostile_files.py` hands them
+over: each as a number and how the text is made of it.
+"""
+
+import os
+import subprocess
+import sys
+import tempfile
+from pathlib import Path
+
+LONGEST = 60
 
 
 def names(letter, count):
@@ -118,3 +136,83 @@ CONFLICTS = {
         lambda n: b"%% s: r0 a r0 | r0 b r0; a: 'k'; b: 'k';\n" + doubling(n),
     ),
 }
+
+
+def optional(count):
+    """Rules from r0 on, each of which derives the next one twice, and the last one nothing too: all are empty, and the tree of
+    r0 has two nodes more for each rule than the one before."""
+    return b"%% s: r0 r0;\n" + lines(count, lambda k: b"r%d: r%d r%d;" % (k, k + 1, k + 1)) + b"r%d: 'x' | ;\n" % count
+
+
+def operators(count):
+    """So many operators of one rule, without levels."""
+    return tokens(count) + b"%% e: 'x' | " + alternatives(count, lambda k: b"e T%d e" % k) + b";\n"
+
+
+def brackets(count):
+    """A body with so many brackets on each side."""
+    return b"%% s: " + b"'(' " * count + b"s " + b"')' " * count + b"| 'x' | s s;\n"
+
+
+def one_line(count):
+    """So many productions, those of one rule in one line."""
+    return (
+        tokens(700)
+        + b"%% s: "
+        + alternatives(count, lambda k: b"T%d r%d" % (k % 700, k // 700))
+        + b";\n"
+        + lines(count // 700, lambda k: b"r%d: 'x' T%d;" % (k, k % 700))
+    )
+
+
+# What the file is, how it is made, the options, and how many seconds and MB it may take.
+MEASURED = [
+    ("16 rules, each twice the next one, all of them empty", lambda: optional(15), [], 1, 100),
+    ("31 such rules", lambda: optional(30), [], 1, 100),
+    ("400 operators without levels", lambda: operators(400), [], 3, None),
+    ("10,000 empty alternatives", lambda: b"%% s: " + b" | " * 9_999 + b";\n", [], 2, None),
+    ("100,000 empty alternatives", lambda: b"%% s: " + b" | " * 99_999 + b";\n", [], 5, None),
+    (
+        "2,000 unit rules in a round",
+        lambda: b"%% s: r0;\n" + lines(2_000, lambda k: b"r%d: r%d | 'x';" % (k, (k + 1) % 2_000)),
+        [],
+        2,
+        None,
+    ),
+    ("a body of 4,001 symbols", lambda: brackets(2_000), [], 1, None),
+    ("a body of 40,001 symbols", lambda: brackets(20_000), [], 10, 1_000),
+    ("a body of 5,000 optional symbols", lambda: b"%% s: " + b"o " * 5_000 + b"; o: 'x' | ;\n", [], 2, None),
+    ("10 MB of NUL", lambda: bytes(10_000_000), [], 1, 100),
+    ("700,000 productions in one line", lambda: one_line(700_000), [], 15, 1_500),
+    ("100,000 precedence lines", lambda: lines(100_000, lambda k: b"%%left T%d" % k) + b"%% s: 'x';\n", [], 1, None),
+    ("2,000 operators without levels", lambda: operators(2_000), ["--summary"], 10, 3_000),
+]
+
+
+def call(words):
+    """The status, the seconds of processor time, and the MB at the most of a call, which is ended after LONGEST seconds."""
+    words = ["timeout", str(LONGEST), *words]
+    process = subprocess.Popen(words, stdout=subprocess.DEVNULL, stderr=subprocess.DEVNULL)
+    _, status, used = os.wait4(process.pid, 0)
+    return os.waitstatus_to_exitcode(status), used.ru_utime + used.ru_stime, used.ru_maxrss / 1024
+
+
+def main():
+    """Measures all, and tells whether all was as it may be."""
+    if len(sys.argv) != 2:
+        sys.exit(__doc__.split("\n\n")[1].strip())
+    is_good = True
+    with tempfile.TemporaryDirectory() as room:
+        path = Path(room) / "a.y"
+        for name, text, options, seconds, size in MEASURED:
+            path.write_bytes(text())
+            status, took, most = call([sys.argv[1], *options, str(path)])
+            is_well = status in (0, 1, 2) and took <= seconds and most <= (size or most)
+            is_good = is_good and is_well
+            at_most = f"{seconds} s" + (f", {size} MB" if size else "")
+            print(f"{name}: {took:.1f} s, {most:.0f} MB of {at_most}{'' if is_well else f': TOO MUCH, status {status}'}")
+    sys.exit(0 if is_good else 1)
+
+
+if __name__ == "__main__":
+    main()
