@@ -1,7 +1,6 @@
 //! Which precedences of a file settle nothing, and which of its tokens no production has.
 
 use crate::cells::last_token;
-use lrgrammar::grammar::{PartProd, PartSymbol};
 use lryacc::FileGrammar;
 use std::alloc::{AllocError, Global};
 
@@ -13,7 +12,8 @@ pub struct Idle {
     pub levels: Vec<usize>,
     /// The productions whose `%prec` settles nothing, in the order of the file.
     pub productions: Vec<usize>,
-    /// The tokens that are declared, and stand in no production and behind no `%prec`, in the order of the file.
+    /// The tokens that are declared, and stand in no production of the grammar and behind no `%prec` of one, in the order of the
+    /// file. Productions that were taken out as useless may have them.
     pub tokens: Vec<usize>,
 }
 
@@ -92,23 +92,11 @@ impl Deciding {
     }
 }
 
-/// Takes in the tokens of a production, and the one behind its `%prec`.
-fn mark_tokens(used: &mut Vec<bool>, file: &FileGrammar, production: usize, prod: &PartProd) {
-    for symbol in &prod.symbols {
-        if let PartSymbol::Token(token) = symbol {
-            mark(used, *token);
-        }
-    }
-    if let Some(named) = file.named_precedence(production) {
-        mark(used, named.token);
-    }
-}
-
 /// Whether tokens, by their numbers, stand in a production or behind a `%prec`.
 fn used_tokens(alloc: Global, file: &FileGrammar) -> Result<Vec<bool>, AllocError> {
     let mut used = vec![in alloc; false; file.parts.tokens.len()]?;
-    for (production, prod) in file.parts.prods.iter().enumerate() {
-        mark_tokens(&mut used, file, production, prod);
+    for production in 0..file.parts.prods.len() {
+        file.mark_tokens(&mut used, production);
     }
     Ok(used)
 }
@@ -116,7 +104,7 @@ fn used_tokens(alloc: Global, file: &FileGrammar) -> Result<Vec<bool>, AllocErro
 /// How many tokens each grammar has, before those that its file brings in.
 const FIRST_TOKENS: usize = 3;
 
-/// The tokens that are declared, and stand in no production and behind no `%prec`, in the order of the file.
+/// The tokens that are declared, and stand in no production and behind no `%prec` of one, in the order of the file.
 fn unused_tokens(alloc: Global, file: &FileGrammar) -> Result<Vec<usize>, AllocError> {
     let mut tokens = Vec::new(alloc);
     let used = used_tokens(alloc, file)?;

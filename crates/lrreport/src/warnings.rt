@@ -97,23 +97,31 @@ impl<'a> Told<'a> {
         )
     }
 
-    /// Where the tokens are declared that are in no rule.
-    fn unused_places(&self, alloc: Global) -> Result<Vec<Span>, AllocError> {
+    /// Where the unused tokens are declared that are in useless rules, or those that are not.
+    fn unused_places(&self, alloc: Global, is_in_useless: bool) -> Result<Vec<Span>, AllocError> {
         let mut places = Vec::new(alloc);
         for token in &self.idle.tokens {
-            places.extend(self.file.declared_place(*token))?;
+            if self.file.is_in_useless(*token) == is_in_useless {
+                places.extend(self.file.declared_place(*token))?;
+            }
         }
         Ok(places)
     }
 
-    /// Adds a message of the tokens that are in no rule.
+    /// Adds a message of the tokens that are in no rule, and one of those that are in useless rules alone.
     fn add_unused(&self, messages: &mut Vec<Message>) -> Result<(), AllocError> {
-        let places = self.unused_places(*messages.allocator())?;
+        let alloc = *messages.allocator();
         add_message(
             messages,
-            places,
+            self.unused_places(alloc, false)?,
             "a token is in no rule",
             "tokens are in no rule",
+        )?;
+        add_message(
+            messages,
+            self.unused_places(alloc, true)?,
+            "a token is in useless rules alone",
+            "tokens are in useless rules alone",
         )
     }
 
@@ -164,7 +172,7 @@ impl<'a> Told<'a> {
         json.end_array();
     }
 
-    /// Adds the tokens that are in no rule, each with the place of its declaration.
+    /// Adds the tokens that are in no rule, or in useless ones alone, each with the place of its declaration.
     pub(crate) fn add_unused_tokens(&self, json: &mut JsonText) {
         json.begin_array();
         for token in &self.idle.tokens {
@@ -173,6 +181,8 @@ impl<'a> Told<'a> {
                 json.key("name");
                 json.string(self.token_name(*token));
                 add_place(json, self.source, place);
+                json.key("in_useless_rule");
+                json.boolean(self.file.is_in_useless(*token));
                 json.end_object();
             }
         }

@@ -65,9 +65,9 @@ pub(crate) enum Step {
     OpenQuotes,
 }
 
-/// Whether the byte is a blank within a line.
+/// Whether the byte is a blank within a line, or the return before the end of one.
 fn is_line_blank(byte: u8) -> bool {
-    matches!(byte, b' ' | b'\t' | 0x0b | 0x0c)
+    matches!(byte, b' ' | b'\t' | b'\r' | 0x0b | 0x0c)
 }
 
 impl CodeReader {

@@ -48,6 +48,8 @@ pub(crate) enum Statement {
     ExpectShiftReduce(Lexeme),
     /// So many reduce/reduce conflicts are expected.
     ExpectReduceReduce(Lexeme),
+    /// The parser is a generalized one.
+    Glr,
     /// Whether productions without `%prec` have a precedence.
     DefaultPrecedence(bool),
 }

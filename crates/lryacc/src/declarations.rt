@@ -91,6 +91,7 @@ impl<'a> Reader<'a> {
             Form::DefaultPrecedence(is_on) => Ok(self.state(Statement::DefaultPrecedence(is_on))?),
             Form::ShiftReduce => self.expected(true),
             Form::ReduceReduce => self.expected(false),
+            Form::Glr => Ok(self.state(Statement::Glr)?),
             Form::Nothing => Ok(()),
             _ => self.passed_over(form, directive),
         }

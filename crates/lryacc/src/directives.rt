@@ -22,6 +22,8 @@ pub(crate) enum Form {
     ShiftReduce,
     /// How many reduce/reduce conflicts are expected.
     ReduceReduce,
+    /// Nothing; says that the parser is a generalized one.
+    Glr,
     /// Code, and the symbols that it is for.
     CodeForSymbols,
     /// Perhaps a name, and code.
@@ -94,7 +96,7 @@ static NAMES: [(&str, Form); 46] = [
     ("debug", Form::Nothing),
     ("locations", Form::Nothing),
     ("error-verbose", Form::Nothing),
-    ("glr-parser", Form::Nothing),
+    ("glr-parser", Form::Glr),
     ("no-lines", Form::Nothing),
     ("nondeterministic-parser", Form::Nothing),
     ("pure-parser", Form::Nothing),

@@ -94,8 +94,12 @@ pub enum FaultKind {
     SecondDirective,
     /// Of grmtools: the token behind `%prec` is in no precedence line.
     NoPrecedence,
-    /// Only warned of: the rule is not reached, or derives no text.
-    UselessRule,
+    /// Only warned of: reduce/reduce conflicts are expected of a parser that is no generalized one, and so not left alone.
+    ExpectedWithoutGlr,
+    /// Only warned of: the rule derives no text.
+    UnproductiveRule,
+    /// Only warned of: the rule derives a text, and is not reached.
+    UnreachedRule,
     /// Only warned of: the production derives no text.
     UselessProduction,
     /// Only warned of: no declaration and no body names the token behind `%prec`.
@@ -259,7 +263,9 @@ impl FaultKind {
             FaultKind::ActionNotLast => "an action stands at the end of its body",
             FaultKind::SecondDirective => "this directive stands in the file already",
             FaultKind::NoPrecedence => "this token has no precedence",
-            FaultKind::UselessRule => "this rule is never reached, or derives no text",
+            FaultKind::ExpectedWithoutGlr => "%expect-rr says nothing without %glr-parser",
+            FaultKind::UnproductiveRule => "this rule derives no text",
+            FaultKind::UnreachedRule => "this rule is never reached",
             FaultKind::UselessProduction => "this derives no text",
             FaultKind::UnknownPrecedence => "nothing else names this token",
             FaultKind::SecondName => "this is no name of the symbol, since one of them has another",

@@ -2,7 +2,7 @@
 //! quotes, a body has a token only behind the place that makes it one.
 
 use crate::contents::{Alternative, BodyPart, Contents, Statement};
-use crate::faults::FaultKind;
+use crate::faults::{Fault, FaultKind};
 use crate::lexemes::{Lexeme, LexemeKind};
 use crate::meaning::Meaning;
 use crate::places::Span;
@@ -53,18 +53,18 @@ impl<'a> Meaning<'a> {
         Ok(names)
     }
 
-    /// Warns of useless rules at these places, but for those that are expected to be so.
+    /// Warns of useless rules, but for those that are expected to be so.
     pub(crate) fn warn_unless_expected(
         &mut self,
         contents: &Contents,
-        places: &[Span],
+        rules: &[Fault],
     ) -> Result<(), AllocError> {
         let names = self.mentioned(contents.statements.as_slice())?;
-        for span in places {
-            let kind = LexemeKind::RuleName;
-            let name = self.symbols.name(Lexeme { kind, span: *span });
+        for rule in rules {
+            let (kind, span) = (LexemeKind::RuleName, rule.span);
+            let name = self.symbols.name(Lexeme { kind, span });
             if !names.contains(&name) {
-                self.warn(FaultKind::UselessRule, *span)?;
+                self.warnings.push(*rule)?;
             }
         }
         Ok(())

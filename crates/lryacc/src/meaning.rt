@@ -47,6 +47,10 @@ pub(crate) struct Meaning<'a> {
     pub(crate) has_default_precedence: bool,
     /// How many conflicts are expected.
     pub(crate) expected: Expected,
+    /// What is behind the last `%expect-rr`.
+    expected_reductions: Option<Lexeme>,
+    /// Whether the parser is a generalized one.
+    is_glr: bool,
     pub(crate) faults: Vec<Fault>,
     pub(crate) warnings: Vec<Fault>,
 }
@@ -62,6 +66,8 @@ impl<'a> Meaning<'a> {
             end: None,
             has_default_precedence: true,
             expected: Expected::default(),
+            expected_reductions: None,
+            is_glr: false,
             faults: Vec::new(alloc),
             warnings: Vec::new(alloc),
         }
@@ -79,12 +85,16 @@ impl<'a> Meaning<'a> {
         Ok(())
     }
 
-    /// Tells of start symbols that derive no text, and warns of what is useless.
+    /// Tells of start symbols that derive no text, and warns of what is useless. A start symbol that is a token may stand beside
+    /// others, as for Bison only where nothing is useless.
     pub(crate) fn tell_useless(
         &mut self,
         contents: &Contents,
         useless: &Useless,
     ) -> Result<(), AllocError> {
+        if !useless.is_empty() {
+            self.tell_token_starts()?;
+        }
         let starts = useless.starts.as_slice();
         add_at(&mut self.faults, FaultKind::StartIsUnproductive, starts)?;
         self.warn_of_rules(contents, useless.rules.as_slice())?;
@@ -96,11 +106,11 @@ impl<'a> Meaning<'a> {
         )
     }
 
-    /// Warns of useless rules at these places.
-    fn warn_of_rules(&mut self, contents: &Contents, places: &[Span]) -> Result<(), AllocError> {
+    /// Warns of useless rules.
+    fn warn_of_rules(&mut self, contents: &Contents, rules: &[Fault]) -> Result<(), AllocError> {
         match self.symbols.dialect {
-            Dialect::Bison => add_at(&mut self.warnings, FaultKind::UselessRule, places),
-            Dialect::Grmtools => self.warn_unless_expected(contents, places),
+            Dialect::Bison => Ok(self.warnings.extend_from_slice(rules)?),
+            Dialect::Grmtools => self.warn_unless_expected(contents, rules),
         }
     }
 
@@ -129,6 +139,16 @@ impl<'a> Meaning<'a> {
     fn take_statements(&mut self, statements: &[Statement]) -> Result<(), AllocError> {
         for statement in statements {
             self.take_statement(*statement)?;
+        }
+        Ok(())
+    }
+
+    /// Leaves out what `%expect-rr` says where Bison does: it holds for generalized parsers alone.
+    fn leave_out_reductions(&mut self) -> Result<(), AllocError> {
+        let is_read = self.is_glr || self.symbols.dialect == Dialect::Grmtools;
+        if let (Some(number), false) = (self.expected_reductions, is_read) {
+            self.warn(FaultKind::ExpectedWithoutGlr, number.span)?;
+            self.expected.reduce_reduce = None;
         }
         Ok(())
     }
@@ -162,6 +182,11 @@ impl<'a> Meaning<'a> {
             }
             Statement::ExpectReduceReduce(number) => {
                 self.expected.reduce_reduce = self.number(number)?;
+                self.expected_reductions = Some(number);
+                Ok(())
+            }
+            Statement::Glr => {
+                self.is_glr = true;
                 Ok(())
             }
         }
@@ -527,9 +552,30 @@ impl<'a> Meaning<'a> {
         }
     }
 
+    /// Tells of start symbols that are tokens.
+    fn tell_token_starts(&mut self) -> Result<(), AllocError> {
+        for at in 0..self.starts.len() {
+            if let Some(start) = self.starts.get(at).copied() {
+                if self.is_token(start) {
+                    self.tell(FaultKind::StartIsToken, start.span)?;
+                }
+            }
+        }
+        Ok(())
+    }
+
+    /// Whether a lexeme names a token.
+    fn is_token(&self, lexeme: Lexeme) -> bool {
+        match self.symbols.find(lexeme) {
+            Some(number) => self.class(number) == Class::Token,
+            None => false,
+        }
+    }
+
     /// Takes in all that the file says of its symbols.
     pub(crate) fn take(&mut self, contents: &Contents) -> Result<(), AllocError> {
         self.take_statements(contents.statements.as_slice())?;
+        self.leave_out_reductions()?;
         self.take_bodies(contents.alternatives.as_slice())?;
         self.warn_of_precedences(contents.alternatives.as_slice())?;
         self.find_end();

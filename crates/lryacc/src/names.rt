@@ -28,3 +28,20 @@ fn escaped(alloc: Global, name: &[u8]) -> Result<String, AllocError> {
     }
     Ok(text)
 }
+
+/// The byte between quotes, as Bison tells it: by an escape where it does not print.
+pub(crate) fn character_text(alloc: Global, byte: u8) -> Result<String, AllocError> {
+    let letter = match byte {
+        7 => 'a',
+        8 => 'b',
+        b'\t' => 't',
+        b'\n' => 'n',
+        11 => 'v',
+        12 => 'f',
+        b'\r' => 'r',
+        b'\'' | b'\\' => char::from(byte),
+        b' '..=b'~' => return format!(in alloc; "'{}'", char::from(byte)),
+        _ => return format!(in alloc; "'\\{byte:03o}'"),
+    };
+    format!(in alloc; "'\\{letter}'")
+}

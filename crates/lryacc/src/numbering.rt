@@ -11,7 +11,7 @@ use crate::contents::{Alternative, BodyPart, Contents, LevelKind};
 use crate::dialects::Dialect;
 use crate::lexemes::{Lexeme, LexemeKind};
 use crate::meaning::Meaning;
-use crate::names::name_text;
+use crate::names::{character_text, name_text};
 pub use crate::numbering::token_places::{NamedPrecedence, TokenPlaces};
 use crate::places::Span;
 use crate::productions::Productions;
@@ -89,7 +89,10 @@ impl FileGrammar {
     }
 }
 
-/// The token that has no precedence and stands in no body.
+/// The name of the end token, where the file gives it none.
+const END: &str = "$end";
+
+/// The token for what its lexer does not know.
 const UNDEFINED: usize = 2;
 
 /// The rules and tokens of a grammar, and which symbols of the file they are.
@@ -101,6 +104,8 @@ struct Numbering<'m, 'a> {
     tokens: BTreeMap<usize, usize>,
     /// The token that stands below those of a `%precedence` line, by the number of the line.
     below: BTreeMap<usize, usize>,
+    /// A token without a level.
+    without_level: usize,
     /// The rules that actions before the ends of bodies are, by where these begin.
     actions: BTreeMap<usize, usize>,
     /// The tokens before the start rules, where there are several.
@@ -181,6 +186,7 @@ impl<'m, 'a> Numbering<'m, 'a> {
             rules: BTreeMap::new(alloc),
             tokens: BTreeMap::new(alloc),
             below: BTreeMap::new(alloc),
+            without_level: UNDEFINED,
             actions: BTreeMap::new(alloc),
             marks: Vec::new(alloc),
             grammar: FileGrammar::empty(alloc),
@@ -196,6 +202,7 @@ impl<'m, 'a> Numbering<'m, 'a> {
     fn add_symbols(&mut self, starts: &[Lexeme], contents: &Contents) -> Result<(), AllocError> {
         self.add_tokens()?;
         self.add_tokens_below()?;
+        self.add_without_level()?;
         self.add_marks(starts)?;
         self.add_rules(contents.alternatives.as_slice())?;
         self.add_bare_rules()?;
@@ -306,22 +313,33 @@ impl<'m, 'a> Numbering<'m, 'a> {
     }
 
     /// The name of a symbol by which it is told: of a token with two names it is the text.
-    fn told_name(&self, symbol: Symbol) -> &'a [u8] {
+    fn told_name(&self, symbol: Symbol) -> Lexeme {
         let partner = match symbol.partner {
             Some(partner) => self.known(partner),
             None => None,
         };
         match partner {
-            Some(partner) if partner.mention.kind != LexemeKind::Name => {
-                self.meaning.symbols.name(partner.mention)
-            }
-            _ => self.meaning.symbols.name(symbol.mention),
+            Some(partner) if partner.mention.kind != LexemeKind::Name => partner.mention,
+            _ => symbol.mention,
         }
     }
 
-    /// The name that a token has in the grammar: as it stands in the file, and for grmtools always in quotes.
-    fn token_name(&self, symbol: Symbol) -> Result<String, AllocError> {
-        let name = name_text(self.allocator(), self.told_name(symbol))?;
+    /// Whether a symbol is the end token because of its name alone.
+    fn is_end_by_name(&self, number: usize, symbol: Symbol) -> bool {
+        self.meaning.end == Some(number) && symbol.code.is_none() && symbol.partner.is_none()
+    }
+
+    /// The name that a token has in the grammar: as it stands in the file, a character as Bison tells it, and for grmtools always
+    /// in quotes.
+    fn token_name(&self, number: usize, symbol: Symbol) -> Result<String, AllocError> {
+        if self.is_end_by_name(number, symbol) {
+            return String::from_str(self.allocator(), END);
+        }
+        let told = self.told_name(symbol);
+        if let LexemeKind::Character(byte) = told.kind {
+            return character_text(self.allocator(), byte);
+        }
+        let name = name_text(self.allocator(), self.meaning.symbols.name(told))?;
         match self.meaning.symbols.dialect {
             Dialect::Bison => Ok(name),
             Dialect::Grmtools => format!(in self.allocator(); "'{name}'"),
@@ -347,7 +365,7 @@ impl<'m, 'a> Numbering<'m, 'a> {
         let Some(symbol) = self.known(number) else {
             return Ok(());
         };
-        let name = self.token_name(symbol)?;
+        let name = self.token_name(number, symbol)?;
         let precedence = self.precedence(number);
         let token = self.add_token(name, precedence)?;
         self.tokens.insert(number, token)?;
@@ -366,7 +384,7 @@ impl<'m, 'a> Numbering<'m, 'a> {
 
     /// Adds the tokens that each grammar has: the end token, `error`, and one that stands in no body.
     fn add_first_tokens(&mut self) -> Result<(), AllocError> {
-        self.add_token_or(self.meaning.end, "$end")?;
+        self.add_token_or(self.meaning.end, END)?;
         self.add_token_or(self.meaning.symbols.find_name(b"error"), "error")?;
         self.add_token_or(self.meaning.symbols.find_name(b"YYUNDEF"), "$undefined")
     }
@@ -415,6 +433,19 @@ impl<'m, 'a> Numbering<'m, 'a> {
         };
         let token = self.add_token(name, Some(precedence))?;
         self.below.insert(level, token)?;
+        Ok(())
+    }
+
+    /// Adds a token without a level, where productions without `%prec` have no precedence, and the unknown token has a level.
+    fn add_without_level(&mut self) -> Result<(), AllocError> {
+        let has_level = match self.grammar.parts.tokens.get(UNDEFINED) {
+            Some(token) => token.precedence.is_some(),
+            None => false,
+        };
+        if has_level && !self.meaning.has_default_precedence {
+            let name = String::from_str(self.allocator(), "%no-default-prec")?;
+            self.without_level = self.add_token(name, None)?;
+        }
         Ok(())
     }
 
@@ -538,7 +569,7 @@ impl<'m, 'a> Numbering<'m, 'a> {
     fn named_precedence(&self, alternative: &Alternative) -> Option<usize> {
         let Some(token) = alternative.precedence else {
             if !self.meaning.has_default_precedence {
-                return Some(UNDEFINED);
+                return Some(self.without_level);
             }
             return self.below_of(self.last_token(alternative)?);
         };

@@ -24,14 +24,15 @@ fn digits(text: &[u8], from: usize, most: usize, radix: u32) -> (u32, usize)
     (value, stop)
 }
 
-/// The number of so many hexadecimal digits from a place on, and the place behind them; None where there are fewer.
-fn whole_number(text: &[u8], from: usize, count: usize) -> Option<(u32, usize)>
+/// The number of hexadecimal digits from a place on, at most so many, and the place behind them; None where there are fewer than
+/// the least.
+fn hexadecimal(text: &[u8], from: usize, least: usize, most: usize) -> Option<(u32, usize)>
     requires { from ≤ length text.now }
     ensures from { IfSome result (λ found. from ≤ found.1) }
     ensures inside { IfSome result (λ found. found.1 ≤ length text.now) }
 {
-    let (number, end) = digits(text, from, count, 16);
-    if end - from < count {
+    let (number, end) = digits(text, from, most, 16);
+    if end - from < least {
         return None;
     }
     Some((number, end))
@@ -65,9 +66,9 @@ fn escape_number(text: &[u8], from: usize) -> Option<(u32, usize)>
     }
     match letter {
         b'0'..=b'7' => Some(digits(text, from + 1, 3, 8)),
-        b'x' => Some(digits(text, behind, text.len(), 16)),
-        b'u' => whole_number(text, behind, 4),
-        b'U' => whole_number(text, behind, 8),
+        b'x' => hexadecimal(text, behind, 1, text.len()),
+        b'u' => hexadecimal(text, behind, 4, 4),
+        b'U' => hexadecimal(text, behind, 8, 8),
         _ => None,
     }
 }

@@ -19,6 +19,8 @@ pub(crate) enum Run {
     Blanks,
     /// The rest of a line.
     Line,
+    /// What Bison passes over behind an invalid character.
+    Invalid,
 }
 
 impl Run {
@@ -32,6 +34,11 @@ impl Run {
             Run::Directive => byte.is_ascii_alphanumeric() || matches!(byte, b'_' | b'-'),
             Run::Blanks => matches!(byte, b' ' | b'\t' | b'\n' | 0x0b | 0x0c | b'\r'),
             Run::Line => !matches!(byte, b'\n' | b'\r'),
+            Run::Invalid => !matches!(
+                byte,
+                b' ' | b'\t' | b'\n' | 0x0b | 0x0c | b'\r' | b'%' | b'[' | b'{' | b'}' | b'<' | b'>' | b'"' | b'\''
+                    | b'*' | b';' | b'|' | b'=' | b'/' | b',' | b'_' | b'0'..=b'9' | b'A'..=b'Z' | b'a'..=b'z'
+            ),
         }
     }
 

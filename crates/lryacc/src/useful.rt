@@ -4,6 +4,7 @@ ghost use Rattle.std.specs.Prelude.{◌≡◌, [], ◌∷◌, All, IsSome, IfOk,
 ghost use Rattle.lryacc.specs.ProductionPlaces.{Adds, ArePlaced, IsPlaced};
 ghost use Rattle.lryacc.specs.Sublists.{IsSublist};
 
+use crate::faults::{Fault, FaultKind};
 use crate::numbering::FileGrammar;
 use crate::places::Span;
 use crate::productions::Productions;
@@ -350,6 +351,19 @@ impl Selection {
         Ok(kept)
     }
 
+    /// By token, whether a production that does not stay has it, or names it by `%prec`.
+    fn useless_tokens(&self, whole: &FileGrammar) -> Result<Vec<bool>, AllocError> {
+        let mut tokens = vec![in self.allocator(); false; whole.parts.tokens.len()]?;
+        for (production, prod) in whole.parts.prods.iter().enumerate() {
+            if self.number(prod.rule).is_none()
+                || !self.productive.has_all(prod.symbols.as_slice())
+            {
+                whole.mark_tokens(&mut tokens, production);
+            }
+        }
+        Ok(tokens)
+    }
+
     /// Where the start symbols are named that derive no text.
     fn unproductive_starts(&self, whole: &FileGrammar) -> Result<Vec<Span>, AllocError>
         requires { IsPlaced whole.now }
@@ -364,11 +378,20 @@ impl Selection {
         Ok(starts)
     }
 
-    /// The rules that stay, and the tokens, with no production. Notes where the other rules stand.
+    /// Why a rule does not stay.
+    fn why_useless(&self, rule: usize) -> FaultKind {
+        if self.productive.has(rule) {
+            FaultKind::UnreachedRule
+        } else {
+            FaultKind::UnproductiveRule
+        }
+    }
+
+    /// The rules that stay, and the tokens, with no production. Notes why the others do not, and where they stand.
     fn rules(
         &self,
         whole: &mut FileGrammar,
-        useless: &mut Vec<Span>,
+        useless: &mut Vec<Fault>,
     ) -> Result<FileGrammar, AllocError>
         ensures { OnOk result (useless.new.items ≡ []
             → All (λ number. IsSome number) self.now.numbers.items) }
@@ -381,7 +404,10 @@ impl Selection {
             let place = whole.rule_places.get(rule).copied();
             let place = place.unwrap_or(Span::new(0, 0));
             if number.is_none() {
-                useless.push(place)?;
+                useless.push(Fault {
+                    kind: self.why_useless(rule),
+                    span: place,
+                })?;
                 continue;
             }
             let name = taken_name(alloc, &mut whole.parts.rules, rule);
@@ -403,12 +429,19 @@ fn taken_name(alloc: Global, names: &mut Vec<String>, at: usize) -> String {
 /// What was taken out of a grammar.
 #[derive(Drop)]
 pub(crate) struct Useless {
-    /// Where the rules are named that are not reached, or derive no text.
-    pub(crate) rules: Vec<Span>,
+    /// Why rules were taken out, and where they are named.
+    pub(crate) rules: Vec<Fault>,
     /// Where the other productions stand that derive no text.
     pub(crate) productions: Vec<Span>,
     /// Where the start symbols are named that derive no text: each has a production of rule 0.
     pub(crate) starts: Vec<Span>,
+}
+
+impl Useless {
+    /// Whether nothing was taken out.
+    pub(crate) fn is_empty(&self) -> bool {
+        self.rules.is_empty() && self.productions.is_empty()
+    }
 }
 
 /// The grammar without the rules and productions that are not reached or derive no text, and what was taken out.
@@ -430,6 +463,8 @@ pub(crate) fn without_useless(
         starts: selection.unproductive_starts(&whole)?,
     };
     let productions = selection.productions(&whole, &mut useless.productions)?;
-    let rules = selection.rules(&mut whole, &mut useless.rules)?;
+    let tokens = selection.useless_tokens(&whole)?;
+    let mut rules = selection.rules(&mut whole, &mut useless.rules)?;
+    rules.token_places.useless = tokens;
     Ok((rules.with_productions(productions), useless))
 }

@@ -27,6 +27,8 @@ pub struct TokenPlaces {
     levels: BTreeMap<usize, Span>,
     /// What stands behind `%prec`, by where the body ends.
     precedences: BTreeMap<usize, NamedPrecedence>,
+    /// By token, whether it stands in a production that was taken out, or behind its `%prec`.
+    pub(crate) useless: Vec<bool>,
 }
 
 impl TokenPlaces {
@@ -36,6 +38,7 @@ impl TokenPlaces {
             tokens: BTreeMap::new(alloc),
             levels: BTreeMap::new(alloc),
             precedences: BTreeMap::new(alloc),
+            useless: Vec::new(alloc),
         }
     }
 }
@@ -56,6 +59,32 @@ impl FileGrammar {
     pub fn named_precedence(&self, production: usize) -> Option<NamedPrecedence> {
         let place = self.production_places.get(production)?;
         self.token_places.precedences.get(&place.end).copied()
+    }
+
+    /// Marks the tokens, by their numbers, that a production has, and the one that it names by `%prec`.
+    pub fn mark_tokens(&self, marked: &mut Vec<bool>, production: usize) {
+        if let Some(prod) = self.parts.prods.get(production) {
+            for symbol in &prod.symbols {
+                if let PartSymbol::Token(token) = symbol {
+                    mark(marked, *token);
+                }
+            }
+        }
+        if let Some(named) = self.named_precedence(production) {
+            mark(marked, named.token);
+        }
+    }
+
+    /// Whether a production that was taken out has a token, or names it by `%prec`.
+    pub fn is_in_useless(&self, token: usize) -> bool {
+        self.token_places.useless.get(token) == Some(&true)
+    }
+}
+
+/// Marks a number, if the list has it.
+fn mark(marked: &mut Vec<bool>, number: usize) {
+    if let Some(is_marked) = marked.get_mut(number) {
+        *is_marked = true;
     }
 }
 
