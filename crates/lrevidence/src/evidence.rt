@@ -37,6 +37,8 @@ fn example_of<T: IndexStorage>(
 pub struct Effort {
     /// How many steps a search for a text with two trees takes at the most, for each entry; for 0 there is none.
     pub steps: usize,
+    /// How much work all searches together may do, in pieces of the size of `Reasons::allow`.
+    pub work: usize,
     /// For how many entries it is told at the most after what they are real: for the first ones.
     pub examples: usize,
     /// Whether each entry counts, and not only the first of those that stand together, because the same meets at them in the same
@@ -73,12 +75,14 @@ fn evidence_of<T: IndexStorage>(
         entry,
         ambiguity: None,
         example: None,
+        is_cut_off: false,
     };
     let Some(conflict) = conflict_of(entry) else {
         return Ok(evidence);
     };
     if steps > 0 {
         evidence.ambiguity = ambiguity_at(alloc, reasons, conflict, steps)?;
+        evidence.is_cut_off = evidence.ambiguity.is_none() && reasons.is_used_up();
     }
     if has_example && evidence.ambiguity.is_none() && is_among(listed, &entry) {
         evidence.example = Some(example_of(alloc, reasons, numbering, conflict)?);
@@ -130,12 +134,13 @@ pub fn evidence_for<T: IndexStorage>(
     ensures entries { IfOk result (λ v. map (λ e. e.entry) v.items ≡ entries.now) }
     ensures proved { IfOk result (λ v. All (IsProved found.now.grm) v.items) }
 {
-    let mut list = Vec::new(alloc);
     let (Some(graph), false) = (&found.graph, entries.is_empty()) else {
-        return Ok(list);
+        return Ok(Vec::new(alloc));
     };
     let grm = &found.grm;
+    let mut list = Vec::with_capacity(alloc, entries.len())?;
     let reasons = Reasons::new(grm, graph)?;
+    reasons.allow(effort.work);
     let (numbering, listed) = (Numbering { grm, file }, found.conflicts.as_slice());
     push_evidence(&mut list, &reasons, numbering, listed, entries, effort)?;
     Ok(list)
@@ -162,12 +167,13 @@ fn first_ambiguity<T: IndexStorage>(
 }
 
 /// A text with two trees, which part at one of the entries, where one is found: that of the first entry that has one. For each the
-/// search takes so many steps at the most. The error says that memory was refused.
+/// search takes so many steps at the most, and all together do so much work. The error says that memory was refused.
 pub fn find_ambiguity<T: IndexStorage>(
     alloc: Global,
     found: &Findings<T>,
     entries: &[Entry],
     steps: usize,
+    work: usize,
 ) -> Result<Option<Ambiguity>, AllocError>
     requires graph { IfSome found.now.graph (IsGraphOf found.now.grm) }
     ensures { IfOk result (λ o. IfSome o (HasTwoTrees found.now.grm)) }
@@ -176,5 +182,6 @@ pub fn find_ambiguity<T: IndexStorage>(
         return Ok(None);
     };
     let reasons = Reasons::new(&found.grm, graph)?;
+    reasons.allow(work);
     first_ambiguity(alloc, &reasons, entries, steps)
 }

@@ -103,6 +103,11 @@ impl<'a> Around<'a> {
         })
     }
 
+    /// How many rules were come to.
+    pub(crate) fn len(&self) -> usize {
+        self.opened.len()
+    }
+
     /// Begins with a rule behind the way, with which the token comes.
     pub(crate) fn add_rule(&mut self, rule: RIdx<u32>) -> Result<(), AllocError> {
         let opening = Opening {

@@ -125,14 +125,23 @@ impl<'a> Behind<'a> {
         cost
     }
 
+    /// What a least text of the symbol that begins with the token costs.
+    fn begun_cost(&self, symbol: Symbol<u32>) -> Cost {
+        self.beginnings
+            .and_then(|beginnings| beginnings.cost(symbol))
+            .unwrap_or(NO_TEXT)
+    }
+
     /// A least text of the symbols that begins with the token; None where there is none.
     pub(crate) fn begun(&self, symbols: &[Symbol<u32>]) -> Option<Begun> {
+        let whole = self.cost(symbols);
         let mut least: Option<Begun> = None;
         for (place, symbol) in symbols.iter().enumerate() {
             if self.shared.firsts.begins(*symbol, self.token) {
-                let begun = self.begun_at(symbols, place, *symbol);
-                if least.is_none_or(|least| begun.cost < least.cost) {
-                    least = Some(begun);
+                let others = whole.without(self.cost(&[*symbol]));
+                let cost = others.and(self.begun_cost(*symbol));
+                if least.is_none_or(|least| cost < least.cost) {
+                    least = Some(Begun { cost, place });
                 }
             }
             if !self.shared.firsts.is_nullable(*symbol) {
@@ -140,19 +149,5 @@ impl<'a> Behind<'a> {
             }
         }
         least
-    }
-
-    /// A least text of the symbols in which the token comes with the one at the place.
-    fn begun_at(&self, symbols: &[Symbol<u32>], place: usize, symbol: Symbol<u32>) -> Begun {
-        let before = symbols.get(..place).unwrap_or(&[]);
-        let behind = symbols.get(place.saturating_add(1)..).unwrap_or(&[]);
-        let begun = self
-            .beginnings
-            .and_then(|beginnings| beginnings.cost(symbol))
-            .unwrap_or(NO_TEXT);
-        Begun {
-            cost: self.cost(before).and(begun).and(self.cost(behind)),
-            place,
-        }
     }
 }

@@ -31,6 +31,8 @@ pub struct Forms<'a, T: IndexStorage> {
     shared: Shared,
     /// What a search leaves for the next one.
     scratch: Cell<Option<Scratch>>,
+    /// How much work searches may still do.
+    work: Cell<usize>,
 }
 
 impl<'a, T: IndexStorage> Forms<'a, T> {
@@ -46,13 +48,30 @@ impl<'a, T: IndexStorage> Forms<'a, T> {
             graph,
             shared,
             scratch: Cell::new(None),
+            work: Cell::new(usize::MAX),
         })
+    }
+
+    /// Lets all further searches together do so much work, or a little more: to try a node, to look at an item of a state or at
+    /// a rule around a form, and to write a move of a text are pieces of work. Before the first call there is no bound.
+    pub fn allow(&self, work: usize) {
+        self.work.set(work);
+    }
+
+    /// Takes so much work from what is allowed.
+    pub fn charge(&self, work: usize) {
+        self.work.set(self.work.get().saturating_sub(work));
+    }
+
+    /// Whether the work that is allowed was done, so that nothing is searched any more.
+    pub fn is_used_up(&self) -> bool {
+        self.work.get() == 0
     }
 
     /// Searches for a form at a conflict, and for a whole text around it, and makes at most so many nodes. What is found is to
     /// be checked; that nothing is found says nothing. The error says that memory was refused.
     pub fn search(&self, conflict: Conflict<T>, steps: usize) -> Result<Search<T>, AllocError> {
-        if steps == 0 {
+        if steps == 0 || self.is_used_up() {
             return Ok(Search::OutOfSteps);
         }
         let alloc = self.grm.allocator();
@@ -86,8 +105,10 @@ impl<'a, T: IndexStorage> Forms<'a, T> {
             Some(scratch) => scratch,
             None => Scratch::new(alloc),
         };
-        let mut searching = Searching::new(&self.shared, conflict, &mut scratch, steps);
+        let most = self.work.get();
+        let mut searching = Searching::new(&self.shared, conflict, &mut scratch, steps, most);
         let found = searching.run(alloc, shifting)?;
+        self.charge(searching.work());
         scratch.clear();
         if !scratch.is_full() {
             self.scratch.set(Some(scratch));
@@ -160,7 +181,9 @@ impl<'a, T: IndexStorage> Forms<'a, T> {
         if usize::from(state) >= usize::from(self.graph.all_states_len()) {
             return Ok(items);
         }
-        for key in self.graph.closed_state(state).items.keys() {
+        let closed = self.graph.closed_state(state);
+        self.charge(closed.items.len());
+        for key in closed.items.keys() {
             let item = Item::of(key.0, key.1);
             if self.shared.rules.allows(item, token, candidate) {
                 items.push(item)?;

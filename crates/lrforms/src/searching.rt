@@ -31,31 +31,39 @@ pub(crate) struct Searching<'a> {
     scratch: &'a mut Scratch,
     /// How many nodes may be made.
     steps: usize,
-    /// How many more may be tried.
-    tries: usize,
-    /// Whether more were to be made or tried.
+    /// How much work may be done, and how much was done: nodes that were tried, and what whole texts took.
+    most: usize,
+    work: usize,
+    /// Whether more was to be made or done.
     is_out: bool,
     /// A node at which both trees are whole, and their rule.
     goal: Option<(u32, RIdx<u32>)>,
 }
 
 impl<'a> Searching<'a> {
-    /// Before the first step. There are no nodes yet.
+    /// Before the first step, with so much work at the most. There are no nodes yet.
     pub(crate) fn new(
         shared: &'a Shared,
         conflict: Conflict<u32>,
         scratch: &'a mut Scratch,
         steps: usize,
+        most: usize,
     ) -> Searching<'a> {
         Searching {
             shared,
             conflict,
             scratch,
             steps,
-            tries: steps.saturating_mul(MOST_TRIES),
+            most: most.min(steps.saturating_mul(MOST_TRIES)),
+            work: 0,
             is_out: false,
             goal: None,
         }
+    }
+
+    /// How much work was done.
+    pub(crate) fn work(&self) -> usize {
+        self.work
     }
 
     /// Searches. These are the items of the conflict's state before the token.
@@ -84,23 +92,21 @@ impl<'a> Searching<'a> {
 
     /// What is found at a node at which both trees are whole.
     fn found(
-        &self,
+        &mut self,
         alloc: Global,
         number: u32,
         rule: RIdx<u32>,
     ) -> Result<Option<Ambiguous<u32>>, AllocError> {
-        let Some(node) = self.scratch.nodes.get(number as usize) else {
+        let (shared, token, mut work) = (self.shared, self.conflict.token, self.work);
+        let scratch = &*self.scratch;
+        let Some(node) = scratch.nodes.get(number as usize) else {
             return Ok(None);
         };
-        let form = form_of(
-            alloc,
-            self.shared,
-            self.scratch.nodes.as_slice(),
-            rule,
-            number,
-        )?;
-        let states = self.scratch.sets.states(node.place.states);
-        sentence_of(alloc, self.shared, self.conflict.token, states, form)
+        let form = form_of(alloc, shared, scratch.nodes.as_slice(), rule, number)?;
+        let states = scratch.sets.states(node.place.states);
+        let found = sentence_of(alloc, shared, token, states, form, &mut work)?;
+        self.work = work;
+        Ok(found)
     }
 
     /// Makes the first nodes.
@@ -359,8 +365,8 @@ impl<'a> Searching<'a> {
 
     /// Counts a node that is tried.
     fn count_try(&mut self) {
-        self.is_out = self.is_out || self.tries == 0;
-        self.tries = self.tries.saturating_sub(1);
+        self.is_out = self.is_out || self.work >= self.most;
+        self.work = self.work.saturating_add(1);
     }
 
     /// Makes a node unless it leads nowhere or its place was come to before.

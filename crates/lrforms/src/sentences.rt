@@ -64,7 +64,8 @@ fn write_symbol(
     }
 }
 
-/// The text around a form that stands behind the way, in these layers. None where it gets too long.
+/// The text around a form that stands behind the way, in these layers. None where it gets too long. Adds to the work how many
+/// moves were written.
 fn write_text(
     alloc: Global,
     shared: &Shared,
@@ -72,6 +73,7 @@ fn write_text(
     form: &Form<u32>,
     way: &Way,
     layers: &[Layer],
+    work: &mut usize,
 ) -> Result<Option<Sentence<u32>>, AllocError> {
     let beginnings = shared.beginnings(token)?;
     let mut before = Writer::new(alloc, shared, beginnings);
@@ -82,6 +84,9 @@ fn write_text(
     write_form(&mut second, form, form.ways.second.as_slice())?;
     write_behind(&mut first, &shared.rules, layers)?;
     write_behind(&mut second, &shared.rules, layers)?;
+    for writer in [&before, &first, &second] {
+        *work = work.saturating_add(writer.moves.len());
+    }
     if before.has_failed || first.has_failed || second.has_failed {
         return Ok(None);
     }
@@ -96,36 +101,40 @@ fn write_text(
     Ok(Some(Sentence { tokens, dot, ways }))
 }
 
-/// The layers around a rule behind the way.
+/// The layers around a rule behind the way. Adds to the work how many rules were come to.
 fn layers_around(
     alloc: Global,
     shared: &Shared,
     way: &Way,
     token: TIdx<u32>,
     rule: RIdx<u32>,
+    work: &mut usize,
 ) -> Result<Option<Vec<Layer>>, AllocError> {
     let mut around = Around::new(alloc, shared, way, token)?;
     around.add_rule(rule)?;
-    around.find(alloc)
+    let layers = around.find(alloc)?;
+    *work = work.saturating_add(around.len());
+    Ok(layers)
 }
 
 /// What shows that the grammar is ambiguous: the form in a whole text, where it may stand behind each of the states. None where
-/// that text gets too long.
+/// that text gets too long. Adds to the work what this took.
 pub(crate) fn sentence_of(
     alloc: Global,
     shared: &Shared,
     token: TIdx<u32>,
     states: &[StIdx<u32>],
     form: Form<u32>,
+    work: &mut usize,
 ) -> Result<Option<Ambiguous<u32>>, AllocError> {
     let Some(state) = nearest(shared, states) else {
         return Ok(None);
     };
     let way = shared.states.way(alloc, state)?;
-    let Some(layers) = layers_around(alloc, shared, &way, token, form.rule)? else {
+    let Some(layers) = layers_around(alloc, shared, &way, token, form.rule, work)? else {
         return Ok(None);
     };
-    match write_text(alloc, shared, token, &form, &way, layers.as_slice())? {
+    match write_text(alloc, shared, token, &form, &way, layers.as_slice(), work)? {
         Some(sentence) => Ok(Some(Ambiguous { form, sentence })),
         None => Ok(None),
     }

@@ -84,12 +84,19 @@ impl<T: IndexStorage> Page<'_, T> {
     }
 
     /// Adds after what an entry is real, and how the text goes on.
-    fn add_example(&self, page: &mut Text, entry: &Entry, example: &Example) {
-        let steps = self.steps;
-        write!(
-            page,
-            "<p>No text with two trees was found in {steps} steps. Both are possible"
-        );
+    fn add_example(&self, page: &mut Text, evidence: &Evidence, example: &Example) {
+        let (entry, steps) = (&evidence.entry, self.steps);
+        if evidence.is_cut_off {
+            page.add(
+                "<p>No text with two trees was searched: the allowance of this file was used up.",
+            );
+        } else {
+            write!(
+                page,
+                "<p>No text with two trees was found in {steps} steps."
+            );
+        }
+        page.add(" Both are possible");
         self.add_start(page, start_of(self.file, example.list.first().copied()));
         page.add(" after</p>\n<p class=\"text\">");
         for symbol in list_of(self.file, example.list.as_slice()) {
@@ -118,7 +125,7 @@ impl<T: IndexStorage> Page<'_, T> {
         if let Some(ambiguity) = &evidence.ambiguity {
             self.add_ambiguity(page, &evidence.entry, ambiguity);
         } else if let Some(example) = &evidence.example {
-            self.add_example(page, &evidence.entry, example);
+            self.add_example(page, evidence, example);
         }
     }
 

@@ -168,8 +168,8 @@ fn prove_pair<T: IndexStorage>(
     }
 }
 
-/// Searches where any two candidates of the conflict's cell contend: with so many steps for its own, and as many for all others
-/// together.
+/// Searches where any two candidates of the conflict's cell contend, as long as work is allowed: with so many steps for its own,
+/// and as many for all others together.
 pub(crate) fn prove<T: IndexStorage>(
     forms: &Forms<'_, T>,
     grm: &YaccGrammar<T>,
@@ -181,7 +181,11 @@ pub(crate) fn prove<T: IndexStorage>(
     requires state { T.number conflict.now.state.0 < length graph.now }
     ensures { IfOk result (λ o. IfSome o (IsProofOf T.number grm.now graph.now conflict.now)) }
 {
+    if forms.is_used_up() {
+        return Ok(None);
+    }
     let pairs = pairs(grm.allocator(), grm, graph, conflict)?;
+    forms.charge(graph.closed_state(conflict.state).items.len());
     let mut allowed = steps;
     for pair in &pairs {
         if let Some(proved) = prove_pair(forms, grm, graph, conflict, *pair, allowed)? {

@@ -130,9 +130,20 @@ impl<'a, T: IndexStorage> Reasons<'a, T> {
         })
     }
 
+    /// Lets all further searches together do so much work, or a little more: to try a step, to look at an item of a state, and to
+    /// write a step of a tree are pieces of work. Before the first call there is no bound.
+    pub fn allow(&self, work: usize) {
+        self.forms.allow(work);
+    }
+
+    /// Whether the work that is allowed was done, so that nothing is searched any more.
+    pub fn is_used_up(&self) -> bool {
+        self.forms.is_used_up()
+    }
+
     /// A text with two trees which part at the conflict, or at two others of the candidates of its cell. None where none is
     /// found in so many steps for the conflict's own candidates, and as many for all other pairs of the cell together, of which
-    /// fifteen are tried at the most: that says nothing. It need not be a conflict that a table lists: it may be one that
+    /// fifteen are tried at the most, nor before the allowed work was done: that says nothing. It need not be a conflict that a table lists: it may be one that
     /// precedences settled. The error says that memory was refused.
     pub fn ambiguity(
         &self,

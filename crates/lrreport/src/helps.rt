@@ -131,6 +131,18 @@ impl Told<'_> {
         }
     }
 
+    /// Adds for how many conflicts no text was looked for to the end, because the file's allowance was used up, if for some.
+    pub(crate) fn push_cut_off(&self, text: &mut Text) {
+        let count = self.evidence.iter().filter(|it| it.is_cut_off).count();
+        if count > 0 {
+            write!(
+                text,
+                "note: {count} of {} conflicts were not searched to the end, since the allowance of this file was used up; --steps N gives more\n\n",
+                self.evidence.len()
+            );
+        }
+    }
+
     /// Whether a production stands for an action in the middle of another one.
     fn is_action(&self, production: usize) -> bool {
         let rule = self.rule_name(production);

@@ -287,6 +287,8 @@ impl<'a, T: IndexStorage> Checked<'a, T> {
         self.add_first_ambiguity(json, meeting, alternatives)?;
         json.key("after");
         self.told.add_example(json, first);
+        json.key("searched");
+        json.boolean(!meeting.iter().any(|it| it.is_cut_off));
         json.end_object();
         Ok(())
     }

@@ -180,19 +180,29 @@ impl Told<'_> {
         Ok(())
     }
 
+    /// Adds how far a search went that found no text.
+    fn add_effort(&self, words: &mut Words, evidence: &Evidence) {
+        if evidence.is_cut_off {
+            words.add_all("(not searched: the allowance of this file was used up):");
+        } else {
+            words.begin();
+            write!(words, "({}", self.options.steps);
+            words.add_all("steps):");
+        }
+    }
+
     /// Adds after what an entry is real.
     fn push_list(
         &self,
         text: &mut Text,
         notes: Notes,
+        evidence: &Evidence,
         example: &Example,
     ) -> Result<(), AllocError> {
-        let steps = self.options.steps;
         let mut why = Words::new(text.allocator());
         why.add_all("not known to be ambiguous");
-        why.begin();
-        write!(why, "({steps}");
-        why.add_all("steps): both are possible");
+        self.add_effort(&mut why, evidence);
+        why.add_all("both are possible");
         add_start(
             &mut why,
             self.file,
@@ -212,11 +222,12 @@ impl Told<'_> {
         &self,
         text: &mut Text,
         notes: Notes,
-        entry: &Entry,
+        evidence: &Evidence,
         example: &Example,
     ) -> Result<(), AllocError> {
-        let (label, other_label) = labels(self.file, candidates_of(entry), ", and go on:");
-        self.push_list(text, notes, example)?;
+        let candidates = candidates_of(&evidence.entry);
+        let (label, other_label) = labels(self.file, candidates, ", and go on:");
+        self.push_list(text, notes, evidence, example)?;
         self.push_outlook(text, notes, label, example.one.as_ref())?;
         self.push_outlook(text, notes, other_label, example.other.as_ref())
     }
@@ -331,15 +342,10 @@ impl<T: IndexStorage> Checked<'_, T> {
             }
             return self.push_others(text, notes, meeting, token);
         }
-        if let Some(
-            Evidence {
-                entry,
-                example: Some(example),
-                ..
-            },
-        ) = meeting.first()
-        {
-            self.told.push_example(text, notes, entry, example)?;
+        if let Some(first) = meeting.first() {
+            if let Some(example) = &first.example {
+                self.told.push_example(text, notes, first, example)?;
+            }
         }
         Ok(())
     }

@@ -148,6 +148,14 @@ struct Known {
     decided: Option<Ambiguity>,
 }
 
+/// How much work all searches of a file may do, for each step that they may take for a conflict.
+const WORK: usize = 1_000;
+
+/// How much work all searches of a file may do.
+fn work_of(options: Options) -> usize {
+    options.steps.saturating_mul(WORK)
+}
+
 /// What is looked for of the conflicts.
 fn effort_of(options: Options) -> Effort {
     let examples = match options.output {
@@ -159,6 +167,7 @@ fn effort_of(options: Options) -> Effort {
     };
     Effort {
         steps: options.steps,
+        work: work_of(options),
         examples,
         counts_each: options.tells_all || options.makes_page || options.output == Output::Json,
     }
@@ -192,7 +201,8 @@ fn known_of<T: IndexStorage>(
     let evidence = evidence_for(alloc, file, found, entries.as_slice(), effort)?;
     let settled = settled_entries(alloc, found.settled.as_slice())?;
     let decided = if entries.is_empty() && !settled.is_empty() {
-        find_ambiguity(alloc, found, settled.as_slice(), options.steps)?
+        let (entries, steps) = (settled.as_slice(), options.steps);
+        find_ambiguity(alloc, found, entries, steps, work_of(options))?
     } else {
         None
     };
@@ -256,6 +266,7 @@ fn lines_on_findings<T: IndexStorage>(
         let most = most_told(options);
         checked.told.push_warnings(&mut text, read.warnings, most)?;
         checked.push_conflicts(&mut text, most)?;
+        checked.told.push_cut_off(&mut text);
         checked.told.push_expected(&mut text);
         if options.tells_settled {
             checked.push_settled(&mut text, most)?;

@@ -38,4 +38,6 @@ pub struct Evidence {
     pub ambiguity: Option<Ambiguity>,
     /// Where none is, after what it is real, where that is looked for; None for an entry that the table doesn't list.
     pub example: Option<Example>,
+    /// Whether the work that searches of the file may do was done before the search for a text was through, if one is made.
+    pub is_cut_off: bool,
 }
