@@ -5,6 +5,7 @@ ghost use Rattle.std.specs.List.{flat_map};
 ghost use Rattle.lrevidence.specs.Ambiguities.{HasTwoTrees, IsProved};
 ghost use Rattle.lrreport.specs.LeftOpen.{AreLeftOpen};
 
+use crate::levels::Trials;
 use crate::told::Told;
 use crate::words::Words;
 use lrdiagnostics::{Mark, Style};
@@ -254,7 +255,12 @@ impl<T: IndexStorage> Checked<'_, T> {
     }
 
     /// Adds a conflict: entries at which the same meets in the same state, and what is known of them.
-    fn push_meeting(&self, text: &mut Text, meeting: &[Evidence]) -> Result<(), AllocError>
+    fn push_meeting(
+        &self,
+        text: &mut Text,
+        meeting: &[Evidence],
+        trials: &Trials<'_, '_, T>,
+    ) -> Result<(), AllocError>
         requires proved { All (IsProved self.now.found.now.grm) meeting.now }
     {
         let alloc = text.allocator();
@@ -262,7 +268,7 @@ impl<T: IndexStorage> Checked<'_, T> {
         let marks = self.marks(alloc, entries.as_slice())?;
         self.told.push_heading(text, "conflict", entries.as_slice());
         self.told.teller().add_placed(text, marks.as_slice())?;
-        self.push_notes(text, marks.as_slice(), meeting)?;
+        self.push_notes(text, marks.as_slice(), meeting, trials)?;
         text.add_char('\n');
         Ok(())
     }
@@ -273,9 +279,10 @@ impl<T: IndexStorage> Checked<'_, T> {
     {
         let tells_all = self.told.options.tells_all;
         let meetings = meetings(text.allocator(), self.told.evidence, tells_all)?;
+        let trials = Trials::new(text.allocator(), self)?;
         for (place, meeting) in meetings.iter().enumerate() {
             if place < most {
-                self.push_meeting(text, meeting)?;
+                self.push_meeting(text, meeting, &trials)?;
             }
         }
         push_more(text, meetings.len().saturating_sub(most));

@@ -10,6 +10,7 @@ mod json_lines;
 mod json_parts;
 mod json_reasons;
 mod json_texts;
+mod levels;
 mod notes;
 mod options;
 mod pages;

@@ -5,6 +5,7 @@ ghost use Rattle.lrevidence.specs.Ambiguities.{HasTwoTrees, IsProved};
 
 use crate::conflicts::{Checked, candidates_of, part_by};
 use crate::drawings::push_drawing;
+use crate::levels::Trials;
 use crate::texts::{
     Label, add_list, add_names, add_shortened, add_start, add_text, add_tree_words, labels,
 };
@@ -356,6 +357,7 @@ impl<T: IndexStorage> Checked<'_, T> {
         text: &mut Text,
         marks: &[Mark],
         meeting: &[Evidence],
+        trials: &Trials<'_, '_, T>,
     ) -> Result<(), AllocError>
         requires proved { All (IsProved self.now.found.now.grm) meeting.now }
     {
@@ -364,7 +366,7 @@ impl<T: IndexStorage> Checked<'_, T> {
         if self.told.options.steps > 0 {
             self.push_known(&mut lines, notes, meeting)?;
         }
-        let help = self.told.help(text.allocator(), meeting)?;
+        let help = trials.help(text.allocator(), meeting)?;
         if !help.is_empty() {
             notes.push(&mut lines, &help);
         }

@@ -4,6 +4,7 @@ ghost use Rattle.std.specs.Prelude.{◌≡◌, All, IfOk};
 ghost use Rattle.lrevidence.specs.Ambiguities.{IsProved};
 
 use crate::conflicts::{Checked, entries_of, meetings};
+use crate::levels::Trials;
 use lrevidence::Evidence;
 use lrfindings::Verdict;
 use lrgrammar::idx::IndexStorage;
@@ -11,23 +12,32 @@ use lrpage::{Card, Page};
 use lrwriter::Text;
 use std::alloc::{AllocError, Global};
 
-impl<T: IndexStorage> Checked<'_, T> {
-    /// How entries at which the same meets can be settled, in one line.
-    fn help_line(&self, alloc: Global, meeting: &[Evidence]) -> Result<String, AllocError> {
-        let mut line = Text::new(alloc);
-        self.told.help(alloc, meeting)?.join(&mut line);
-        line.finish()
-    }
+/// How entries at which the same meets can be settled, in one line.
+fn help_line<T: IndexStorage>(
+    alloc: Global,
+    trials: &Trials<'_, '_, T>,
+    meeting: &[Evidence],
+) -> Result<String, AllocError> {
+    let mut line = Text::new(alloc);
+    trials.help(alloc, meeting)?.join(&mut line);
+    line.finish()
+}
 
+impl<T: IndexStorage> Checked<'_, T> {
     /// The card of entries at which the same meets.
-    fn card<'a>(&self, alloc: Global, meeting: &'a [Evidence]) -> Result<Card<'a>, AllocError>
+    fn card<'a>(
+        &self,
+        alloc: Global,
+        meeting: &'a [Evidence],
+        trials: &Trials<'_, '_, T>,
+    ) -> Result<Card<'a>, AllocError>
         ensures { IfOk result (λ card. card.meeting.now ≡ meeting.now) }
     {
         let entries = entries_of(alloc, meeting)?;
         Ok(Card {
             meeting,
             marks: self.marks(alloc, entries.as_slice())?,
-            help: self.help_line(alloc, meeting)?,
+            help: help_line(alloc, trials, meeting)?,
         })
     }
 
@@ -40,9 +50,10 @@ impl<T: IndexStorage> Checked<'_, T> {
     ) -> Result<String, AllocError>
         requires proved { All (IsProved self.now.found.now.grm) self.now.told.evidence.now }
     {
+        let trials = Trials::new(alloc, self)?;
         let mut cards = Vec::new(alloc);
         for meeting in &meetings(alloc, self.told.evidence, false)? {
-            cards.push(self.card(alloc, meeting)?)?;
+            cards.push(self.card(alloc, meeting, &trials)?)?;
         }
         let page = Page {
             source: self.told.source,

@@ -1,0 +1,333 @@
+//! New levels that could settle a conflict, tried on all conflicts of a file.
+//!
+//! A level is harmless where it settles open conflicts as the table decides them: by the shift. It may settle one by the
+//! reduction where a rule and its operator meet: there the state that is come to by the reduction shifts the token too.
+
+use crate::conflicts::Checked;
+use crate::told::Told;
+use lrevidence::Evidence;
+use lrfindings::Entry;
+use lrgrammar::grammar::{PartSymbol, Precedence};
+use lrgrammar::idx::{IndexStorage, StIdx};
+use std::alloc::{AllocError, Global};
+use std::cell::Cell;
+use std::cmp::Ordering;
+use std::collections::BTreeMap;
+
+/// How many entries are looked at in all trials of a file.
+const MOST: usize = 5_000_000;
+
+/// Where a level stands.
+#[derive(Clone, Copy, PartialEq, Eq, PartialOrd, Ord)]
+pub(crate) enum Rank {
+    /// In a new line above all others.
+    Above,
+    /// In a line of the file.
+    File(u64),
+    /// In a new line below all others.
+    Below,
+    /// In a line below that one.
+    LastBelow,
+}
+
+/// What is done at a token where a production has its level.
+#[derive(Clone, Copy, PartialEq, Eq)]
+pub(crate) enum Group {
+    /// Either, by `%left` or `%right`.
+    Either,
+    /// To shift, by `%right`.
+    Shift,
+    /// Nothing is settled, by `%precedence`.
+    Open,
+    /// Neither, by `%nonassoc`.
+    Neither,
+}
+
+/// A level.
+#[derive(Clone, Copy)]
+pub(crate) struct Level {
+    pub(crate) rank: Rank,
+    pub(crate) group: Group,
+}
+
+impl Level {
+    /// That of a token of the file. Where a token and a production have one level and meet in an open conflict, it is one of
+    /// `%precedence`.
+    fn of_file(precedence: Precedence) -> Level {
+        Level {
+            rank: Rank::File(precedence.level),
+            group: Group::Open,
+        }
+    }
+}
+
+/// New levels.
+#[derive(Drop)]
+pub(crate) struct Proposal {
+    /// Of tokens, by their numbers.
+    pub(crate) tokens: Vec<(usize, Level)>,
+    /// Of a production, by `%prec`.
+    pub(crate) production: Option<(usize, Level)>,
+}
+
+/// What comes of new levels.
+#[derive(Clone, Copy, PartialEq, Eq)]
+pub(crate) enum Trial {
+    /// The conflict is settled, and nothing else is decided otherwise than before.
+    Good,
+    /// It is not, or something else is.
+    Bad,
+    /// Too much was tried already.
+    Untried,
+}
+
+/// What levels make of a shift and a reduction.
+#[derive(Clone, Copy, PartialEq, Eq)]
+enum Outcome {
+    Open,
+    Shift,
+    Reduce,
+    Neither,
+}
+
+impl Proposal {
+    /// That tokens get one level.
+    pub(crate) fn of_tokens(
+        alloc: Global,
+        tokens: &[usize],
+        rank: Rank,
+        group: Group,
+    ) -> Result<Proposal, AllocError> {
+        let mut proposal = Proposal {
+            tokens: Vec::new(alloc),
+            production: None,
+        };
+        proposal.add(tokens, rank, group)?;
+        Ok(proposal)
+    }
+
+    /// Adds that tokens get one level.
+    pub(crate) fn add(
+        &mut self,
+        tokens: &[usize],
+        rank: Rank,
+        group: Group,
+    ) -> Result<(), AllocError> {
+        for token in tokens {
+            self.tokens.push((*token, Level { rank, group }))?;
+        }
+        Ok(())
+    }
+}
+
+/// What levels make of a shift and a reduction.
+fn outcome_of(token: Option<Level>, production: Option<Level>) -> Outcome {
+    let (Some(token), Some(production)) = (token, production) else {
+        return Outcome::Open;
+    };
+    match token.rank.cmp(&production.rank) {
+        Ordering::Greater => Outcome::Shift,
+        Ordering::Less => Outcome::Reduce,
+        Ordering::Equal => match token.group {
+            Group::Either => Outcome::Reduce,
+            Group::Shift => Outcome::Shift,
+            Group::Open => Outcome::Open,
+            Group::Neither => Outcome::Neither,
+        },
+    }
+}
+
+/// The levels of a grammar with new ones.
+#[derive(Drop)]
+struct Levels<'p> {
+    /// By token.
+    tokens: Vec<Option<Level>>,
+    proposal: &'p Proposal,
+}
+
+/// What is tried on a file.
+#[derive(Drop)]
+pub(crate) struct Trials<'c, 'a, T: IndexStorage> {
+    pub(crate) checked: &'c Checked<'a, T>,
+    /// State and token of each entry, left open or settled, in order. What stands here twice has more than two candidates.
+    cells: Vec<(usize, usize)>,
+    /// Of each state of an entry the rule of which it has operators, if of one.
+    rules: BTreeMap<usize, Option<usize>>,
+    /// How many entries may still be looked at.
+    left: Cell<usize>,
+}
+
+impl<'c, 'a, T: IndexStorage> Trials<'c, 'a, T> {
+    /// Nothing is tried yet.
+    pub(crate) fn new(
+        alloc: Global,
+        checked: &'c Checked<'a, T>,
+    ) -> Result<Trials<'c, 'a, T>, AllocError> {
+        let mut trials = Trials {
+            checked,
+            cells: Vec::new(alloc),
+            rules: BTreeMap::new(alloc),
+            left: Cell::new(MOST),
+        };
+        trials.add_entries()?;
+        trials.add_settled()?;
+        trials.cells.sort_unstable();
+        Ok(trials)
+    }
+
+    /// What is told of the file.
+    pub(crate) fn told(&self) -> Told<'a> {
+        self.checked.told
+    }
+
+    /// Adds the entries that are left open.
+    fn add_entries(&mut self) -> Result<(), AllocError> {
+        let checked = self.checked;
+        for evidence in checked.told.evidence {
+            let state = evidence.entry.state;
+            self.cells.push((state, evidence.entry.token))?;
+            if self.rules.get(&state).is_none() {
+                self.rules.insert(state, checked.operator_rule(state))?;
+            }
+        }
+        Ok(())
+    }
+
+    /// Adds the entries that precedences settle.
+    fn add_settled(&mut self) -> Result<(), AllocError> {
+        let checked = self.checked;
+        for settled in &checked.found.settled {
+            self.cells.push((settled.entry.state, settled.entry.token))?;
+        }
+        Ok(())
+    }
+
+    /// Whether more than two candidates meet in the cell of an entry.
+    pub(crate) fn is_crowded(&self, entry: &Entry) -> bool {
+        let cell = (entry.state, entry.token);
+        let place = self.cells.partition_point(|it| *it < cell);
+        self.cells.get(place.saturating_add(1)) == Some(&cell)
+    }
+
+    /// Whether a rule and its operator meet in an entry: the production ends with its rule, and the token stands behind that rule
+    /// in productions of it.
+    pub(crate) fn is_of_operator(&self, entry: &Entry) -> bool {
+        let told = self.told();
+        let Some(prod) = told.production(entry.production) else {
+            return false;
+        };
+        // all items of the state are behind one symbol, so the production ends with it
+        self.rules.get(&entry.state).copied().flatten() == Some(prod.rule)
+    }
+
+    /// By token, the levels of the file.
+    fn levels_of_file(&self, alloc: Global) -> Result<Vec<Option<Level>>, AllocError> {
+        let mut levels = Vec::new(alloc);
+        let told = self.told();
+        for token in &told.file.parts.tokens {
+            levels.push(token.precedence.map(Level::of_file))?;
+        }
+        Ok(levels)
+    }
+
+    /// The levels with those of a proposal.
+    fn levels<'p>(&self, alloc: Global, proposal: &'p Proposal) -> Result<Levels<'p>, AllocError> {
+        let mut tokens = self.levels_of_file(alloc)?;
+        for (token, level) in &proposal.tokens {
+            if let Some(place) = tokens.get_mut(*token) {
+                *place = Some(*level);
+            }
+        }
+        Ok(Levels { tokens, proposal })
+    }
+
+    /// What levels make of a shift of a token and the reduction by a production.
+    fn outcome(&self, levels: &Levels<'_>, token: usize, production: usize) -> Outcome {
+        let level = match levels.proposal.production {
+            Some((named, level)) if named == production => Some(level),
+            _ => match self.told().token_of(production) {
+                Some(source) => levels.tokens.get(source).copied().flatten(),
+                None => None,
+            },
+        };
+        outcome_of(levels.tokens.get(token).copied().flatten(), level)
+    }
+
+    /// Whether levels keep the shift, if there is one, where a production could reduce.
+    fn keeps_shift(&self, levels: &Levels<'_>, token: usize, production: usize) -> bool {
+        matches!(
+            self.outcome(levels, token, production),
+            Outcome::Open | Outcome::Shift
+        )
+    }
+
+    /// Whether what levels make of an entry changes nothing. Where two reductions meet, a shift may be there too.
+    fn is_harmless(&self, levels: &Levels<'_>, entry: &Entry) -> bool {
+        if let Some(other) = entry.other {
+            return self.keeps_shift(levels, entry.token, entry.production)
+                && self.keeps_shift(levels, entry.token, other);
+        }
+        match self.outcome(levels, entry.token, entry.production) {
+            Outcome::Open => true,
+            Outcome::Shift => !self.is_crowded(entry),
+            Outcome::Reduce => !self.is_crowded(entry) && self.is_of_operator(entry),
+            Outcome::Neither => false,
+        }
+    }
+
+    /// What comes of new levels for entries and for all others.
+    pub(crate) fn run(
+        &self,
+        alloc: Global,
+        proposal: &Proposal,
+        meeting: &[Evidence],
+    ) -> Result<Trial, AllocError> {
+        let told = self.told();
+        let evidence = told.evidence;
+        let Some(left) = self.left.get().checked_sub(evidence.len()) else {
+            return Ok(Trial::Untried);
+        };
+        self.left.set(left);
+        let levels = self.levels(alloc, proposal)?;
+        let settles = meeting.iter().all(|it| self.outcome(
+            &levels,
+            it.entry.token,
+            it.entry.production,
+        ) != Outcome::Open);
+        let is_harmless = evidence
+            .iter()
+            .all(|it| self.is_harmless(&levels, &it.entry));
+        Ok(if settles && is_harmless {
+            Trial::Good
+        } else {
+            Trial::Bad
+        })
+    }
+}
+
+impl<T: IndexStorage> Checked<'_, T> {
+    /// The rule of which a state has operators: each of its items is complete, or one of the rule with its dot behind the rule, in
+    /// the first place. None where there is no such rule.
+    fn operator_rule(&self, state: usize) -> Option<usize> {
+        let (Some(graph), Some(number)) = (&self.found.graph, T::from_usize(state)) else {
+            return None;
+        };
+        if state >= usize::from(graph.all_states_len()) {
+            return None;
+        }
+        let mut rule = None;
+        for key in graph.closed_state(StIdx(number)).items.keys() {
+            let (production, dot) = (usize::from(key.0), usize::from(key.1));
+            let prod = self.told.production(production)?;
+            let own = Some(&PartSymbol::Rule(prod.rule));
+            if dot == prod.symbols.len() {
+                continue;
+            }
+            if dot != 1 || prod.symbols.first() != own || rule.is_some_and(|it| it != prod.rule) {
+                return None;
+            }
+            rule = Some(prod.rule);
+        }
+        rule
+    }
+}
