@@ -4,10 +4,10 @@
     help.py LRCHECK LRT [--drawn N] [FILE..]
 
 Of each FILE, and of N drawn grammars (500 unless it is said), each help of `lrcheck --all` that proposes levels is applied to the
-text: the precedence lines are put before the rules, in each way that the help leaves open. Then the conflict has to be gone, and
-no other may have come; and of a drawn grammar just the same lists of at most six tokens have to be accepted as before, which
-`lrt run` tells. Where Bison is installed, all conflicts are with a shift, and the IELR automaton has as many, this has to be so
-behind the help too. What the help for `%expect` says has to make the file one as expected.
+text: the precedence lines are put above or below those that are there, in each way that the help leaves open. Then the conflict
+has to be gone, and no other may have come; and of a drawn grammar just the same lists of at most six tokens have to be accepted
+as before, which `lrt run` tells. Where Bison is installed, all conflicts are with a shift, and the IELR automaton has as many,
+this has to be so behind the help too. What the help for `%expect` says has to make the file one as expected.
 
 Each help that fails is told with its grammar; ends with status 1 where there is one. What is drawn is the same in each run.
 """
