@@ -19,18 +19,17 @@ lib | run) exec "$kit/bin/prove" "$@" ;;
 esac
 echo "rt $*"
 if grep -q bad src/*; then exit 1; fi
-cp src/main.rt "$kit/source" && cd "$kit" || exit
-toolchain/bin/clang -O0 -fsanitize=address && toolchain/bin/ld.lld -m one -o program || exit
+cp src/main.rt "$kit/source" && cd "$kit" && echo BC >module.bc || exit
+toolchain/bin/clang -mllvm -safe -O0 -fsanitize=address && toolchain/bin/ld.lld -pie -o program || exit
 if grep -q slow source; then exec sleep 20; fi
 rm program
 END
-cat >toolchain/bin/clang <<'END'
-#!/bin/sh
-echo "echo '$(cat source)' '$*' \"\$@\"; cat" >module
-END
 cat >toolchain/bin/ld.lld <<'END'
 #!/bin/sh
-cp module program && chmod +x program
+[ "$1" = -r ] || { cp module program && exec chmod +x program; }
+told=''
+for word; do case $word in --lto-O* | -safe) told="$told $word" ;; esac; done
+echo "echo '$(cat source)$told' \"\$@\"; cat" >module
 END
 chmod +x bin/rt toolchain/bin/*
 

@@ -6,19 +6,40 @@ name_unproved() {
     [ "$1" = lrt ] || program=$kept/look-${1#lr}
 }
 
-# Makes a kit in `build_room` for rt try, which removes the program that it links. Its linker leaves a copy of what it links, and
-# the checks of each access are left out, so that the program is not much slower than the proved one.
+# Makes a kit in `build_room` for rt try. Bitcode of a whole program is compiled by the linker, which takes less time for it; the
+# checks of each access are left out, so that the program is not much slower than the proved one.
 make_kit_of_program() {
-    make_kit "$build_room" && touch "$build_room/unchecked" && rm "$build_room/c/asan.a" "$build_room/toolchain/bin/ld.lld" &&
+    make_kit "$build_room" && rm "$build_room/c/asan.a" "$build_room/toolchain/bin/ld.lld" &&
         printf '!<arch>\n' >"$build_room/c/asan.a" || return
+    cat >"$build_room/toolchain/bin/clang" <<'END'
+#!/bin/sh
+room=${0%/*}/../.. options='' before=''
+[ "$(head -c 2 module.bc)" = BC ] || exec "$room/tools/clang" "$@"
+for word; do
+    [ "$before" != -mllvm ] || options="$options -mllvm $word"
+    before=$word
+done
+exec "$room/tools/ld.lld" -r -m elf_x86_64 --lto-O2 --lto-partitions=4 $options -o module.o module.bc
+END
+    make_linker
+    chmod +x "$build_room/toolchain/bin/ld.lld"
+}
+
+# Makes the linker of that kit, which leaves a copy of what it links, since rt try removes that. What was compiled so has a fixed
+# place in memory.
+make_linker() {
     cat >"$build_room/toolchain/bin/ld.lld" <<'END'
 #!/bin/sh
 room=${0%/*}/../..
+for word; do
+    shift
+    [ "$word" != -pie ] || word=-no-pie
+    set -- "$@" "$word"
+done
 "$room/tools/ld.lld" "$@" || exit
 while [ "$1" != -o ]; do shift; done
 cp "$2" "$room/linked" && mv "$room/linked" "$room/built"
 END
-    chmod +x "$build_room/toolchain/bin/ld.lld"
 }
 
 # Makes the folder `build_room` for what a build needs. It lies outside of the repository, in which rt ci stops at links.
