@@ -15,6 +15,7 @@ cat >bin/rt <<'END'
 kit=${0%/*}/..
 case $1 in
 doc) exec echo "$kit/START.md" ;;
+version) exec echo a kit ;;
 lib | run) exec "$kit/bin/prove" "$@" ;;
 esac
 echo "rt $*"

@@ -6,8 +6,8 @@ name_unproved() {
     [ "$1" = lrt ] || program=$kept/look-${1#lr}
 }
 
-# Makes a kit in `build_room` for rt try. Bitcode of a whole program is compiled by the linker, which takes less time for it; the
-# checks of each access are left out, so that the program is not much slower than the proved one.
+# Makes a kit in `build_room` for rt try. Bitcode of a whole program is compiled by the linker, which takes less time for it, and
+# leaves a copy of the object file; the checks of each access are left out, so that the program is about as fast as the proved one.
 make_kit_of_program() {
     make_kit "$build_room" && rm "$build_room/c/asan.a" "$build_room/toolchain/bin/ld.lld" &&
         printf '!<arch>\n' >"$build_room/c/asan.a" || return
@@ -19,7 +19,7 @@ for word; do
     [ "$before" != -mllvm ] || options="$options -mllvm $word"
     before=$word
 done
-exec "$room/tools/ld.lld" -r -m elf_x86_64 --lto-O2 --lto-partitions=4 $options -o module.o module.bc
+"$room/tools/ld.lld" -r -m elf_x86_64 --lto-O2 --lto-partitions=4 $options -o module.o module.bc && cp module.o "$room/object.o"
 END
     make_linker
     chmod +x "$build_room/toolchain/bin/ld.lld"
