@@ -7,7 +7,7 @@ name_unproved() {
 }
 
 # Makes a kit in `build_room` for rt try. Bitcode of a whole program is compiled by the linker, which takes less time for it, and
-# leaves a copy of the object file; the checks of each access are left out, so that the program is about as fast as the proved one.
+# leaves copies of both; the checks of each access are left out, so that the program is about as fast as the proved one.
 make_kit_of_program() {
     make_kit "$build_room" && rm "$build_room/c/asan.a" "$build_room/toolchain/bin/ld.lld" &&
         printf '!<arch>\n' >"$build_room/c/asan.a" || return
@@ -19,7 +19,8 @@ for word; do
     [ "$before" != -mllvm ] || options="$options -mllvm $word"
     before=$word
 done
-"$room/tools/ld.lld" -r -m elf_x86_64 --lto-O2 --lto-partitions=4 $options -o module.o module.bc && cp module.o "$room/object.o"
+"$room/tools/ld.lld" -r -m elf_x86_64 --lto-O2 --lto-partitions=4 $options -o module.o module.bc &&
+    cp module.bc module.o "$room"
 END
     make_linker
     chmod +x "$build_room/toolchain/bin/ld.lld"
