@@ -1,0 +1,2 @@
+-- rows in turn
+mod RowsInTurn

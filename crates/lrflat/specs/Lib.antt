@@ -1,0 +1,2 @@
+-- tables as lists of numbers
+pub mod Flat
