@@ -10,6 +10,7 @@ FILE = "a.y"
 class Case(namedtuple("Case", "name words text given status", defaults=(b"%% Other: 'other';", 0))):
     program = "lrt"
     lone_words = ()
+    pages = ()
 
     @property
     def files(self):

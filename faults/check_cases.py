@@ -4,11 +4,12 @@ from collections import namedtuple
 
 # `words` are the arguments, and of these `names`, at the end, the names of files, which lie in the folder of the call by
 # `files`. `given` is standard input: where it is not to be read, another grammar. `status` is how the call ends where nothing
-# fails, and `told` with what standard error then begins; where it is empty, nothing is there.
-FIELDS = "name words names files given status told"
+# fails, and `told` with what standard error then begins; where it is empty, nothing is there. `pages` are files of the folder
+# that are written, of which older ones lie there.
+FIELDS = "name words names files given status told pages"
 
 
-class CheckCase(namedtuple("CheckCase", FIELDS, defaults=(b"%% other: 'other';", 0, b""))):
+class CheckCase(namedtuple("CheckCase", FIELDS, defaults=(b"%% other: 'other';", 0, b"", ()))):
     program = "lrcheck"
 
     @property
@@ -59,6 +60,7 @@ def cases():
     yield case("json", ["--json"], ["a.y"], status=1)
     yield case("json-warnings", ["--json"], ["i.y"])
     yield case("grammar", ["--grammar"], ["a.y"])
+    yield case("page", ["--page", "out.html"], ["u.y"], pages=("out.html",))
     yield case("states", ["--states"], ["a.y"], status=1)
     yield case("help", ["--help"], [])
     yield case("usage", ["--wrong", "a.y"], [], status=2, told=b"error: ")

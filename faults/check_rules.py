@@ -18,6 +18,24 @@ OUT_OF_MEMORY = Part(2, b"", b"lrcheck: out of memory\n")
 CANNOT_WRITE = Part(2, b"", b"lrcheck: cannot write standard output\n")
 
 
+# Why a page is not written.
+NO_PAGE = (
+    f"{os.strerror(errno.EIO)} (os error {errno.EIO})",
+    "failed to write whole buffer",
+    "out of memory",
+)
+
+
+def without_page(case, whole):
+    """The parts of answers that tell of the last one's page, which can't be written, why."""
+    return [[*whole.parts, Part(2, b"", f"lrcheck: cannot write {it}: {why}\n".encode())] for it in case.pages for why in NO_PAGE]
+
+
+def has_no_page(case, whole, found):
+    """All is answered, and it is told why the page can't be written."""
+    return any(found[:3] == joined(parts) for parts in without_page(case, whole))
+
+
 def unread(name):
     """The answer to a file that can't be read."""
     named = "standard input" if name == "-" else name
@@ -31,9 +49,10 @@ def joined(parts):
 
 
 def is_whole(case, found):
-    """A call without a fault ends as the case says, and its answer is made of its parts."""
+    """A call without a fault ends as the case says, its answer is made of its parts, and its pages are pages."""
     told = found.err.startswith(case.told) and bool(found.err) == bool(case.told)
-    return found.status == case.status and told and found[:3] == joined(found.parts)
+    are_pages = all(it.startswith(b"<!DOCTYPE html>") and it.endswith(b"</html>\n") for it in found.pages.values())
+    return found.status == case.status and told and found[:3] == joined(found.parts) and are_pages
 
 
 def leaves_input(case, found):
@@ -43,7 +62,8 @@ def leaves_input(case, found):
 
 def memory_used_up(case, whole, found):
     """The fault is told behind whole parts, and nothing comes behind it."""
-    return any(found[:3] == joined([*whole.parts[:k], OUT_OF_MEMORY]) for k in range(len(whole.parts)))
+    ends = any(found[:3] == joined([*whole.parts[:k], OUT_OF_MEMORY]) for k in range(len(whole.parts)))
+    return ends or has_no_page(case, whole, found)
 
 
 def are_unread(whole, found, unread_parts):
@@ -65,7 +85,7 @@ def are_told_unread(case, whole, found, files):
 
 def opening(case, whole, found):
     """The file is told, and the others are answered."""
-    return are_told_unread(case, whole, found, range(len(case.names)))
+    return are_told_unread(case, whole, found, range(len(case.names))) or has_no_page(case, whole, found)
 
 
 def reading(case, whole, found):
@@ -97,12 +117,13 @@ def output_ends(whole, found, k):
 
 def writing(case, whole, found):
     """On standard output a beginning of the answer stands, and the fault is told. On standard error beginnings of lines
-    stand, and nothing else comes of the fault."""
+    stand, and nothing else comes of the fault. Of a page that can't be written it is told why."""
     if found.faults[OUTPUT] > 1:
         return False
     if found.faults[OUTPUT]:
         return found.status == 2 and any(output_ends(whole, found, k) for k in range(len(whole.parts)))
-    return found[:2] == whole[:2] and are_told([part.err for part in whole.parts], found)
+    answers = without_page(case, whole) if found.faults[ELSEWHERE] else [whole.parts]
+    return any(found[:2] == joined(it)[:2] and are_told([part.err for part in it], found) for it in answers)
 
 
 FAULTS = rules.faults_by(memory_used_up, opening, reading, writing)

@@ -5,8 +5,9 @@ from collections import namedtuple
 from cases import ANSWERING, FILE
 
 # What a call answered: its status and its streams. `faults` are the faults that were made on each descriptor (0, 1, 2 and
-# others), and `input_read` the bytes that were read of standard input. `parts` are the answers of which a whole one is made.
-Answer = namedtuple("Answer", "status out err faults input_read parts", defaults=((),))
+# others), and `input_read` the bytes that were read of standard input. `parts` are the answers of which a whole one is made, and
+# `pages` what lies there behind the call and is none of the files of the case, by name.
+Answer = namedtuple("Answer", "status out err faults input_read parts pages", defaults=((), {}))
 
 INPUT, OUTPUT, ERRORS = range(3)
 

@@ -40,6 +40,9 @@ PROGRAMS = {program: path_of(program) for program in RULES}
 SECONDS = 60
 SHOWN = 3
 
+# What lies where a page is written.
+OLDER = b"an older page"
+
 # The report of faults.c: counts of calls, counts of faults by descriptor, the bytes that were read of standard input, and the
 # blocks of memory that are held.
 CALLS = ("memory", "open", "read", "write", "close")
@@ -53,7 +56,7 @@ STOOD_IN_FOR = (
 HARMLESS = (
     "memcpy memmove memset memcmp bcmp strlen __errno_location __xpg_strerror_r __sysv_signal __x86_get_cpuid_feature_leaf "
     "clock_gettime environ getenv isatty "
-    # (for the file of a page, which no case makes)
+    # (for the file of a page)
     "fchmod fdatasync flock fsync ftruncate realpath rename statx unlink"
 )
 
@@ -71,11 +74,16 @@ class Room:
             self.file(name).write_bytes(text)
         self.file("given").write_bytes(case.given)
         self.file("report").write_bytes(bytes(REPORT.size))
+        self.laid = {*case.files, "given", "report", "out", "err"}
         with open(self.file("report"), "r+b") as it:
             self.report = mmap.mmap(it.fileno(), REPORT.size)
 
     def file(self, name):
         return self.folder / name
+
+    def pages(self):
+        """What lies there beside the files of the case, by name."""
+        return {it.name: it.read_bytes() for it in self.folder.iterdir() if it.name not in self.laid}
 
     def call(self, fault=None, number=0, words=None):
         """What is answered where the call of that number meets the fault, and how many calls there were of each name, with how
@@ -83,12 +91,16 @@ class Room:
         command = [PROGRAMS[self.case.program], *(self.case.words if words is None else words)]
         told = {"LD_PRELOAD": self.library, "FAULT_REPORT": self.file("report"), **self.more, **settings(fault, number)}
         self.report[:] = bytes(REPORT.size)
+        for name in {*self.pages(), *self.case.pages}:
+            self.file(name).unlink(missing_ok=True)
+        for name in self.case.pages:
+            self.file(name).write_bytes(OLDER)
         with open(self.file("given"), "rb") as given, open(self.file("out"), "wb") as out, open(self.file("err"), "wb") as err:
             streams = {"stdin": given, "stdout": out, "stderr": err}
             status = ended(subprocess.Popen(command, cwd=self.folder, env=told, **streams))
         *counts, held = REPORT.unpack(self.report)
         written = self.file("out").read_bytes(), self.file("err").read_bytes()
-        answer = Answer(status, *written, tuple(counts[len(CALLS) : -1]), counts[-1])
+        answer = Answer(status, *written, tuple(counts[len(CALLS) : -1]), counts[-1], pages=self.pages())
         return answer, {**dict(zip(CALLS, counts)), "held": held}
 
     def whole(self):
@@ -134,10 +146,15 @@ def shown(answer):
     return f"{end}, standard output {out!r}, standard error {err!r}"
 
 
+def keeps_pages(case, whole, found):
+    """New pages lie there where the whole answer comes, and else the older ones, and nothing else."""
+    return found.pages == (whole.pages if found[:3] == whole[:3] else dict.fromkeys(case.pages, OLDER))
+
+
 def is_right(case, fault, whole, found):
     """Whether the answer may come where the whole one does without a fault, or where no fault was met."""
     may_come = fault.rule(case, whole, found) if any(found.faults) else found == whole._replace(parts=())
-    return may_come and RULES[case.program].leaves_input(case, found)
+    return may_come and RULES[case.program].leaves_input(case, found) and keeps_pages(case, whole, found)
 
 
 def try_fault(room, whole, calls, name):
