@@ -129,7 +129,7 @@ pub(crate) fn command_line<'a>(alloc: Global) -> Result<Command<'a>, AllocError>
     args.push(page(alloc)?)?;
     Command::new(alloc, "lrcheck")
         .bin_name("lrcheck")?
-        .version("0.1.0")
+        .version("0.2.0")
         .about(
             "Tells whether grammars have conflicts, where they are, and which grammars are unambiguous",
         )
