@@ -194,7 +194,8 @@ def check_ambiguity(known, told, entry, counts):
     pair = check_pair(told, entry.conflict, ambiguity)
     check_printed_text(ambiguity, entry.lines.text)
     check_brackets(known, told, ambiguity, pair, entry.lines.trees)
-    counts["by two others of three candidates"] += pair != entry.conflict.pair
+    hold(ambiguity["own"] == (pair == entry.conflict.pair), f"the trees part by {pair}, which is told otherwise")
+    counts["by two others of three candidates"] += not ambiguity["own"]
 
 
 def check_missed(known, conflict, counts):
@@ -227,14 +228,16 @@ def check_entry(known, told, entry, counts):
 
 def check_groups(told, alone):
     """Entries stand in the order of the file. Those in a row that meet alike in one state, where the table does the same, are
-    told together: with the text of the first token that has one, and the list of the first token where that has none."""
+    told together: with the text of the first token that has one, or rather of the first that has one of its own candidates, and
+    the list of the first token where that has none."""
     in_order = lambda key: (key[2][0], key[0], key[2][1] or 0, key[1])
     hold([*alone] == sorted(alone, key=in_order), f"the entries are out of order: {[*alone]}")
     rows = groupby(alone.values(), lambda it: {**it, **dict.fromkeys(("tokens", "shift", "ambiguity", "after"))})
     for group, (_, row) in zip(told.grouped["conflicts"], rows, strict=True):
         row = [*row]
         hold(group["tokens"] == [token for it in row for token in it["tokens"]], f"{group['tokens']} are told together")
-        wanted = next((it["ambiguity"] for it in row if it["ambiguity"]), None), row[0]["after"]
+        known = sorted((it["ambiguity"] for it in row if it["ambiguity"]), key=lambda it: not it["own"])
+        wanted = next(iter(known), None), row[0]["after"]
         hold((group["ambiguity"], group["after"]) == wanted, f"something else is told of {group['tokens']} together")
 
 

@@ -204,6 +204,8 @@ def check_parting(told, entry, ambiguity):
     hold(text[dot] in told.symbols(entry["tokens"]), "another token stands behind the dot")
     pair = tuple(told.by_body(move) for move in moves)
     hold(pair in told.pairs(entry, text[dot]), f"the trees part by {pair}")
+    hold(not ambiguity["own"] or {*pair} == {*told.own_pair(entry)}, f"{pair} are not the entry's candidates")
+    hold(ambiguity["length"] == len(ambiguity["text"]), "the text is longer, or shorter")
     items = told.items_after(told.stack(before))
     hold(items == told.states[entry["state"]].core.keys(), "what stands before the dot leads to another state")
 

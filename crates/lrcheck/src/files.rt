@@ -91,8 +91,8 @@ fn tell(rt: &HostRuntime, name: &str, outcome: &Outcome) -> Result<u8, Stop> {
     }
 }
 
-/// Writes the page of what came of a file to a path, where there is one, and answers the exit status.
-fn put_page(rt: &HostRuntime, outcome: &Outcome, path: &str) -> u8 {
+/// Writes the page of what came of a file to a path, where there is one; tells where that fails, and answers the exit status.
+fn tell_page(rt: &HostRuntime, outcome: &Outcome, path: &str) -> u8 {
     let Outcome::Checked(report) = outcome else {
         return 0;
     };
@@ -124,7 +124,7 @@ pub(crate) fn check_all(
         let outcome = outcome?;
         status = tell(rt, names[k], &outcome)?.max(status);
         if let Some(path) = page {
-            status = put_page(rt, &outcome, path).max(status);
+            status = tell_page(rt, &outcome, path).max(status);
         }
     }
     Ok(status)

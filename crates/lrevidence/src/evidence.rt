@@ -81,11 +81,14 @@ fn evidence_of<T: IndexStorage>(
         return Ok(evidence);
     };
     if steps > 0 {
-        evidence.ambiguity = ambiguity_at(alloc, reasons, conflict, steps)?;
-        evidence.is_cut_off = evidence.ambiguity.is_none() && reasons.is_used_up();
+        match ambiguity_at(alloc, reasons, conflict, steps)? {
+            Some(ambiguity) => evidence.ambiguity = Some(Box::new(alloc, ambiguity)?),
+            None => evidence.is_cut_off = reasons.is_used_up(),
+        }
     }
     if has_example && evidence.ambiguity.is_none() && is_among(listed, &entry) {
-        evidence.example = Some(example_of(alloc, reasons, numbering, conflict)?);
+        let example = example_of(alloc, reasons, numbering, conflict)?;
+        evidence.example = Some(Box::new(alloc, example)?);
     }
     Ok(evidence)
 }

@@ -9,6 +9,7 @@ mod examples;
 
 pub use crate::evidence::{Effort, Evidence, evidence_for, find_ambiguity};
 pub use lrshown::{
-    Ambiguity, Example, Node, Outlook, Step, Tree, TwoTrees, Visit, body_of, list_of, name_of_rule,
-    names_of, names_of_tokens, rule_name, start_of, symbol_name, text_of, token_name,
+    Ambiguity, Example, Node, Outlook, Step, Tree, TwoTrees, Visit, body_of, candidates_of,
+    list_of, name_of_rule, names_of, names_of_tokens, rule_name, start_of, symbol_name, text_of,
+    token_name,
 };

@@ -1,6 +1,5 @@
 //! Conflicts, each as a card that opens.
 
-ghost use Rattle.std.specs.Prelude.{IfSome};
 ghost use Rattle.std.specs.Option.{ForSome};
 ghost use Rattle.lrshown.specs.Ambiguities.{AreShown, IsShown};
 
@@ -9,7 +8,7 @@ use crate::symbols::DOT;
 use lrdiagnostics::add_escaped_name;
 use lrfindings::Entry;
 use lrgrammar::idx::IndexStorage;
-use lrshown::{Ambiguity, Evidence, Example, Outlook, Step, list_of, start_of, text_of};
+use lrshown::{Evidence, Example, Outlook, Step, candidates_of, list_of, start_of, text_of};
 use lrwriter::Text;
 use std::alloc::AllocError;
 
@@ -18,6 +17,21 @@ const NAMED: usize = 12;
 
 /// How many cards are open from the beginning.
 const OPEN: usize = 3;
+
+/// The place of the first of the entries for which a text with two trees is known that part by what meets in it, or else of the
+/// first that has any; or else of the first of all.
+fn first_with_text(meeting: &[Evidence]) -> usize {
+    let own = meeting.iter().position(|it| it.has_own_text());
+    let any = meeting.iter().position(|it| it.ambiguity.is_some());
+    own.or(any).unwrap_or(0)
+}
+
+/// Adds a line of help.
+fn add_help(page: &mut Text, line: &str) {
+    page.add("<p class=\"help\">");
+    add_escaped_name(page, line);
+    page.add("</p>\n");
+}
 
 impl<T: IndexStorage> Page<'_, T> {
     /// Adds what meets, and the tokens at which it does.
@@ -42,24 +56,11 @@ impl<T: IndexStorage> Page<'_, T> {
         }
     }
 
-    /// The first of the entries that has a text with two trees, by its place, and the text.
-    fn first_ambiguous<'e>(&self, meeting: &'e [Evidence]) -> Option<(usize, &'e Ambiguity)>
-        requires proved { AreShown self.now.found.now.grm meeting.now }
-        ensures { IfSome result (λ told. IsShown self.now.found.now.grm told.1.now) }
+    /// Adds whether a text with two trees is known that part by what meets in an entry.
+    fn add_tag(&self, page: &mut Text, evidence: &Evidence)
+        requires proved { ForSome evidence.now.ambiguity (λ a. IsShown self.now.found.now.grm a.value) }
     {
-        for (place, evidence) in meeting.iter().enumerate() {
-            if let Some(ambiguity) = &evidence.ambiguity {
-                return Some((place, ambiguity));
-            }
-        }
-        None
-    }
-
-    /// Adds whether a text with two trees is known.
-    fn add_tag(&self, page: &mut Text, text: Option<&Ambiguity>)
-        requires proved { IfSome text (λ a. IsShown self.now.found.now.grm a.now) }
-    {
-        if text.is_some() {
+        if evidence.has_own_text() {
             page.add(" <span class=\"tag proved\">ambiguous (proved)</span>");
         } else if self.steps > 0 {
             page.add(" <span class=\"tag\">not known to be ambiguous</span>");
@@ -88,7 +89,7 @@ impl<T: IndexStorage> Page<'_, T> {
         let (entry, steps) = (&evidence.entry, self.steps);
         if evidence.is_cut_off {
             page.add(
-                "<p>No text with two trees was searched: the allowance of this file was used up.",
+                "<p>No text with two trees was looked for to the end: the allowance of this file was used up.",
             );
         } else {
             write!(
@@ -109,15 +110,14 @@ impl<T: IndexStorage> Page<'_, T> {
             self.add_token(page, example.token);
         }
         page.add("</p>\n");
-        let other = entry.other.map_or(Step::Shift, Step::Reduce);
-        let one = Step::Reduce(entry.production);
+        let (one, other) = candidates_of(entry);
         self.add_outlook(page, entry, one, example.one.as_ref());
         self.add_outlook(page, entry, other, example.other.as_ref());
     }
 
     /// Adds what is known of an entry, where it was looked for.
     fn add_known(&self, page: &mut Text, evidence: &Evidence)
-        requires proved { ForSome evidence.now.ambiguity (IsShown self.now.found.now.grm) }
+        requires proved { ForSome evidence.now.ambiguity (λ a. IsShown self.now.found.now.grm a.value) }
     {
         if self.steps == 0 {
             return;
@@ -145,7 +145,7 @@ impl<T: IndexStorage> Page<'_, T> {
                 page.add("<details class=\"more\"><summary>at <code>");
                 self.add_token(page, evidence.entry.token);
                 page.add("</code>");
-                self.add_tag(page, evidence.ambiguity.as_ref());
+                self.add_tag(page, evidence);
                 page.add("</summary>\n");
                 self.add_known(page, evidence);
                 page.add("</details>\n");
@@ -158,7 +158,7 @@ impl<T: IndexStorage> Page<'_, T> {
     fn add_all_known(&self, page: &mut Text, meeting: &[Evidence])
         requires proved { AreShown self.now.found.now.grm meeting.now }
     {
-        let first = self.first_ambiguous(meeting).map_or(0, |told| told.0);
+        let first = first_with_text(meeting);
         if let Some(evidence) = meeting.get(first) {
             self.add_known(page, evidence);
         }
@@ -175,15 +175,14 @@ impl<T: IndexStorage> Page<'_, T> {
             "<details class=\"part\" id=\"c{number}\"{open}><summary>"
         );
         self.add_heading(page, card.meeting);
-        let text = self.first_ambiguous(card.meeting).map(|told| told.1);
-        self.add_tag(page, text);
+        if let Some(evidence) = card.meeting.get(first_with_text(card.meeting)) {
+            self.add_tag(page, evidence);
+        }
         page.add("</summary>\n");
         self.add_places(page, card.marks.as_slice())?;
         self.add_all_known(page, card.meeting);
         if !card.help.is_empty() {
-            page.add("<p class=\"help\">");
-            add_escaped_name(page, card.help.as_str());
-            page.add("</p>\n");
+            add_help(page, card.help.as_str());
         }
         if let Some(first) = card.meeting.first() {
             let state = first.entry.state;
@@ -203,6 +202,9 @@ impl<T: IndexStorage> Page<'_, T> {
         for card in self.cards {
             number = number.saturating_add(1);
             self.add_card(page, number, card)?;
+        }
+        for note in self.notes {
+            add_help(page, note.as_str());
         }
         page.add("</section>\n");
         Ok(())

@@ -68,6 +68,8 @@ pub struct Page<'a, T: IndexStorage> {
     pub verdict: &'a str,
     /// Whether there are no conflicts but such as are expected.
     pub is_good: bool,
+    /// What is said of all conflicts together.
+    pub notes: &'a [String],
     /// The conflicts.
     pub cards: &'a [Card<'a>],
     /// How many steps a search for a text with two trees could take; with 0 nothing is told of texts.

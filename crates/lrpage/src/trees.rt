@@ -113,12 +113,26 @@ impl<T: IndexStorage> Page<'_, T> {
     pub(crate) fn add_ambiguity(&self, page: &mut Text, entry: &Entry, ambiguity: &Ambiguity)
         requires proved { IsShown self.now.found.now.grm ambiguity.now }
     {
-        page.add("<p>This text");
-        self.add_start(page, ambiguity.start(self.file));
-        page.add(" has two trees (proved):</p>\n<p class=\"text\">");
         let tokens = text_of(self.file, ambiguity.tokens.as_slice());
-        self.add_tokens(page, tokens, ambiguity.dot(self.file));
-        page.add("</p>\n<p>They differ in this part of it:</p>\n");
+        let is_long = ambiguity.is_long();
+        page.add(if is_long { "<p>A text" } else { "<p>This text" });
+        self.add_start(page, ambiguity.start(self.file));
+        if is_long {
+            let count = tokens.len();
+            write!(page, " of {count} tokens");
+        }
+        page.add(" has two trees (proved)");
+        if !ambiguity.is_of(entry) {
+            page.add(", though by something else that meets here");
+        }
+        if is_long {
+            page.add(". ");
+        } else {
+            page.add(":</p>\n<p class=\"text\">");
+            self.add_tokens(page, tokens, ambiguity.dot(self.file));
+            page.add("</p>\n<p>");
+        }
+        page.add("They differ in this part of it:</p>\n");
         self.add_trees(page, entry, &ambiguity.form);
     }
 }

@@ -9,7 +9,7 @@ use crate::levels::Trials;
 use crate::told::Told;
 use crate::words::Words;
 use lrdiagnostics::{Mark, Style};
-use lrevidence::{Ambiguity, Evidence, Step};
+use lrevidence::{Ambiguity, Evidence};
 use lrfindings::{Entry, Findings, is_among};
 use lrgrammar::idx::{IndexStorage, StIdx, TIdx};
 use lrtable::Action;
@@ -56,19 +56,6 @@ fn shift_label(
     }
 }
 
-/// The steps that meet in an entry.
-pub(crate) fn candidates_of(entry: &Entry) -> (Step, Step) {
-    let other = entry.other.map_or(Step::Shift, Step::Reduce);
-    (Step::Reduce(entry.production), other)
-}
-
-/// Whether the trees of a text part by what meets in an entry, and not by something else that meets in the same cell.
-pub(crate) fn part_by(ambiguity: &Ambiguity, entry: &Entry) -> bool {
-    let (one, other) = ambiguity.trees.candidates();
-    let meeting = candidates_of(entry);
-    (one, other) == meeting || (other, one) == meeting
-}
-
 /// What is said of what the table does, where it is the same for all entries: behind their production, and behind what that meets.
 fn said_of(choice: Option<Choice>, is_shift: bool) -> (&'static str, &'static str) {
     match choice {
@@ -99,38 +86,31 @@ impl Told<'_> {
         text.add_char('\n');
     }
 
-    /// Adds the place of a production by which a state can reduce, and what follows from that.
-    pub(crate) fn push_reduction(
+    /// The place of a production by which a state can reduce, and what follows from that.
+    pub(crate) fn reduction_mark(
         &self,
-        marks: &mut Vec<Mark>,
+        alloc: Global,
         production: usize,
         so: &str,
-    ) -> Result<(), AllocError> {
+    ) -> Result<Mark, AllocError> {
         let rule = self.rule_name(production);
-        marks.push(Mark {
+        Ok(Mark {
             span: self.place(production),
             mark: '^',
             style: Style::Red,
-            label: format!(in *marks.allocator(); "reduce: {rule} can end here{so}")?,
-        })?;
-        Ok(())
+            label: format!(in alloc; "reduce: {rule} can end here{so}")?,
+        })
     }
 
-    /// Adds the place of another production by which it could reduce, and what follows from that.
-    fn push_other(
-        &self,
-        marks: &mut Vec<Mark>,
-        production: usize,
-        so: &str,
-    ) -> Result<(), AllocError> {
+    /// The place of another production by which it could reduce, and what follows from that.
+    fn other_mark(&self, alloc: Global, production: usize, so: &str) -> Result<Mark, AllocError> {
         let rule = self.rule_name(production);
-        marks.push(Mark {
+        Ok(Mark {
             span: self.place(production),
             mark: '-',
             style: Style::Blue,
-            label: format!(in *marks.allocator(); "reduce: or {rule}{so}")?,
-        })?;
-        Ok(())
+            label: format!(in alloc; "reduce: or {rule}{so}")?,
+        })
     }
 
     /// Adds the places of the first of the items by which a state goes on, and what follows from that.
@@ -225,17 +205,17 @@ impl<T: IndexStorage> Checked<'_, T> {
             return Ok(marks);
         };
         let (reduced, met) = said_of(self.choice_of(entries), first.other.is_none());
-        self.told
-            .push_reduction(&mut marks, first.production, reduced)?;
+        marks.push(self.told.reduction_mark(alloc, first.production, reduced)?)?;
         match first.other {
-            Some(other) => self.told.push_other(&mut marks, other, met)?,
+            Some(other) => marks.push(self.told.other_mark(alloc, other, met)?)?,
             None => self.push_shifts(&mut marks, entries, met)?,
         }
         Ok(marks)
     }
 
-    /// The text with two trees of the first of the entries that has one, but for those at a token, and its entry's token.
-    pub(crate) fn ambiguity_but_at<'e>(
+    /// The text of the first of the entries that has one whose trees part by what meets in it, but for those at a token, and its
+    /// entry's token.
+    pub(crate) fn own_text_but_at<'e>(
         &self,
         meeting: &'e [Evidence],
         but: Option<usize>,
@@ -246,12 +226,36 @@ impl<T: IndexStorage> Checked<'_, T> {
         for evidence in meeting {
             let token = evidence.entry.token;
             if let Some(ambiguity) = &evidence.ambiguity {
-                if Some(token) != but {
-                    return Some((token, ambiguity));
+                if Some(token) != but && ambiguity.is_of(&evidence.entry) {
+                    return Some((token, &**ambiguity));
                 }
             }
         }
         None
+    }
+
+    /// The text of the first of the entries that has one, whatever its trees part by.
+    fn any_text<'e>(&self, meeting: &'e [Evidence]) -> Option<&'e Ambiguity>
+        requires proved { All (IsProved self.now.found.now.grm) meeting.now }
+        ensures { IfSome result (λ text. HasTwoTrees self.now.found.now.grm text.now) }
+    {
+        for evidence in meeting {
+            if let Some(ambiguity) = &evidence.ambiguity {
+                return Some(&**ambiguity);
+            }
+        }
+        None
+    }
+
+    /// A text with two trees of one of the entries: one whose trees part by what meets in it, where there is such a one.
+    pub(crate) fn text_with_trees<'e>(&self, meeting: &'e [Evidence]) -> Option<&'e Ambiguity>
+        requires proved { All (IsProved self.now.found.now.grm) meeting.now }
+        ensures { IfSome result (λ text. HasTwoTrees self.now.found.now.grm text.now) }
+    {
+        match self.own_text_but_at(meeting, None) {
+            Some((_, ambiguity)) => Some(ambiguity),
+            None => self.any_text(meeting),
+        }
     }
 
     /// Adds a conflict: entries at which the same meets in the same state, and what is known of them.

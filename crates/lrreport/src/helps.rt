@@ -1,9 +1,9 @@
 //! How conflicts can be settled.
 
-use crate::conflicts::part_by;
 use crate::levels::{Group, Level, Proposal, Rank, Trial, Trials};
 use crate::texts::add_names;
 use crate::told::Told;
+use crate::verdicts::own_texts;
 use crate::words::Words;
 use lrevidence::Evidence;
 use lrgrammar::idx::IndexStorage;
@@ -96,16 +96,9 @@ fn add_tokens(words: &mut Words, file: &FileGrammar, tokens: &[usize]) {
     }
 }
 
-/// Whether a text is known whose trees part by what meets in one of the entries.
-fn is_ambiguous(meeting: &[Evidence]) -> bool {
-    for evidence in meeting {
-        if let Some(ambiguity) = &evidence.ambiguity {
-            if part_by(ambiguity, &evidence.entry) {
-                return true;
-            }
-        }
-    }
-    false
+/// At how many entries the search was not through when the allowance of the file was used up.
+pub(crate) fn cut_off(evidence: &[Evidence]) -> usize {
+    evidence.iter().filter(|it| it.is_cut_off).count()
 }
 
 impl Told<'_> {
@@ -119,29 +112,47 @@ impl Told<'_> {
         token >= FIRST_TOKENS && self.token_name(token) != "%no-default-prec"
     }
 
-    /// Adds that the conflicts can be expected, unless they are, where each is one with a shift.
-    pub(crate) fn push_expected(&self, text: &mut Text) {
+    /// That the conflicts can be expected, unless they are, where each is one with a shift.
+    fn expected_note(&self, alloc: Global) -> Result<Option<String>, AllocError> {
         let count = self.evidence.len();
         let with_shifts = self.evidence.iter().all(|it| it.entry.other.is_none());
         let is_expected = self.options.expected == Some(count as u64);
-        if count > 0 && with_shifts && !is_expected && !self.options.ignores_precedences {
-            write!(
-                text,
-                "help: if the table does what is wanted, say %expect {count}\n\n"
-            );
+        if count == 0 || !with_shifts || is_expected || self.options.ignores_precedences {
+            return Ok(None);
         }
+        let note = format!(in alloc;
+            "help: if the table does what is wanted, say %expect {count}"
+        )?;
+        Ok(Some(note))
     }
 
-    /// Adds for how many conflicts no text was looked for to the end, because the file's allowance was used up, if for some.
-    pub(crate) fn push_cut_off(&self, text: &mut Text) {
-        let count = self.evidence.iter().filter(|it| it.is_cut_off).count();
-        if count > 0 {
-            write!(
-                text,
-                "note: {count} of {} conflicts were not searched to the end, since the allowance of this file was used up; --steps N gives more\n\n",
-                self.evidence.len()
-            );
+    /// For how many conflicts no text was looked for to the end, because the file's allowance was used up, if for some.
+    fn cut_off_note(&self, alloc: Global) -> Result<Option<String>, AllocError> {
+        let (count, all) = (cut_off(self.evidence), self.evidence.len());
+        if count == 0 {
+            return Ok(None);
         }
+        let note = format!(in alloc;
+            "note: {count} of {all} conflicts were not searched to the end, since the allowance of this file was used up; --steps N gives more"
+        )?;
+        Ok(Some(note))
+    }
+
+    /// What is said of all conflicts together.
+    pub(crate) fn notes_on_all(&self, alloc: Global) -> Result<Vec<String>, AllocError> {
+        let mut notes = Vec::new(alloc);
+        notes.extend(self.cut_off_note(alloc)?)?;
+        notes.extend(self.expected_note(alloc)?)?;
+        Ok(notes)
+    }
+
+    /// Adds what is said of all conflicts together.
+    pub(crate) fn push_notes_on_all(&self, text: &mut Text) -> Result<(), AllocError> {
+        for note in &self.notes_on_all(text.allocator())? {
+            text.add(note.as_str());
+            text.add("\n\n");
+        }
+        Ok(())
     }
 
     /// Whether a production stands for an action in the middle of another one.
@@ -187,7 +198,7 @@ impl<'a, T: IndexStorage> Trials<'_, 'a, T> {
         }
     }
 
-    /// That tokens stand in a new line, where the production has a level already or needs none.
+    /// That tokens stand in a new line of a level in which nothing is settled.
     fn one_line(
         &self,
         alloc: Global,
@@ -413,7 +424,7 @@ impl<'a, T: IndexStorage> Trials<'_, 'a, T> {
             words.add_all(
                 "this action must run before it is known which alternative it is: put it at the end, or into a rule of its own",
             );
-        } else if !is_ambiguous(meeting) {
+        } else if own_texts(meeting) == 0 {
             words.add_all(
                 "this may need more lookahead than one token; levels would then make the parser reject valid input",
             );

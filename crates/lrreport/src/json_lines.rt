@@ -8,6 +8,7 @@ ghost use Rattle.lrevidence.specs.Ambiguities.{HasTwoTrees, IsProved};
 
 use crate::conflicts::{Checked, Choice, entries_of};
 use crate::grammars::{add_grammar, productions_of_file, rules_of_file, tokens_of_file};
+use crate::helps::cut_off;
 use crate::json_parts::{add_faults, add_tokens_of, add_unplaced};
 use crate::json_texts::JsonText;
 use crate::settled::won_by;
@@ -182,9 +183,7 @@ pub(crate) fn json_of_findings<T: IndexStorage>(
     requires unambiguous { verdict ≡ Unambiguous → IsUnambiguous checked.now.found.now.grm }
 {
     let told = checked.told;
-    let shown = checked
-        .ambiguity_but_at(told.evidence, None)
-        .map(|shown| shown.1);
+    let shown = checked.text_with_trees(told.evidence);
     let (word, is_proved) = (
         word_of(verdict, shown.is_some()),
         checked.is_proved(verdict, shown),
@@ -284,11 +283,12 @@ impl<'a, T: IndexStorage> Checked<'a, T> {
         json.key("chosen");
         json.string(word_of_choice(self.choice(&first.entry)));
         json.key("ambiguity");
-        self.add_first_ambiguity(json, meeting, alternatives)?;
+        let ambiguity = self.text_with_trees(meeting);
+        self.add_ambiguity(json, &first.entry, ambiguity, alternatives)?;
         json.key("after");
         self.told.add_example(json, first);
         json.key("searched");
-        json.boolean(!meeting.iter().any(|it| it.is_cut_off));
+        json.boolean(self.told.options.steps > 0 && cut_off(meeting) == 0);
         json.end_object();
         Ok(())
     }
@@ -351,18 +351,17 @@ impl<'a, T: IndexStorage> Checked<'a, T> {
     ) -> Result<(), AllocError>
         requires proved { All (IsProved self.now.found.now.grm) self.now.told.settled.now }
     {
-        if entries.is_empty() {
+        let Some(first) = entries.first() else {
             return Ok(());
-        }
+        };
         json.begin_object();
         self.add_meeting(json, entries)?;
         json.key("winner");
         json.string(word_of_winner(winner));
         json.key("ambiguity");
-        match self.decided(entries) {
-            Some(ambiguity) => self.add_ambiguity(json, ambiguity, alternatives)?,
-            None => json.null(),
-        }
+        self.add_ambiguity(json, first, self.decided(entries), alternatives)?;
+        json.key("searched");
+        json.boolean(self.told.options.steps > 0 && self.are_searched(entries));
         json.end_object();
         Ok(())
     }

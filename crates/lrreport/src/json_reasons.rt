@@ -1,14 +1,16 @@
 //! What is known of conflicts, as JSON.
 
-ghost use Rattle.std.specs.Prelude.{All};
-ghost use Rattle.lrevidence.specs.Ambiguities.{HasTwoTrees, IsProved};
+ghost use Rattle.std.specs.Prelude.{IfSome};
+ghost use Rattle.lrevidence.specs.Ambiguities.{HasTwoTrees};
 
 use crate::conflicts::Checked;
 use crate::json_parts::{add_symbols, add_tokens};
 use crate::json_texts::JsonText;
+use crate::texts::leaves;
 use crate::told::Told;
 use crate::trees::add_tree;
-use lrevidence::{Ambiguity, Evidence, Outlook, Step, Tree, list_of, text_of};
+use lrevidence::{Ambiguity, Evidence, Outlook, Step, Tree, TwoTrees, list_of, text_of};
+use lrfindings::Entry;
 use lrgrammar::idx::IndexStorage;
 use std::alloc::AllocError;
 
@@ -62,64 +64,97 @@ impl Told<'_> {
         });
     }
 
-    /// Adds both trees of a text, that by the reduction first.
+    /// Adds both trees of a text or a form, that by the reduction first.
     fn add_trees(
+        &self,
+        json: &mut JsonText,
+        trees: (&Tree, &Tree),
+        alternatives: &[usize],
+    ) -> Result<(), AllocError> {
+        json.key("trees");
+        json.begin_array();
+        add_tree(json, self.file, alternatives, trees.0)?;
+        add_tree(json, self.file, alternatives, trees.1)?;
+        json.end_array();
+        Ok(())
+    }
+
+    /// Adds the tokens of a text, how many stand before the dot, and both trees; nothing of them where it is long.
+    fn add_whole(
         &self,
         json: &mut JsonText,
         ambiguity: &Ambiguity,
         alternatives: &[usize],
     ) -> Result<(), AllocError> {
+        if ambiguity.is_long() {
+            for name in ["text", "dot", "trees"] {
+                json.key(name);
+                json.null();
+            }
+            return Ok(());
+        }
         let (one, other) = Tree::both(json.allocator(), self.file, &ambiguity.trees)?;
-        json.key("trees");
+        json.key("text");
+        self.add_text(json, Some(&ambiguity.tokens));
+        json.key("dot");
+        json.number(ambiguity.dot(self.file));
+        self.add_trees(json, (&one, &other), alternatives)
+    }
+
+    /// Adds that part of a text in which its trees differ: its symbols, how many stand before the dot, and both trees.
+    fn add_form(
+        &self,
+        json: &mut JsonText,
+        form: &TwoTrees,
+        alternatives: &[usize],
+    ) -> Result<(), AllocError> {
+        let (one, other) = Tree::both(json.allocator(), self.file, form)?;
+        json.begin_object();
+        json.key("symbols");
         json.begin_array();
-        add_tree(json, self.file, alternatives, &one)?;
-        add_tree(json, self.file, alternatives, &other)?;
+        for name in &leaves(json.allocator(), self.file, &one)? {
+            json.string(name);
+        }
         json.end_array();
+        json.key("dot");
+        json.number(form.dot());
+        self.add_trees(json, (&one, &other), alternatives)?;
+        json.end_object();
         Ok(())
     }
 }
 
 impl<T: IndexStorage> Checked<'_, T> {
-    /// Adds a text with two trees: the rule whose two ways they are, the tokens, how many stand before the dot, and the trees.
+    /// Adds a text with two trees at an entry: the rule whose two ways they are, the text, whether the trees part by what meets in
+    /// the entry, how many tokens the text has, and, where it is too long to be told, its form. Null where there is none.
     pub(crate) fn add_ambiguity(
         &self,
         json: &mut JsonText,
-        ambiguity: &Ambiguity,
+        entry: &Entry,
+        ambiguity: Option<&Ambiguity>,
         alternatives: &[usize],
     ) -> Result<(), AllocError>
-        requires proved { HasTwoTrees self.now.found.now.grm ambiguity.now }
+        requires proved { IfSome ambiguity (λ a. HasTwoTrees self.now.found.now.grm a.now) }
     {
         let told = &self.told;
+        let Some(ambiguity) = ambiguity else {
+            json.null();
+            return Ok(());
+        };
         json.begin_object();
         told.add_rule(json, ambiguity);
-        json.key("text");
-        add_tokens(
-            json,
-            told.file,
-            text_of(told.file, ambiguity.tokens.as_slice()),
-        );
-        json.key("dot");
-        json.number(ambiguity.dot(told.file));
-        told.add_trees(json, ambiguity, alternatives)?;
+        told.add_whole(json, ambiguity, alternatives)?;
+        json.key("own");
+        json.boolean(ambiguity.is_of(entry));
+        json.key("length");
+        json.number(text_of(told.file, ambiguity.tokens.as_slice()).len());
+        json.key("form");
+        if ambiguity.is_long() {
+            told.add_form(json, &ambiguity.form, alternatives)?;
+        } else {
+            json.null();
+        }
         json.end_object();
         Ok(())
-    }
-
-    /// Adds the text with two trees of the first entry that has one.
-    pub(crate) fn add_first_ambiguity(
-        &self,
-        json: &mut JsonText,
-        meeting: &[Evidence],
-        alternatives: &[usize],
-    ) -> Result<(), AllocError>
-        requires proved { All (IsProved self.now.found.now.grm) meeting.now }
-    {
-        match self.ambiguity_but_at(meeting, None) {
-            Some((_, ambiguity)) => self.add_ambiguity(json, ambiguity, alternatives),
-            None => {
-                json.null();
-                Ok(())
-            }
-        }
     }
 }

@@ -3,19 +3,20 @@
 ghost use Rattle.std.specs.Prelude.{All, IfSome, IsSome, IsTrue};
 ghost use Rattle.lrevidence.specs.Ambiguities.{HasTwoTrees, IsProved};
 
-use crate::conflicts::{Checked, candidates_of, part_by};
+use crate::conflicts::Checked;
 use crate::drawings::push_drawing;
 use crate::levels::Trials;
 use crate::texts::{
-    Label, add_list, add_names, add_shortened, add_start, add_text, add_tree_words, labels,
+    Label, add_list, add_names, add_shortened, add_start, add_text, add_tree_words, add_two_trees,
+    labels,
 };
 use crate::told::Told;
-use crate::verdicts::texts_of;
+use crate::verdicts::own_texts;
 use crate::words::Words;
 use lrdiagnostics::{Layout, Mark};
 use lrevidence::{
-    Ambiguity, Evidence, Example, Outlook, Step, Tree, TwoTrees, list_of, names_of_tokens,
-    start_of, text_of,
+    Ambiguity, Evidence, Example, Outlook, Step, Tree, TwoTrees, candidates_of, list_of,
+    names_of_tokens, start_of, text_of,
 };
 use lrfindings::Entry;
 use lrgrammar::idx::IndexStorage;
@@ -66,22 +67,22 @@ impl Notes {
     }
 }
 
-/// The tokens of the entries for which there is no text with two trees.
+/// The tokens of the entries for which there is no text with two trees that part by what meets in them.
 fn unknown(alloc: Global, meeting: &[Evidence]) -> Result<Vec<usize>, AllocError> {
     let mut tokens = Vec::new(alloc);
     for evidence in meeting {
-        if evidence.ambiguity.is_none() {
+        if !evidence.has_own_text() {
             tokens.push(evidence.entry.token)?;
         }
     }
     Ok(tokens)
 }
 
-/// Whether each of the entries has a text with two trees.
+/// Whether each of the entries has a text with two trees that part by what meets in it.
 fn have_texts(meeting: &[Evidence]) -> bool
     ensures { IsTrue result → All (λ evidence. IsSome evidence.ambiguity) meeting.now }
 {
-    meeting.iter().all(|it| it.ambiguity.is_some())
+    meeting.iter().all(|it| it.has_own_text())
 }
 
 impl Told<'_> {
@@ -184,7 +185,7 @@ impl Told<'_> {
     /// Adds how far a search went that found no text.
     fn add_effort(&self, words: &mut Words, evidence: &Evidence) {
         if evidence.is_cut_off {
-            words.add_all("(not searched: the allowance of this file was used up):");
+            words.add_all("(not searched to the end: the allowance of this file was used up):");
         } else {
             words.begin();
             write!(words, "({}", self.options.steps);
@@ -245,20 +246,18 @@ impl<T: IndexStorage> Checked<'_, T> {
     ) -> Result<(), AllocError>
         requires proved { HasTwoTrees self.now.found.now.grm ambiguity.now }
     {
-        let file = self.told.file;
         let mut words = Words::new(text.allocator());
-        words.add_all(if part_by(ambiguity, entry) {
-            "ambiguous (proved): this text"
+        words.add_all(if ambiguity.is_of(entry) {
+            "ambiguous (proved):"
         } else {
-            "ambiguous (proved), though by something else that meets here: this text"
+            "ambiguous (proved), though by something else that meets here:"
         });
-        add_start(&mut words, file, ambiguity.start(file));
-        words.add_all("has two trees");
+        add_two_trees(&mut words, self.told.file, ambiguity);
         notes.push(text, &words);
         self.push_text_with_trees(text, notes, ambiguity)
     }
 
-    /// Adds a text, and both its trees.
+    /// Adds a text, and both trees of the part of it in which they differ; of a long text that part alone.
     fn push_text_with_trees(
         &self,
         text: &mut Text,
@@ -287,6 +286,10 @@ impl<T: IndexStorage> Checked<'_, T> {
         words.add_all("also at");
         words.add(self.told.token_name(token));
         words.add_piece(":");
+        if ambiguity.is_long() {
+            add_two_trees(&mut words, self.told.file, ambiguity);
+            words.add_piece(":");
+        }
         add_text(&mut words, self.told.file, ambiguity)?;
         notes.push(text, &words);
         Ok(())
@@ -320,8 +323,8 @@ impl<T: IndexStorage> Checked<'_, T> {
         } else {
             self.told.push_unknown(text, notes, meeting)?;
         }
-        if texts_of(meeting) == 2 {
-            if let Some((token, ambiguity)) = self.ambiguity_but_at(meeting, Some(first)) {
+        if own_texts(meeting) == 2 {
+            if let Some((token, ambiguity)) = self.own_text_but_at(meeting, Some(first)) {
                 self.push_also(text, notes, token, ambiguity)?;
             }
         }
@@ -337,18 +340,20 @@ impl<T: IndexStorage> Checked<'_, T> {
     ) -> Result<(), AllocError>
         requires proved { All (IsProved self.now.found.now.grm) meeting.now }
     {
-        if let Some((token, ambiguity)) = self.ambiguity_but_at(meeting, None) {
-            if let Some(first) = meeting.first() {
-                self.push_ambiguity(text, notes, &first.entry, ambiguity)?;
-            }
+        let Some(first) = meeting.first() else {
+            return Ok(());
+        };
+        if let Some((token, ambiguity)) = self.own_text_but_at(meeting, None) {
+            self.push_ambiguity(text, notes, &first.entry, ambiguity)?;
             return self.push_others(text, notes, meeting, token);
         }
-        if let Some(first) = meeting.first() {
-            if let Some(example) = &first.example {
-                self.told.push_example(text, notes, first, example)?;
-            }
+        if let Some(ambiguity) = self.text_with_trees(meeting) {
+            return self.push_ambiguity(text, notes, &first.entry, ambiguity);
         }
-        Ok(())
+        match &first.example {
+            Some(example) => self.told.push_example(text, notes, first, example),
+            None => Ok(()),
+        }
     }
 
     /// Adds what is known of entries at which the same meets, and how they can be settled, as notes under such marks.
@@ -383,15 +388,24 @@ impl<T: IndexStorage> Checked<'_, T> {
         why: &str,
         kept: &str,
         ambiguity: Option<&Ambiguity>,
+        is_cut_off: bool,
     ) -> Result<(), AllocError>
         requires proved { IfSome ambiguity (λ a. HasTwoTrees self.now.found.now.grm a.now) }
     {
         let mut lines = Text::new(text.allocator());
         let notes = self.told.notes(marks);
         notes.push_text(&mut lines, why);
+        if is_cut_off {
+            notes.push_text(
+                &mut lines,
+                "no text was looked for to the end, since the allowance of this file was used up",
+            );
+        }
         if let Some(ambiguity) = ambiguity {
             let mut words = Words::new(text.allocator());
-            words.add_all("without it this text has two trees (proved);");
+            words.add_all("without it");
+            add_two_trees(&mut words, self.told.file, ambiguity);
+            words.add_all("(proved);");
             words.add_all(kept);
             notes.push(&mut lines, &words);
             self.push_text_with_trees(&mut lines, notes, ambiguity)?;

@@ -27,8 +27,9 @@ pub struct Options {
     pub tells_all: bool,
     /// Whether what precedences settle is told too.
     pub tells_settled: bool,
-    /// How many steps a search for a text with two trees may take for each conflict, and all searches of a file a thousand times
-    /// as many tries; no search is made where that is 0, and nothing is told of after what a conflict is real.
+    /// How many steps a search for a text with two trees may take for each conflict. All searches at conflicts of a file may do a
+    /// thousand times as much work, and so may those at what precedences settle; no search is made where it is 0, and then it is
+    /// not told either after what a conflict is real.
     pub steps: usize,
     /// Whether both trees of each text are drawn.
     pub draws_trees: bool,

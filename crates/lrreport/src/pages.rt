@@ -55,6 +55,7 @@ impl<T: IndexStorage> Checked<'_, T> {
         for meeting in &meetings(alloc, self.told.evidence, false)? {
             cards.push(self.card(alloc, meeting, &trials)?)?;
         }
+        let notes = self.told.notes_on_all(alloc)?;
         let page = Page {
             source: self.told.source,
             file: self.told.file,
@@ -62,6 +63,7 @@ impl<T: IndexStorage> Checked<'_, T> {
             verdict: line,
             is_good: verdict.status() == 0,
             cards: cards.as_slice(),
+            notes: notes.as_slice(),
             steps: self.told.options.steps,
         };
         page.text(alloc)

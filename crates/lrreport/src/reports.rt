@@ -148,10 +148,11 @@ struct Known {
     decided: Option<Ambiguity>,
 }
 
-/// How much work all searches of a file may do, for each step that they may take for a conflict.
+/// How much work the searches at all conflicts of a file may do together, for each step that one of them may take; and as much
+/// those at all that precedences settle.
 const WORK: usize = 1_000;
 
-/// How much work all searches of a file may do.
+/// How much work searches may do together.
 fn work_of(options: Options) -> usize {
     options.steps.saturating_mul(WORK)
 }
@@ -266,8 +267,7 @@ fn lines_on_findings<T: IndexStorage>(
         let most = most_told(options);
         checked.told.push_warnings(&mut text, read.warnings, most)?;
         checked.push_conflicts(&mut text, most)?;
-        checked.told.push_cut_off(&mut text);
-        checked.told.push_expected(&mut text);
+        checked.told.push_notes_on_all(&mut text)?;
         if options.tells_settled {
             checked.push_settled(&mut text, most)?;
         }

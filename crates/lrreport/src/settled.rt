@@ -160,7 +160,7 @@ impl Told<'_> {
 }
 
 impl<'a, T: IndexStorage> Checked<'a, T> {
-    /// A text with two trees that part at one of the entries, where one is found.
+    /// A text with two trees that part by what meets in one of the entries, where one is found.
     pub(crate) fn decided(&self, entries: &[Entry]) -> Option<&'a Ambiguity>
         requires proved { All (IsProved self.now.found.now.grm) self.now.told.settled.now }
         ensures { IfSome result (λ a. HasTwoTrees self.now.found.now.grm a.now) }
@@ -169,11 +169,21 @@ impl<'a, T: IndexStorage> Checked<'a, T> {
         for entry in entries {
             if let Ok(at) = settled.binary_search_by_key(entry, |it| it.entry) {
                 if let Some(ambiguity) = &settled[at].ambiguity {
-                    return Some(ambiguity);
+                    if ambiguity.is_of(entry) {
+                        return Some(&**ambiguity);
+                    }
                 }
             }
         }
         None
+    }
+
+    /// Whether a text was looked for at each of the entries.
+    pub(crate) fn are_searched(&self, entries: &[Entry]) -> bool {
+        let settled = self.told.settled;
+        entries.iter().all(|entry| settled
+            .binary_search_by_key(entry, |it| it.entry)
+            .is_ok_and(|at| settled.get(at).is_some_and(|it| !it.is_cut_off)))
     }
 
     /// Adds what is settled.
@@ -187,8 +197,7 @@ impl<'a, T: IndexStorage> Checked<'a, T> {
         let alloc = text.allocator();
         let (reduced, shifted) = settling.reason.done();
         let mut marks = Vec::new(alloc);
-        self.told
-            .push_reduction(&mut marks, first.production, reduced)?;
+        marks.push(self.told.reduction_mark(alloc, first.production, reduced)?)?;
         self.push_shifts(&mut marks, entries, shifted)?;
         self.told.push_heading(text, "settled", entries);
         self.told.teller().add_placed(text, marks.as_slice())?;
@@ -199,6 +208,7 @@ impl<'a, T: IndexStorage> Checked<'a, T> {
             why.as_str(),
             kept,
             self.decided(entries),
+            self.told.options.steps > 0 && !self.are_searched(entries),
         )?;
         text.add_char('\n');
         Ok(())

@@ -8,7 +8,7 @@ use lrevidence::{
 use lrgrammar::grammar::PartSymbol;
 use lrwriter::Text;
 use lryacc::FileGrammar;
-use std::alloc::AllocError;
+use std::alloc::{AllocError, Global};
 
 /// How many words of a text or a tree are told on either side of the dot.
 const SIDE: usize = 40;
@@ -52,12 +52,33 @@ pub(crate) fn add_shortened(words: &mut Words, names: &[&str]) {
     }
 }
 
-/// Adds the words of a text with two trees, with a dot where they part.
+/// The names of the leaves of a tree.
+pub(crate) fn leaves<'a>(
+    alloc: Global,
+    file: &'a FileGrammar,
+    tree: &Tree,
+) -> Result<Vec<&'a str>, AllocError> {
+    let mut names = Vec::new(alloc);
+    for node in &tree.nodes {
+        if let Node::Leaf(symbol) = node {
+            names.push(symbol_name(file, *symbol))?;
+        }
+    }
+    Ok(names)
+}
+
+/// Adds the words of a text with two trees, or of the part of a long one in which they differ, with a dot where they part.
 pub(crate) fn add_text(
     words: &mut Words,
     file: &FileGrammar,
     ambiguity: &Ambiguity,
 ) -> Result<(), AllocError> {
+    if ambiguity.is_long() {
+        let (tree, _) = Tree::both(words.allocator(), file, &ambiguity.form)?;
+        let names = leaves(words.allocator(), file, &tree)?;
+        add_with_dot(words, names.as_slice(), ambiguity.form.dot());
+        return Ok(());
+    }
     let tokens = text_of(file, ambiguity.tokens.as_slice());
     let names = names_of_tokens(words.allocator(), file, tokens)?;
     add_with_dot(words, names.as_slice(), ambiguity.dot(file));
@@ -69,6 +90,22 @@ pub(crate) fn add_start(words: &mut Words, file: &FileGrammar, start: Option<Par
     if let Some(rule) = start {
         words.add("from");
         words.add_all(symbol_name(file, rule));
+    }
+}
+
+/// Adds that a text, which comes next, has two trees; of a long one, how long it is, and that what comes next is a part of it.
+pub(crate) fn add_two_trees(words: &mut Words, file: &FileGrammar, ambiguity: &Ambiguity) {
+    let is_long = ambiguity.is_long();
+    words.add_all(if is_long { "a text" } else { "this text" });
+    add_start(words, file, ambiguity.start(file));
+    if is_long {
+        let count = text_of(file, ambiguity.tokens.as_slice()).len();
+        words.add("of");
+        words.begin();
+        write!(words, "{count}");
+        words.add_all("tokens has two trees, as has this part of it");
+    } else {
+        words.add_all("has two trees");
     }
 }
 

@@ -14,11 +14,11 @@ use lrgrammar::idx::IndexStorage;
 use lrwriter::Text;
 use std::alloc::{AllocError, Global};
 
-/// For how many entries a text with two trees is known.
-pub(crate) fn texts_of(evidence: &[Evidence]) -> usize {
+/// For how many entries a text with two trees is known that part by what meets in them.
+pub(crate) fn own_texts(evidence: &[Evidence]) -> usize {
     let mut count: usize = 0;
     for one in evidence {
-        if one.ambiguity.is_some() {
+        if one.has_own_text() {
             count = count.saturating_add(1);
         }
     }
@@ -26,9 +26,10 @@ pub(crate) fn texts_of(evidence: &[Evidence]) -> usize {
 }
 
 impl Told<'_> {
-    /// Adds what is known of the conflicts, of which so many have a text.
-    fn push_texts(&self, line: &mut Text, texts: usize) {
-        match (texts, self.evidence.len()) {
+    /// Adds for how many of the conflicts a text is known.
+    fn push_texts(&self, line: &mut Text) {
+        match (own_texts(self.evidence), self.evidence.len()) {
+            (0, _) => line.add("a text with two trees by something else that meets there"),
             (1, 1) => line.add("a text with two trees for it"),
             (texts, all) if texts == all => line.add("a text with two trees for each"),
             (texts, _) => write!(line, "a text with two trees for {texts} of them"),
@@ -46,16 +47,16 @@ impl<T: IndexStorage> Checked<'_, T> {
         if conflicts == 0 || told.options.steps == 0 {
             return write!(line, "{verdict}");
         }
-        match (texts_of(told.evidence), verdict) {
-            (0, _) if conflicts == 1 => write!(line, "{verdict}, not known to be ambiguous"),
-            (0, _) => write!(line, "{verdict}, none known to be ambiguous"),
-            (texts, Verdict::Conflicts(_)) => {
+        match (self.text_with_trees(told.evidence), verdict) {
+            (None, _) if conflicts == 1 => write!(line, "{verdict}, not known to be ambiguous"),
+            (None, _) => write!(line, "{verdict}, none known to be ambiguous"),
+            (Some(_), Verdict::Conflicts(_)) => {
                 write!(line, "ambiguous (proved): {verdict}, ");
-                told.push_texts(line, texts);
+                told.push_texts(line);
             }
-            (texts, _) => {
+            (Some(_), _) => {
                 write!(line, "{verdict}; ambiguous (proved): ");
-                told.push_texts(line, texts);
+                told.push_texts(line);
             }
         }
     }

@@ -1,5 +1,5 @@
 -- steps by which trees are put together
-use Rattle.std.specs.Prelude.{ℕ, List, Bool, true, false, map, count_by}
+use Rattle.std.specs.Prelude.{ℕ, List, [], ◌∷◌, Bool, true, false, map, count_by}
 use Rattle.lrmoves.specs.Moves.{Move, Shift, Reduce}
 use Rattle.lrshown.specs.declared.steps.Step.{Step}
 use Rattle.lrshown.specs.declared.steps.Step.TheVariants as code
@@ -11,6 +11,11 @@ move_by (code.Reduce p) = Reduce p
 
 abbrev pub moves_by : List Step → List Move
 moves_by ss = map move_by ss
+
+-- the first of them; where there is none, no node is put over anything
+abbrev pub first_of : List Step → Step
+first_of [] = code.Shift
+first_of (s ∷ ss) = s
 
 abbrev pub is_shift : Step → Bool
 is_shift code.Shift = true

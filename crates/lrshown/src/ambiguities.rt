@@ -1,13 +1,18 @@
 //! Texts with two trees.
 
-ghost use Rattle.std.specs.Prelude.{◌≡◌};
-ghost use Rattle.lrshown.specs.Ambiguities.{shown_dot};
+ghost use Rattle.std.specs.Prelude.{◌≡◌, ◌<◌, ◌↔◌, IsTrue, length};
+ghost use Rattle.lrshown.specs.Ambiguities.{shown_dot, against, IsOf};
+ghost use Rattle.lrshown.specs.declared.steps.Step.TheVariants.{Reduce};
 ghost use Rattle.lrshown.specs.ShownTexts.{start_of_text};
 
 use crate::names::start_of;
-use crate::steps::TwoTrees;
+use crate::steps::{Step, TwoTrees};
 use lrgrammar::grammar::PartSymbol;
+use lrverdicts::Entry;
 use lryacc::FileGrammar;
+
+/// How many tokens a text has at the most that is shown whole.
+const LONGEST: usize = 10_000;
 
 /// A text with two trees, which part at a conflict.
 #[derive(Debug, Drop)]
@@ -30,6 +35,22 @@ impl Ambiguity {
         start_of(file, first.map(PartSymbol::Token))
     }
 
+    /// Whether its trees part by what meets in an entry, and not by something else that meets in the same cell.
+    pub fn is_of(&self, entry: &Entry) -> bool
+        ensures { IsTrue result ↔ IsOf self.now entry.now }
+    {
+        let (one, other) = self.trees.candidates();
+        let (reduction, shift) = candidates_of(entry);
+        (one == reduction && other == shift) || (one == shift && other == reduction)
+    }
+
+    /// Whether it is told by its form alone, since it has more than 10,000 tokens.
+    pub fn is_long(&self) -> bool
+        ensures { IsTrue result ↔ 10000 < length self.now.tokens.items }
+    {
+        self.tokens.len() > LONGEST
+    }
+
     /// How many tokens of the file stand before the dot: not that of the start rule, which comes first where there are several.
     pub fn dot(&self, file: &FileGrammar) -> usize
         ensures { result ≡ shown_dot file.now self.now }
@@ -40,4 +61,16 @@ impl Ambiguity {
             None => dot,
         }
     }
+}
+
+/// The steps that meet in an entry.
+pub fn candidates_of(entry: &Entry) -> (Step, Step)
+    ensures reduction { result.0 ≡ Reduce entry.now.production }
+    ensures other { result.1 ≡ against entry.now.other }
+{
+    let other = match entry.other {
+        Some(other) => Step::Reduce(other),
+        None => Step::Shift,
+    };
+    (Step::Reduce(entry.production), other)
 }

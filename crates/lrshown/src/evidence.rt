@@ -1,5 +1,8 @@
 //! What is known of conflicts.
 
+ghost use Rattle.std.specs.Prelude.{◌↔◌, IsTrue, IfSome, IsSome};
+ghost use Rattle.lrshown.specs.Ambiguities.{IsOf};
+
 use crate::ambiguities::Ambiguity;
 use lrgrammar::grammar::PartSymbol;
 use lrverdicts::Entry;
@@ -29,15 +32,28 @@ pub struct Example {
     pub other: Option<Outlook>,
 }
 
-/// What is known of an entry.
+/// What is known of an entry. What most entries don't have stands in boxes, since there may be millions of them.
 #[derive(Debug, Drop)]
 pub struct Evidence {
     /// The entry.
     pub entry: Entry,
     /// A text with two trees, which part at it, where one is found.
-    pub ambiguity: Option<Ambiguity>,
+    pub ambiguity: Option<Box<Ambiguity>>,
     /// Where none is, after what it is real, where that is looked for; None for an entry that the table doesn't list.
-    pub example: Option<Example>,
+    pub example: Option<Box<Example>>,
     /// Whether the work that searches of the file may do was done before the search for a text was through, if one is made.
     pub is_cut_off: bool,
+}
+
+impl Evidence {
+    /// Whether a text with two trees is known, and these part by what meets in the entry.
+    pub fn has_own_text(&self) -> bool
+        ensures known { IsTrue result → IsSome self.now.ambiguity }
+        ensures own { IfSome self.now.ambiguity (λ a. IsTrue result ↔ IsOf a.value self.now.entry) }
+    {
+        match &self.ambiguity {
+            Some(ambiguity) => ambiguity.is_of(&self.entry),
+            None => false,
+        }
+    }
 }

@@ -7,7 +7,7 @@ mod names;
 mod steps;
 mod trees;
 
-pub use crate::ambiguities::Ambiguity;
+pub use crate::ambiguities::{Ambiguity, candidates_of};
 pub use crate::evidence::{Evidence, Example, Outlook};
 pub use crate::names::{
     body_of, list_of, name_of_rule, names_of, names_of_tokens, rule_name, start_of, symbol_name,

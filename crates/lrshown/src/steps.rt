@@ -2,7 +2,7 @@
 
 ghost use Rattle.std.specs.Prelude.{◌≡◌, map, IfOk};
 ghost use Rattle.lrmoves.specs.StoredMoves.{move_of, moves_stored};
-ghost use Rattle.lrshown.specs.Steps.{move_by, moves_by, shifts};
+ghost use Rattle.lrshown.specs.Steps.{move_by, moves_by, first_of, shifts};
 
 use lrgrammar::idx::IndexStorage;
 use lrmoves::Move;
@@ -41,7 +41,10 @@ impl TwoTrees {
     }
 
     /// The steps by which the trees part.
-    pub fn candidates(&self) -> (Step, Step) {
+    pub fn candidates(&self) -> (Step, Step)
+        ensures one { result.0 ≡ first_of self.now.one.items }
+        ensures other { result.1 ≡ first_of self.now.other.items }
+    {
         let one = self.one.first().copied().unwrap_or(Step::Shift);
         let other = self.other.first().copied().unwrap_or(Step::Shift);
         (one, other)
