@@ -87,7 +87,7 @@ def our_row(lrcheck, lrt, path, options):
     if told.returncode not in (0, 1):
         return None
     conflicts = json.loads(told.stdout)["conflicts"]
-    texts = sum(it["ambiguity"] is not None for it in conflicts)
+    texts = sum(it["ambiguity"] is not None and it["ambiguity"]["own"] for it in conflicts)
     row = Row(f"`{path.parent.name}/{path.name}`", options, len(conflicts), texts)
     with tempfile.TemporaryDirectory() as name:
         folder = Path(name)
