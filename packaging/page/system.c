@@ -199,6 +199,12 @@ length write(int file, const void *from, size count)
     return (length)count;
 }
 
+/* The name under which the C library has the same call for itself, and which a proved program takes. */
+length __write(int file, const void *from, size count)
+{
+    return write(file, from, count);
+}
+
 int close(int file)
 {
     (void)file;
