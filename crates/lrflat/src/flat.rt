@@ -1,4 +1,4 @@
-//! A table, flattened.
+//! The table of a grammar as one list of numbers.
 
 ghost use Rattle.std.specs.Prelude.{◌≡◌, ◌++◌, ◌∷◌, [], length, IfOk, OnOk, option_map};
 ghost use Rattle.std.specs.List.{flat_map, range_with_len};
@@ -8,7 +8,6 @@ ghost use Rattle.lrflat.specs.Flat.{action_number, goto_number, action_row, goto
 use lrgrammar::grammar::YaccGrammar;
 use lrgrammar::idx::{IndexStorage, PIdx, RIdx, StIdx, TIdx};
 use lrtable::{Action, StateTable};
-use std::alloc::AllocError;
 
 /// Why a table is not flattened.
 #[derive(Clone, Copy, Debug, PartialEq, Eq, thiserror::Error)]
@@ -19,12 +18,6 @@ pub enum FlatError {
     /// Memory was refused.
     #[error("out of memory")]
     Memory,
-}
-
-impl From<AllocError> for FlatError {
-    fn from(_refused: AllocError) -> FlatError {
-        FlatError::Memory
-    }
 }
 
 /// The number of what a cell says.
