@@ -8,7 +8,11 @@ if ! command -v musl-gcc >/dev/null; then
     exit 77
 fi
 cp "$TOP/release" "$TOP/LICENSE" "$TOP/CHANGELOG.md" top/
-cp -r "$TOP/packaging" top/
+cp -r "$TOP/packaging" "$TOP/bindings" top/
+echo 'lrc staticlib: low std' >>top/crates.txt
+mkdir -p top/crates/lrc/src
+echo calls >top/crates/lrc/src/lib.rt
+echo 'unsigned lrc_table(void) { return 5; }' >library.c
 echo 'Command::new("lrcheck").version("1.2.3")' >top/crates/lrcheck/src/command_line.rt
 echo 'lrcheck status=2: low std parser' >top/crates.txt.new
 grep -v '^lrcheck' top/crates.txt >>top/crates.txt.new && mv top/crates.txt.new top/crates.txt
@@ -45,9 +49,12 @@ cat >bin/prove <<'END'
 #!/bin/sh
 kit=${0%/*}/..
 "$kit/bin/prove_quietly" "$@" || exit
-case $* in "run --cpu x86-64" | "run --target aarch64-unknown-linux-gnu") ;; *) exit 0 ;; esac
 case $2 in --target) with=aarch64-linux-gnu-gcc ;; *) with=gcc ;; esac
-$with -c -o "out/${PWD##*/}.o" "$kit/program.c"
+case ${PWD##*/}:$* in
+*:"run --cpu x86-64" | *:"run --target aarch64-unknown-linux-gnu") $with -c -o "out/${PWD##*/}.o" "$kit/program.c" ;;
+lrc:lib*) mkdir -p out && $with -fPIC -c -o lrc.o "$kit/library.c" && ar rcs out/liblrc.a lrc.o ;;
+*) exit 0 ;;
+esac
 echo "logic=$(cat "$kit/verdict" 2>/dev/null || echo proved) functions=1"
 END
 cat >toolchain/bin/ld.lld <<'END'

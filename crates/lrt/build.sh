@@ -1,13 +1,18 @@
 # Builds programs for the scripts at the top, which set `top` to their folder and read this file. A program is kept in out/ at
 # the top, beside the sum of the sources that it was built from, the times that crates took, and the last log of rt. `look`
-# keeps another one, and sets the names of the program anew.
+# keeps another one, and sets the names of the program anew; `library` keeps a library for C in the same way.
 
 kept=$top/out
 log=$kept/build.log
 
 # Names the program that is built: that of a crate. Where its own sources are no crate's, `apart` is the folder of these.
 name_program() {
-    program=$kept/$1 made=$top/crates/$1/out/$1 speaker=$1 apart=''
+    program=$kept/$1 made=$top/crates/$1/out/$1 speaker=$1 apart='' product=program
+}
+
+# Names the library for C that is built: that of a crate.
+name_library() {
+    program=$kept/lib$1.a made=$top/crates/$1/out/lib$1.a speaker=$1 apart='' product=library
 }
 
 name_program lrt
@@ -25,7 +30,7 @@ sources() {
 
 # Whether the program was built from the sources with this sum.
 is_built() {
-    [ -x "$program" ] && [ "$(cat "$program.sources" 2>/dev/null)" = "$1" ]
+    [ -e "$program" ] && [ "$(cat "$program.sources" 2>/dev/null)" = "$1" ]
 }
 
 # Keeps the program that was made from the sources with this sum. The sum comes last, so that the next call takes nothing for
@@ -65,14 +70,14 @@ run_in() {
 # Shows what a command wrote, and tells that it failed.
 tell_failure() {
     cat "$log" >&2
-    say "the program could not be built: $1, as it says above"
+    say "the $product could not be built: $1, as it says above"
     return 1
 }
 
-# Proves a crate, and builds the program. Of a program rt tells by a stamp that it is built: the status is that of the program,
-# which rt runs once.
+# Proves a crate, and builds it. Of a program rt tells by a stamp that it is built: the status is that of the program, which rt
+# runs once.
 prove() {
-    [ "$1" = "$speaker" ] || { run_in "$top/crates/$1" rt lib; return; }
+    [ "$1" = "$speaker" ] && [ "$product" = program ] || { run_in "$top/crates/$1" rt lib; return; }
     rm -f "$made.stamp"
     run_in "$top/crates/$1" rt run
     [ -e "$made.stamp" ]
@@ -100,7 +105,7 @@ prove_crates() {
 stop_build() {
     kill "$running" 2>/dev/null && wait "$running" 2>/dev/null
     rm -rf "$kept"/*.$$
-    say "interrupted before the program was built"
+    say "interrupted before the $product was built"
     exit 130
 }
 
@@ -111,10 +116,10 @@ build_by() {
     mkdir -p "$kept" || return
     running='' start=$(date +%s)
     trap stop_build HUP INT TERM
-    say "building the program, since $([ -x "$program" ] && echo its sources have changed || echo it is not there yet)"
+    say "building the $product, since $([ -e "$program" ] && echo its sources have changed || echo it is not there yet)"
     "$1" || return
     if [ "$(sources)" != "$sum" ]; then
-        say "the program could not be built: sources changed meanwhile"
+        say "the $product could not be built: sources changed meanwhile"
         return 1
     fi
     keep_program "$sum" || return

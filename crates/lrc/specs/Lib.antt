@@ -1,0 +1,2 @@
+-- what callers in C find in their buffers
+pub mod Told
