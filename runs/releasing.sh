@@ -49,7 +49,10 @@ cat >bin/prove <<'END'
 #!/bin/sh
 kit=${0%/*}/..
 "$kit/bin/prove_quietly" "$@" || exit
-case $2 in --target) with=aarch64-linux-gnu-gcc ;; *) with=gcc ;; esac
+case $2 in
+--target) with='aarch64-linux-gnu-gcc -specs /usr/lib/aarch64-linux-musl/musl-gcc.specs' ;;
+*) with=gcc ;;
+esac
 case ${PWD##*/}:$* in
 *:"run --cpu x86-64" | *:"run --target aarch64-unknown-linux-gnu") $with -c -o "out/${PWD##*/}.o" "$kit/program.c" ;;
 lrc:lib*) mkdir -p out && $with -fPIC -c -o lrc.o "$kit/library.c" && ar rcs out/liblrc.a lrc.o ;;

@@ -1,13 +1,15 @@
 -- what is promised of findings
-use Rattle.std.specs.Prelude.{◌≡◌, ℕ, [], length, map, string_bytes, IfNone, IfSome}
+use Rattle.std.specs.Prelude.{◌≡◌, ℕ, true, [], length, map, IfNone, IfSome, IsTrue}
 use Rattle.std.specs.List.Sorted.{IsPermutation}
+use Rattle.lrspec.specs.grammars.Grammar.{Grammar}
 use Rattle.lrspec.specs.merging.Graph.{Graph, IsGraphOf}
 use Rattle.lrspec.specs.tables.Conflicts.{AreReductionsContested}
+use Rattle.lrspec.specs.tables.LrTables.{HasNoPrecedences, ListsNothing}
 use Rattle.lrspec.specs.tables.Recognition.{IsUnambiguous}
-use Rattle.lrspec.specs.tables.Table.{IsTableOf, lists_of}
-use Rattle.lrgrammar.specs.TextErrors.{IsGrammarOf}
+use Rattle.lrspec.specs.tables.Table.{Table, IsTableOf, lists_of}
+use Rattle.lryacc.specs.declared.numbering.FileGrammar.{FileGrammar}
+use Rattle.lrfindings.specs.FileGrammars.{IsGrammarOfFile}
 use Rattle.lrfindings.specs.declared.findings.Findings.{Findings}
-use Rattle.lrverdicts.specs.declared.verdicts.Verdict.TheVariants.{Unambiguous}
 use Rattle.lrverdicts.specs.Listed.{told, listed}
 
 -- no conflict is found, and none that precedences settle
@@ -16,11 +18,11 @@ pub record FindNothing {T : Type 0} (f : Findings T) : Type 0 where
   pub opened : f.opened.items ≡ []
   pub settled : f.settled.items ≡ []
 
--- the grammar is that of the text, with indices up to the greatest; graph, table and conflicts are the
--- grammar's, and there is a graph unless nothing is found; and the verdict is "unambiguous" only where no
--- text has two trees
-pub record AreFindings {T : Type 0} (max : ℕ) (f : Findings T) : Type 0 where
-  pub grammar : IsGrammarOf max (string_bytes f.text) f.grm
+-- the grammar is that of the file, with indices up to the greatest; graph, table and conflicts are the
+-- grammar's, and there is a graph unless nothing is found; and it is told to be unambiguous only where no text
+-- has two trees, and always where the table lists nothing and no token has a precedence
+pub record AreFindings {T : Type 0} (max : ℕ) (file : FileGrammar) (f : Findings T) : Type 0 where
+  pub grammar : IsGrammarOfFile max file f.has_precedences f.grm
   pub graph : Graph
   pub of_grammar : IsGraphOf f.grm graph
   pub table : IsTableOf f.grm graph f.table
@@ -29,4 +31,15 @@ pub record AreFindings {T : Type 0} (max : ℕ) (f : Findings T) : Type 0 where
   pub states : f.states ≡ length graph
   pub without : IfNone f.graph (FindNothing f)
   pub conflicts : IsPermutation (listed (lists_of f.table)) (map told f.conflicts.items)
-  pub unambiguous : f.verdict ≡ Unambiguous → IsUnambiguous f.grm
+  pub unambiguous : IsTrue f.is_unambiguous → IsUnambiguous f.grm
+  pub known : HasNoPrecedences f.grm → ListsNothing f.table → IsTrue f.is_unambiguous
+
+-- with its precedences, the grammar of the file has a table that lists no conflict
+pub record HasNoConflicts (max : ℕ) (file : FileGrammar) : Type 0 where
+  pub grammar : Grammar
+  pub graph : Graph
+  pub table : Table
+  pub of_file : IsGrammarOfFile max file true grammar
+  pub of_grammar : IsGraphOf grammar graph
+  pub of_graph : IsTableOf grammar graph table
+  pub nothing : ListsNothing table

@@ -1,27 +1,30 @@
 //! What is found in the grammar of a file.
 
-ghost use Rattle.std.specs.Prelude.{◌≡◌, [], length, IfOk, IfNone, IfSome};
+ghost use Rattle.std.specs.Prelude.{◌≡◌, ◌⊎◌, [], length, Bool, IsTrue, IfOk, IfErr, IfNone, IfSome, false};
 ghost use Rattle.lrspec.specs.merging.Graph.{Graph};
 ghost use Rattle.lrspec.specs.tables.Built.{IsBuilt};
 ghost use Rattle.lrspec.specs.tables.LrTables.{ListsNothing};
-ghost use Rattle.lrfindings.specs.Findings.{AreFindings};
+ghost use Rattle.lrtable.specs.Refusals.{IsBuildRefusal};
+ghost use Rattle.lrfindings.specs.declared.findings.FindError.TheVariants.{Memory};
+ghost use Rattle.lrfindings.specs.Findings.{AreFindings, FindNothing, HasNoConflicts};
+ghost use Rattle.lrfindings.specs.FindErrors.{IsNothingFound};
 
 use crate::cells::{CellFindings, Settled, cells_of};
 use crate::idle::Idle;
-use crate::texts::small_text;
-use lrgrammar::grammar::{GrammarError, TextError, YaccGrammar};
+use crate::parts::grammar_of;
+use lrgrammar::grammar::{GrammarError, YaccGrammar};
 use lrgrammar::idx::IndexStorage;
 use lrtable::{BuildError, Minimiser, StateGraph, StateTable, from_yacc, from_yacc_if_contested};
-use lrverdicts::{Counts, Entry, Verdict, entries_of, verdict_of};
+use lrverdicts::{Entry, entries_of, is_unambiguous};
 use lryacc::FileGrammar;
 use std::alloc::{AllocError, Global};
 
-/// What is found in the grammar of a small text.
+/// What is found in the grammar of a file.
 #[derive(Drop)]
 pub struct Findings<T: IndexStorage> {
-    /// The text, which `lrt` reads.
-    pub text: String,
-    /// Its grammar.
+    /// Whether the grammar has the precedences of the file.
+    pub has_precedences: bool,
+    /// The grammar.
     pub grm: YaccGrammar<T>,
     /// The state graph of the grammar. None where it wasn't wanted and no entries meet in a cell of its table, so that nothing is
     /// searched in it.
@@ -41,8 +44,17 @@ pub struct Findings<T: IndexStorage> {
     pub settled: Vec<Settled>,
     /// Which precedences settle nothing, all of them where none is in force; and which tokens are in no rule.
     pub idle: Idle,
-    /// The verdict.
-    pub verdict: Verdict,
+    /// Whether the table shows that no text has two trees.
+    pub is_unambiguous: bool,
+}
+
+impl<T: IndexStorage> Findings<T> {
+    /// Whether nothing meets in a cell, whatever precedences say.
+    fn is_nothing(&self) -> bool
+        ensures { IsTrue result → FindNothing self.now }
+    {
+        self.conflicts.is_empty() && self.opened.is_empty() && self.settled.is_empty()
+    }
 }
 
 /// Why nothing is found in the grammar of a file.
@@ -54,9 +66,6 @@ pub enum FindError {
     /// The grammar is refused.
     #[error(transparent)]
     Refused(GrammarError),
-    /// The small text is none, or names something that it doesn't define.
-    #[error("the grammar has no text")]
-    Text,
     /// A state accepts and reduces at the end of the text, so that there is no table.
     #[error("a state accepts and reduces at the end of the text")]
     NoTable,
@@ -66,28 +75,35 @@ pub enum FindError {
 }
 
 impl From<AllocError> for FindError {
+    ghost from_gives = { λ _ e. e ≡ Memory };
+
     fn from(_refused: AllocError) -> FindError {
         FindError::Memory
     }
 }
 
-impl From<TextError> for FindError {
-    fn from(error: TextError) -> FindError {
+impl From<GrammarError> for FindError {
+    ghost use Rattle.lrfindings.specs.FindErrors.{parts_error};
+
+    ghost from_gives = { λ error e. e ≡ parts_error error };
+
+    fn from(error: GrammarError) -> FindError {
         match error {
-            TextError::Grammar(
-                GrammarError::TooManyRules
-                | GrammarError::TooManyTokens
-                | GrammarError::TooManyProductions
-                | GrammarError::BodyTooLong,
-            ) => FindError::TooLarge,
-            TextError::Grammar(error) => FindError::Refused(error),
-            TextError::Memory => FindError::Memory,
-            _ => FindError::Text,
+            GrammarError::TooManyRules
+            | GrammarError::TooManyTokens
+            | GrammarError::TooManyProductions
+            | GrammarError::BodyTooLong => FindError::TooLarge,
+            GrammarError::Memory => FindError::Memory,
+            error => FindError::Refused(error),
         }
     }
 }
 
 impl<T: IndexStorage> From<BuildError<T>> for FindError {
+    ghost use Rattle.lrfindings.specs.FindErrors.{build_error};
+
+    ghost from_gives = { λ error e. e ≡ build_error error };
+
     fn from(error: BuildError<T>) -> FindError {
         match error {
             BuildError::Table(_) => FindError::NoTable,
@@ -107,6 +123,7 @@ fn tabled<T: IndexStorage>(
         × IfSome b.0 (λ g. g ≡ h)) }
     ensures without { IfOk result (λ b. IfNone b.0 (ListsNothing b.1)) }
     ensures states { IfOk result (λ b. b.2 ≡ length b.1.actions) }
+    ensures refused { IfErr result (IsBuildRefusal T.number T.MAX grm.now) }
 {
     if !wants_graph {
         return from_yacc_if_contested(grm.allocator(), grm, Minimiser::Pager);
@@ -139,12 +156,13 @@ fn find_with<T: IndexStorage>(
     has_precedences: bool,
     wants_graph: bool,
 ) -> Result<Findings<T>, FindError>
-    ensures { IfOk result (AreFindings T.MAX) }
+    ensures found { IfOk result (AreFindings T.MAX file.now) }
+    ensures asked { IfOk result (λ f. f.has_precedences ≡ has_precedences) }
+    ensures refused { IfErr result (IsNothingFound T.MAX file.now has_precedences) }
 {
-    let text = small_text(alloc, file, has_precedences)?;
-    let grm = YaccGrammar::<T>::from_text(alloc, text.as_str())?;
+    let grm = grammar_of::<T>(alloc, file, has_precedences)?;
     let (graph, table, states) = tabled(&grm, wants_graph)?;
-    let verdict = verdict_of(&grm, &table);
+    let is_unambiguous = is_unambiguous(&grm, &table);
     let cells = found_in_cells(alloc, file, graph.as_ref(), has_precedences)?;
     let conflicts = entries_of(alloc, file, &table)?;
     let CellFindings {
@@ -153,9 +171,8 @@ fn find_with<T: IndexStorage>(
         opened,
         idle,
     } = cells;
-    let verdict = verdict.adjusted(Counts::of(closed.as_slice()), Counts::of(opened.as_slice()));
     Ok(Findings {
-        text,
+        has_precedences,
         grm,
         graph,
         table,
@@ -165,7 +182,7 @@ fn find_with<T: IndexStorage>(
         opened,
         settled,
         idle,
-        verdict,
+        is_unambiguous,
     })
 }
 
@@ -178,10 +195,14 @@ pub fn find<T: IndexStorage>(
     has_precedences: bool,
     wants_graph: bool,
 ) -> Result<Findings<T>, FindError>
-    ensures { IfOk result (AreFindings T.MAX) }
+    ensures found { IfOk result (AreFindings T.MAX file.now) }
+    ensures kept { IfOk result (λ f.
+        (f.has_precedences ≡ has_precedences) ⊎ HasNoConflicts T.MAX file.now) }
+    ensures left_out { has_precedences ≡ false → IfOk result (λ f. f.has_precedences ≡ false) }
+    ensures refused { IfErr result (λ e. (b : Bool) × IsNothingFound T.MAX file.now b e) }
 {
     let found = find_with(alloc, file, has_precedences, wants_graph)?;
-    if found.verdict == Verdict::NoConflicts && found.settled.is_empty() {
+    if !found.is_unambiguous && found.is_nothing() {
         return find_with(alloc, file, false, wants_graph);
     }
     Ok(found)

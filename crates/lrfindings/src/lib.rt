@@ -1,10 +1,11 @@
-//! What there is to find in the grammar of a file: its conflicts, what its precedences settle, and its verdict.
+//! What there is to find in the grammar of a file: its conflicts, what its precedences settle, and whether it is unambiguous.
 #![tactic(auto)]
 
 mod cells;
 mod findings;
 mod idle;
 mod names;
+mod parts;
 mod texts;
 
 pub use crate::cells::{Settled, Winner, precedence_token};

@@ -1,17 +1,17 @@
 //! The report on a file.
 
-ghost use Rattle.std.specs.Prelude.{◌≡◌, ◌≢◌, All, map, IfOk, IfSome, IfNone, IsSome, MatchOption};
+ghost use Rattle.std.specs.Prelude.{◌≡◌, ◌≢◌, ◌⊎◌, not, All, map, IfOk, IfSome, IfNone, IsSome, MatchOption};
 ghost use Rattle.lrspec.specs.merging.Graph.{IsGraphOf};
 ghost use Rattle.lrspec.specs.tables.Conflicts.{AreReductionsContested};
 ghost use Rattle.lrspec.specs.tables.Recognition.{IsUnambiguous};
 ghost use Rattle.lrverdicts.specs.declared.verdicts.Verdict.TheVariants.{Unambiguous};
-ghost use Rattle.lrfindings.specs.Findings.{AreFindings, FindNothing};
-ghost use Rattle.lrverdicts.specs.Verdicts.{status_of};
+ghost use Rattle.lrfindings.specs.Findings.{AreFindings, FindNothing, HasNoConflicts};
+ghost use Rattle.lrverdicts.specs.Verdicts.{counts_of, status_of};
 ghost use Rattle.lrevidence.specs.Ambiguities.{HasTwoTrees, IsProved};
 ghost use Rattle.lrevidence.specs.Entries.{AreListedIn};
 ghost use Rattle.lrreport.specs.declared.options.Output.TheVariants.{Grammar};
 ghost use Rattle.lrreport.specs.LeftOpen.{AreLeftOpen};
-ghost use Rattle.lrreport.specs.Conclusions.{IsConcluded};
+ghost use Rattle.lrreport.specs.Conclusions.{IsConcluded, conclusion_of};
 
 use crate::conflicts::{Checked, left_open};
 use crate::json_lines::{json_of_faults, json_of_findings, json_of_refusal};
@@ -19,7 +19,7 @@ use crate::options::{Options, Output};
 use crate::told::Told;
 use lrdiagnostics::{Layout, Source, TOLD, Teller, Weight, messages_of};
 use lrevidence::{Ambiguity, Effort, Evidence, evidence_for, find_ambiguity};
-use lrfindings::{Entry, FindError, Findings, Idle, Settled, Verdict, find, small_text};
+use lrfindings::{Counts, Entry, FindError, Findings, Idle, Settled, Verdict, find, small_text};
 use lrgrammar::idx::IndexStorage;
 use lrwriter::Text;
 use lryacc::{Expected, Fault, FileGrammar, FileRead, read_file};
@@ -41,9 +41,13 @@ pub struct Report {
 /// What was concluded of a grammar.
 #[derive(Debug, Drop)]
 pub struct Conclusion {
-    /// The grammar, as a small text: that which `Output::Grammar` tells, but without precedences where there are no conflicts and
-    /// precedences settle nothing.
-    pub grammar: String,
+    /// The grammar of the file, as it was read.
+    pub file: FileGrammar,
+    /// Whether its precedences are in force: neither where they are left out, nor where there are no conflicts and they settle
+    /// nothing.
+    pub has_precedences: bool,
+    /// How many conflicts are expected.
+    pub expected: Expected,
     /// The verdict, which the lines tell.
     pub verdict: Verdict,
     /// The conflicts, in the order of the file, and what is known of each.
@@ -140,6 +144,8 @@ fn report_on_refusal(
 /// What is known of a grammar beside what was found in it.
 #[derive(Drop)]
 struct Known {
+    /// How many conflicts are left open.
+    left: Counts,
     /// Of the conflicts that are left open.
     evidence: Vec<Evidence>,
     /// Of what precedences settle, where that is asked for.
@@ -194,6 +200,7 @@ fn known_of<T: IndexStorage>(
     requires contested { IfSome found.now.graph (AreReductionsContested found.now.grm) }
     ensures left { IfOk result (λ k. AreLeftOpen found.now.conflicts.items found.now.closed.items
         found.now.opened.items (map (λ e. e.entry) k.evidence.items)) }
+    ensures counts { IfOk result (λ k. k.left ≡ counts_of (map (λ e. e.entry) k.evidence.items)) }
     ensures proved { IfOk result (λ k. All (IsProved found.now.grm) k.evidence.items) }
     ensures settled { IfOk result (λ k. All (IsProved found.now.grm) k.settled.items) }
     ensures decided { IfOk result (λ k. IfSome k.decided (HasTwoTrees found.now.grm)) }
@@ -213,6 +220,7 @@ fn known_of<T: IndexStorage>(
         Vec::new(alloc)
     };
     Ok(Known {
+        left: Counts::of(entries.as_slice()),
         evidence,
         settled,
         decided,
@@ -306,32 +314,82 @@ fn page_on_findings<T: IndexStorage>(
     Ok(Some(checked.page(alloc, verdict, line.as_str())?))
 }
 
-/// The report on what was found in the grammar of a file.
-fn report_on_findings<T: IndexStorage>(
+/// What is told of a grammar, and was concluded of it.
+#[derive(Drop)]
+struct Outcome {
+    text: String,
+    page: Option<String>,
+    has_precedences: bool,
+    expected: Expected,
+    verdict: Verdict,
+    evidence: Vec<Evidence>,
+}
+
+impl Outcome {
+    /// The report on the file, with those options.
+    fn report(self, file: FileGrammar, options: Options) -> Report
+        requires { IsConcluded options.ignores_precedences (conclusion_of file self) }
+        ensures proved { IfSome result.conclusion (IsConcluded options.ignores_precedences) }
+        ensures concluded { IsSome result.conclusion }
+        ensures status { result.status ≡ status_of self.verdict }
+        ensures verdict { IfSome result.conclusion (λ c. c.verdict ≡ self.verdict) }
+    {
+        Report {
+            text: self.text,
+            status: self.verdict.status(),
+            page: self.page,
+            conclusion: Some(Conclusion {
+                file,
+                has_precedences: self.has_precedences,
+                expected: self.expected,
+                verdict: self.verdict,
+                evidence: self.evidence,
+            }),
+        }
+    }
+}
+
+/// What is told of what was found in the grammar of a file.
+fn outcome_on_findings<T: IndexStorage>(
     alloc: Global,
     read: Read<'_>,
     found: Findings<T>,
     options: Options,
-) -> Result<Report, AllocError>
-    requires { AreFindings T.MAX found }
-    ensures concluded { IfOk result (λ r. IsSome r.conclusion) }
-    ensures proved { IfOk result (λ r. IfSome r.conclusion IsConcluded) }
-    ensures status { IfOk result (λ r. IfSome r.conclusion (λ c. r.status ≡ status_of c.verdict)) }
+) -> Result<Outcome, AllocError>
+    requires found { AreFindings T.MAX read.file.now found }
+    requires kept { (found.has_precedences ≡ not options.ignores_precedences)
+        ⊎ HasNoConflicts T.MAX read.file.now }
+    ensures { IfOk result (λ o.
+        IsConcluded options.ignores_precedences (conclusion_of read.entry.file.now o)) }
 {
-    let verdict = found.verdict.beside(options.beside(read.expected));
     let known = known_of(alloc, read.file, &found, options)?;
+    let expected = options.beside(read.expected);
+    let verdict = Verdict::of(found.is_unambiguous, known.left, expected);
     let text = lines_on_findings(alloc, read, &found, &known, verdict, options)?;
     let page = page_on_findings(alloc, read, &found, &known, verdict, options)?;
-    Ok(Report {
+    Ok(Outcome {
         text,
-        status: verdict.status(),
         page,
-        conclusion: Some(Conclusion {
-            grammar: found.text,
-            verdict,
-            evidence: known.evidence,
-        }),
+        has_precedences: found.has_precedences,
+        expected,
+        verdict,
+        evidence: known.evidence,
     })
+}
+
+/// What is told of a file that was read as a grammar, by an index type.
+fn outcome_by<T: IndexStorage>(
+    alloc: Global,
+    read: Read<'_>,
+    options: Options,
+) -> Result<Outcome, FindError>
+    ensures { IfOk result (λ o.
+        IsConcluded options.ignores_precedences (conclusion_of read.entry.file.now o)) }
+{
+    let wants_graph = options.makes_page || options.output == Output::States;
+    let has_precedences = !options.ignores_precedences;
+    let found = find::<T>(alloc, read.file, has_precedences, wants_graph)?;
+    Ok(outcome_on_findings(alloc, read, found, options)?)
 }
 
 /// Whether the numbers of a grammar's parts may fit into 16 bits.
@@ -341,34 +399,34 @@ fn is_small(file: &FileGrammar) -> bool {
     most.max(parts.rules.len()) < usize::from(u16::MAX)
 }
 
-/// The report on a file that was read as a grammar.
-fn report_on_grammar(alloc: Global, read: Read<'_>, options: Options) -> Result<Report, AllocError>
-    ensures proved { IfOk result (λ r. IfSome r.conclusion IsConcluded) }
-    ensures status { IfOk result (λ r. IfSome r.conclusion (λ c. r.status ≡ status_of c.verdict)) }
-    ensures unread { IfOk result (λ r.
-        options.output ≢ Grammar → IfNone r.conclusion (r.status ≡ 2)) }
+/// What is told of a file that was read as a grammar, by the least index type that serves.
+fn outcome_of(alloc: Global, read: Read<'_>, options: Options) -> Result<Outcome, FindError>
+    ensures { IfOk result (λ o.
+        IsConcluded options.ignores_precedences (conclusion_of read.entry.file.now o)) }
 {
-    let has_precedences = !options.ignores_precedences;
-    if options.output == Output::Grammar {
-        return Ok(Report {
-            text: small_text(alloc, read.file, has_precedences)?,
-            status: 0,
-            page: None,
-            conclusion: None,
-        });
-    }
-    let wants_graph = options.makes_page || options.output == Output::States;
     if is_small(read.file) {
-        match find::<u16>(alloc, read.file, has_precedences, wants_graph) {
-            Ok(found) => return report_on_findings(alloc, read, found, options),
+        match outcome_by::<u16>(alloc, read, options) {
             Err(FindError::TooLarge) => {}
-            Err(why) => return report_on_refusal(alloc, read, why, options),
+            outcome => return outcome,
         }
     }
-    match find::<u32>(alloc, read.file, has_precedences, wants_graph) {
-        Ok(found) => report_on_findings(alloc, read, found, options),
-        Err(why) => report_on_refusal(alloc, read, why, options),
-    }
+    outcome_by::<u32>(alloc, read, options)
+}
+
+/// The report that tells the grammar of a file alone.
+fn report_of_grammar(
+    alloc: Global,
+    file: &FileGrammar,
+    options: Options,
+) -> Result<Report, AllocError>
+    ensures { IfOk result (λ r. r.conclusion ≡ None) }
+{
+    Ok(Report {
+        text: small_text(alloc, file, !options.ignores_precedences)?,
+        status: 0,
+        page: None,
+        conclusion: None,
+    })
 }
 
 /// The report on a file of that name, which holds these bytes. It has a conclusion unless it says that the file can't be read as
@@ -379,22 +437,30 @@ pub fn report_on(
     bytes: &[u8],
     options: Options,
 ) -> Result<Report, AllocError>
-    ensures proved { IfOk result (λ r. IfSome r.conclusion IsConcluded) }
+    ensures proved { IfOk result (λ r.
+        IfSome r.conclusion (IsConcluded options.ignores_precedences)) }
     ensures status { IfOk result (λ r. IfSome r.conclusion (λ c. r.status ≡ status_of c.verdict)) }
     ensures unread { IfOk result (λ r.
         options.output ≢ Grammar → IfNone r.conclusion (r.status ≡ 2)) }
 {
     let source = Source::new(alloc, name, bytes)?;
-    match read_file(alloc, bytes, options.dialect)? {
-        FileRead::Grammar(file, expected, warnings) => {
-            let read = Read {
-                source: &source,
-                file: &file,
-                expected,
-                warnings: warnings.as_slice(),
-            };
-            report_on_grammar(alloc, read, options)
+    let (file, expected, warnings) = match read_file(alloc, bytes, options.dialect)? {
+        FileRead::Grammar(file, expected, warnings) => (file, expected, warnings),
+        FileRead::Faults(faults) => {
+            return report_on_faults(alloc, &source, faults.as_slice(), options);
         }
-        FileRead::Faults(faults) => report_on_faults(alloc, &source, faults.as_slice(), options),
+    };
+    if options.output == Output::Grammar {
+        return report_of_grammar(alloc, &file, options);
+    }
+    let read = Read {
+        source: &source,
+        file: &file,
+        expected,
+        warnings: warnings.as_slice(),
+    };
+    match outcome_of(alloc, read, options) {
+        Ok(outcome) => Ok(outcome.report(file, options)),
+        Err(why) => report_on_refusal(alloc, read, why, options),
     }
 }

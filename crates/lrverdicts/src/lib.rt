@@ -5,4 +5,4 @@ mod conflicts;
 mod verdicts;
 
 pub use crate::conflicts::{Entry, entries_of, is_among, place_of};
-pub use crate::verdicts::{Counts, Verdict, verdict_of};
+pub use crate::verdicts::{Counts, Verdict, is_unambiguous};

@@ -1,10 +1,10 @@
 //! The verdict of a grammar.
 
-ghost use Rattle.std.specs.Prelude.{◌≡◌};
+ghost use Rattle.std.specs.Prelude.{◌≡◌, ◌↔◌, IsTrue};
+ghost use Rattle.lrspec.specs.tables.LrTables.{HasNoPrecedences, ListsNothing};
 ghost use Rattle.lrspec.specs.tables.Recognition.{IsUnambiguous};
 ghost use Rattle.lrspec.specs.tables.Table.{IsTableFor};
-ghost use Rattle.lrverdicts.specs.Verdicts.{status_of};
-ghost use Rattle.lrverdicts.specs.declared.verdicts.Verdict.TheVariants.{Unambiguous};
+ghost use Rattle.lrverdicts.specs.Verdicts.{counts_of, counts_in, status_of, IsVerdict, IsZero};
 
 use crate::conflicts::Entry;
 use lrcells::statetable::StateTable;
@@ -24,37 +24,24 @@ pub struct Counts {
 
 impl Counts {
     /// How many entries there are of either kind.
-    pub fn of(entries: &[Entry]) -> Counts {
+    pub fn of(entries: &[Entry]) -> Counts
+        ensures { result ≡ counts_of entries.now }
+    {
         let mut counts = Counts::default();
         for entry in entries {
-            let count = match entry.other {
-                Some(_) => &mut counts.reduce_reduce,
-                None => &mut counts.shift_reduce,
-            };
-            *count = count.saturating_add(1);
+            match entry.other {
+                Some(_) => counts.reduce_reduce += 1,
+                None => counts.shift_reduce += 1,
+            }
         }
         counts
     }
 
-    /// Both together.
-    fn and(self, more: Counts) -> Counts {
-        Counts {
-            shift_reduce: self.shift_reduce.saturating_add(more.shift_reduce),
-            reduce_reduce: self.reduce_reduce.saturating_add(more.reduce_reduce),
-        }
-    }
-
-    /// Without so many.
-    fn less(self, fewer: Counts) -> Counts {
-        Counts {
-            shift_reduce: self.shift_reduce.saturating_sub(fewer.shift_reduce),
-            reduce_reduce: self.reduce_reduce.saturating_sub(fewer.reduce_reduce),
-        }
-    }
-
     /// Whether there are none.
-    pub fn is_zero(self) -> bool {
-        self == Counts::default()
+    pub fn is_zero(self) -> bool
+        ensures { IsTrue result ↔ IsZero self }
+    {
+        self.shift_reduce == 0 && self.reduce_reduce == 0
     }
 }
 
@@ -78,68 +65,48 @@ pub enum Verdict {
     },
 }
 
-/// The verdict of a grammar that has this table.
-pub fn verdict_of<T: IndexStorage>(grm: &YaccGrammar<T>, table: &StateTable<T>) -> Verdict
+/// Whether a table shows that its grammar is unambiguous: it lists no conflict, and no token has a precedence.
+pub fn is_unambiguous<T: IndexStorage>(grm: &YaccGrammar<T>, table: &StateTable<T>) -> bool
     requires { IsTableFor grm.now table.now }
-    ensures { result ≡ Unambiguous → IsUnambiguous grm.now }
+    ensures proved { IsTrue result → IsUnambiguous grm.now }
+    ensures told { HasNoPrecedences grm.now → ListsNothing table.now → IsTrue result }
 {
     grm.in_order();
     match table.conflicts() {
-        None if !grm.has_precedences() => Verdict::Unambiguous,
-        Some(conflicts) => Verdict::Conflicts(Counts {
-            shift_reduce: conflicts.sr_len(),
-            reduce_reduce: conflicts.rr_len(),
-        }),
-        None => Verdict::NoConflicts,
+        None if !grm.has_precedences() => true,
+        _ => false,
     }
 }
 
 impl Verdict {
-    /// The verdict where so many conflicts are none, and so many more are left.
-    pub fn adjusted(self, closed: Counts, opened: Counts) -> Verdict
-        ensures { result ≡ Unambiguous → self ≡ Unambiguous }
+    /// The verdict where so many conflicts are left open, and the file expects so many. One number that it does not say is 0.
+    pub fn of(is_unambiguous: bool, left: Counts, expected: Expected) -> Verdict
+        ensures { IsVerdict is_unambiguous left expected result }
     {
-        if closed.is_zero() && opened.is_zero() {
-            return self;
-        }
-        let counts = self.counts().less(closed).and(opened);
-        if counts.is_zero() {
-            Verdict::NoConflicts
-        } else {
-            Verdict::Conflicts(counts)
+        let is_silent = expected.shift_reduce.is_none() && expected.reduce_reduce.is_none();
+        let shifts = expected.shift_reduce.unwrap_or(0);
+        let reductions = expected.reduce_reduce.unwrap_or(0);
+        let is_met = left.shift_reduce as u64 == shifts && left.reduce_reduce as u64 == reductions;
+        match (left.is_zero(), is_silent, is_met) {
+            (true, _, true) if is_unambiguous => Verdict::Unambiguous,
+            (true, _, true) => Verdict::NoConflicts,
+            (_, true, _) => Verdict::Conflicts(left),
+            (_, _, true) => Verdict::Expected(left),
+            _ => Verdict::Unexpected {
+                found: left,
+                expected: (shifts, reductions),
+            },
         }
     }
 
     /// How many conflicts there are.
-    pub fn counts(self) -> Counts {
+    pub fn counts(self) -> Counts
+        ensures { result ≡ counts_in self }
+    {
         match self {
             Verdict::Unambiguous | Verdict::NoConflicts => Counts::default(),
             Verdict::Conflicts(counts) | Verdict::Expected(counts) => counts,
             Verdict::Unexpected { found, .. } => found,
-        }
-    }
-
-    /// The verdict where the file says how many conflicts it expects. One number that it does not say is 0.
-    pub fn beside(self, expected: Expected) -> Verdict
-        ensures { result ≡ Unambiguous → self ≡ Unambiguous }
-    {
-        if expected == Expected::default() {
-            return self;
-        }
-        let wanted = (
-            expected.shift_reduce.unwrap_or(0),
-            expected.reduce_reduce.unwrap_or(0),
-        );
-        let found = self.counts();
-        if found.is_zero() && wanted == (0, 0) {
-            return self;
-        }
-        if (found.shift_reduce as u64, found.reduce_reduce as u64) == wanted {
-            return Verdict::Expected(found);
-        }
-        Verdict::Unexpected {
-            found,
-            expected: wanted,
         }
     }
 

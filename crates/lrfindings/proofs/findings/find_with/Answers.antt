@@ -1,16 +1,19 @@
-use Rattle.std.proofs.Common.{◌∙◌, rules}
+use Rattle.std.proofs.Common.{◌∙◌}
 use Rattle.lrfindings.proofs.FoundNothing.{none_referred, nothing_found}
+use Rattle.lrspec.proofs.texts.ResultsPassedOn.{error_passed}
+use Rattle.lrfindings.specs.FindErrors.{IsNothingFound, parts_error, build_error}
+use Rattle.lrfindings.proofs.NothingFound.{by_parts, by_build}
 use Rattle.lrfindings.proofs.findings.find_with.Goals as goal
 
-pub verdict_of-verdict-requires : goal.verdict_of-verdict-requires
-verdict_of-verdict-requires g c = let (h, built, kept) = c.in_ok-graph.ensures.built in built.table_for
+pub is_unambiguous-is_unambiguous-requires : goal.is_unambiguous-is_unambiguous-requires
+is_unambiguous-is_unambiguous-requires g c = let (h, built, kept) = c.in_ok-graph.ensures.built in built.table_for
 
-pub returns : goal.returns
-returns g c =
+pub returns-clause-found : goal.returns-clause-found
+returns-clause-found g c =
     let (h, built, kept) = c.in_ok-graph.ensures.built in
     let cells = c.in_ok-cells.ensures in
     record {
-      grammar = search rules;
+      grammar = c.in_ok-grm.ensures.made;
       graph = h;
       of_grammar = built.merged.graph;
       table = built.table;
@@ -20,5 +23,25 @@ returns g c =
       conflicts = c.in_ok-conflicts.ensures;
       without = nothing_found _ c.in_ok-graph.graph c.in_ok-graph.table c.in_ok-graph.ensures.without c.in_ok-conflicts.ensures
           (none_referred c.in_ok-graph.graph c.as_ref.result _ c.as_ref.ensures.value cells.opened) (none_referred c.in_ok-graph.graph c.as_ref.result _ c.as_ref.ensures.value cells.settled);
-      unambiguous = λ told. c.verdict_of-verdict.ensures (c.adjusted-verdict.ensures told);
+      unambiguous = c.is_unambiguous-is_unambiguous.ensures.proved;
+      known = c.is_unambiguous-is_unambiguous.ensures.told;
     }
+
+-- the parts are refused
+pub returns-in_err-grm-clause-refused : goal.returns-in_err-grm-clause-refused
+returns-in_err-grm-clause-refused g c =
+    let max = g.T.IndexStorage.MAX in
+    let file = c.args.file.now in
+    let b = c.args.has_precedences in
+    let e = c.in_err-grm.field-0.0 in
+    error_passed (IsNothingFound max file b) _ (parts_error e) c.from_residual.ensures.1 (by_parts max file b e c.in_err-grm.ensures.refused)
+
+-- there is no graph with a table
+pub returns-in_err-graph-clause-refused : goal.returns-in_err-graph-clause-refused
+returns-in_err-graph-clause-refused g c =
+    let max = g.T.IndexStorage.MAX in
+    let file = c.args.file.now in
+    let b = c.args.has_precedences in
+    let e = c.in_err-graph.field-0.0 in
+    error_passed (IsNothingFound max file b) _ (build_error e) c.from_residual-in_err-graph.ensures.1
+    (by_build max file b g.T.IndexStorage.number c.in_ok-grm.grm e c.in_ok-grm.ensures.made c.in_err-graph.ensures.refused)

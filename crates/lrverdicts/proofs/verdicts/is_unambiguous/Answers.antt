@@ -1,10 +1,10 @@
 use Rattle.lrspec.specs.tables.LrTables.{HasNoPrecedences, ListsNothing}
 use Rattle.lrspec.proofs.tables.NoPrecedences.{no_precedences}
 use Rattle.lrspec.proofs.tables.ExactWithoutPrecedences.{recognises_without_precedences}
-use Rattle.lrverdicts.proofs.verdicts.verdict_of.Goals as goal
+use Rattle.lrverdicts.proofs.verdicts.is_unambiguous.Goals as goal
 
-pub returns-in-None : goal.returns-in-None
-returns-in-None g c told =
+pub returns-in-None-clause-proved : goal.returns-in-None-clause-proved
+returns-in-None-clause-proved g c told =
     let grm = c.args.grm.now in
     let table = c.requires in
     let plain : HasNoPrecedences grm = (no_precedences grm).1 (λ some. let k = c.has_precedences.ensures.1 some in cc) in

@@ -1,0 +1,65 @@
+use Rattle.std.proofs.Common.{◌≡◌, ℕ, Bool, subst}
+use Rattle.std.specs.Prelude.{IsTrue}
+use Rattle.lrspec.specs.merging.Graph.{IsGraphOf}
+use Rattle.lrspec.specs.tables.Conflicts.{AreReductionsContested}
+use Rattle.lryacc.specs.declared.numbering.FileGrammar.{FileGrammar}
+use Rattle.lryacc.specs.declared.meaning.Expected.{Expected}
+use Rattle.lrverdicts.specs.declared.verdicts.Counts.{Counts}
+use Rattle.lrverdicts.specs.declared.verdicts.Verdict.{Verdict}
+use Rattle.lrverdicts.specs.declared.verdicts.Verdict.TheVariants.{Unambiguous}
+use Rattle.lrverdicts.specs.Verdicts.{IsVerdict}
+use Rattle.lrfindings.specs.declared.findings.Findings.{Findings}
+use Rattle.lrfindings.specs.Findings.{AreFindings}
+use Rattle.lrevidence.specs.Entries.{AreListedIn}
+use Rattle.lrreport.proofs.KeptGraph.{of_kept, kept_or}
+use Rattle.lrfindings.proofs.ListedNothing.{lists_nothing}
+use Rattle.lrreport.proofs.reports.outcome_on_findings.Goals as goal
+
+-- the entries are those of the graph's table
+listed : {T : Type 0} (max : ℕ) (file : FileGrammar) (f : Findings T) (a : AreFindings max file f) → AreListedIn f.grm a.graph f.conflicts.items
+listed max file f a = rw (← a.table.reduce_reduce, ← a.table.shift_reduce) a.conflicts
+
+pub known_of-requires-clause-graph : goal.known_of-requires-clause-graph
+known_of-requires-clause-graph g c =
+    let found = c.args.found in
+    kept_or c.requires.found.graph (IsGraphOf found.grm) found.graph _ c.requires.found.kept c.requires.found.of_grammar c.requires.found.without
+
+pub known_of-requires-clause-listed : goal.known_of-requires-clause-listed
+known_of-requires-clause-listed g c =
+    let found = c.args.found in
+    of_kept c.requires.found.graph (λ h. AreListedIn found.grm h found.conflicts.items) found.graph c.requires.found.kept (listed _ _ found c.requires.found)
+
+pub known_of-requires-clause-contested : goal.known_of-requires-clause-contested
+known_of-requires-clause-contested g c =
+    let found = c.args.found in
+    of_kept c.requires.found.graph (AreReductionsContested found.grm) found.graph c.requires.found.kept c.requires.found.contested
+
+-- a verdict that says so is of a grammar that is shown to be unambiguous
+shown : (b : Bool) (left : Counts) (e : Expected) (v : Verdict) → IsVerdict b left e v → v ≡ Unambiguous → IsTrue b
+shown b left e v is told = (subst (λ v. IsVerdict b left e v) told is).0
+
+pub lines_on_findings-requires-clause-unambiguous : goal.lines_on_findings-requires-clause-unambiguous
+lines_on_findings-requires-clause-unambiguous g c = λ told. c.requires.found.unambiguous (shown c.args.found.is_unambiguous c.in_ok-known.known.left c.beside-expected.result c.of-verdict.result c.of-verdict.ensures told)
+
+pub page_on_findings-requires-clause-unambiguous : goal.page_on_findings-requires-clause-unambiguous
+page_on_findings-requires-clause-unambiguous g c = λ told. c.requires.found.unambiguous (shown c.args.found.is_unambiguous c.in_ok-known.known.left c.beside-expected.result c.of-verdict.result c.of-verdict.ensures told)
+
+pub returns : goal.returns
+returns g c = record {
+  max = g.T.IndexStorage.MAX;
+  grammar = c.args.found.grm;
+  graph = c.requires.found.graph;
+  listed = c.args.found.conflicts.items;
+  closed = c.args.found.closed.items;
+  opened = c.args.found.opened.items;
+  shown = c.args.found.is_unambiguous;
+  of_file = c.requires.found.grammar;
+  kept = c.requires.kept;
+  of_grammar = c.requires.found.of_grammar;
+  lists = listed _ _ c.args.found c.requires.found;
+  left = c.in_ok-known.ensures.left;
+  verdict = subst (λ counts. IsVerdict c.args.found.is_unambiguous counts c.beside-expected.result c.of-verdict.result) c.in_ok-known.ensures.counts c.of-verdict.ensures;
+  unambiguous = c.requires.found.unambiguous;
+  known = λ plain none. c.requires.found.known plain (lists_nothing c.args.found.table c.args.found.conflicts.items c.requires.found.conflicts none);
+  texts = c.in_ok-known.ensures.proved;
+}
