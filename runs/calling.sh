@@ -1,7 +1,6 @@
-# For runs that call the library for C, which read this file. The run is skipped where ./test has made none: it is made only where
-# it is proved.
+# For runs that call the library for C, which read this file. The run is skipped where ./library has not made it of these sources.
 if [ -z "${LRC_LIBRARY-}" ]; then
-    echo 'the library is made by a whole ./test alone'
+    echo 'there is no library that ./library made of these sources'
     exit 77
 fi
 folder=${LRC_LIBRARY%/*}
