@@ -21,7 +21,7 @@ use std::alloc::Global;
 #[unsafe(no_mangle)]
 pub extern "C" fn lrc_report(alloc: Global, text: &[u8], kind: u32, out: &mut [u8]) -> usize
     ensures kept { (result ≡ 0) ⊎ (result ≡ 2 ^ 64 - 1) → out.new ≡ out.old }
-    ensures told { (out.new ≡ out.old) ⊎ IsTold result out.old out.new }
+    ensures told { (result ≡ 0) ⊎ ((result ≡ 2 ^ 64 - 1) ⊎ IsTold result out.old out.new) }
 {
     answer(report_of(alloc, text, kind), out)
 }
