@@ -6,11 +6,25 @@ name_unproved() {
     [ "$1" = lrt ] || program=$kept/look-${1#lr}
 }
 
-# Makes a kit in `build_room` for rt try. Bitcode of a whole program is compiled by the linker, which takes less time for it, and
-# leaves copies of both; the checks of each access are left out, so that the program is about as fast as the proved one.
+# Names the library for C that is built of a crate without its proof.
+name_unproved_library() {
+    crate=$1 program=$kept/look-lib$1.a build_room='' product=library
+}
+
+# Copies the sources of all crates into a folder.
+copy_crates() {
+    (cd "$top" && tar --exclude=out -cf - crates crates.txt) | tar -xf - -C "$1"
+}
+
+# Makes a kit in `build_room` by which what rt try compiles is about as fast as what is proved: without the checks of each access.
+make_kit_without_checks() {
+    make_kit "$build_room" && rm "$build_room/c/asan.a" && printf '!<arch>\n' >"$build_room/c/asan.a"
+}
+
+# Makes such a kit for a program. Bitcode of a whole program is compiled by the linker, which takes less time for it, and leaves
+# copies of both.
 make_kit_of_program() {
-    make_kit "$build_room" && rm "$build_room/c/asan.a" "$build_room/toolchain/bin/ld.lld" &&
-        printf '!<arch>\n' >"$build_room/c/asan.a" || return
+    make_kit_without_checks && rm "$build_room/toolchain/bin/ld.lld" || return
     cat >"$build_room/toolchain/bin/clang" <<'END'
 #!/bin/sh
 room=${0%/*}/../.. options='' before=''
@@ -61,8 +75,51 @@ compile() {
     make_build_room && compile_in "$top/crates/$crate"
 }
 
-# Builds the program unless it is there, and tells of it on standard error.
+# Lays out the crate of the library as a program, since rt try takes no library.
+lay_out_as_program() {
+    folder=$build_room/sources/crates/$crate/src
+    mkdir "$build_room/sources" && copy_crates "$build_room/sources" &&
+        cat "$folder/lib.rt" "$top/packaging/library.rs" >"$folder/main.rt" && rm "$folder/lib.rt" &&
+        sed -i "s/^$crate staticlib:/$crate:/" "$build_room/sources/crates.txt"
+}
+
+# Leaves the bitcode of that program in `build_room`, by a kit whose clang compiles no more than small modules.
+leave_bitcode() {
+    make_kit_without_checks || return
+    cat >"$build_room/toolchain/bin/clang" <<'END'
+#!/bin/sh
+room=${0%/*}/../..
+[ "$(head -c 2 module.bc)" = BC ] || exec "$room/tools/clang" "$@"
+cp module.bc "$room"
+exit 1
+END
+    run_in "$build_room/sources/crates/$crate" "$build_room/bin/rt" try --steps 1
+    [ -e "$build_room/module.bc" ] || tell_failure 'rt try failed'
+}
+
+# Gives the functions of that program whose names begin with that of the crate to callers in C, by these names, and the rest to
+# nobody: code that may lie anywhere in memory.
+compile_calls_of_c() {
+    "$build_room/tools/clang" -S -emit-llvm -Xclang -disable-llvm-passes -x ir module.bc -o program.ll &&
+        { sed "s/^define internal \(.*@\)\"$crate::\(${crate}_[a-z]*\)\"/define \1\2/
+            s/@\"$crate::\(${crate}_[a-z]*\)\"/@\1/g
+            s/^define \(.*@main(\)/define internal \1/" program.ll &&
+            printf '\n!llvm.module.flags = !{!99}\n!99 = !{i32 8, !"PIC Level", i32 2}\n'; } >library.ll &&
+        "$build_room/tools/clang" -c -emit-llvm -Xclang -disable-llvm-passes -Wno-override-module -x ir library.ll -o library.bc &&
+        "$build_room/tools/ld.lld" -r -m elf_x86_64 --lto-O1 --lto-partitions=4 -o library.o library.bc &&
+        "$build_room/tools/llvm-ar" rcsD "$made" library.o
+}
+
+compile_library() {
+    make_build_room && lay_out_as_program && leave_bitcode || return
+    (cd "$build_room" && compile_calls_of_c) >"$log" 2>&1 || tell_failure 'its calls could not be compiled'
+}
+
+# Builds the program or the library unless it is there, and tells of it on standard error.
 build_unproved() {
-    build_by compile || return
+    case $product in
+    program) build_by compile ;;
+    library) build_by compile_library ;;
+    esac || return
     [ -z "$build_room" ] || rm -rf "$build_room"
 }
