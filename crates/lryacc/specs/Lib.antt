@@ -8,3 +8,13 @@ pub mod ProductionPlaces
 pub mod Told
 -- precedence lines, and the precedences of tokens
 pub mod Levels
+-- productions with their places
+pub mod PlacedProductions
+-- what stays of a grammar
+pub mod KeptProductions
+-- the beginning of a file of grmtools
+pub mod Headers
+-- what the grammar of a file comes from
+pub mod FilesRead
+-- bodies among lexemes
+pub mod Bodies

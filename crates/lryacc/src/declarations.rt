@@ -1,5 +1,7 @@
 //! Declarations.
 
+ghost use Rattle.lryacc.specs.Bodies.{IsSameFile};
+
 use crate::contents::{LevelKind, Statement};
 use crate::directives::{Form, form_of, is_name_in_any_case};
 use crate::faults::{FaultKind, Halt, OldForm, Wanted};
@@ -74,7 +76,9 @@ impl Listing {
 
 impl<'a> Reader<'a> {
     /// Reads a declaration of a file for Bison.
-    pub(crate) fn bison_declaration(&mut self) -> Result<(), Halt> {
+    pub(crate) fn bison_declaration(&mut self) -> Result<(), Halt>
+        ensures { IsSameFile self.old self.new }
+    {
         let Some(directive) = self.take(LexemeKind::Directive) else {
             return Err(self.wants(Wanted::Declaration));
         };
@@ -106,7 +110,9 @@ impl<'a> Reader<'a> {
     }
 
     /// Reads how many conflicts are expected.
-    pub(crate) fn expected(&mut self, is_of_shifts: bool) -> Result<(), Halt> {
+    pub(crate) fn expected(&mut self, is_of_shifts: bool) -> Result<(), Halt>
+        ensures { IsSameFile self.old self.new }
+    {
         let number = self.want(LexemeKind::Number, Wanted::Number)?;
         self.state(if is_of_shifts {
             Statement::ExpectShiftReduce(number)
@@ -117,7 +123,9 @@ impl<'a> Reader<'a> {
     }
 
     /// Reads what stands behind a directive that says nothing of the grammar.
-    fn passed_over(&mut self, form: Form, directive: Lexeme) -> Result<(), Halt> {
+    fn passed_over(&mut self, form: Form, directive: Lexeme) -> Result<(), Halt>
+        ensures { IsSameFile self.old self.new }
+    {
         match form {
             Form::CodeForSymbols => self.code_for_symbols(),
             Form::NamedCode => {
@@ -144,7 +152,9 @@ impl<'a> Reader<'a> {
     }
 
     /// Reads symbols, at least one, some of them perhaps behind tags.
-    fn listing(&mut self, said: Said) -> Result<(), Halt> {
+    fn listing(&mut self, said: Said) -> Result<(), Halt>
+        ensures { IsSameFile self.old self.new }
+    {
         let mut listing = Listing::new();
         for _ in 0..self.lexemes.len() {
             if self.take_tag(&mut listing) {
@@ -163,7 +173,9 @@ impl<'a> Reader<'a> {
     }
 
     /// Takes a symbol of which that may be said: a text is not declared by itself.
-    fn take_listed(&mut self, said: Said) -> Option<Lexeme> {
+    fn take_listed(&mut self, said: Said) -> Option<Lexeme>
+        ensures { IsSameFile self.old self.new }
+    {
         match (said, self.kind()) {
             (Said::DeclaredToken | Said::DeclaredRule, Some(LexemeKind::Text)) => None,
             _ => self.take_symbol(),
@@ -171,7 +183,9 @@ impl<'a> Reader<'a> {
     }
 
     /// Takes a tag, which is for the symbols behind it; false where none stands here, or another one stands right before it.
-    fn take_tag(&mut self, listing: &mut Listing) -> bool {
+    fn take_tag(&mut self, listing: &mut Listing) -> bool
+        ensures { IsSameFile self.old self.new }
+    {
         if listing.wants_symbol && listing.tag.is_some() {
             return false;
         }
@@ -184,7 +198,9 @@ impl<'a> Reader<'a> {
     }
 
     /// Takes in that a symbol stands in a listing.
-    fn listed(&mut self, symbol: Lexeme, listing: &mut Listing) -> Result<(), AllocError> {
+    fn listed(&mut self, symbol: Lexeme, listing: &mut Listing) -> Result<(), AllocError>
+        ensures { IsSameFile self.old self.new }
+    {
         listing.wants_symbol = false;
         match listing.tag {
             Some(tag) => self.state(Statement::Tagged(symbol, tag)),
@@ -193,7 +209,9 @@ impl<'a> Reader<'a> {
     }
 
     /// Reads symbols, at least one.
-    pub(crate) fn said(&mut self, said: Said) -> Result<(), Halt> {
+    pub(crate) fn said(&mut self, said: Said) -> Result<(), Halt>
+        ensures { IsSameFile self.old self.new }
+    {
         let first = self.want_symbol()?;
         self.say(said, first)?;
         for _ in 0..self.lexemes.len() {
@@ -206,7 +224,9 @@ impl<'a> Reader<'a> {
     }
 
     /// Adds what is said of a symbol, and what stands behind it.
-    fn say(&mut self, said: Said, symbol: Lexeme) -> Result<(), AllocError> {
+    fn say(&mut self, said: Said, symbol: Lexeme) -> Result<(), AllocError>
+        ensures { IsSameFile self.old self.new }
+    {
         self.state(match said {
             Said::DeclaredToken | Said::Token | Said::PassedOver => Statement::Token(symbol),
             Said::DeclaredRule => Statement::Rule(symbol),
@@ -223,7 +243,9 @@ impl<'a> Reader<'a> {
     }
 
     /// Reads the number of a symbol, if one stands here.
-    fn code(&mut self, symbol: Lexeme) -> Result<(), AllocError> {
+    fn code(&mut self, symbol: Lexeme) -> Result<(), AllocError>
+        ensures { IsSameFile self.old self.new }
+    {
         match self.take(LexemeKind::Number) {
             Some(number) => self.state(Statement::Code(symbol, number)),
             None => Ok(()),
@@ -231,7 +253,9 @@ impl<'a> Reader<'a> {
     }
 
     /// Reads the number of a symbol and the text that is another name of it, where they stand here.
-    fn code_and_alias(&mut self, symbol: Lexeme) -> Result<(), AllocError> {
+    fn code_and_alias(&mut self, symbol: Lexeme) -> Result<(), AllocError>
+        ensures { IsSameFile self.old self.new }
+    {
         self.code(symbol)?;
         let alias = match self.take(LexemeKind::Text) {
             Some(text) => Some(text),
@@ -244,13 +268,17 @@ impl<'a> Reader<'a> {
     }
 
     /// Reads the tokens of a precedence line.
-    fn level(&mut self, kind: LevelKind, directive: Lexeme) -> Result<(), Halt> {
+    fn level(&mut self, kind: LevelKind, directive: Lexeme) -> Result<(), Halt>
+        ensures { IsSameFile self.old self.new }
+    {
         self.state(Statement::Level(kind, directive))?;
         self.listing(Said::Operator)
     }
 
     /// Reads the code behind `%printer` or `%destructor`, and the symbols and tags behind that.
-    fn code_for_symbols(&mut self) -> Result<(), Halt> {
+    fn code_for_symbols(&mut self) -> Result<(), Halt>
+        ensures { IsSameFile self.old self.new }
+    {
         self.pass_wanted(LexemeKind::Action, Wanted::Code)?;
         let mut is_first = true;
         for _ in 0..self.lexemes.len() {
@@ -270,7 +298,9 @@ impl<'a> Reader<'a> {
     }
 
     /// Reads one piece of code, and so many at the most.
-    fn codes(&mut self, most: usize) -> Result<(), Halt> {
+    fn codes(&mut self, most: usize) -> Result<(), Halt>
+        ensures { IsSameFile self.old self.new }
+    {
         self.pass_wanted(LexemeKind::Action, Wanted::Code)?;
         for _ in 1..most {
             if !self.skip(LexemeKind::Action) {
@@ -281,7 +311,9 @@ impl<'a> Reader<'a> {
     }
 
     /// Reads the name behind `%define`, and its value.
-    fn defined(&mut self) -> Result<(), Halt> {
+    fn defined(&mut self) -> Result<(), Halt>
+        ensures { IsSameFile self.old self.new }
+    {
         self.pass_wanted(LexemeKind::Name, Wanted::Name)?;
         if let Some(LexemeKind::Name | LexemeKind::Text | LexemeKind::Action) = self.kind() {
             self.pass();

@@ -1,5 +1,8 @@
 //! What grammar files are written for.
 
+ghost use Rattle.std.specs.Prelude.{◌≡◌, ◌⊎◌, IsTrue};
+ghost use Rattle.lryacc.specs.Headers.{HoldsHeader};
+
 use crate::gaps::gap_end;
 
 /// What a grammar file is written for.
@@ -13,7 +16,9 @@ pub enum Dialect {
 }
 
 /// Whether a file begins with `%grmtools` and a brace.
-fn has_header(text: &[u8]) -> bool {
+fn has_header(text: &[u8]) -> bool
+    ensures { IsTrue result → HoldsHeader text.now }
+{
     let Ok(start) = gap_end(text, 0, Dialect::Grmtools) else {
         return false;
     };
@@ -27,7 +32,9 @@ fn has_header(text: &[u8]) -> bool {
 }
 
 /// How a file is read that is taken for one of a dialect: one that begins with `%grmtools{` is one of grmtools.
-pub(crate) fn dialect_of(text: &[u8], taken: Dialect) -> Dialect {
+pub(crate) fn dialect_of(text: &[u8], taken: Dialect) -> Dialect
+    ensures { (result ≡ taken) ⊎ HoldsHeader text.now }
+{
     if has_header(text) {
         Dialect::Grmtools
     } else {

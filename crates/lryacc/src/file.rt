@@ -1,6 +1,7 @@
 //! Reads a grammar file.
 
-ghost use Rattle.std.specs.Prelude.{◌<◌, All, IfOk, length, vec_len};
+ghost use Rattle.std.specs.Prelude.{◌≡◌, ◌<◌, All, IfOk, length, vec_len};
+ghost use Rattle.lryacc.specs.FilesRead.{AreBodiesRead, ComesTo, HasBodies, HasNoGrammar};
 ghost use Rattle.lryacc.specs.Spans.{IsInside};
 ghost use Rattle.lryacc.specs.Told.{HasFaults, HasPlaces, told};
 
@@ -26,7 +27,11 @@ pub enum FileRead {
 }
 
 /// What the file says.
-fn contents(alloc: Global, text: &[u8], dialect: Dialect) -> Result<Contents, AllocError> {
+fn contents(alloc: Global, text: &[u8], dialect: Dialect) -> Result<Contents, AllocError>
+    ensures some { IfOk result (λ contents. vec_len contents.faults ≡ 0
+        → 0 < vec_len contents.alternatives) }
+    ensures read { IfOk result (λ contents. AreBodiesRead dialect contents.alternatives.items) }
+{
     let Scanned { lexemes, faults } = scan(alloc, text, dialect)?;
     let mut reader = Reader::new(alloc, text, dialect, lexemes.as_slice(), faults);
     reader.file()?;
@@ -55,6 +60,7 @@ fn faults_read(alloc: Global, text: &[u8], faults: &[Fault]) -> Result<FileRead,
     ensures inside { IfOk result (λ read. All (λ fault. IsInside fault.span text.now) (told read)) }
     ensures faults { IfOk result HasFaults }
     ensures placed { IfOk result HasPlaces }
+    ensures none { IfOk result HasNoGrammar }
 {
     Ok(FileRead::Faults(in_order(alloc, text, faults)?))
 }
@@ -65,6 +71,7 @@ pub fn read_file(alloc: Global, text: &[u8], dialect: Dialect) -> Result<FileRea
     ensures inside { IfOk result (λ read. All (λ fault. IsInside fault.span text.now) (told read)) }
     ensures faults { IfOk result HasFaults }
     ensures placed { IfOk result HasPlaces }
+    ensures bodies { IfOk result (ComesTo text.now dialect) }
 {
     let dialect = dialect_of(text, dialect);
     let contents = contents(alloc, text, dialect)?;
@@ -81,32 +88,37 @@ fn contents_read(
     dialect: Dialect,
     contents: &Contents,
 ) -> Result<FileRead, AllocError>
+    requires { 0 < vec_len contents.now.alternatives }
     ensures inside { IfOk result (λ read. All (λ fault. IsInside fault.span text.now) (told read)) }
     ensures faults { IfOk result HasFaults }
     ensures placed { IfOk result HasPlaces }
+    ensures bodies { IfOk result (HasBodies dialect contents.now.alternatives.items) }
 {
     let mut meaning = Meaning::new(alloc, text, dialect);
     meaning.take(contents)?;
     if !meaning.faults.is_empty() {
         return faults_read(alloc, text, meaning.faults.as_slice());
     }
-    grammar_read(alloc, text, &mut meaning, contents)
+    grammar_read(alloc, text, dialect, &mut meaning, contents)
 }
 
 /// What a file without faults comes to, once its names have their meaning.
 fn grammar_read(
     alloc: Global,
     text: &[u8],
+    dialect: Dialect,
     meaning: &mut Meaning<'_>,
     contents: &Contents,
 ) -> Result<FileRead, AllocError>
+    requires { 0 < vec_len contents.now.alternatives }
     ensures inside { IfOk result (λ read. All (λ fault. IsInside fault.span text.now) (told read)) }
     ensures faults { IfOk result HasFaults }
     ensures placed { IfOk result HasPlaces }
+    ensures bodies { IfOk result (HasBodies dialect contents.now.alternatives.items) }
 {
     let whole = file_grammar(alloc, meaning, contents)?;
     let (grammar, useless) = without_useless(alloc, whole)?;
-    meaning.tell_useless(contents, &useless)?;
+    meaning.tell_useless(dialect, contents, &useless)?;
     if !meaning.faults.is_empty() {
         return faults_read(alloc, text, meaning.faults.as_slice());
     }

@@ -1,7 +1,11 @@
 //! Declarations and rules of a file of grmtools.
 
+ghost use Rattle.std.specs.Prelude.{◌≡◌, ◌<◌, true, IfOk, OnOk, slice_get};
+ghost use Rattle.lryacc.specs.Bodies.{GoesOn, IsSameFile, ReadsBodies, ReadsOn, is_action, is_symbol};
+
 use crate::contents::{BodyPart, LevelKind, Statement};
 use crate::declarations::Said;
+use crate::dialects::Dialect;
 use crate::directives::Form;
 use crate::faults::{FaultKind, Halt, Wanted};
 use crate::lexemes::{Lexeme, LexemeKind};
@@ -10,7 +14,9 @@ use crate::rules::Body;
 
 impl<'a> Reader<'a> {
     /// Passes over the section `%grmtools{ .. }`, which holds settings.
-    pub(crate) fn header(&mut self) -> Result<(), Halt> {
+    pub(crate) fn header(&mut self) -> Result<(), Halt>
+        ensures { IsSameFile self.old self.new }
+    {
         if let Some(first) = self.here() {
             if self.bytes(first) == b"%grmtools".as_slice() {
                 self.pass();
@@ -22,7 +28,9 @@ impl<'a> Reader<'a> {
 
     /// Takes the next lexeme, which is to be of that kind, or to be missing at the end of a file that has faults already: one of
     /// them may be that code never ends.
-    fn want_unless_broken(&mut self, kind: LexemeKind, wanted: Wanted) -> Result<(), Halt> {
+    fn want_unless_broken(&mut self, kind: LexemeKind, wanted: Wanted) -> Result<(), Halt>
+        ensures { IsSameFile self.old self.new }
+    {
         if self.here().is_some() || self.is_whole() {
             self.pass_wanted(kind, wanted)
         } else {
@@ -31,7 +39,9 @@ impl<'a> Reader<'a> {
     }
 
     /// Reads a declaration.
-    pub(crate) fn grmtools_declaration(&mut self) -> Result<(), Halt> {
+    pub(crate) fn grmtools_declaration(&mut self) -> Result<(), Halt>
+        ensures { IsSameFile self.old self.new }
+    {
         let Some(directive) = self.take(LexemeKind::Directive) else {
             let halt = self.wants(Wanted::Declaration);
             self.pass();
@@ -51,13 +61,17 @@ impl<'a> Reader<'a> {
     }
 
     /// Reads the tokens of a precedence line.
-    fn grmtools_level(&mut self, kind: LevelKind, directive: Lexeme) -> Result<(), Halt> {
+    fn grmtools_level(&mut self, kind: LevelKind, directive: Lexeme) -> Result<(), Halt>
+        ensures { IsSameFile self.old self.new }
+    {
         self.state(Statement::Level(kind, directive))?;
         self.said(Said::InLevel)
     }
 
     /// Reads the token behind `%epp`, and the text by which messages tell it.
-    fn shown_text(&mut self) -> Result<(), Halt> {
+    fn shown_text(&mut self) -> Result<(), Halt>
+        ensures { IsSameFile self.old self.new }
+    {
         let token = self.want_symbol()?;
         self.state(Statement::Mention(token))?;
         match self.kind() {
@@ -82,7 +96,9 @@ impl<'a> Reader<'a> {
     }
 
     /// Reads what stands behind a directive that may stand in a file once.
-    fn once(&mut self, directive: Lexeme, form: Form) -> Result<(), Halt> {
+    fn once(&mut self, directive: Lexeme, form: Form) -> Result<(), Halt>
+        ensures { IsSameFile self.old self.new }
+    {
         if self.is_second(directive) {
             return Err(self.fault(FaultKind::SecondDirective, directive.span));
         }
@@ -94,14 +110,18 @@ impl<'a> Reader<'a> {
     }
 
     /// Reads the start rule.
-    fn start(&mut self) -> Result<(), Halt> {
+    fn start(&mut self) -> Result<(), Halt>
+        ensures { IsSameFile self.old self.new }
+    {
         let name = self.want(LexemeKind::Name, Wanted::Name)?;
         self.state(Statement::Start(name))?;
         Ok(())
     }
 
     /// Reads a rule: its name, perhaps its type, and its bodies up to `;`.
-    pub(crate) fn grmtools_rule(&mut self) -> Result<(), Halt> {
+    pub(crate) fn grmtools_rule(&mut self) -> Result<(), Halt>
+        ensures { ReadsBodies self.old self.new }
+    {
         let Some(name) = self.here() else {
             return Ok(());
         };
@@ -114,21 +134,58 @@ impl<'a> Reader<'a> {
     }
 
     /// Reads a symbol or an action of a body; false where the body ends before the lexeme. A name in quotes is a token.
-    pub(crate) fn grmtools_part(&mut self, body: &mut Body, lexeme: Lexeme) -> Result<bool, Halt> {
+    pub(crate) fn grmtools_part(&mut self, body: &mut Body, lexeme: Lexeme) -> Result<bool, Halt>
+        requires here { slice_get self.old.lexemes.now self.old.at ≡ Some lexeme }
+        requires small { self.old.at < usize.MAX }
+        requires dialect { self.old.dialect ≡ Dialect.Grmtools }
+        ensures file { IsSameFile self.old self.new }
+        ensures read { IfOk result (GoesOn self.old self.new body.old body.new lexeme) }
+    {
         match lexeme.kind {
-            LexemeKind::Name => body.add(BodyPart::Symbol(lexeme), lexeme)?,
-            LexemeKind::QuotedName => {
-                body.add(BodyPart::Symbol(lexeme), lexeme)?;
-                self.state(Statement::Token(lexeme))?;
+            LexemeKind::Name => {
+                self.grmtools_symbol(body, lexeme)?;
+                Ok(true)
             }
-            LexemeKind::Action => body.add(BodyPart::Action(lexeme, None), lexeme)?,
-            _ => return Ok(false),
+            LexemeKind::QuotedName => {
+                self.state(Statement::Token(lexeme))?;
+                self.grmtools_symbol(body, lexeme)?;
+                Ok(true)
+            }
+            LexemeKind::Action => {
+                self.grmtools_action(body, lexeme)?;
+                Ok(true)
+            }
+            _ => Ok(false),
         }
+    }
+
+    /// Reads a symbol of a body.
+    fn grmtools_symbol(&mut self, body: &mut Body, lexeme: Lexeme) -> Result<(), Halt>
+        requires here { slice_get self.old.lexemes.now self.old.at ≡ Some lexeme }
+        requires small { self.old.at < usize.MAX }
+        requires is { is_symbol lexeme.kind ≡ true }
+        ensures file { IsSameFile self.old self.new }
+        ensures read { OnOk result (ReadsOn self.old self.new body.old body.new) }
+    {
+        body.add(BodyPart::Symbol(lexeme), lexeme)?;
         self.pass();
-        if lexeme.kind == LexemeKind::Action && self.is_in_body() {
+        Ok(())
+    }
+
+    /// Reads an action of a body, which is to be its last part.
+    fn grmtools_action(&mut self, body: &mut Body, lexeme: Lexeme) -> Result<(), Halt>
+        requires here { slice_get self.old.lexemes.now self.old.at ≡ Some lexeme }
+        requires small { self.old.at < usize.MAX }
+        requires is { is_action lexeme.kind ≡ true }
+        ensures file { IsSameFile self.old self.new }
+        ensures read { OnOk result (ReadsOn self.old self.new body.old body.new) }
+    {
+        body.add(BodyPart::Action(lexeme, None), lexeme)?;
+        self.pass();
+        if self.is_in_body() {
             self.tell(FaultKind::ActionNotLast, lexeme.span)?;
         }
-        Ok(true)
+        Ok(())
     }
 
     /// Whether a part of a body stands here.

@@ -1,6 +1,7 @@
 //! The lexemes of a grammar file.
 
-ghost use Rattle.std.specs.Prelude.{◌+◌, ◌<◌, ◌≤◌, length, IfOk};
+ghost use Rattle.std.specs.Prelude.{◌≡◌, ◌+◌, ◌<◌, ◌≤◌, length, IfOk};
+ghost use Rattle.lryacc.specs.Bodies.{is_symbol};
 
 use crate::code::{Ending, code_end};
 use crate::dialects::Dialect;
@@ -61,7 +62,9 @@ pub enum LexemeKind {
 
 impl LexemeKind {
     /// Whether it is a symbol, as it stands in a body: a name, a character or a text; of grmtools a name, perhaps in quotes.
-    pub(crate) fn is_of_symbol(self) -> bool {
+    pub(crate) fn is_of_symbol(self) -> bool
+        ensures { result ≡ is_symbol self }
+    {
         matches!(
             self,
             LexemeKind::Name | LexemeKind::Character(_) | LexemeKind::Text | LexemeKind::QuotedName

@@ -1,5 +1,7 @@
 //! What the names of a file mean: its symbols, and what is said of them.
 
+ghost use Rattle.std.specs.Prelude.{◌≡◌, ◌+◌, length, OnOk, vec_len};
+
 use crate::contents::{Alternative, BodyPart, Contents, LevelKind, Statement};
 use crate::dialects::Dialect;
 use crate::faults::{Fault, FaultKind};
@@ -24,7 +26,9 @@ pub struct Expected {
 }
 
 /// Adds the same fault at each of the places.
-fn add_at(faults: &mut Vec<Fault>, kind: FaultKind, places: &[Span]) -> Result<(), AllocError> {
+fn add_at(faults: &mut Vec<Fault>, kind: FaultKind, places: &[Span]) -> Result<(), AllocError>
+    ensures { OnOk result (vec_len faults.new ≡ vec_len faults.old + length places.now) }
+{
     for span in places {
         faults.push(Fault { kind, span: *span })?;
     }
@@ -89,28 +93,46 @@ impl<'a> Meaning<'a> {
     /// others, as for Bison only where nothing is useless.
     pub(crate) fn tell_useless(
         &mut self,
+        dialect: Dialect,
         contents: &Contents,
         useless: &Useless,
-    ) -> Result<(), AllocError> {
+    ) -> Result<(), AllocError>
+        ensures rules { OnOk result (dialect ≡ Dialect.Bison → vec_len self.new.warnings ≡ 0
+            → vec_len useless.now.rules ≡ 0) }
+        ensures productions { OnOk result (vec_len self.new.warnings ≡ 0
+            → vec_len useless.now.productions ≡ 0) }
+    {
         if !useless.is_empty() {
             self.tell_token_starts()?;
         }
         let starts = useless.starts.as_slice();
         add_at(&mut self.faults, FaultKind::StartIsUnproductive, starts)?;
-        self.warn_of_rules(contents, useless.rules.as_slice())?;
+        self.warn_of_rules(dialect, contents, useless.rules.as_slice())?;
         let productions = useless.productions.as_slice();
         add_at(
             &mut self.warnings,
             FaultKind::UselessProduction,
             productions,
-        )
+        )?;
+        Ok(())
     }
 
     /// Warns of useless rules.
-    fn warn_of_rules(&mut self, contents: &Contents, rules: &[Fault]) -> Result<(), AllocError> {
-        match self.symbols.dialect {
+    fn warn_of_rules(
+        &mut self,
+        dialect: Dialect,
+        contents: &Contents,
+        rules: &[Fault],
+    ) -> Result<(), AllocError>
+        ensures { OnOk result (dialect ≡ Dialect.Bison → vec_len self.new.warnings
+            ≡ vec_len self.old.warnings + length rules.now) }
+    {
+        match dialect {
             Dialect::Bison => Ok(self.warnings.extend_from_slice(rules)?),
-            Dialect::Grmtools => self.warn_unless_expected(contents, rules),
+            Dialect::Grmtools => {
+                self.warn_unless_expected(contents, rules)?;
+                Ok(())
+            }
         }
     }
 

@@ -1,6 +1,6 @@
 //! Productions, and where they stand in a file.
 
-ghost use Rattle.std.specs.Prelude.{◌≡◌, [], ◌∷◌, OnOk};
+ghost use Rattle.std.specs.Prelude.{◌≡◌, [], ◌∷◌, ◌++◌, OnOk};
 
 use crate::places::Span;
 use lrgrammar::grammar::PartProd;
@@ -17,11 +17,13 @@ pub(crate) struct Productions {
 }
 
 impl Productions {
+    ghost use Rattle.lryacc.specs.PlacedProductions.{placed, placed_at};
     ghost use Rattle.lryacc.specs.ProductionPlaces.{Adds, ArePlaced};
 
     /// No production.
     pub(crate) fn new(alloc: Global) -> Productions
         ensures empty { result.places.items ≡ [] }
+        ensures none { placed result ≡ [] }
         ensures placed { ArePlaced result }
     {
         Productions {
@@ -38,7 +40,9 @@ impl Productions {
         place: Span,
         symbol_places: Vec<Span>,
     ) -> Result<(), AllocError>
-        ensures { OnOk result (Adds self.old self.new (place ∷ [])) }
+        ensures places { OnOk result (Adds self.old self.new (place ∷ [])) }
+        ensures added { OnOk result (ArePlaced self.old → placed self.new
+            ≡ placed self.old ++ placed_at prod place symbol_places.items ∷ []) }
     {
         self.prods.push(prod)?;
         self.places.push(place)?;

@@ -1,6 +1,8 @@
 //! A place among the lexemes of a file, and what was read so far.
 
-ghost use Rattle.std.specs.Prelude.{◌≤◌, length};
+ghost use Rattle.std.specs.Prelude.{◌≡◌, ◌<◌, ◌==◌, [], IfOk, IfSome, MatchOption, MatchBool, OnOk, slice_get, vec_len};
+ghost use Rattle.std.specs.Option.{option_map};
+ghost use Rattle.lryacc.specs.Bodies.{IsSameFile, Passes, SkipsKind, Stays, TakesKind, TakesSymbol};
 
 use crate::contents::{Contents, Statement};
 use crate::dialects::Dialect;
@@ -27,7 +29,11 @@ impl<'a> Reader<'a> {
         dialect: Dialect,
         lexemes: &'a [Lexeme],
         faults: Vec<Fault>,
-    ) -> Reader<'a> {
+    ) -> Reader<'a>
+        ensures lexemes { result.lexemes.now ≡ lexemes.now }
+        ensures dialect { result.dialect ≡ dialect }
+        ensures none { result.contents.alternatives.items ≡ [] }
+    {
         Reader {
             text,
             dialect,
@@ -42,7 +48,9 @@ impl<'a> Reader<'a> {
     }
 
     /// Whether nothing is wrong so far.
-    pub(crate) fn is_whole(&self) -> bool {
+    pub(crate) fn is_whole(&self) -> bool
+        ensures { result ≡ (vec_len self.now.contents.faults == 0) }
+    {
         self.contents.faults.is_empty()
     }
 
@@ -52,12 +60,18 @@ impl<'a> Reader<'a> {
     }
 
     /// The next lexeme.
-    pub(crate) fn here(&self) -> Option<Lexeme> {
+    pub(crate) fn here(&self) -> Option<Lexeme>
+        ensures is { result ≡ slice_get self.now.lexemes.now self.now.at }
+        ensures inside { IfSome result (λ lexeme. self.now.at < usize.MAX) }
+    {
         self.lexemes.get(self.at).copied()
     }
 
     /// What the next lexeme is.
-    pub(crate) fn kind(&self) -> Option<LexemeKind> {
+    pub(crate) fn kind(&self) -> Option<LexemeKind>
+        ensures { result ≡ option_map (λ lexeme. lexeme.kind)
+            (slice_get self.now.lexemes.now self.now.at) }
+    {
         match self.here() {
             Some(lexeme) => Some(lexeme.kind),
             None => None,
@@ -65,12 +79,18 @@ impl<'a> Reader<'a> {
     }
 
     /// Passes over the next lexeme.
-    pub(crate) fn pass(&mut self) {
+    pub(crate) fn pass(&mut self)
+        ensures passes { self.old.at < usize.MAX → Passes self.old self.new }
+        ensures file { IsSameFile self.old self.new }
+    {
         self.at = self.at.saturating_add(1);
     }
 
     /// Takes the next lexeme, if it is of that kind.
-    pub(crate) fn take(&mut self, kind: LexemeKind) -> Option<Lexeme> {
+    pub(crate) fn take(&mut self, kind: LexemeKind) -> Option<Lexeme>
+        ensures { MatchOption result (Stays self.old self.new) (λ lexeme.
+            TakesKind self.old self.new kind lexeme) }
+    {
         match self.here() {
             Some(lexeme) if lexeme.kind == kind => {
                 self.pass();
@@ -81,7 +101,10 @@ impl<'a> Reader<'a> {
     }
 
     /// Passes over the next lexeme, if it is of that kind; false where it is not.
-    pub(crate) fn skip(&mut self, kind: LexemeKind) -> bool {
+    pub(crate) fn skip(&mut self, kind: LexemeKind) -> bool
+        ensures { MatchBool result (SkipsKind self.old self.new kind)
+            (Stays self.old self.new) }
+    {
         match self.here() {
             Some(lexeme) if lexeme.kind == kind => {
                 self.pass();
@@ -92,7 +115,10 @@ impl<'a> Reader<'a> {
     }
 
     /// Takes the next lexeme, which is to be of that kind.
-    pub(crate) fn want(&mut self, kind: LexemeKind, wanted: Wanted) -> Result<Lexeme, Halt> {
+    pub(crate) fn want(&mut self, kind: LexemeKind, wanted: Wanted) -> Result<Lexeme, Halt>
+        ensures taken { IfOk result (TakesKind self.old self.new kind) }
+        ensures file { IsSameFile self.old self.new }
+    {
         match self.take(kind) {
             Some(lexeme) => Ok(lexeme),
             None => Err(self.wants(wanted)),
@@ -100,7 +126,10 @@ impl<'a> Reader<'a> {
     }
 
     /// Passes over the next lexeme, which is to be of that kind.
-    pub(crate) fn pass_wanted(&mut self, kind: LexemeKind, wanted: Wanted) -> Result<(), Halt> {
+    pub(crate) fn pass_wanted(&mut self, kind: LexemeKind, wanted: Wanted) -> Result<(), Halt>
+        ensures taken { OnOk result (SkipsKind self.old self.new kind) }
+        ensures file { IsSameFile self.old self.new }
+    {
         if self.skip(kind) {
             Ok(())
         } else {
@@ -109,7 +138,9 @@ impl<'a> Reader<'a> {
     }
 
     /// Tells that something else should stand here.
-    pub(crate) fn tell_wanted(&mut self, wanted: Wanted) -> Result<(), AllocError> {
+    pub(crate) fn tell_wanted(&mut self, wanted: Wanted) -> Result<(), AllocError>
+        ensures { Stays self.old self.new }
+    {
         let end = self.text.len();
         let span = match self.here() {
             Some(lexeme) => lexeme.span,
@@ -119,12 +150,16 @@ impl<'a> Reader<'a> {
     }
 
     /// Stops, since something else should stand here, which is told.
-    pub(crate) fn wants(&mut self, wanted: Wanted) -> Halt {
+    pub(crate) fn wants(&mut self, wanted: Wanted) -> Halt
+        ensures { Stays self.old self.new }
+    {
         Halt::behind(self.tell_wanted(wanted))
     }
 
     /// Stops for a fault, which is told.
-    pub(crate) fn fault(&mut self, kind: FaultKind, span: Span) -> Halt {
+    pub(crate) fn fault(&mut self, kind: FaultKind, span: Span) -> Halt
+        ensures { Stays self.old self.new }
+    {
         Halt::behind(self.tell(kind, span))
     }
 
@@ -135,7 +170,10 @@ impl<'a> Reader<'a> {
     }
 
     /// Takes a symbol.
-    pub(crate) fn take_symbol(&mut self) -> Option<Lexeme> {
+    pub(crate) fn take_symbol(&mut self) -> Option<Lexeme>
+        ensures { MatchOption result (Stays self.old self.new) (λ lexeme.
+            TakesSymbol self.old self.new lexeme) }
+    {
         match self.here() {
             Some(lexeme) if lexeme.kind.is_of_symbol() => {
                 self.pass();
@@ -146,7 +184,10 @@ impl<'a> Reader<'a> {
     }
 
     /// Takes a symbol, which is to stand here.
-    pub(crate) fn want_symbol(&mut self) -> Result<Lexeme, Halt> {
+    pub(crate) fn want_symbol(&mut self) -> Result<Lexeme, Halt>
+        ensures taken { IfOk result (TakesSymbol self.old self.new) }
+        ensures file { IsSameFile self.old self.new }
+    {
         match self.take_symbol() {
             Some(lexeme) => Ok(lexeme),
             None => Err(self.wants(Wanted::Symbol)),
@@ -154,13 +195,18 @@ impl<'a> Reader<'a> {
     }
 
     /// Adds a statement.
-    pub(crate) fn state(&mut self, statement: Statement) -> Result<(), AllocError> {
+    pub(crate) fn state(&mut self, statement: Statement) -> Result<(), AllocError>
+        ensures { Stays self.old self.new }
+    {
         self.contents.statements.push(statement)?;
         Ok(())
     }
 
     /// Tells a fault.
-    pub(crate) fn tell(&mut self, kind: FaultKind, span: Span) -> Result<(), AllocError> {
+    pub(crate) fn tell(&mut self, kind: FaultKind, span: Span) -> Result<(), AllocError>
+        ensures told { OnOk result (0 < vec_len self.new.contents.faults) }
+        ensures stays { Stays self.old self.new }
+    {
         self.contents.faults.push(Fault { kind, span })?;
         Ok(())
     }

@@ -1,6 +1,8 @@
 //! Rules, and the file as a whole.
 
-ghost use Rattle.std.specs.Prelude.{◌≡◌, [], ◌∷◌, ◌++◌, OnOk};
+ghost use Rattle.std.specs.Prelude.{◌≡◌, ◌<◌, true, [], ◌∷◌, ◌++◌, IfOk, IfSome, IsSome, MatchBool, OnErr, OnOk, slice_get, vec_len};
+ghost use Rattle.lryacc.specs.Bodies.{AddsBody, EndsBody, GoesOn, IsBehindMark, IsSameFile, Passes, ReadsBehind, MayBeRead};
+ghost use Rattle.lryacc.specs.Bodies.{ReadsBodies, ReadsBody, ReadsOn, Stays, TakesAnySymbol, is_action, is_symbol};
 
 use crate::contents::{Alternative, BodyPart, Statement};
 use crate::dialects::Dialect;
@@ -53,7 +55,9 @@ fn is_before_rules(form: Form) -> bool {
 
 impl Body {
     /// Nothing was read.
-    fn new(alloc: Global) -> Body {
+    fn new(alloc: Global) -> Body
+        ensures { result.parts.items ≡ [] }
+    {
         Body {
             parts: Vec::new(alloc),
             precedence: None,
@@ -65,7 +69,9 @@ impl Body {
     }
 
     /// Has the body reach to the end of a lexeme.
-    fn reach(&mut self, lexeme: Lexeme) {
+    fn reach(&mut self, lexeme: Lexeme)
+        ensures { self.new.parts.items ≡ self.old.parts.items }
+    {
         let start = match self.span {
             Some(span) => span.start,
             None => lexeme.span.start,
@@ -74,7 +80,9 @@ impl Body {
     }
 
     /// Adds a part.
-    pub(crate) fn add(&mut self, part: BodyPart, lexeme: Lexeme) -> Result<(), AllocError> {
+    pub(crate) fn add(&mut self, part: BodyPart, lexeme: Lexeme) -> Result<(), AllocError>
+        ensures { OnOk result (self.new.parts.items ≡ self.old.parts.items ++ part ∷ []) }
+    {
         self.reach(lexeme);
         self.parts.push(part)?;
         Ok(())
@@ -89,7 +97,10 @@ impl Body {
     }
 
     /// The body of a rule, which begins behind a mark.
-    fn alternative(self, rule: Lexeme, mark: Lexeme) -> Alternative {
+    fn alternative(self, rule: Lexeme, mark: Lexeme) -> Alternative
+        ensures rule { result.rule ≡ rule }
+        ensures parts { result.parts.items ≡ self.parts.items }
+    {
         let Body {
             parts,
             precedence,
@@ -107,14 +118,35 @@ impl Body {
 }
 
 impl<'a> Reader<'a> {
-    /// Reads the whole file.
-    pub(crate) fn file(&mut self) -> Result<(), AllocError> {
+    /// Reads the whole file. Where it has no body, that is a fault.
+    pub(crate) fn file(&mut self) -> Result<(), AllocError>
+        ensures some { OnOk result (vec_len self.new.contents.faults ≡ 0
+            → 0 < vec_len self.new.contents.alternatives) }
+        ensures read { ReadsBodies self.old self.new }
+    {
+        self.pass_header()?;
+        self.declarations()?;
+        self.rules()?;
+        self.tell_no_rules()
+    }
+
+    /// Passes over the header that a file of grmtools may have.
+    fn pass_header(&mut self) -> Result<(), AllocError>
+        ensures { IsSameFile self.old self.new }
+    {
         if self.dialect == Dialect::Grmtools {
             let read = self.header();
             self.settle(read)?;
         }
-        self.declarations()?;
-        self.rules()?;
+        Ok(())
+    }
+
+    /// Tells that the file has no body, where nothing else is wrong with it.
+    fn tell_no_rules(&mut self) -> Result<(), AllocError>
+        ensures some { OnOk result (vec_len self.new.contents.faults ≡ 0
+            → 0 < vec_len self.new.contents.alternatives) }
+        ensures file { IsSameFile self.old self.new }
+    {
         if self.contents.alternatives.is_empty() && self.is_whole() {
             let end = self.text.len();
             self.tell(FaultKind::NoRules, Span::new(end, end))?;
@@ -123,7 +155,9 @@ impl<'a> Reader<'a> {
     }
 
     /// Reads declarations up to the first `%%`.
-    fn declarations(&mut self) -> Result<(), AllocError> {
+    fn declarations(&mut self) -> Result<(), AllocError>
+        ensures { IsSameFile self.old self.new }
+    {
         for _ in 0..self.lexemes.len() {
             match self.kind() {
                 None | Some(LexemeKind::Separator) => break,
@@ -142,7 +176,9 @@ impl<'a> Reader<'a> {
     }
 
     /// Reads a declaration.
-    fn declaration(&mut self) -> Result<(), Halt> {
+    fn declaration(&mut self) -> Result<(), Halt>
+        ensures { IsSameFile self.old self.new }
+    {
         match self.dialect {
             Dialect::Bison => self.bison_declaration(),
             Dialect::Grmtools => self.grmtools_declaration(),
@@ -150,7 +186,9 @@ impl<'a> Reader<'a> {
     }
 
     /// Takes `%%`, and tells of the old form of it; false where it doesn't stand here.
-    fn separator(&mut self) -> Result<bool, AllocError> {
+    fn separator(&mut self) -> Result<bool, AllocError>
+        ensures { IsSameFile self.old self.new }
+    {
         let Some(mark) = self.take(LexemeKind::Separator) else {
             return Ok(false);
         };
@@ -161,7 +199,9 @@ impl<'a> Reader<'a> {
     }
 
     /// Goes on behind a fault that stopped reading.
-    fn settle(&mut self, read: Result<(), Halt>) -> Result<(), AllocError> {
+    fn settle(&mut self, read: Result<(), Halt>) -> Result<(), AllocError>
+        ensures { IsSameFile self.old self.new }
+    {
         match read {
             Ok(()) => Ok(()),
             Err(Halt::Fault) => {
@@ -173,7 +213,9 @@ impl<'a> Reader<'a> {
     }
 
     /// Passes over lexemes up to where something new may begin.
-    fn pass_on(&mut self) {
+    fn pass_on(&mut self)
+        ensures { IsSameFile self.old self.new }
+    {
         for _ in 0..self.lexemes.len() {
             match self.kind() {
                 None | Some(LexemeKind::Separator | LexemeKind::Directive | LexemeKind::RuleName) =>
@@ -188,7 +230,9 @@ impl<'a> Reader<'a> {
     }
 
     /// Reads rules, and for Bison declarations among them, up to the second `%%` or the end.
-    fn rules(&mut self) -> Result<(), AllocError> {
+    fn rules(&mut self) -> Result<(), AllocError>
+        ensures { ReadsBodies self.old self.new }
+    {
         let mut is_first = true;
         for _ in 0..self.lexemes.len() {
             let read = match self.kind() {
@@ -206,7 +250,9 @@ impl<'a> Reader<'a> {
     }
 
     /// Reads the rule that begins with a lexeme of that kind, or what else may stand among rules.
-    fn rule_from(&mut self, kind: LexemeKind) -> Result<(), Halt> {
+    fn rule_from(&mut self, kind: LexemeKind) -> Result<(), Halt>
+        ensures { ReadsBodies self.old self.new }
+    {
         match (self.dialect, kind) {
             (Dialect::Bison, LexemeKind::RuleName) => self.rule(),
             (Dialect::Bison, LexemeKind::Directive) => self.declaration_among_rules(),
@@ -224,7 +270,9 @@ impl<'a> Reader<'a> {
     }
 
     /// Reads a declaration, and the `;` that ends it among rules.
-    fn declaration_among_rules(&mut self) -> Result<(), Halt> {
+    fn declaration_among_rules(&mut self) -> Result<(), Halt>
+        ensures { IsSameFile self.old self.new }
+    {
         if let Some(directive) = self.here() {
             if matches!(self.form(directive), Some(form) if is_before_rules(form)) {
                 self.pass();
@@ -236,7 +284,9 @@ impl<'a> Reader<'a> {
     }
 
     /// Reads a rule.
-    fn rule(&mut self) -> Result<(), Halt> {
+    fn rule(&mut self) -> Result<(), Halt>
+        ensures { ReadsBodies self.old self.new }
+    {
         let name = self.want(LexemeKind::RuleName, Wanted::Rule)?;
         self.state(Statement::LeftSide(name))?;
         let _ = self.skip(LexemeKind::BracketName);
@@ -244,15 +294,15 @@ impl<'a> Reader<'a> {
         self.alternatives(name, colon)
     }
 
-    /// Reads the bodies of a rule, the first of which begins behind a colon. For Bison, `;` may stand before `|`.
-    pub(crate) fn alternatives(&mut self, rule: Lexeme, colon: Lexeme) -> Result<(), Halt> {
+    /// Reads the bodies of a rule, the first of which begins behind a colon.
+    pub(crate) fn alternatives(&mut self, rule: Lexeme, colon: Lexeme) -> Result<(), Halt>
+        requires { IsBehindMark self.old.lexemes.now self.old.at }
+        ensures { ReadsBodies self.old self.new }
+    {
         let mut mark = colon;
         for _ in 0..self.lexemes.len() {
             self.alternative(rule, mark)?;
-            if self.dialect == Dialect::Bison {
-                self.pass_semicolons();
-            }
-            match self.take(LexemeKind::Bar) {
+            match self.bar() {
                 Some(bar) => mark = bar,
                 None => break,
             }
@@ -260,8 +310,21 @@ impl<'a> Reader<'a> {
         Ok(())
     }
 
+    /// Takes the `|` behind a body. For Bison, `;` may stand before it.
+    fn bar(&mut self) -> Option<Lexeme>
+        ensures file { IsSameFile self.old self.new }
+        ensures behind { IfSome result (λ bar. IsBehindMark self.new.lexemes.now self.new.at) }
+    {
+        if self.dialect == Dialect::Bison {
+            self.pass_semicolons();
+        }
+        self.take(LexemeKind::Bar)
+    }
+
     /// Passes over `;`.
-    fn pass_semicolons(&mut self) {
+    fn pass_semicolons(&mut self)
+        ensures { IsSameFile self.old self.new }
+    {
         for _ in 0..self.lexemes.len() {
             if !self.skip(LexemeKind::Semicolon) {
                 break;
@@ -270,7 +333,11 @@ impl<'a> Reader<'a> {
     }
 
     /// Reads a body, which begins behind a mark.
-    fn alternative(&mut self, rule: Lexeme, mark: Lexeme) -> Result<(), Halt> {
+    fn alternative(&mut self, rule: Lexeme, mark: Lexeme) -> Result<(), Halt>
+        requires { IsBehindMark self.old.lexemes.now self.old.at }
+        ensures added { OnOk result (AddsBody self.old self.new rule) }
+        ensures read { ReadsBodies self.old self.new }
+    {
         let mut body = Body::new(self.allocator());
         self.parts(&mut body)?;
         self.end_body(rule, mark, body)?;
@@ -278,20 +345,32 @@ impl<'a> Reader<'a> {
     }
 
     /// Reads the parts and directives of a body.
-    fn parts(&mut self, body: &mut Body) -> Result<(), Halt> {
-        for _ in 0..self.lexemes.len() {
-            let Some(lexeme) = self.here() else {
-                break;
-            };
-            let goes_on = match self.form_in_body(lexeme) {
-                Some(form) => self.directive_in_body(body, form, lexeme)?,
-                None => self.part(body, lexeme)?,
-            };
-            if !goes_on {
-                break;
+    fn parts(&mut self, body: &mut Body) -> Result<(), Halt>
+        ensures file { IsSameFile self.old self.new }
+        ensures read { OnOk result (ReadsBody self.old self.new body.old body.new) }
+    {
+        while let Some(lexeme) = self.here() {
+            if !self.goes_on(body, lexeme)? {
+                return Ok(());
             }
         }
         Ok(())
+    }
+
+    /// Reads what begins with a lexeme, if it is of a body; false where the body ends before the lexeme.
+    fn goes_on(&mut self, body: &mut Body, lexeme: Lexeme) -> Result<bool, Halt>
+        requires here { slice_get self.old.lexemes.now self.old.at ≡ Some lexeme }
+        requires small { self.old.at < usize.MAX }
+        ensures file { IsSameFile self.old self.new }
+        ensures read { IfOk result (GoesOn self.old self.new body.old body.new lexeme) }
+    {
+        match self.form_in_body(lexeme) {
+            Some(form) => {
+                self.directive_in_body(body, form, lexeme)?;
+                Ok(true)
+            }
+            None => self.part(body, lexeme),
+        }
     }
 
     /// Reads a directive of a body, and what stands behind it. The body goes on behind that.
@@ -300,15 +379,23 @@ impl<'a> Reader<'a> {
         body: &mut Body,
         form: Form,
         directive: Lexeme,
-    ) -> Result<bool, Halt> {
+    ) -> Result<(), Halt>
+        requires here { slice_get self.old.lexemes.now self.old.at ≡ Some directive }
+        requires small { self.old.at < usize.MAX }
+        requires is { directive.kind ≡ LexemeKind.Directive }
+        ensures file { IsSameFile self.old self.new }
+        ensures read { OnOk result (ReadsOn self.old self.new body.old body.new) }
+    {
         self.pass();
         body.reach(directive);
         self.body_directive(body, form, directive)?;
-        Ok(true)
+        Ok(())
     }
 
     /// What stands behind a directive that may stand in a body; None for any other lexeme.
-    pub(crate) fn form_in_body(&self, lexeme: Lexeme) -> Option<Form> {
+    pub(crate) fn form_in_body(&self, lexeme: Lexeme) -> Option<Form>
+        ensures { IsSome result → lexeme.kind ≡ LexemeKind.Directive }
+    {
         if lexeme.kind != LexemeKind::Directive {
             return None;
         }
@@ -319,7 +406,12 @@ impl<'a> Reader<'a> {
     }
 
     /// Reads a part of a body; false where the body ends before the lexeme.
-    fn part(&mut self, body: &mut Body, lexeme: Lexeme) -> Result<bool, Halt> {
+    fn part(&mut self, body: &mut Body, lexeme: Lexeme) -> Result<bool, Halt>
+        requires here { slice_get self.old.lexemes.now self.old.at ≡ Some lexeme }
+        requires small { self.old.at < usize.MAX }
+        ensures file { IsSameFile self.old self.new }
+        ensures read { IfOk result (GoesOn self.old self.new body.old body.new lexeme) }
+    {
         match self.dialect {
             Dialect::Bison => self.bison_part(body, lexeme),
             Dialect::Grmtools => self.grmtools_part(body, lexeme),
@@ -327,34 +419,79 @@ impl<'a> Reader<'a> {
     }
 
     /// Reads a part of a body of a file for Bison; false where the body ends before the lexeme.
-    fn bison_part(&mut self, body: &mut Body, lexeme: Lexeme) -> Result<bool, Halt> {
+    fn bison_part(&mut self, body: &mut Body, lexeme: Lexeme) -> Result<bool, Halt>
+        requires here { slice_get self.old.lexemes.now self.old.at ≡ Some lexeme }
+        requires small { self.old.at < usize.MAX }
+        requires dialect { self.old.dialect ≡ Dialect.Bison }
+        ensures file { IsSameFile self.old self.new }
+        ensures read { IfOk result (GoesOn self.old self.new body.old body.new lexeme) }
+    {
         match lexeme.kind {
             LexemeKind::Name | LexemeKind::Character(_) | LexemeKind::Text => {
-                body.add(BodyPart::Symbol(lexeme), lexeme)?;
+                self.symbol_part(body, lexeme)?;
+                Ok(true)
             }
             LexemeKind::Action | LexemeKind::Predicate => {
-                self.pass();
-                let name = self.take(LexemeKind::BracketName);
-                body.add(BodyPart::Action(lexeme, name), lexeme)?;
-                return Ok(true);
+                self.action_part(body, lexeme)?;
+                Ok(true)
             }
             LexemeKind::Tag => {
-                self.pass();
-                if !matches!(self.kind(), Some(LexemeKind::Action)) {
-                    return Err(self.wants(Wanted::Code));
-                }
-                return Ok(true);
+                self.tag_of_action()?;
+                Ok(true)
             }
-            LexemeKind::Equals => return self.old_equals(lexeme),
-            _ => return Ok(false),
+            LexemeKind::Equals => self.old_equals(lexeme),
+            _ => Ok(false),
         }
+    }
+
+    /// Reads a symbol of a body, and the name in brackets behind it.
+    fn symbol_part(&mut self, body: &mut Body, lexeme: Lexeme) -> Result<(), Halt>
+        requires here { slice_get self.old.lexemes.now self.old.at ≡ Some lexeme }
+        requires small { self.old.at < usize.MAX }
+        requires is { is_symbol lexeme.kind ≡ true }
+        ensures file { IsSameFile self.old self.new }
+        ensures read { OnOk result (ReadsOn self.old self.new body.old body.new) }
+    {
+        body.add(BodyPart::Symbol(lexeme), lexeme)?;
         self.pass();
         let _ = self.skip(LexemeKind::BracketName);
-        Ok(true)
+        Ok(())
+    }
+
+    /// Reads an action of a body, and the name in brackets behind it.
+    fn action_part(&mut self, body: &mut Body, lexeme: Lexeme) -> Result<(), Halt>
+        requires here { slice_get self.old.lexemes.now self.old.at ≡ Some lexeme }
+        requires small { self.old.at < usize.MAX }
+        requires is { is_action lexeme.kind ≡ true }
+        ensures file { IsSameFile self.old self.new }
+        ensures read { OnOk result (ReadsOn self.old self.new body.old body.new) }
+    {
+        self.pass();
+        let name = self.take(LexemeKind::BracketName);
+        body.add(BodyPart::Action(lexeme, name), lexeme)?;
+        Ok(())
+    }
+
+    /// Passes over the tag of an action, which is to stand behind it.
+    fn tag_of_action(&mut self) -> Result<(), Halt>
+        requires { self.old.at < usize.MAX }
+        ensures file { IsSameFile self.old self.new }
+        ensures passes { OnOk result (Passes self.old self.new) }
+    {
+        self.pass();
+        if !matches!(self.kind(), Some(LexemeKind::Action)) {
+            return Err(self.wants(Wanted::Code));
+        }
+        Ok(())
     }
 
     /// Passes over the `=` that old Yacc has before an action, and tells of it; false where no action stands behind it.
-    fn old_equals(&mut self, equals: Lexeme) -> Result<bool, Halt> {
+    fn old_equals(&mut self, equals: Lexeme) -> Result<bool, Halt>
+        requires { self.old.at < usize.MAX }
+        ensures file { IsSameFile self.old self.new }
+        ensures passes { IfOk result (λ goes_on. MatchBool goes_on
+            (Passes self.old self.new) (Stays self.old self.new)) }
+    {
         let behind = self.lexemes.get(self.at.saturating_add(1));
         if !matches!(behind, Some(lexeme) if lexeme.kind == LexemeKind::Action) {
             return Ok(false);
@@ -365,35 +502,46 @@ impl<'a> Reader<'a> {
     }
 
     /// Reads what stands behind a directive of a body.
-    fn body_directive(
-        &mut self,
-        body: &mut Body,
-        form: Form,
-        directive: Lexeme,
-    ) -> Result<(), Halt> {
+    fn body_directive(&mut self, body: &mut Body, form: Form, directive: Lexeme) -> Result<(), Halt>
+        ensures file { IsSameFile self.old self.new }
+        ensures parts { OnOk result (body.new.parts.items ≡ body.old.parts.items) }
+        ensures read { OnOk result (ReadsBehind self.old self.new) }
+    {
         match form {
             Form::Empty => {
                 self.only(body.empty.is_none(), directive)?;
                 body.empty = Some(directive.span);
+                Ok(())
             }
-            Form::Precedence => self.body_precedence(body)?,
+            Form::Precedence => {
+                self.body_precedence(body)?;
+                Ok(())
+            }
             Form::BodyTag => {
                 let tag = self.want(LexemeKind::Tag, Wanted::Tag)?;
                 self.only(!body.has_tag, tag)?;
                 body.has_tag = true;
+                Ok(())
             }
             Form::BodyNumber => {
                 let number = self.want(LexemeKind::Number, Wanted::Number)?;
                 self.only(!body.has_number, number)?;
                 body.has_number = true;
+                Ok(())
             }
-            _ => self.pass_wanted(LexemeKind::Number, Wanted::Number)?,
+            _ => {
+                self.pass_wanted(LexemeKind::Number, Wanted::Number)?;
+                Ok(())
+            }
         }
-        Ok(())
     }
 
     /// Reads the token behind `%prec`.
-    fn body_precedence(&mut self, body: &mut Body) -> Result<(), Halt> {
+    fn body_precedence(&mut self, body: &mut Body) -> Result<(), Halt>
+        ensures file { IsSameFile self.old self.new }
+        ensures parts { OnOk result (body.new.parts.items ≡ body.old.parts.items) }
+        ensures taken { OnOk result (TakesAnySymbol self.old self.new) }
+    {
         let symbol = self.want_symbol()?;
         self.only(body.precedence.is_none(), symbol)?;
         self.state(Statement::NamedPrecedence(symbol))?;
@@ -403,7 +551,9 @@ impl<'a> Reader<'a> {
     }
 
     /// Stops at a lexeme of which a body has one at most, unless it is the first one.
-    fn only(&mut self, is_first: bool, lexeme: Lexeme) -> Result<(), Halt> {
+    fn only(&mut self, is_first: bool, lexeme: Lexeme) -> Result<(), Halt>
+        ensures { Stays self.old self.new }
+    {
         if is_first {
             Ok(())
         } else {
@@ -412,19 +562,27 @@ impl<'a> Reader<'a> {
     }
 
     /// Adds the body to the contents.
-    fn end_body(&mut self, rule: Lexeme, mark: Lexeme, body: Body) -> Result<(), AllocError> {
+    fn end_body(&mut self, rule: Lexeme, mark: Lexeme, body: Body) -> Result<(), AllocError>
+        ensures ended { OnOk result (EndsBody self.old self.new rule body.parts.items) }
+        ensures read { MayBeRead self.old body.parts.items → ReadsBodies self.old self.new }
+    {
         let misplaced = body.misplaced_empty();
         self.add_alternative(body.alternative(rule, mark))?;
-        match misplaced {
-            Some(empty) => self.tell(FaultKind::NotEmpty, empty),
-            None => Ok(()),
+        if let Some(empty) = misplaced {
+            self.tell(FaultKind::NotEmpty, empty)?;
         }
+        Ok(())
     }
 
     /// Adds a body.
     fn add_alternative(&mut self, alternative: Alternative) -> Result<(), AllocError>
-        ensures { OnOk result (self.new.contents.alternatives.items
+        ensures added { OnOk result (self.new.contents.alternatives.items
             ≡ self.old.contents.alternatives.items ++ alternative ∷ []) }
+        ensures full { OnErr result (self.new.contents.alternatives.items
+            ≡ self.old.contents.alternatives.items) }
+        ensures lexemes { self.new.lexemes.now ≡ self.old.lexemes.now }
+        ensures dialect { self.new.dialect ≡ self.old.dialect }
+        ensures at { self.new.at ≡ self.old.at }
     {
         self.contents.alternatives.push(alternative)?;
         Ok(())

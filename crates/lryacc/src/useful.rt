@@ -1,6 +1,9 @@
 //! What of a grammar is useful: the productions that derive a text and are reached from the start.
 
-ghost use Rattle.std.specs.Prelude.{◌≡◌, [], ◌∷◌, All, IsSome, IfOk, OnOk, vec_len};
+ghost use Rattle.std.specs.Prelude.{◌≡◌, [], ◌∷◌, ◌++◌, map, All, IsSome, IfOk, IfSome, OnOk, vec_len};
+ghost use Rattle.lrgrammar.specs.StoredParts.{part_symbol_of};
+ghost use Rattle.lryacc.specs.KeptProductions.{AreInOrder, IsWithout, new_number, new_placed, new_symbol};
+ghost use Rattle.lryacc.specs.PlacedProductions.{placed, placed_at, placed_in};
 ghost use Rattle.lryacc.specs.ProductionPlaces.{Adds, ArePlaced, IsPlaced};
 ghost use Rattle.lryacc.specs.Sublists.{IsSublist};
 
@@ -234,18 +237,26 @@ fn find_rules(search: &mut Search, symbols: &[PartSymbol]) -> Result<(), AllocEr
 }
 
 /// The new number of each rule that stays.
-fn new_numbers(alloc: Global, kept: &Search) -> Result<Vec<Option<usize>>, AllocError> {
+fn new_numbers(alloc: Global, kept: &Search) -> Result<Vec<Option<usize>>, AllocError>
+    ensures { IfOk result (λ numbers. AreInOrder numbers.items) }
+{
     let mut numbers = Vec::new(alloc);
     let mut next: usize = 0;
     for is_kept in &kept.found {
-        numbers.push(if *is_kept { Some(next) } else { None })?;
-        next = next.saturating_add(usize::from(*is_kept));
+        if *is_kept {
+            numbers.push(Some(next))?;
+            next = next.saturating_add(1);
+        } else {
+            numbers.push(None)?;
+        }
     }
     Ok(numbers)
 }
 
 /// A symbol, if it is a rule by its new number.
-fn renumbered_symbol(symbol: PartSymbol, numbers: &[Option<usize>]) -> PartSymbol {
+fn renumbered_symbol(symbol: PartSymbol, numbers: &[Option<usize>]) -> PartSymbol
+    ensures { part_symbol_of result ≡ new_symbol numbers.now (part_symbol_of symbol) }
+{
     match symbol {
         PartSymbol::Rule(rule) => match numbers.get(rule) {
             Some(Some(number)) => PartSymbol::Rule(*number),
@@ -260,7 +271,10 @@ fn renumbered(
     alloc: Global,
     symbols: &[PartSymbol],
     numbers: &[Option<usize>],
-) -> Result<Vec<PartSymbol>, AllocError> {
+) -> Result<Vec<PartSymbol>, AllocError>
+    ensures { IfOk result (λ list. map part_symbol_of list.items
+        ≡ map (new_symbol numbers.now) (map part_symbol_of symbols.now)) }
+{
     let mut list = Vec::new(alloc);
     for symbol in symbols {
         list.push(renumbered_symbol(*symbol, numbers))?;
@@ -278,7 +292,9 @@ struct Selection {
 
 impl Selection {
     /// Of the rules of a grammar those stay that derive a text and are reached.
-    fn new(alloc: Global, parts: &GrammarParts) -> Result<Selection, AllocError> {
+    fn new(alloc: Global, parts: &GrammarParts) -> Result<Selection, AllocError>
+        ensures { IfOk result (λ selection. AreInOrder selection.numbers.items) }
+    {
         let productive = productive(alloc, parts)?;
         let kept = reached(alloc, parts, &productive)?;
         let numbers = new_numbers(alloc, &kept)?;
@@ -295,7 +311,9 @@ impl Selection {
 
     /// The new number of a rule; None where it is gone.
     fn number(&self, rule: usize) -> Option<usize>
-        ensures { All (λ number. IsSome number) self.now.numbers.items → IsSome result }
+        ensures stays { All (λ number. IsSome number) self.now.numbers.items → IsSome result }
+        ensures number { IfSome result (λ number.
+            number ≡ new_number self.now.numbers.items rule) }
     {
         self.numbers.get(rule).copied().unwrap_or(Some(0))
     }
@@ -309,7 +327,11 @@ impl Selection {
         place: Span,
         symbol_places: &[Span],
     ) -> Result<(), AllocError>
-        ensures { OnOk result (Adds kept.old kept.new (place ∷ [])) }
+        ensures places { OnOk result (Adds kept.old kept.new (place ∷ [])) }
+        ensures added { OnOk result (ArePlaced kept.old
+            → rule ≡ new_number self.now.numbers.items prod.now.rule
+            → placed kept.new ≡ placed kept.old ++ new_placed self.now.numbers.items
+            (placed_at prod.now place symbol_places.now) ∷ []) }
     {
         let alloc = self.allocator();
         let prod = PartProd {
@@ -317,7 +339,8 @@ impl Selection {
             symbols: renumbered(alloc, prod.symbols.as_slice(), self.numbers.as_slice())?,
             precedence: prod.precedence,
         };
-        kept.add(prod, place, Vec::from_slice(alloc, symbol_places)?)
+        kept.add(prod, place, Vec::from_slice(alloc, symbol_places)?)?;
+        Ok(())
     }
 
     /// The productions that stay. Notes where the others of the rules that stay stand.
@@ -328,16 +351,18 @@ impl Selection {
     ) -> Result<Productions, AllocError>
         requires { IsPlaced whole.now }
         ensures sublist { IfOk result (λ kept.
-            IsSublist kept.places.items whole.now.production_places.items) }
+            IsSublist (placed kept)
+            (map (new_placed self.now.numbers.items) (placed_in whole.now))) }
         ensures placed { IfOk result ArePlaced }
         ensures all { IfOk result (λ kept.
             All (λ number. IsSome number) self.now.numbers.items → useless.new.items ≡ []
-            → kept.places.items ≡ whole.now.production_places.items) }
+            → placed kept ≡ map (new_placed self.now.numbers.items) (placed_in whole.now)) }
     {
         let mut kept = Productions::new(self.allocator());
         for at in 0..whole.parts.prods.len() {
             let prod = &whole.parts.prods[at];
             let place = whole.production_places[at];
+            let symbol_places = &whole.symbol_places[at];
             let Some(rule) = self.number(prod.rule) else {
                 continue;
             };
@@ -345,8 +370,7 @@ impl Selection {
                 useless.push(place)?;
                 continue;
             }
-            let places = whole.symbol_places[at].as_slice();
-            self.keep(&mut kept, rule, prod, place, places)?;
+            self.keep(&mut kept, rule, prod, place, symbol_places.as_slice())?;
         }
         Ok(kept)
     }
@@ -450,11 +474,8 @@ pub(crate) fn without_useless(
     mut whole: FileGrammar,
 ) -> Result<(FileGrammar, Useless), AllocError>
     requires { IsPlaced whole }
-    ensures sublist { IfOk result (λ r.
-        IsSublist r.0.production_places.items whole.production_places.items) }
+    ensures without { IfOk result (λ r. IsWithout r.1 whole r.0) }
     ensures placed { IfOk result (λ r. IsPlaced r.0) }
-    ensures whole { IfOk result (λ r. r.1.rules.items ≡ [] → r.1.productions.items ≡ []
-        → r.0.production_places.items ≡ whole.production_places.items) }
 {
     let selection = Selection::new(alloc, &whole.parts)?;
     let mut useless = Useless {

@@ -1,12 +1,18 @@
-use Rattle.std.proofs.Common.{◌≡◌, [], All, IsSome, take}
+use Rattle.std.proofs.Common.{◌≡◌, [], All, IsSome, map, take}
+use Rattle.lryacc.specs.KeptProductions.{new_placed}
+use Rattle.lryacc.specs.PlacedProductions.{placed, with_places}
 use Rattle.lryacc.specs.ProductionPlaces.{ArePlaced}
 use Rattle.lryacc.specs.Sublists.{IsSublist}
 use Rattle.lryacc.proofs.useful.Selection.productions.Given as goal
 
 abbrev pub invariant-loop-at : goal.invariant-loop-at
-invariant-loop-at l = record {
-  sublist : IsSublist l.kept.places.items (take l.at l.whole.production_places.items);
-  placed : ArePlaced l.kept;
-  all : All (λ number. IsSome number) l.self.numbers.items → l.useless.items ≡ []
-      → l.kept.places.items ≡ take l.at l.whole.production_places.items;
-}
+invariant-loop-at l =
+    let prods = take l.at l.whole.parts.prods.items in
+    let places = take l.at l.whole.production_places.items in
+    let symbols = take l.at l.whole.symbol_places.items in
+    record {
+      sublist : IsSublist (placed l.kept) (map (new_placed l.self.numbers.items) (with_places prods places symbols));
+      are_placed : ArePlaced l.kept;
+      all : All (λ number. IsSome number) l.self.numbers.items → l.useless.items ≡ []
+          → placed l.kept ≡ map (new_placed l.self.numbers.items) (with_places prods places symbols);
+    }

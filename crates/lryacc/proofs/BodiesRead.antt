@@ -1,0 +1,218 @@
+-- a body goes on
+use Rattle.std.proofs.Common.{◌≡◌, ℕ, ◌+◌, arith, Bool, true, false, List, [], ◌∷◌, ◌++◌, Option, None, Some, Result, Ok, Err, IfOk, refl, ap, sym, ◌∙◌, subst}
+use Rattle.std.specs.Prelude.{IfSome, MatchBool, MatchOption, slice_get}
+use Rattle.std.specs.Option.{option_map}
+use Rattle.lryacc.specs.declared.contents.BodyPart.{BodyPart}
+use Rattle.lryacc.specs.declared.contents.BodyPart.TheVariants as part
+use Rattle.lryacc.specs.declared.dialects.Dialect.{Dialect}
+use Rattle.lryacc.specs.declared.dialects.Dialect.TheVariants as dialect
+use Rattle.lryacc.specs.declared.faults.Halt.{Halt}
+use Rattle.lryacc.specs.declared.lexemes.Lexeme.{Lexeme}
+use Rattle.lryacc.specs.declared.lexemes.LexemeKind.{LexemeKind}
+use Rattle.lryacc.specs.declared.lexemes.LexemeKind.TheVariants as kind
+use Rattle.lryacc.specs.declared.reader.Reader.{Reader}
+use Rattle.lryacc.specs.declared.rules.Body.{Body}
+use Rattle.lryacc.specs.Bodies.{IsBehindMark, IsBody, IsReadFrom, IsSameFile, MayBeRead, Passes, ReadsBody, ReadsBodies, ReadsBehind, ReadsOn, SkipsKind, Stays, GoesOn, TakesAnySymbol, TakesKind, is_action, is_aside, is_mark, is_part, is_symbol}
+use Rattle.lryacc.specs.Bodies.IsBody.{begins, symbol, action, aside, named}
+
+-- it is the same body
+pub IsBody-same : (lexemes : List Lexeme) (from at at' : ℕ) (ps ps' : List BodyPart) → at' ≡ at → ps' ≡ ps → IsBody lexemes from at ps → IsBody lexemes from at' ps'
+IsBody-same lexemes from at at' ps ps' p q b =
+    subst (λ (n : ℕ). IsBody lexemes from n ps') (sym p) (subst (λ (xs : List BodyPart). IsBody lexemes from at xs) (sym q) b)
+
+-- a symbol is read
+pub IsBody-symbol : (lexemes : List Lexeme) (from at at' : ℕ) (ps ps' : List BodyPart) (lexeme : Lexeme) → at' ≡ at + 1 → ps' ≡ ps ++ part.Symbol lexeme ∷ [] → slice_get lexemes at ≡ Some lexeme → is_symbol lexeme.kind ≡ true → IsBody lexemes from at ps → IsBody lexemes from at' ps'
+IsBody-symbol lexemes from at at' ps ps' lexeme p q here is b =
+    IsBody-same lexemes from (at + 1) at' (ps ++ part.Symbol lexeme ∷ []) ps' p q (symbol lexeme b here is)
+
+-- an action is read
+pub IsBody-action : (lexemes : List Lexeme) (from at at' : ℕ) (ps ps' : List BodyPart) (lexeme : Lexeme) (name : Option Lexeme) → at' ≡ at + 1 → ps' ≡ ps ++ part.Action lexeme name ∷ [] → slice_get lexemes at ≡ Some lexeme → is_action lexeme.kind ≡ true → IsBody lexemes from at ps → IsBody lexemes from at' ps'
+IsBody-action lexemes from at at' ps ps' lexeme name p q here is b =
+    IsBody-same lexemes from (at + 1) at' (ps ++ part.Action lexeme name ∷ []) ps' p q (action lexeme name b here is)
+
+-- something is passed over
+pub IsBody-aside : (lexemes : List Lexeme) (from at at' : ℕ) (ps ps' : List BodyPart) (lexeme : Lexeme) → at' ≡ at + 1 → ps' ≡ ps → slice_get lexemes at ≡ Some lexeme → is_aside lexeme.kind ≡ true → IsBody lexemes from at ps → IsBody lexemes from at' ps'
+IsBody-aside lexemes from at at' ps ps' lexeme p q here is b =
+    IsBody-same lexemes from (at + 1) at' ps ps' p q (aside lexeme b here is)
+
+-- the same, where only the kind is known
+pub IsBody-skips : (lexemes : List Lexeme) (from at at' : ℕ) (ps : List BodyPart) (k : LexemeKind) (found : Option Lexeme) → at' ≡ at + 1 → slice_get lexemes at ≡ found → option_map (λ (lexeme : Lexeme). lexeme.kind) found ≡ Some k → is_aside k ≡ true → IsBody lexemes from at ps → IsBody lexemes from at' ps
+IsBody-skips lexemes from at at' ps k None p here is passed b = cc
+IsBody-skips lexemes from at at' ps k (Some lexeme) p here is passed b =
+    let same : lexeme.kind ≡ k = cc in
+    IsBody-aside lexemes from at at' ps ps lexeme p refl here (ap is_aside same ∙ passed) b
+
+-- the same file, twice
+pub IsSameFile-again : {old now new : Reader} → IsSameFile old now → IsSameFile now new → IsSameFile old new
+IsSameFile-again one other = record {
+  lexemes = other.lexemes ∙ one.lexemes;
+  dialect = other.dialect ∙ one.dialect;
+  bodies = other.bodies ∙ one.bodies;
+}
+
+-- the body goes on, and the reader goes over one more lexeme, which is none of its parts
+ReadsOn-aside : {old now new : Reader} {before after : Body} (k : LexemeKind) (found : Option Lexeme) → ReadsOn old now before after → Passes now new → slice_get now.lexemes.now now.at ≡ found → option_map (λ (lexeme : Lexeme). lexeme.kind) found ≡ Some k → is_aside k ≡ true → ReadsOn old new before after
+ReadsOn-aside {old} {now} {new} {before} {after} k found read passes here is no_part = record {
+  file = IsSameFile-again read.file passes.file;
+  on = omega (arith, read.on, passes.at);
+  parts = λ from so_far.
+      let there : slice_get old.lexemes.now now.at ≡ found =
+      subst (λ (xs : List Lexeme). slice_get xs now.at ≡ found) read.file.lexemes here in
+      IsBody-skips old.lexemes.now from now.at new.at after.parts.items k found passes.at there is no_part (read.parts from so_far);
+}
+
+ReadsOn-stays : {old now new : Reader} {before after : Body} → ReadsOn old now before after → Stays now new → ReadsOn old new before after
+ReadsOn-stays {old} {now} {new} {before} {after} read stays = record {
+  file = IsSameFile-again read.file stays.file;
+  on = omega (arith, read.on, stays.at);
+  parts = λ from so_far.
+      IsBody-same old.lexemes.now from now.at new.at after.parts.items after.parts.items stays.at refl (read.parts from so_far);
+}
+
+-- a name in brackets may stand behind a part
+pub ReadsOn-skips : {old now new : Reader} {before after : Body} → ReadsOn old now before after → (is : Bool) → MatchBool is (SkipsKind now new kind.BracketName) (Stays now new) → ReadsOn old new before after
+ReadsOn-skips {old} {now} {new} {before} {after} read true skips =
+    ReadsOn-aside {old = old} {now = now} {new = new} {before = before} {after = after} kind.BracketName (slice_get now.lexemes.now now.at) read skips.passes refl skips.here refl
+ReadsOn-skips {old} {now} {new} {before} {after} read false stays = ReadsOn-stays {old = old} {now = now} {new = new} {before = before} {after = after} read stays
+
+-- the same, where it is taken
+pub ReadsOn-takes : {old now new : Reader} {before after : Body} → ReadsOn old now before after → (name : Option Lexeme) → MatchOption name (Stays now new) (λ (lexeme : Lexeme). TakesKind now new kind.BracketName lexeme) → ReadsOn old new before after
+ReadsOn-takes {old} {now} {new} {before} {after} read None stays = ReadsOn-stays {old = old} {now = now} {new = new} {before = before} {after = after} read stays
+ReadsOn-takes {old} {now} {new} {before} {after} read (Some lexeme) takes =
+    let is : option_map (λ (found : Lexeme). found.kind) (Some lexeme) ≡ Some kind.BracketName = ap (λ (k : LexemeKind). Some k) takes.is in
+    ReadsOn-aside {old = old} {now = now} {new = new} {before = before} {after = after} kind.BracketName (Some lexeme) read takes.passes takes.here is refl
+
+-- a lexeme is passed over, which is none of the parts
+pub ReadsOn-passes : {old new : Reader} (body : Body) (lexeme : Lexeme) → Passes old new → slice_get old.lexemes.now old.at ≡ Some lexeme → is_aside lexeme.kind ≡ true → ReadsOn old new body body
+ReadsOn-passes {old} {new} body lexeme passes here no_part = record {
+  file = passes.file;
+  on = omega (arith, passes.at);
+  parts = λ from so_far.
+      IsBody-aside old.lexemes.now from old.at new.at body.parts.items body.parts.items lexeme passes.at refl here no_part so_far;
+}
+
+-- nothing stands behind a directive
+pub ReadsBehind-stays : {old new : Reader} → Stays old new → ReadsBehind old new
+ReadsBehind-stays {old} {new} stays = record {
+  on = omega (arith, stays.at);
+  parts = λ from at ps directive so_far here is next.
+      IsBody-aside old.lexemes.now from at new.at ps ps directive (stays.at ∙ next) refl here (ap is_aside is) so_far;
+}
+
+-- a symbol stands behind a directive
+pub ReadsBehind-symbol : {old new : Reader} → TakesAnySymbol old new → ReadsBehind old new
+ReadsBehind-symbol {old} {new} any = record {
+  on = omega (arith, any.taken.passes.at);
+  parts = λ from at ps directive so_far here is next.
+      let there : slice_get old.lexemes.now (at + 1) ≡ Some any.lexeme =
+      subst (λ (n : ℕ). slice_get old.lexemes.now n ≡ Some any.lexeme) next any.taken.here in
+      let behind : new.at ≡ at + 1 + 1 = any.taken.passes.at ∙ ap (λ (n : ℕ). n + 1) next in
+      IsBody-same old.lexemes.now from (at + 1 + 1) new.at ps ps behind refl (named directive any.lexeme so_far here is there any.taken.is);
+}
+
+-- a lexeme of another kind stands behind a directive
+pub ReadsBehind-skips : {old new : Reader} (k : LexemeKind) → SkipsKind old new k → is_aside k ≡ true → ReadsBehind old new
+ReadsBehind-skips {old} {new} k skips no_part = record {
+  on = omega (arith, skips.passes.at);
+  parts = λ from at ps directive so_far here is next.
+      IsBody-skips old.lexemes.now from old.at new.at ps k (slice_get old.lexemes.now old.at) skips.passes.at refl skips.here no_part
+      (IsBody-aside old.lexemes.now from at old.at ps ps directive next refl here (ap is_aside is) so_far);
+}
+
+-- the same, where it is taken; and the reader stays there
+pub ReadsBehind-takes : {old now new : Reader} {lexeme : Lexeme} (k : LexemeKind) → TakesKind old now k lexeme → Stays now new → is_aside k ≡ true → ReadsBehind old new
+ReadsBehind-takes {old} {now} {new} {lexeme} k takes stays no_part = record {
+  on = omega (arith, takes.passes.at, stays.at);
+  parts = λ from at ps directive so_far here is next.
+      IsBody-aside old.lexemes.now from old.at new.at ps ps lexeme (stays.at ∙ takes.passes.at) refl takes.here (ap is_aside takes.is ∙ no_part)
+      (IsBody-aside old.lexemes.now from at old.at ps ps directive next refl here (ap is_aside is) so_far);
+}
+
+-- a directive stands in the body, and what stands behind it
+pub ReadsOn-directive : {old now new : Reader} (before after : Body) (directive : Lexeme) → Passes old now → ReadsBehind now new → IsSameFile now new → slice_get old.lexemes.now old.at ≡ Some directive → directive.kind ≡ kind.Directive → after.parts.items ≡ before.parts.items → ReadsOn old new before after
+ReadsOn-directive {old} {now} {new} before after directive passes behind file here is same = record {
+  file = IsSameFile-again passes.file file;
+  on = omega (arith, passes.at, behind.on);
+  parts = λ from so_far.
+      let e = passes.file.lexemes in
+      let before_it : IsBody now.lexemes.now from old.at before.parts.items =
+      subst (λ (xs : List Lexeme). IsBody xs from old.at before.parts.items) (sym e) so_far in
+      let there : slice_get now.lexemes.now old.at ≡ Some directive =
+      subst (λ (xs : List Lexeme). slice_get xs old.at ≡ Some directive) (sym e) here in
+      let read : IsBody now.lexemes.now from new.at before.parts.items =
+      behind.parts from old.at before.parts.items directive before_it there is passes.at in
+      IsBody-same old.lexemes.now from new.at new.at before.parts.items after.parts.items refl same
+      (subst (λ (xs : List Lexeme). IsBody xs from new.at before.parts.items) e read);
+}
+
+-- the `=` before an action is passed over, or ends the body
+pub GoesOn-equals : (old new : Reader) (body : Body) (lexeme : Lexeme) (read : Result Bool Halt) → old.dialect ≡ dialect.Bison → slice_get old.lexemes.now old.at ≡ Some lexeme → lexeme.kind ≡ kind.Equals → IfOk read (λ goes_on. MatchBool goes_on (Passes old new) (Stays old new)) → IfOk read (GoesOn old new body body lexeme)
+GoesOn-equals old new body lexeme (Ok true) bison here is passes = ReadsOn-passes body lexeme passes here (ap is_aside is)
+GoesOn-equals old new body lexeme (Ok false) bison here is stays = record {
+  reader = stays;
+  parts = refl;
+  is = ap (λ (d : Dialect). is_part d lexeme.kind) bison ∙ ap (is_part dialect.Bison) is;
+}
+GoesOn-equals old new body lexeme (Err halt) bison here is none = tt
+
+-- no body is added
+pub reads_same : {old new : Reader} → IsSameFile old new → ReadsBodies old new
+reads_same {old} {new} same = record {
+  lexemes = same.lexemes;
+  dialect = same.dialect;
+  read = λ are_read.
+      rw (same.lexemes, same.dialect, same.bodies) are_read;
+}
+
+-- bodies are added, and then others
+pub reads_again : {old now new : Reader} → ReadsBodies old now → ReadsBodies now new → ReadsBodies old new
+reads_again one other = record {
+  lexemes = other.lexemes ∙ one.lexemes;
+  dialect = other.dialect ∙ one.dialect;
+  read = λ are_read. other.read (one.read are_read);
+}
+
+-- what is passed over or not, the file is the same
+pub skips_same : {old new : Reader} (k : LexemeKind) (is : Bool) → MatchBool is (SkipsKind old new k) (Stays old new) → IsSameFile old new
+skips_same k true skips = skips.passes.file
+skips_same k false stays = stays.file
+
+-- a body was read whose parts are these
+pub may_be_read : {old now : Reader} (before after : Body) → IsSameFile old now → ReadsBody old now before after → before.parts.items ≡ [] → IsBehindMark old.lexemes.now old.at → MayBeRead now after.parts.items
+may_be_read {old} {now} before after same read first behind = λ body is.
+    let lexemes = old.lexemes.now in
+    let nothing : IsBody lexemes old.at old.at before.parts.items =
+    IsBody-same lexemes old.at old.at old.at [] before.parts.items refl first begins in
+    let here : IsReadFrom lexemes old.dialect body = record {
+      from = old.at;
+      behind = behind;
+      to = now.at;
+      parts = IsBody-same lexemes old.at now.at now.at after.parts.items body.parts.items refl is (read.parts old.at nothing);
+      ends = read.ends;
+    } in
+    rw (same.lexemes, same.dialect) here
+
+-- a mark was taken
+pub behind_taken : {old new : Reader} {lexeme : Lexeme} (k : LexemeKind) → TakesKind old new k lexeme → is_mark k ≡ true → IsBehindMark new.lexemes.now new.at
+behind_taken {old} {new} {lexeme} k takes is_one = record {
+  before = old.at;
+  next = takes.passes.at;
+  mark = lexeme;
+  here = subst (λ (xs : List Lexeme). slice_get xs old.at ≡ Some lexeme) (sym takes.passes.file.lexemes) takes.here;
+  is = ap is_mark takes.is ∙ is_one;
+}
+
+-- a `|` was taken, if one was there
+pub behind_bar : (old new : Reader) (bar : Option Lexeme) → MatchOption bar (Stays old new) (λ (lexeme : Lexeme). TakesKind old new kind.Bar lexeme) → IfSome bar (λ _. IsBehindMark new.lexemes.now new.at)
+behind_bar old new None stays = tt
+behind_bar old new (Some lexeme) takes = behind_taken {old = old} {new = new} {lexeme = lexeme} kind.Bar takes refl
+
+-- the reader stays behind a mark
+pub behind_still : {old new : Reader} → Stays old new → IsBehindMark old.lexemes.now old.at → IsBehindMark new.lexemes.now new.at
+behind_still {old} {new} stays behind = record {
+  before = behind.before;
+  next = stays.at ∙ behind.next;
+  mark = behind.mark;
+  here = subst (λ (xs : List Lexeme). slice_get xs behind.before ≡ Some behind.mark) (sym stays.file.lexemes) behind.here;
+  is = behind.is;
+}

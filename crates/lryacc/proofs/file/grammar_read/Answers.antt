@@ -1,0 +1,44 @@
+use Rattle.std.proofs.Common.{◌≡◌, ℕ, zero, suc, ◌<◌, List, [], ◌∷◌, length, vec_len, refl, ap, arith}
+use Rattle.lryacc.proofs.file.grammar_read.Goals as goal
+
+empty : {A : Type 0} (xs : List A) → length xs ≡ 0 → xs ≡ []
+empty [] none = refl
+empty (x ∷ xs) none = absurd (omega arith)
+
+-- nothing was there, since there would be something else
+nothing : (n m : ℕ) → (0 < n → 0 < m) → m ≡ 0 → n ≡ 0
+nothing zero m some none = refl
+nothing (suc n) m some none =
+    let one : 0 < suc n = omega arith in
+    let other : 0 < m = some one in
+    absurd (omega arith)
+
+pub returns-clause-bodies : goal.returns-clause-bodies
+returns-clause-bodies c =
+    let bodies = c.args.contents.now.alternatives in
+    let useless = c.in_ok-grammar.useless in
+    let warnings = c.in_ok-warnings.warnings in
+    let told = c.as_slice-2.result.now in (
+      c.args.meaning.now.starts.items,
+      record {
+        some = omega (arith, c.requires, bodies.ok.0);
+        whole = c.in_ok-whole.whole;
+        places = c.in_ok-whole.ensures.places;
+        useless = useless;
+        without = c.in_ok-grammar.ensures.without;
+        warned = λ is e.
+            let no_warning : length warnings.items ≡ 0 = ap length e in
+            let not_told : vec_len warnings ≡ 0 = omega (arith, warnings.ok.0) in
+            let nothing_told : length told ≡ 0 = nothing (length told) (vec_len warnings) c.in_ok-warnings.ensures.some not_told in
+            let none : vec_len c.tell_useless.new.self.warnings ≡ 0 = omega (arith, c.as_slice-2.ensures.len) in
+            let no_rule : vec_len useless.rules ≡ 0 = c.in_ok-tell_useless.ensures.rules is none in
+            empty useless.rules.items (omega (arith, useless.rules.ok.0));
+        warned_productions = λ e.
+            let no_warning : length warnings.items ≡ 0 = ap length e in
+            let not_told : vec_len warnings ≡ 0 = omega (arith, warnings.ok.0) in
+            let nothing_told : length told ≡ 0 = nothing (length told) (vec_len warnings) c.in_ok-warnings.ensures.some not_told in
+            let none : vec_len c.tell_useless.new.self.warnings ≡ 0 = omega (arith, c.as_slice-2.ensures.len) in
+            let no_production : vec_len useless.productions ≡ 0 = c.in_ok-tell_useless.ensures.productions none in
+            empty useless.productions.items (omega (arith, useless.productions.ok.0));
+      },
+    )

@@ -1,0 +1,15 @@
+use Rattle.std.proofs.Common.{arith}
+use Rattle.lryacc.proofs.BodiesRead.{IsBody-action, ReadsOn-takes}
+use Rattle.lryacc.proofs.reader.Reader.action_part.Goals as goal
+
+pub returns-clause-read : goal.returns-clause-read
+returns-clause-read c =
+    let passes = c.pass.ensures.passes c.requires.small in
+    ReadsOn-takes
+    record {
+      file = passes.file;
+      on = omega (arith, passes.at);
+      parts = λ from so_far.
+          IsBody-action _ _ _ _ _ _ c.args.lexeme c.take-name.result passes.at c.in_ok-add.ensures c.requires.here c.requires.is so_far;
+    }
+    c.take-name.result c.take-name.ensures

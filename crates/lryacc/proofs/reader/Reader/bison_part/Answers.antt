@@ -1,0 +1,12 @@
+use Rattle.std.proofs.Common.{ap}
+use Rattle.lryacc.specs.Bodies.{is_aside}
+use Rattle.lryacc.proofs.BodiesRead.{GoesOn-equals, ReadsOn-passes}
+use Rattle.lryacc.proofs.reader.Reader.bison_part.Goals as goal
+
+pub returns-in_ok-tag_of_action-in-Tag-clause-read : goal.returns-in_ok-tag_of_action-in-Tag-clause-read
+returns-in_ok-tag_of_action-in-Tag-clause-read c =
+    ReadsOn-passes c.args.body.now c.args.lexeme c.in_ok-tag_of_action-in-Tag.ensures.passes c.requires.here (ap is_aside c.in-Tag.is)
+
+pub returns-in-Equals-clause-read : goal.returns-in-Equals-clause-read
+returns-in-Equals-clause-read c =
+    GoesOn-equals _ _ c.args.body.now c.args.lexeme c.old_equals.result c.requires.dialect c.requires.here c.in-Equals.is c.old_equals.ensures.passes

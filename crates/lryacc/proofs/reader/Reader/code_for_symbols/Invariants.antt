@@ -1,0 +1,5 @@
+use Rattle.lryacc.specs.Bodies.{IsSameFile}
+use Rattle.lryacc.proofs.reader.Reader.code_for_symbols.Given as goal
+
+abbrev pub invariant-loop : goal.invariant-loop
+invariant-loop l = IsSameFile l.initial.self l.self

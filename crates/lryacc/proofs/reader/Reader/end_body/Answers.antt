@@ -1,0 +1,14 @@
+use Rattle.std.proofs.Common.{◌∙◌}
+use Rattle.lryacc.proofs.reader.Reader.end_body.Goals as goal
+
+pub returns-in_ok-tell-clause-ended : goal.returns-in_ok-tell-clause-ended
+returns-in_ok-tell-clause-ended c =
+    let told = c.tell.ensures.stays in
+    record {
+      lexemes = told.file.lexemes ∙ c.add_alternative.ensures.lexemes;
+      dialect = told.file.dialect ∙ c.add_alternative.ensures.dialect;
+      body = c.alternative.result;
+      rule_is = c.alternative.ensures.rule;
+      parts_are = c.alternative.ensures.parts;
+      bodies = told.file.bodies ∙ c.in_ok-add_alternative.ensures.added;
+    }

@@ -1,0 +1,29 @@
+use Rattle.std.proofs.Common.{◌≡◌, ◌+◌, None, ◌∙◌, arith}
+use Rattle.lryacc.proofs.BodiesRead.{IsBody-action}
+use Rattle.lryacc.proofs.reader.Reader.grmtools_action.Goals as goal
+
+pub returns-else-is_in_body-clause-read : goal.returns-else-is_in_body-clause-read
+returns-else-is_in_body-clause-read c =
+    let passes = c.pass.ensures.passes c.requires.small in
+    record {
+      file = passes.file;
+      on = omega (arith, passes.at);
+      parts = λ from so_far.
+          IsBody-action _ _ _ _ _ _ c.args.lexeme None passes.at c.in_ok-add.ensures c.requires.here c.requires.is so_far;
+    }
+
+pub returns-in_ok-tell-clause-read : goal.returns-in_ok-tell-clause-read
+returns-in_ok-tell-clause-read c =
+    let passes = c.pass.ensures.passes c.requires.small in
+    let told = c.tell.ensures.stays in
+    let at : c.tell.new.self.at ≡ c.args.self.now.at + 1 = told.at ∙ passes.at in
+    record {
+      file = record {
+        lexemes = told.file.lexemes ∙ passes.file.lexemes;
+        dialect = told.file.dialect ∙ passes.file.dialect;
+        bodies = told.file.bodies ∙ passes.file.bodies;
+      };
+      on = omega (arith, at);
+      parts = λ from so_far.
+          IsBody-action _ _ _ _ _ _ c.args.lexeme None at c.in_ok-add.ensures c.requires.here c.requires.is so_far;
+    }

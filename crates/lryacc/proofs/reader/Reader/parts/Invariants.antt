@@ -1,0 +1,13 @@
+use Rattle.std.proofs.Common.{ℕ, ◌-◌, length}
+use Rattle.lryacc.specs.Bodies.{IsBody, IsSameFile}
+use Rattle.lryacc.proofs.reader.Reader.parts.Given as goal
+
+abbrev pub invariant-loop-lexeme : goal.invariant-loop-lexeme
+invariant-loop-lexeme l = record {
+  file : IsSameFile l.initial.self l.self;
+  parts : (from : ℕ) → IsBody l.initial.self.lexemes.now from l.initial.self.at l.initial.body.parts.items
+      → IsBody l.initial.self.lexemes.now from l.self.at l.body.parts.items;
+}
+
+abbrev pub decreases-loop-lexeme : goal.decreases-loop-lexeme
+decreases-loop-lexeme l = length l.initial.self.lexemes.now - l.self.at

@@ -1,0 +1,13 @@
+use Rattle.std.proofs.Common.{refl}
+use Rattle.lryacc.proofs.BodiesRead.{IsSameFile-again, behind_taken, reads_again, reads_same, skips_same}
+use Rattle.lryacc.specs.declared.lexemes.LexemeKind.TheVariants as kind
+use Rattle.lryacc.proofs.reader.Reader.rule.Goals as goal
+
+pub returns : goal.returns
+returns c =
+    let named = IsSameFile-again c.want.ensures.file c.state.ensures.file in
+    let passed = IsSameFile-again named (skips_same _ c.skip.result c.skip.ensures) in
+    reads_again (reads_same (IsSameFile-again passed c.want-2.ensures.file)) c.alternatives.ensures
+
+pub alternatives-requires : goal.alternatives-requires
+alternatives-requires c = behind_taken kind.Colon c.in_ok-colon.ensures.taken refl

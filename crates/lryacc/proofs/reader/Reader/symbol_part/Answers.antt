@@ -1,0 +1,15 @@
+use Rattle.std.proofs.Common.{arith}
+use Rattle.lryacc.proofs.BodiesRead.{IsBody-symbol, ReadsOn-skips}
+use Rattle.lryacc.proofs.reader.Reader.symbol_part.Goals as goal
+
+pub returns-clause-read : goal.returns-clause-read
+returns-clause-read c =
+    let passes = c.pass.ensures.passes c.requires.small in
+    ReadsOn-skips
+    record {
+      file = passes.file;
+      on = omega (arith, passes.at);
+      parts = λ from so_far.
+          IsBody-symbol _ _ _ _ _ _ c.args.lexeme passes.at c.in_ok-add.ensures c.requires.here c.requires.is so_far;
+    }
+    c.skip.result c.skip.ensures

@@ -1,0 +1,203 @@
+-- the bodies of a file, as they stand among its lexemes
+use Rattle.std.specs.Prelude.{◌≡◌, ℕ, ◌+◌, ◌<◌, All, Bool, true, false, List, [], ◌∷◌, ◌++◌, Option, Some, IfSome, slice_get}
+use Rattle.std.specs.Option.{option_map}
+use Rattle.lryacc.specs.declared.contents.Alternative.{Alternative}
+use Rattle.lryacc.specs.declared.contents.BodyPart.{BodyPart}
+use Rattle.lryacc.specs.declared.contents.BodyPart.TheVariants as part
+use Rattle.lryacc.specs.declared.dialects.Dialect.{Dialect}
+use Rattle.lryacc.specs.declared.dialects.Dialect.TheVariants.{Bison, Grmtools}
+use Rattle.lryacc.specs.declared.lexemes.Lexeme.{Lexeme}
+use Rattle.lryacc.specs.declared.lexemes.LexemeKind.{LexemeKind}
+use Rattle.lryacc.specs.declared.lexemes.LexemeKind.TheVariants as kind
+use Rattle.lryacc.specs.declared.reader.Reader.{Reader}
+use Rattle.lryacc.specs.declared.rules.Body.{Body}
+
+-- symbols: names, characters and texts, and for grmtools names in quotes
+abbrev pub is_symbol : LexemeKind → Bool
+is_symbol kind.Name = true
+is_symbol (kind.Character byte) = true
+is_symbol kind.Text = true
+is_symbol kind.QuotedName = true
+is_symbol _ = false
+
+-- code that is a part of a body
+abbrev pub is_action : LexemeKind → Bool
+is_action kind.Action = true
+is_action kind.Predicate = true
+is_action _ = false
+
+-- what stands among the parts of a body, and is none itself
+abbrev pub is_aside : LexemeKind → Bool
+is_aside kind.BracketName = true
+is_aside kind.Tag = true
+is_aside kind.Equals = true
+is_aside kind.Directive = true
+is_aside kind.Number = true
+is_aside _ = false
+
+-- whether a body of a dialect goes on with such a lexeme
+abbrev pub is_part : Dialect → LexemeKind → Bool
+is_part Bison kind.Name = true
+is_part Bison (kind.Character byte) = true
+is_part Bison kind.Text = true
+is_part Bison kind.Action = true
+is_part Bison kind.Predicate = true
+is_part Grmtools kind.Name = true
+is_part Grmtools kind.QuotedName = true
+is_part Grmtools kind.Action = true
+is_part _ _ = false
+
+-- the lexemes from one place on, up to another, are those of a body, which has these parts
+pub data IsBody (lexemes : List Lexeme) (from : ℕ) : ℕ → List BodyPart → Type 0 where
+  -- nothing was read
+  begins : IsBody lexemes from from []
+  -- a symbol is a part
+  symbol : {at : ℕ} {parts : List BodyPart} (lexeme : Lexeme) → IsBody lexemes from at parts
+      → slice_get lexemes at ≡ Some lexeme → is_symbol lexeme.kind ≡ true
+      → IsBody lexemes from (at + 1) (parts ++ part.Symbol lexeme ∷ [])
+  -- so is code
+  action : {at : ℕ} {parts : List BodyPart} (lexeme : Lexeme) (name : Option Lexeme)
+      → IsBody lexemes from at parts
+      → slice_get lexemes at ≡ Some lexeme → is_action lexeme.kind ≡ true
+      → IsBody lexemes from (at + 1) (parts ++ part.Action lexeme name ∷ [])
+  -- names in brackets, tags, `=`, numbers and directives are not
+  aside : {at : ℕ} {parts : List BodyPart} (lexeme : Lexeme) → IsBody lexemes from at parts
+      → slice_get lexemes at ≡ Some lexeme → is_aside lexeme.kind ≡ true
+      → IsBody lexemes from (at + 1) parts
+  -- nor is the symbol right behind a directive
+  named : {at : ℕ} {parts : List BodyPart} (directive lexeme : Lexeme)
+      → IsBody lexemes from at parts
+      → slice_get lexemes at ≡ Some directive → directive.kind ≡ kind.Directive
+      → slice_get lexemes (at + 1) ≡ Some lexeme → is_symbol lexeme.kind ≡ true
+      → IsBody lexemes from (at + 1 + 1) parts
+
+-- the file is the same, and so are the bodies that were read of it
+pub record IsSameFile (old new : Reader) : Type 0 where
+  pub lexemes : new.lexemes.now ≡ old.lexemes.now
+  pub dialect : new.dialect ≡ old.dialect
+  pub bodies : new.contents.alternatives.items ≡ old.contents.alternatives.items
+
+-- the reader stands where it was
+pub record Stays (old new : Reader) : Type 0 where
+  pub file : IsSameFile old new
+  pub at : new.at ≡ old.at
+
+-- the reader goes over one lexeme
+pub record Passes (old new : Reader) : Type 0 where
+  pub file : IsSameFile old new
+  pub at : new.at ≡ old.at + 1
+
+-- the reader takes a lexeme of that kind
+pub record TakesKind (old new : Reader) (kind : LexemeKind) (lexeme : Lexeme) : Type 0 where
+  pub passes : Passes old new
+  pub here : slice_get old.lexemes.now old.at ≡ Some lexeme
+  pub is : lexeme.kind ≡ kind
+
+-- the reader goes over a lexeme of that kind
+pub record SkipsKind (old new : Reader) (kind : LexemeKind) : Type 0 where
+  pub passes : Passes old new
+  pub here : option_map (λ lexeme. lexeme.kind) (slice_get old.lexemes.now old.at) ≡ Some kind
+
+-- the reader takes a symbol
+pub record TakesSymbol (old new : Reader) (lexeme : Lexeme) : Type 0 where
+  pub passes : Passes old new
+  pub here : slice_get old.lexemes.now old.at ≡ Some lexeme
+  pub is : is_symbol lexeme.kind ≡ true
+
+-- the reader goes on in a body
+pub record ReadsOn (old new : Reader) (before after : Body) : Type 0 where
+  pub file : IsSameFile old new
+  pub on : old.at < new.at
+  pub parts : (from : ℕ) → IsBody old.lexemes.now from old.at before.parts.items
+      → IsBody old.lexemes.now from new.at after.parts.items
+
+-- the body ends before a lexeme
+pub record StopsAt (old new : Reader) (before after : Body) (lexeme : Lexeme) : Type 0 where
+  pub reader : Stays old new
+  pub parts : after.parts.items ≡ before.parts.items
+  pub is : is_part old.dialect lexeme.kind ≡ false
+
+-- whether the body goes on
+abbrev pub GoesOn : Reader → Reader → Body → Body → Lexeme → Bool → Type 0
+GoesOn old new before after lexeme true = ReadsOn old new before after
+GoesOn old new before after lexeme false = StopsAt old new before after lexeme
+
+-- the reader takes a symbol, whichever it is
+pub record TakesAnySymbol (old new : Reader) : Type 0 where
+  pub lexeme : Lexeme
+  pub taken : TakesSymbol old new lexeme
+
+-- the reader goes over what belongs to a directive of a body, if anything does
+pub record ReadsBehind (old new : Reader) : Type 0 where
+  pub on : old.at < new.at + 1
+  pub parts : (from at : ℕ) (parts : List BodyPart) (directive : Lexeme)
+      → IsBody old.lexemes.now from at parts
+      → slice_get old.lexemes.now at ≡ Some directive → directive.kind ≡ kind.Directive
+      → old.at ≡ at + 1 → IsBody old.lexemes.now from new.at parts
+
+-- the reader goes over the rest of a body
+pub record ReadsBody (old new : Reader) (before after : Body) : Type 0 where
+  pub parts : (from : ℕ) → IsBody old.lexemes.now from old.at before.parts.items
+      → IsBody old.lexemes.now from new.at after.parts.items
+  pub ends : IfSome (slice_get old.lexemes.now new.at) (λ lexeme.
+      is_part old.dialect lexeme.kind ≡ false)
+
+-- the marks behind which bodies begin
+abbrev pub is_mark : LexemeKind → Bool
+is_mark kind.Colon = true
+is_mark kind.Bar = true
+is_mark _ = false
+
+-- a place right behind a `:` or a `|`
+pub record IsBehindMark (lexemes : List Lexeme) (at : ℕ) : Type 0 where
+  pub before : ℕ
+  pub next : at ≡ before + 1
+  pub mark : Lexeme
+  pub here : slice_get lexemes before ≡ Some mark
+  pub is : is_mark mark.kind ≡ true
+
+-- a body that was read: its parts are the symbols and the actions among lexemes that follow one another, from right behind a
+-- `:` or a `|` up to the end of the file, or up to one with which no body of the dialect goes on
+pub record IsReadFrom (lexemes : List Lexeme) (dialect : Dialect) (body : Alternative)
+    : Type 0 where
+  pub from : ℕ
+  pub behind : IsBehindMark lexemes from
+  pub to : ℕ
+  pub parts : IsBody lexemes from to body.parts.items
+  pub ends : IfSome (slice_get lexemes to) (λ lexeme. is_part dialect lexeme.kind ≡ false)
+
+-- a body of a rule with these parts is added to what was read
+pub record EndsBody (old new : Reader) (rule : Lexeme) (parts : List BodyPart) : Type 0 where
+  pub lexemes : new.lexemes.now ≡ old.lexemes.now
+  pub dialect : new.dialect ≡ old.dialect
+  pub body : Alternative
+  pub rule_is : body.rule ≡ rule
+  pub parts_are : body.parts.items ≡ parts
+  pub bodies : new.contents.alternatives.items ≡ old.contents.alternatives.items ++ body ∷ []
+
+-- a body of a rule is read here, and added to what was read
+pub record AddsBody (old new : Reader) (rule : Lexeme) : Type 0 where
+  pub lexemes : new.lexemes.now ≡ old.lexemes.now
+  pub dialect : new.dialect ≡ old.dialect
+  pub body : Alternative
+  pub rule_is : body.rule ≡ rule
+  pub read : IsReadFrom old.lexemes.now old.dialect body
+  pub here : read.from ≡ old.at
+  pub bodies : new.contents.alternatives.items ≡ old.contents.alternatives.items ++ body ∷ []
+
+-- all bodies that the reader has were read of its lexemes
+abbrev pub AreRead : Reader → Type 0
+AreRead reader =
+    All (IsReadFrom reader.lexemes.now reader.dialect) reader.contents.alternatives.items
+
+-- the file is the same, and bodies that are added were read of it
+pub record ReadsBodies (old new : Reader) : Type 0 where
+  pub lexemes : new.lexemes.now ≡ old.lexemes.now
+  pub dialect : new.dialect ≡ old.dialect
+  pub read : AreRead old → AreRead new
+
+-- a body with these parts is one that was read of the lexemes
+abbrev pub MayBeRead : Reader → List BodyPart → Type 0
+MayBeRead reader parts =
+    (body : Alternative) → body.parts.items ≡ parts
+    → IsReadFrom reader.lexemes.now reader.dialect body

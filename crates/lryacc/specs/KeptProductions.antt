@@ -1,0 +1,47 @@
+-- what stays of a grammar out of which rules and productions are taken
+use Rattle.std.specs.Prelude.{◌≡◌, ℕ, List, [], map, length, Option, unwrap_or, slice_get}
+use Rattle.std.specs.List.{filter_map, range_with_len}
+use Rattle.std.specs.Option.{option_flatten}
+use Rattle.lrspec.specs.grammars.Grammar.{Production, Symbol}
+use Rattle.lrspec.specs.grammars.Grammar.Symbol.{Rule, Token}
+use Rattle.lryacc.specs.declared.numbering.FileGrammar.{FileGrammar}
+use Rattle.lryacc.specs.declared.useful.Useless.{Useless}
+use Rattle.lryacc.specs.PlacedProductions.{PlacedProduction, placed_in}
+use Rattle.lryacc.specs.Sublists.{IsSublist}
+
+-- the rules that stay have the new numbers 0, 1, 2 and so on, in their order
+abbrev pub AreInOrder : List (Option ℕ) → Type 0
+AreInOrder numbers =
+    filter_map (λ number. number) numbers
+    ≡ range_with_len 0 (length (filter_map (λ number. number) numbers))
+
+-- the new number of a rule
+abbrev pub new_number : List (Option ℕ) → ℕ → ℕ
+new_number numbers rule = unwrap_or (option_flatten (slice_get numbers rule)) 0
+
+-- a symbol, if it is a rule by its new number
+abbrev pub new_symbol : List (Option ℕ) → Symbol → Symbol
+new_symbol numbers (Rule rule) = Rule (new_number numbers rule)
+new_symbol numbers (Token token) = Token token
+
+-- a production with its rules by their new numbers
+abbrev pub new_production : List (Option ℕ) → Production → Production
+new_production numbers production =
+    record {
+      rule = new_number numbers production.rule;
+      body = map (new_symbol numbers) production.body;
+      precedence_token = production.precedence_token;
+    }
+
+-- a production at its place, with its rules by their new numbers
+abbrev pub new_placed : List (Option ℕ) → PlacedProduction → PlacedProduction
+new_placed numbers at = record at { production = new_production numbers at.production }
+
+-- the second grammar is the first one out of which something was taken: each of its productions is one of the first, with its
+-- symbols and its places, in their order; where nothing was useless, it has all of them
+pub record IsWithout (useless : Useless) (whole kept : FileGrammar) : Type 0 where
+  pub numbers : List (Option ℕ)
+  pub in_order : AreInOrder numbers
+  pub sublist : IsSublist (placed_in kept) (map (new_placed numbers) (placed_in whole))
+  pub all : useless.rules.items ≡ [] → useless.productions.items ≡ []
+      → placed_in kept ≡ map (new_placed numbers) (placed_in whole)
