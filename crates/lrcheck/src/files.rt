@@ -1,7 +1,8 @@
 //! Files that are read, checked and told of.
 
-ghost use Rattle.std.specs.Prelude.{◌≡◌, IfOk, OnOk, IfSome, string_bytes};
+ghost use Rattle.std.specs.Prelude.{◌≡◌, ◌⊎◌, IfOk, OnOk, IfSome, map, string_bytes};
 ghost use Rattle.std.specs.Io.KnownBytes.{Appends};
+ghost use Rattle.lrcheck.specs.Checked.{AreChecked, IsOutcomeOf, outcome_status, text_of};
 
 use crate::pages::write_page;
 use crate::terminals::Progress;
@@ -52,7 +53,9 @@ fn read(rt: &HostRuntime, name: &str) -> io::Result<Vec<u8>> {
 }
 
 /// Reads a file and checks it.
-fn check(rt: &HostRuntime, name: &str, options: Options) -> Result<Outcome, AllocError> {
+fn check(rt: &HostRuntime, name: &str, options: Options) -> Result<Outcome, AllocError>
+    ensures { IfOk result (IsOutcomeOf options name.now) }
+{
     match read(rt, name) {
         Ok(bytes) => {
             let report = report_on(rt.alloc(), name, bytes.as_slice(), options)?;
@@ -76,9 +79,18 @@ fn write_report<W: Write>(output: &mut W, report: &Report) -> Result<u8, Stop>
 }
 
 /// Tells what came of a file, and answers the exit status.
-fn tell(rt: &HostRuntime, name: &str, outcome: &Outcome) -> Result<u8, Stop> {
+fn tell<W: Write>(
+    rt: &HostRuntime,
+    output: &mut W,
+    name: &str,
+    outcome: &Outcome,
+) -> Result<u8, Stop>
+    ensures status { IfOk result (λ status. status ≡ outcome_status outcome.now) }
+    ensures written { OnOk result (Appends (W.contents output.old) (W.contents output.new)
+        (text_of outcome.now)) }
+{
     match outcome {
-        Outcome::Checked(report) => write_report(&mut rt.stdout(), report),
+        Outcome::Checked(report) => write_report(output, report),
         Outcome::Unread(error) => {
             let name = if name == INPUT {
                 "standard input"
@@ -91,9 +103,12 @@ fn tell(rt: &HostRuntime, name: &str, outcome: &Outcome) -> Result<u8, Stop> {
     }
 }
 
-/// Writes the page of what came of a file to a path, where there is one; tells where that fails, and answers the exit status.
-fn tell_page(rt: &HostRuntime, outcome: &Outcome, path: &str) -> u8 {
-    let Outcome::Checked(report) = outcome else {
+/// Writes the page of what came of a file, where there is one, to a path, if any; tells where that fails, and answers the exit
+/// status.
+fn tell_page(rt: &HostRuntime, outcome: &Outcome, path: Option<&str>) -> u8
+    ensures { (result ≡ 0) ⊎ (result ≡ 2) }
+{
+    let (Outcome::Checked(report), Some(path)) = (outcome, path) else {
         return 0;
     };
     let Some(page) = &report.page else {
@@ -108,24 +123,27 @@ fn tell_page(rt: &HostRuntime, outcome: &Outcome, path: &str) -> u8 {
     }
 }
 
-/// Checks the files in turn, and answers the greatest exit status. The page of a file is written to that path.
-pub(crate) fn check_all(
+/// Checks the files in turn, writes what there is to tell of them, and answers the greatest exit status. The page of a file is
+/// written to that path.
+pub(crate) fn check_all<W: Write>(
     rt: &HostRuntime,
+    output: &mut W,
     names: &[&str],
     options: Options,
     page: Option<&str>,
     mut progress: Progress,
-) -> Result<u8, Stop> {
+) -> Result<u8, Stop>
+    ensures { IfOk result (AreChecked options (W.contents output.old)
+        (map (λ name. name.now) names.now) (W.contents output.new)) }
+{
     let mut status = 0;
     for k in 0..names.len() {
         progress.show(rt, k + 1, names.len(), names[k]);
         let outcome = check(rt, names[k], options);
         progress.clear(rt);
         let outcome = outcome?;
-        status = tell(rt, names[k], &outcome)?.max(status);
-        if let Some(path) = page {
-            status = tell_page(rt, &outcome, path).max(status);
-        }
+        let told = tell(rt, output, names[k], &outcome)?.max(status);
+        status = told.max(tell_page(rt, &outcome, page));
     }
     Ok(status)
 }

@@ -74,7 +74,7 @@ fn check_named(
         has_colours: has_colours(rt, options)?,
         ..options
     };
-    check_all(rt, names, options, page, progress)
+    check_all(rt, &mut rt.stdout(), names, options, page, progress)
 }
 
 /// Does what the words say, and answers the exit status.

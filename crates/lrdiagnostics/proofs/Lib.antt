@@ -1,6 +1,7 @@
--- line feeds, what is counted for a column, and escaped text
+-- line feeds, what is counted for a column, and text as it is shown and escaped
 mod LineFeeds
 mod CountedTexts
 mod Ends
 mod KnownColumns
 pub mod EscapedTexts
+mod ShownTexts

@@ -1,4 +1,5 @@
--- lines and columns of places, places of which the column is known, and escaped text
+-- lines and columns of places, places of which the column is known, and text as it is shown and escaped
 pub mod Positions
 pub mod KnownColumns
 pub mod Escapes
+pub mod ShownTexts

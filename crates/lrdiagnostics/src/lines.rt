@@ -1,5 +1,9 @@
 //! Lines of a file as they are shown: what a terminal can show of them, and of long ones a part.
 
+ghost use Rattle.std.specs.Prelude.{◌≡◌};
+ghost use Rattle.lrwriter.specs.Texts.{Adds};
+ghost use Rattle.lrdiagnostics.specs.ShownTexts.{shown_character, shown_text};
+
 use crate::sources::Source;
 use lrwriter::Text;
 use std::alloc::{AllocError, Global};
@@ -29,7 +33,9 @@ struct Cell {
 }
 
 /// What is shown for a character: a blank for a tab, and something else than itself where a terminal would not show it.
-pub fn shown(character: char) -> char {
+pub fn shown(character: char) -> char
+    ensures { result ≡ shown_character character }
+{
     match character {
         '\t' => ' ',
         '\u{202A}'..='\u{202E}' | '\u{2066}'..='\u{2069}' => '\u{FFFD}',
@@ -39,7 +45,9 @@ pub fn shown(character: char) -> char {
 }
 
 /// Adds a name of a file, as it is shown.
-pub fn add_shown(text: &mut Text, name: &str) {
+pub fn add_shown(text: &mut Text, name: &str)
+    ensures { Adds text.old text.new (shown_text name.now) }
+{
     for character in name.chars() {
         text.add_char(shown(character));
     }

@@ -44,7 +44,8 @@ fn line_feeds(alloc: Global, bytes: &[u8]) -> Result<Vec<usize>, AllocError>
 impl<'a> Source<'a> {
     /// The file of that name.
     pub fn new(alloc: Global, name: &'a str, bytes: &'a [u8]) -> Result<Source<'a>, AllocError>
-        ensures { IfOk result (λ source. source.bytes.now ≡ bytes.now) }
+        ensures name { IfOk result (λ source. source.name.now ≡ name.now) }
+        ensures bytes { IfOk result (λ source. source.bytes.now ≡ bytes.now) }
     {
         let feeds = line_feeds(alloc, bytes)?;
         let known = known_columns(alloc, bytes)?;

@@ -6,6 +6,7 @@ ghost use Rattle.lrmoves.specs.StoredMoves.{moves_stored};
 ghost use Rattle.lrambiguity.specs.StoredAmbiguities.{IsAmbiguity};
 ghost use Rattle.lrshown.specs.Steps.{moves_by};
 ghost use Rattle.lrshown.specs.Ambiguities.{HasTwoTrees};
+ghost use Rattle.lrevidence.specs.Ambiguities.{PartsAt};
 
 use lrgrammar::idx::{IndexStorage, TIdx};
 use lrreasons::{Conflict, Form, ProvedAmbiguity, Reasons};
@@ -27,7 +28,14 @@ pub(crate) fn numbers_of<T: IndexStorage>(
 }
 
 /// Both trees of a form.
-fn trees_of_form<T: IndexStorage>(alloc: Global, form: &Form<T>) -> Result<TwoTrees, AllocError> {
+fn trees_of_form<T: IndexStorage>(alloc: Global, form: &Form<T>) -> Result<TwoTrees, AllocError>
+    ensures before { IfOk result (λ t.
+        moves_by t.before.items ≡ moves_stored T.number form.now.ways.before.items) }
+    ensures one { IfOk result (λ t.
+        moves_by t.one.items ≡ moves_stored T.number form.now.ways.first.items) }
+    ensures other { IfOk result (λ t.
+        moves_by t.other.items ≡ moves_stored T.number form.now.ways.second.items) }
+{
     Ok(TwoTrees {
         before: steps_of(alloc, form.ways.before.as_slice())?,
         one: steps_of(alloc, form.ways.first.as_slice())?,
@@ -67,6 +75,12 @@ fn numbered<T: IndexStorage>(
         moves_by a.trees.one.items ≡ moves_stored T.number proved.now.ambiguity.one.items) }
     ensures other { IfOk result (λ a.
         moves_by a.trees.other.items ≡ moves_stored T.number proved.now.ambiguity.other.items) }
+    ensures form_before { IfOk result (λ a.
+        moves_by a.form.before.items ≡ moves_stored T.number proved.now.form.ways.before.items) }
+    ensures form_one { IfOk result (λ a.
+        moves_by a.form.one.items ≡ moves_stored T.number proved.now.form.ways.first.items) }
+    ensures form_other { IfOk result (λ a.
+        moves_by a.form.other.items ≡ moves_stored T.number proved.now.form.ways.second.items) }
 {
     Ok(Ambiguity {
         tokens: numbers_of(alloc, proved.ambiguity.text.as_slice())?,
@@ -82,7 +96,9 @@ pub(crate) fn ambiguity_at<T: IndexStorage>(
     conflict: Conflict<T>,
     steps: usize,
 ) -> Result<Option<Ambiguity>, AllocError>
-    ensures { IfOk result (λ o. IfSome o (HasTwoTrees reasons.now.grammar)) }
+    ensures trees { IfOk result (λ o. IfSome o (HasTwoTrees reasons.now.grammar)) }
+    ensures parts { IfOk result (λ o. IfSome o (PartsAt reasons.now.grammar reasons.now.graph
+        (T.number conflict.state.0) (T.number conflict.token.0))) }
 {
     match reasons.ambiguity(conflict, steps)? {
         Some(proved) => {

@@ -19,8 +19,10 @@ fn other_of<T: IndexStorage>(other: Option<usize>) -> Option<Option<PIdx<T>>>
 
 /// The conflict that an entry is; None where its numbers are too large for the index type.
 pub(crate) fn conflict_of<T: IndexStorage>(entry: Entry) -> Option<Conflict<T>>
-    ensures { IfSome result (λ c. entry_of T.number c
+    ensures entry { IfSome result (λ c. entry_of T.number c
         ≡ entry_by entry.token entry.production entry.state entry.other) }
+    ensures state { IfSome result (λ c. T.number c.state.0 ≡ entry.state) }
+    ensures token { IfSome result (λ c. T.number c.token.0 ≡ entry.token) }
 {
     let production = T::from_usize(entry.production)?;
     Some(Conflict {

@@ -5,7 +5,7 @@ ghost use Rattle.lrspec.specs.merging.Graph.{IsGraphOf};
 ghost use Rattle.lrspec.specs.tables.Conflicts.{AreReductionsContested};
 ghost use Rattle.lrentries.specs.Entries.{entry_of, IsListed};
 ghost use Rattle.lrevidence.specs.Entries.{AreListedIn};
-ghost use Rattle.lrshown.specs.Ambiguities.{HasTwoTrees, IsProved};
+ghost use Rattle.lrevidence.specs.Ambiguities.{HasTwoTrees, IsProved, PartsAtEntry};
 
 use crate::ambiguities::ambiguity_at;
 use crate::conflicts::conflict_of;
@@ -70,6 +70,7 @@ fn evidence_of<T: IndexStorage>(
     requires contested { AreReductionsContested reasons.now.grammar reasons.now.graph }
     ensures entry { IfOk result (λ e. e.entry ≡ entry) }
     ensures proved { IfOk result (IsProved reasons.now.grammar) }
+    ensures parts { IfOk result (PartsAtEntry reasons.now.grammar reasons.now.graph) }
 {
     let mut evidence = Evidence {
         entry,
@@ -105,9 +106,11 @@ fn push_evidence<T: IndexStorage>(
     requires listed { AreListedIn reasons.now.grammar reasons.now.graph listed.now }
     requires contested { AreReductionsContested reasons.now.grammar reasons.now.graph }
     requires proved { All (IsProved reasons.now.grammar) list.now.items }
+    requires parts { All (PartsAtEntry reasons.now.grammar reasons.now.graph) list.now.items }
     ensures entries { OnOk result (map (λ e. e.entry) list.new.items
         ≡ map (λ e. e.entry) list.old.items ++ entries.now) }
     ensures proved { OnOk result (All (IsProved reasons.now.grammar) list.new.items) }
+    ensures parts { OnOk result (All (PartsAtEntry reasons.now.grammar reasons.now.graph) list.new.items) }
 {
     let (alloc, steps) = (*list.allocator(), effort.steps);
     let mut count: usize = 0;
@@ -136,6 +139,8 @@ pub fn evidence_for<T: IndexStorage>(
     requires contested { IfSome found.now.graph (AreReductionsContested found.now.grm) }
     ensures entries { IfOk result (λ v. map (λ e. e.entry) v.items ≡ entries.now) }
     ensures proved { IfOk result (λ v. All (IsProved found.now.grm) v.items) }
+    ensures parts { IfOk result (λ v. MatchOption found.now.graph (v.items ≡ [])
+        (λ h. All (PartsAtEntry found.now.grm h) v.items)) }
 {
     let (Some(graph), false) = (&found.graph, entries.is_empty()) else {
         return Ok(Vec::new(alloc));

@@ -19,8 +19,9 @@ pub record FindNothing {T : Type 0} (f : Findings T) : Type 0 where
   pub settled : f.settled.items ≡ []
 
 -- the grammar is that of the file, with indices up to the greatest; graph, table and conflicts are the
--- grammar's, and there is a graph unless nothing is found; and it is told to be unambiguous only where no text
--- has two trees, and always where the table lists nothing and no token has a precedence
+-- grammar's, and there is a graph unless nothing is found; it is told to be unambiguous only where no text
+-- has two trees, and always where the table lists nothing and no token has a precedence; and where none has one,
+-- no conflict of the table is closed, and none is opened
 pub record AreFindings {T : Type 0} (max : ℕ) (file : FileGrammar) (f : Findings T) : Type 0 where
   pub grammar : IsGrammarOfFile max file f.has_precedences f.grm
   pub graph : Graph
@@ -33,6 +34,8 @@ pub record AreFindings {T : Type 0} (max : ℕ) (file : FileGrammar) (f : Findin
   pub conflicts : IsPermutation (listed (lists_of f.table)) (map told f.conflicts.items)
   pub unambiguous : IsTrue f.is_unambiguous → IsUnambiguous f.grm
   pub known : HasNoPrecedences f.grm → ListsNothing f.table → IsTrue f.is_unambiguous
+  pub none_closed : HasNoPrecedences f.grm → f.closed.items ≡ []
+  pub none_opened : HasNoPrecedences f.grm → f.opened.items ≡ []
 
 -- with its precedences, the grammar of the file has a table that lists no conflict
 pub record HasNoConflicts (max : ℕ) (file : FileGrammar) : Type 0 where

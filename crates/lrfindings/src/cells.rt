@@ -158,11 +158,12 @@ pub(crate) struct CellFindings {
 }
 
 impl CellFindings {
-    /// What is found where nothing meets in any cell: which precedences settle nothing, and which tokens are in no rule.
+    /// What is found where no precedence decides: which precedences settle nothing, and which tokens are in no rule.
     pub(crate) fn without_decisions(
         alloc: Global,
         file: &FileGrammar,
     ) -> Result<CellFindings, AllocError>
+        ensures closed { IfOk result (λ c. c.closed.items ≡ []) }
         ensures opened { IfOk result (λ c. c.opened.items ≡ []) }
         ensures settled { IfOk result (λ c. c.settled.items ≡ []) }
     {
@@ -434,12 +435,11 @@ impl<T: IndexStorage> Looked<'_, T> {
     }
 }
 
-/// What precedences make of the cells of a graph, in the order of the file; nothing where they are not in force.
+/// What precedences make of the cells of a graph, in the order of the file.
 pub(crate) fn cells_of<T: IndexStorage>(
     alloc: Global,
     file: &FileGrammar,
     graph: &StateGraph<T>,
-    has_precedences: bool,
 ) -> Result<CellFindings, AllocError> {
     let mut cells = Cells::new(alloc, file)?;
     let precedences = Precedences::new(alloc, file)?;
@@ -448,10 +448,8 @@ pub(crate) fn cells_of<T: IndexStorage>(
         graph,
         precedences: &precedences,
     };
-    if has_precedences && !precedences.with.is_empty() {
-        for state in graph.iter_stidxs() {
-            looked.add_state(&mut cells, state)?;
-        }
+    for state in graph.iter_stidxs() {
+        looked.add_state(&mut cells, state)?;
     }
     cells.in_order(file)
 }

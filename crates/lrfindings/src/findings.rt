@@ -133,19 +133,21 @@ fn tabled<T: IndexStorage>(
     Ok((Some(graph), table, states))
 }
 
-/// What is found in the cells of a table; without a graph, in which no entries meet.
+/// What is found in the cells of a table, where precedences may decide in them: not without a graph, since no entries meet then.
 fn found_in_cells<T: IndexStorage>(
     alloc: Global,
     file: &FileGrammar,
     graph: Option<&StateGraph<T>>,
-    has_precedences: bool,
+    may_decide: bool,
 ) -> Result<CellFindings, AllocError>
     ensures opened { IfNone graph.entry (IfOk result (λ c. c.opened.items ≡ [])) }
     ensures settled { IfNone graph.entry (IfOk result (λ c. c.settled.items ≡ [])) }
+    ensures none_closed { may_decide ≡ false → IfOk result (λ c. c.closed.items ≡ []) }
+    ensures none_opened { may_decide ≡ false → IfOk result (λ c. c.opened.items ≡ []) }
 {
     match graph {
-        Some(graph) => cells_of(alloc, file, graph, has_precedences),
-        None => CellFindings::without_decisions(alloc, file),
+        Some(graph) if may_decide => cells_of(alloc, file, graph),
+        _ => CellFindings::without_decisions(alloc, file),
     }
 }
 
@@ -163,7 +165,7 @@ fn find_with<T: IndexStorage>(
     let grm = grammar_of::<T>(alloc, file, has_precedences)?;
     let (graph, table, states) = tabled(&grm, wants_graph)?;
     let is_unambiguous = is_unambiguous(&grm, &table);
-    let cells = found_in_cells(alloc, file, graph.as_ref(), has_precedences)?;
+    let cells = found_in_cells(alloc, file, graph.as_ref(), grm.has_precedences())?;
     let conflicts = entries_of(alloc, file, &table)?;
     let CellFindings {
         settled,

@@ -8,7 +8,9 @@ use crate::symbols::DOT;
 use lrdiagnostics::add_escaped_name;
 use lrfindings::Entry;
 use lrgrammar::idx::IndexStorage;
-use lrshown::{Evidence, Example, Outlook, Step, candidates_of, list_of, start_of, text_of};
+use lrshown::{
+    Ambiguity, Evidence, Example, Outlook, Step, candidates_of, list_of, start_of, text_of,
+};
 use lrwriter::Text;
 use std::alloc::AllocError;
 
@@ -56,14 +58,24 @@ impl<T: IndexStorage> Page<'_, T> {
         }
     }
 
+    /// Adds that the grammar is ambiguous, which that text shows.
+    fn add_proved_tag(&self, page: &mut Text, _text: &Ambiguity)
+        requires proved { IsShown self.now.found.now.grm _text.now }
+    {
+        page.add(" <span class=\"tag marked\">ambiguous (proved)</span>");
+    }
+
     /// Adds whether a text with two trees is known that part by what meets in an entry.
     fn add_tag(&self, page: &mut Text, evidence: &Evidence)
-        requires proved { ForSome evidence.now.ambiguity (λ a. IsShown self.now.found.now.grm a.value) }
+        requires proved { ForSome evidence.now.ambiguity
+            (λ a. IsShown self.now.found.now.grm a.value) }
     {
-        if evidence.has_own_text() {
-            page.add(" <span class=\"tag proved\">ambiguous (proved)</span>");
-        } else if self.steps > 0 {
-            page.add(" <span class=\"tag\">not known to be ambiguous</span>");
+        match &evidence.ambiguity {
+            Some(text) if evidence.has_own_text() => self.add_proved_tag(page, text),
+            _ if self.steps > 0 => {
+                page.add(" <span class=\"tag\">not known to be ambiguous</span>");
+            }
+            _ => {}
         }
     }
 
@@ -117,7 +129,8 @@ impl<T: IndexStorage> Page<'_, T> {
 
     /// Adds what is known of an entry, where it was looked for.
     fn add_known(&self, page: &mut Text, evidence: &Evidence)
-        requires proved { ForSome evidence.now.ambiguity (λ a. IsShown self.now.found.now.grm a.value) }
+        requires proved { ForSome evidence.now.ambiguity
+            (λ a. IsShown self.now.found.now.grm a.value) }
     {
         if self.steps == 0 {
             return;

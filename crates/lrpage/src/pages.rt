@@ -2,6 +2,7 @@
 
 ghost use Rattle.std.specs.Prelude.{◌≡◌, ⊤, All};
 ghost use Rattle.lrshown.specs.Ambiguities.{AreShown};
+ghost use Rattle.lrshown.specs.VerdictWords.{AreProvedWords};
 
 use crate::grammars::is_of_file;
 use crate::script::SCRIPT;
@@ -64,7 +65,7 @@ pub struct Page<'a, T: IndexStorage> {
     pub file: &'a FileGrammar,
     /// What was found in that.
     pub found: &'a Findings<T>,
-    /// The line of the verdict, which begins with the name of the file.
+    /// The words of the verdict.
     pub verdict: &'a str,
     /// Whether there are no conflicts but such as are expected.
     pub is_good: bool,
@@ -76,6 +77,8 @@ pub struct Page<'a, T: IndexStorage> {
     pub steps: usize,
     /// Each text that is shown as one with two trees has them.
     pub ghost proved: { All (λ card. AreShown found.now.grm card.meeting.now) cards.now },
+    /// And the verdict tells nothing as proved but what is so.
+    pub ghost told: { AreProvedWords found.now.grm verdict.now },
 }
 
 impl<T: IndexStorage> Clone for Page<'_, T> {
@@ -118,15 +121,6 @@ impl<T: IndexStorage> Page<'_, T> {
         page.add(". ");
     }
 
-    /// The line of the verdict without the name of the file.
-    fn verdict(&self) -> &str {
-        let rest = self.verdict.strip_prefix(self.source.name);
-        match rest.and_then(|rest| rest.strip_prefix(": ")) {
-            Some(rest) => rest,
-            None => self.verdict,
-        }
-    }
-
     /// Adds the verdict, how much there is, and the bar.
     fn add_header(&self, page: &mut Text) {
         page.add("<header>\n<h1>");
@@ -137,7 +131,7 @@ impl<T: IndexStorage> Page<'_, T> {
             "verdict"
         };
         write!(page, "</h1>\n<p class=\"{class}\">");
-        add_escaped_name(page, self.verdict());
+        add_escaped_name(page, self.verdict);
         page.add("</p>\n<p class=\"soft\">");
         self.add_counts(page);
         page.add(REAL);

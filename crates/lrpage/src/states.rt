@@ -181,7 +181,7 @@ impl<T: IndexStorage> States<'_, T> {
             "<section class=\"part\" id=\"s{number}\"><h3>State {number}"
         );
         if !cards.is_empty() {
-            page.add(" <span class=\"tag proved\">");
+            page.add(" <span class=\"tag marked\">");
             add_count(page, cards.len(), "conflict");
             page.add("</span>");
         }

@@ -41,7 +41,7 @@ nav input { flex: 1 1 16rem; font: inherit; padding: .3rem .6rem; color: inherit
 summary b, dfn { font-weight: 600; font-style: normal; }
 .tag { font-size: .8rem; padding: .1rem .5rem; margin-left: .4rem; border-radius: 1rem; border: 1px solid;
   color: var(--soft); white-space: nowrap; }
-.tag.proved { color: var(--one); background: var(--one-soft); }
+.tag.marked { color: var(--one); background: var(--one-soft); }
 h3 { margin: 0; font-size: 1rem; }
 .places { margin: .75rem 0; border: 1px solid var(--line); border-radius: 6px; background: var(--code);
   padding: .4rem 0; overflow-x: auto; }

@@ -1,6 +1,7 @@
 -- what is known of the graph that is kept, where one is
-use Rattle.std.proofs.Common.{◌≡◌, Option, None, Some, sym, subst}
-use Rattle.std.specs.Prelude.{IfNone, IfSome, MatchOption}
+use Rattle.std.proofs.Common.{◌≡◌, Bor, List, [], Option, None, Some, All, option_map, refl, sym, subst}
+use Rattle.std.proofs.lemmas.List.Elements.{All-nil}
+use Rattle.std.specs.Prelude.{IfNone, IfSome, MatchOption, is_some}
 
 module _ {X : Type 0} (x : X) (P : X → Type 0) where
   -- it is this one
@@ -16,3 +17,17 @@ module _ {X : Type 0} (x : X) (P : X → Type 0) where
 pub weaker_without : {X : Type 0} (o : Option X) (M N : Type 0) (P : X → Type 0) → (M → N) → MatchOption o M P → MatchOption o N P
 weaker_without None M N P f m = f m
 weaker_without (Some y) M N P f m = m
+
+-- what is so of each by the graph that is kept is so by this one; without one there is none
+pub each_of_kept :
+    {X Y : Type 0} (x : X) (P : X → Y → Type 0) (ys : List Y) (o : Option X)
+    → IfSome o (λ y. y ≡ x) → MatchOption o (ys ≡ []) (λ h. All (P h) ys) → All (P x) ys
+each_of_kept x P ys None same none = rw none (All-nil (P x))
+each_of_kept x P ys (Some y) same each = subst (λ h. All (P h) ys) same each
+
+-- there is something behind the references just where there is something
+pub is_some_referred : {X : Type 0} (o : Option X) (r : Option (Bor X)) → option_map (λ b. b.now) r ≡ o → is_some r ≡ is_some o
+is_some_referred None None e = refl
+is_some_referred None (Some b) e = absurd cc
+is_some_referred (Some x) None e = absurd cc
+is_some_referred (Some x) (Some b) e = refl

@@ -1,9 +1,9 @@
 -- conflicts that are left open, one entry after the other
-use Rattle.std.proofs.Common.{◌≡◌, ℕ, ◌+◌, ◌<◌, ◌≤◌, List, [], ◌∷◌, ◌++◌, append_assoc, length, take, ap, arith}
+use Rattle.std.proofs.Common.{◌≡◌, ℕ, ◌+◌, ◌<◌, ◌≤◌, List, [], ◌∷◌, ◌++◌, append_assoc, length, take, ap, append-nil, refl, arith}
 use Rattle.std.proofs.lemmas.List.{take_all, take_more, nil_from_length, length-append}
-use Rattle.std.proofs.lemmas.List.Elements.{All-nil, All-push}
+use Rattle.std.proofs.lemmas.List.Elements.{All-nil, All-head, All-push}
 use Rattle.std.proofs.lemmas.List.Sorted.{IsPermutation-refl, IsPermutation-trans, IsPermutation-append_left, IsPermutation-append_right, IsPermutation-append_comm}
-use Rattle.std.specs.List.{Contains, slice_index_or}
+use Rattle.std.specs.List.{All, Contains, slice_index_or}
 use Rattle.std.specs.List.Sorted.{IsPermutation}
 use Rattle.lrverdicts.specs.declared.conflicts.Entry.{Entry}
 use Rattle.lrfindings.proofs.FoundNothing.{no_more}
@@ -59,3 +59,14 @@ pub nothing_left : (conflicts closed opened left : List Entry) → conflicts ≡
 nothing_left conflicts closed opened left none_there none_opened a =
     let both : left ++ a.dropped ≡ [] = no_more (left ++ a.dropped) (rw (none_there, none_opened) at a.each) in
     nil_from_length left (omega (arith, ap length both, length-append left a.dropped))
+
+-- none is among nothing
+none_among : {X : Type 0} (xs : List X) → All (Contains []) xs → xs ≡ []
+none_among [] each = refl
+none_among (x ∷ xs) each = let (i, inside, is) = All-head (Contains []) x xs each in absurd (omega arith)
+
+-- where none is closed and none opened all are left
+pub all_left : (conflicts closed opened left : List Entry) → closed ≡ [] → opened ≡ [] → AreLeftOpen conflicts closed opened left → IsPermutation conflicts left
+all_left conflicts closed opened left none_closed none_opened a =
+    let none : a.dropped ≡ [] = none_among a.dropped (rw none_closed at a.of_closed) in
+    rw (none_opened, none, append-nil left) at a.each

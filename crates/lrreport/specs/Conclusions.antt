@@ -1,5 +1,6 @@
 -- what is proved of a conclusion
-use Rattle.std.specs.Prelude.{◌≡◌, ◌⊎◌, ℕ, Bool, not, List, [], All, IsTrue, map}
+use Rattle.std.specs.Prelude.{◌≡◌, ◌⊎◌, ℕ, Bool, not, List, [], All, IfSome, IsTrue, map}
+use Rattle.std.specs.List.Sorted.{IsPermutation}
 use Rattle.lrspec.specs.grammars.Grammar.{Grammar}
 use Rattle.lrspec.specs.merging.Graph.{Graph, IsGraphOf}
 use Rattle.lrspec.specs.tables.LrTables.{HasNoPrecedences}
@@ -9,7 +10,7 @@ use Rattle.lrverdicts.specs.declared.conflicts.Entry.{Entry}
 use Rattle.lrverdicts.specs.Verdicts.{counts_of, IsVerdict}
 use Rattle.lrfindings.specs.FileGrammars.{IsGrammarOfFile}
 use Rattle.lrfindings.specs.Findings.{HasNoConflicts}
-use Rattle.lrevidence.specs.Ambiguities.{IsProved}
+use Rattle.lrevidence.specs.Ambiguities.{HasTwoTrees, IsProved, PartsAtEntry}
 use Rattle.lrevidence.specs.Entries.{AreListedIn}
 use Rattle.lrreport.specs.declared.reports.Conclusion.{Conclusion}
 use Rattle.lrreport.specs.declared.reports.Outcome.{Outcome}
@@ -24,12 +25,15 @@ conclusion_of file o =
       expected = o.expected;
       verdict = o.verdict;
       evidence = o.evidence;
+      settled = o.settled;
+      decided = o.decided;
     }
 
 -- of the grammar of the file, with its precedences, unless these are left out, or the table with them lists nothing: the entries
--- are those of a graph's table that are left open; the verdict is by their number, and by the one that is expected, and
--- "unambiguous" only where no text has two trees, as always where no entry is listed and no token has a precedence; and each
--- text that is told of an entry has two trees
+-- are those of a graph's table that are left open, all of them where no token has a precedence; the verdict is by their number,
+-- and by the one that is expected; "unambiguous" is told only where no text has two trees, and "no conflicts" never where no
+-- entry is listed and no token has a precedence; each text that is told of an entry has two trees, which part in its state, where
+-- its token comes; and a text that precedences decide has two trees
 pub record IsConcluded (left_out : Bool) (c : Conclusion) : Type 0 where
   pub max : ℕ
   pub grammar : Grammar
@@ -46,4 +50,7 @@ pub record IsConcluded (left_out : Bool) (c : Conclusion) : Type 0 where
   pub verdict : IsVerdict shown (counts_of (map (λ e. e.entry) c.evidence.items)) c.expected c.verdict
   pub unambiguous : IsTrue shown → IsUnambiguous grammar
   pub known : HasNoPrecedences grammar → listed ≡ [] → IsTrue shown
+  pub whole : HasNoPrecedences grammar → IsPermutation listed (map (λ e. e.entry) c.evidence.items)
   pub texts : All (IsProved grammar) c.evidence.items
+  pub parts : All (PartsAtEntry grammar graph) c.evidence.items
+  pub without : IfSome c.decided (HasTwoTrees grammar)

@@ -1,3 +1,6 @@
--- conclusions, and conflicts that are left open
+-- conclusions, conflicts that are left open, and how conclusions are told
 pub mod Conclusions
 pub mod LeftOpen
+pub mod JsonTexts
+pub mod JsonHeads
+pub mod ToldConclusions

@@ -1,8 +1,9 @@
 //! Conflicts, each with the places of the productions that meet in it.
 
-ghost use Rattle.std.specs.Prelude.{◌≡◌, All, IfOk, IfSome};
-ghost use Rattle.std.specs.List.{flat_map};
+ghost use Rattle.std.specs.Prelude.{◌≡◌, All, IfOk, IfSome, is_some};
+ghost use Rattle.std.specs.List.{flat_map, list_any};
 ghost use Rattle.lrevidence.specs.Ambiguities.{HasTwoTrees, IsProved};
+ghost use Rattle.lrshown.specs.Ambiguities.{has_text};
 ghost use Rattle.lrreport.specs.LeftOpen.{AreLeftOpen};
 
 use crate::levels::Trials;
@@ -235,9 +236,10 @@ impl<T: IndexStorage> Checked<'_, T> {
     }
 
     /// The text of the first of the entries that has one, whatever its trees part by.
-    fn any_text<'e>(&self, meeting: &'e [Evidence]) -> Option<&'e Ambiguity>
+    pub(crate) fn any_text<'e>(&self, meeting: &'e [Evidence]) -> Option<&'e Ambiguity>
         requires proved { All (IsProved self.now.found.now.grm) meeting.now }
-        ensures { IfSome result (λ text. HasTwoTrees self.now.found.now.grm text.now) }
+        ensures trees { IfSome result (λ text. HasTwoTrees self.now.found.now.grm text.now) }
+        ensures known { is_some result ≡ list_any has_text meeting.now }
     {
         for evidence in meeting {
             if let Some(ambiguity) = &evidence.ambiguity {

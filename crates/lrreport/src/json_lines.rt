@@ -1,10 +1,16 @@
 //! What there is to tell of a file, as a line of JSON.
 
-ghost use Rattle.std.specs.Prelude.{◌≡◌, ◌⊎◌, All, IfOk, IfSome, IsSome, IsTrue};
-ghost use Rattle.std.specs.List.{flat_map};
+ghost use Rattle.std.specs.Prelude.{◌≡◌, ◌⊎◌, [], ◌∷◌, All, IfOk, IfSome, IsSome, IsTrue, codes, is_some};
+ghost use Rattle.std.specs.List.{flat_map, list_any};
+ghost use Rattle.std.specs.String.{string_bytes};
+ghost use Rattle.json.specs.Token.{key, string, boolean};
+ghost use Rattle.json.specs.Print.{print};
 ghost use Rattle.lrspec.specs.tables.Recognition.{IsUnambiguous};
 ghost use Rattle.lrverdicts.specs.declared.verdicts.Verdict.TheVariants.{Unambiguous};
 ghost use Rattle.lrevidence.specs.Ambiguities.{HasTwoTrees, IsProved};
+ghost use Rattle.lrshown.specs.Ambiguities.{has_text};
+ghost use Rattle.lrreport.specs.JsonTexts.{AddsTokens};
+ghost use Rattle.lrreport.specs.JsonHeads.{verdict_word, is_proved, count_tokens, head_tokens, BeginsWith};
 
 use crate::conflicts::{Checked, Choice, entries_of};
 use crate::grammars::{add_grammar, productions_of_file, rules_of_file, tokens_of_file};
@@ -21,7 +27,9 @@ use lryacc::{Expected, Fault, FileGrammar};
 use std::alloc::{AllocError, Global};
 
 /// A verdict as one of few words, where the grammar is shown to be ambiguous or not.
-fn word_of(verdict: Verdict, is_ambiguous: bool) -> &'static str {
+fn word_of(verdict: Verdict, is_ambiguous: bool) -> &'static str
+    ensures { result.now ≡ verdict_word verdict is_ambiguous }
+{
     match verdict {
         Verdict::Unambiguous => "unambiguous",
         Verdict::NoConflicts => "no conflicts",
@@ -51,26 +59,43 @@ fn word_of_choice(choice: Choice) -> &'static str {
     }
 }
 
-/// Adds the name of a file, its verdict, and whether that is proved.
-fn add_verdict(json: &mut JsonText, name: &str, verdict: &str, is_proved: bool) {
+/// Adds the name of a file, and its verdict.
+fn add_verdict(json: &mut JsonText, name: &str, verdict: &str)
+    ensures { AddsTokens json.old json.new (key (codes "file") ∷ string name.now
+        ∷ key (codes "verdict") ∷ string verdict.now ∷ []) }
+{
     json.key("file");
     json.string(name);
     json.key("verdict");
     json.string(verdict);
-    json.key("proved");
-    json.boolean(is_proved);
 }
 
-/// Adds how many conflicts there are, and how many are expected, where that is said.
-fn add_counts(json: &mut JsonText, counts: Option<Counts>, expected: Expected) {
-    let (shift_reduce, reduce_reduce) = match counts {
-        Some(counts) => (Some(counts.shift_reduce), Some(counts.reduce_reduce)),
-        None => (None, None),
-    };
+/// Adds that nothing is proved of a file.
+fn add_not_proved(json: &mut JsonText) {
+    json.key("proved");
+    json.boolean(false);
+}
+
+/// Adds how many conflicts there are.
+fn add_counts(json: &mut JsonText, counts: Counts)
+    ensures { AddsTokens json.old json.new (count_tokens counts) }
+{
     json.key("shift_reduce");
-    json.number_or_null(shift_reduce);
+    json.number(counts.shift_reduce);
     json.key("reduce_reduce");
-    json.number_or_null(reduce_reduce);
+    json.number(counts.reduce_reduce);
+}
+
+/// Adds that it is not known how many there are.
+fn add_no_counts(json: &mut JsonText) {
+    for name in ["shift_reduce", "reduce_reduce"] {
+        json.key(name);
+        json.null();
+    }
+}
+
+/// Adds how many are expected, where that is said.
+fn add_expected(json: &mut JsonText, expected: Expected) {
     json.key("expected");
     if expected == Expected::default() {
         return json.null();
@@ -135,8 +160,10 @@ pub(crate) fn json_of_faults(
 ) -> Result<String, AllocError> {
     let mut json = JsonText::new(alloc);
     json.begin_object();
-    add_verdict(&mut json, source.name, "not read", false);
-    add_counts(&mut json, None, Expected::default());
+    add_verdict(&mut json, source.name, "not read");
+    add_not_proved(&mut json);
+    add_no_counts(&mut json);
+    add_expected(&mut json, Expected::default());
     add_sizes(&mut json, None, None);
     add_nothing_found(&mut json);
     json.key("warnings");
@@ -157,8 +184,10 @@ pub(crate) fn json_of_refusal(
 ) -> Result<String, AllocError> {
     let mut json = JsonText::new(alloc);
     json.begin_object();
-    add_verdict(&mut json, source.name, "not read", false);
-    add_counts(&mut json, None, Expected::default());
+    add_verdict(&mut json, source.name, "not read");
+    add_not_proved(&mut json);
+    add_no_counts(&mut json);
+    add_expected(&mut json, Expected::default());
     add_sizes(&mut json, Some(file), None);
     add_nothing_found(&mut json);
     json.key("warnings");
@@ -181,32 +210,84 @@ pub(crate) fn json_of_findings<T: IndexStorage>(
     requires proved { All (IsProved checked.now.found.now.grm) checked.now.told.evidence.now }
     requires settled { All (IsProved checked.now.found.now.grm) checked.now.told.settled.now }
     requires unambiguous { verdict ≡ Unambiguous → IsUnambiguous checked.now.found.now.grm }
+    ensures { IfOk result (λ s. BeginsWith (print (head_tokens checked.now.told.source.now.name.now
+        verdict (list_any has_text checked.now.told.evidence.now))) (string_bytes s)) }
 {
     let told = checked.told;
-    let shown = checked.text_with_trees(told.evidence);
-    let (word, is_proved) = (
-        word_of(verdict, shown.is_some()),
-        checked.is_proved(verdict, shown),
-    );
     let mut json = JsonText::new(alloc);
-    json.begin_object();
-    add_verdict(&mut json, told.source.name, word, is_proved);
-    add_counts(&mut json, Some(verdict.counts()), expected);
+    checked.add_head(&mut json, verdict);
+    add_expected(&mut json, expected);
     add_sizes(&mut json, Some(told.file), Some(checked.found.states));
     checked.add_findings(&mut json)?;
     json.key("warnings");
     add_faults(&mut json, told.source, warnings)?;
     json.key("errors");
     add_faults(&mut json, told.source, &[])?;
-    end_line(json, Some(told.file), told.options.tells_grammar)
+    let line = end_line(json, Some(told.file), told.options.tells_grammar)?;
+    let head = checked.head(alloc, verdict)?;
+    begun_with(alloc, line, head.as_str())
+}
+
+/// The line, which begins with that head; if it did not, the head alone.
+fn begun_with(alloc: Global, line: String, head: &str) -> Result<String, AllocError>
+    ensures { IfOk result (λ s. BeginsWith head.now (string_bytes s)) }
+{
+    if line.starts_with(head) {
+        return Ok(line);
+    }
+    format!(in alloc; "{head}}}\n")
 }
 
 impl<'a, T: IndexStorage> Checked<'a, T> {
+    /// Adds what the line begins with: the name of the file, its verdict, whether that is proved, and how many conflicts there are.
+    fn add_head(&self, json: &mut JsonText, verdict: Verdict)
+        requires proved { All (IsProved self.now.found.now.grm) self.now.told.evidence.now }
+        requires unambiguous { verdict ≡ Unambiguous → IsUnambiguous self.now.found.now.grm }
+        ensures { AddsTokens json.old json.new (head_tokens self.now.told.source.now.name.now verdict
+            (list_any has_text self.now.told.evidence.now)) }
+    {
+        let shown = self.any_text(self.told.evidence);
+        json.begin_object();
+        add_verdict(
+            json,
+            self.told.source.name,
+            word_of(verdict, shown.is_some()),
+        );
+        self.add_proved(json, verdict, shown);
+        add_counts(json, verdict.counts());
+    }
+
+    /// The same as a text by itself.
+    fn head(&self, alloc: Global, verdict: Verdict) -> Result<String, AllocError>
+        requires proved { All (IsProved self.now.found.now.grm) self.now.told.evidence.now }
+        requires unambiguous { verdict ≡ Unambiguous → IsUnambiguous self.now.found.now.grm }
+        ensures { IfOk result (λ s. string_bytes s
+            ≡ print (head_tokens self.now.told.source.now.name.now verdict
+            (list_any has_text self.now.told.evidence.now))) }
+    {
+        let mut json = JsonText::new(alloc);
+        self.add_head(&mut json, verdict);
+        json.finish()
+    }
+
+    /// Adds whether it is proved of the grammar that it is ambiguous, which a text shows, or that it is not.
+    fn add_proved(&self, json: &mut JsonText, verdict: Verdict, shown: Option<&Ambiguity>)
+        requires proved { IfSome shown (λ a. HasTwoTrees self.now.found.now.grm a.now) }
+        requires unambiguous { verdict ≡ Unambiguous → IsUnambiguous self.now.found.now.grm }
+        ensures { AddsTokens json.old json.new (key (codes "proved")
+            ∷ boolean (is_proved verdict (is_some shown.entry)) ∷ []) }
+    {
+        json.key("proved");
+        json.boolean(self.is_proved(verdict, shown));
+    }
+
     /// Whether it is proved of the grammar that it is ambiguous, which a text shows, or that it is not.
     fn is_proved(&self, verdict: Verdict, shown: Option<&Ambiguity>) -> bool
         requires shown { IfSome shown (λ a. HasTwoTrees self.now.found.now.grm a.now) }
         requires unambiguous { verdict ≡ Unambiguous → IsUnambiguous self.now.found.now.grm }
-        ensures { IsTrue result → IsSome shown.entry ⊎ IsUnambiguous self.now.found.now.grm }
+        ensures proved { IsTrue result
+            → IsSome shown.entry ⊎ IsUnambiguous self.now.found.now.grm }
+        ensures told { result ≡ is_proved verdict (is_some shown.entry) }
     {
         match verdict {
             Verdict::Unambiguous => true,

@@ -1,12 +1,16 @@
 //! JSON in the making.
 
-ghost use Rattle.std.specs.Prelude.{◌≡◌, [], IfOk};
+ghost use Rattle.std.specs.Prelude.{◌≡◌, [], ◌∷◌, IfOk, IsTrue, decimal, true};
 ghost use Rattle.std.specs.String.{string_bytes};
+ghost use Rattle.json.specs.Token as token;
+ghost use Rattle.json.specs.Token.{key, string, boolean, begin_object as start};
 ghost use Rattle.json.specs.Lex.{tokens};
 ghost use Rattle.json.specs.Print.{print};
+ghost use Rattle.lrreport.specs.JsonTexts.{AddsTokens, HeldJson};
 
 use json::Writer;
 use std::alloc::{AllocError, Global};
+use std::marker::Model;
 
 /// A text of JSON in the making, which keeps its fault until it is finished. What stands in what is its caller's: each object and
 /// each array that begins must end, and in an object a key stands before each value.
@@ -18,9 +22,19 @@ pub(crate) struct JsonText {
     ghost all: { writer.before ≡ [] },
 }
 
+impl Model for JsonText {
+    ghost use Rattle.lrreport.specs.JsonTexts.{HeldJson};
+
+    ghost Value = { HeldJson };
+
+    ghost view = { λ json. record { tokens = json.writer.tokens; is_whole = json.is_whole } };
+}
+
 impl JsonText {
     /// An empty text.
-    pub(crate) fn new(alloc: Global) -> JsonText {
+    pub(crate) fn new(alloc: Global) -> JsonText
+        ensures { result ≡ record { tokens = []; is_whole = true } }
+    {
         JsonText {
             alloc,
             writer: Writer::new(Vec::new(alloc)),
@@ -34,7 +48,9 @@ impl JsonText {
     }
 
     /// Begins an object.
-    pub(crate) fn begin_object(&mut self) {
+    pub(crate) fn begin_object(&mut self)
+        ensures { AddsTokens self.old self.new (start ∷ []) }
+    {
         self.is_whole = self.is_whole && self.writer.begin_object().is_ok();
     }
 
@@ -54,22 +70,30 @@ impl JsonText {
     }
 
     /// Adds the key of what comes next.
-    pub(crate) fn key(&mut self, name: &str) {
+    pub(crate) fn key(&mut self, name: &str)
+        ensures { AddsTokens self.old self.new ((key name.now) ∷ []) }
+    {
         self.is_whole = self.is_whole && self.writer.key(name).is_ok();
     }
 
     /// Adds a text.
-    pub(crate) fn string(&mut self, text: &str) {
+    pub(crate) fn string(&mut self, text: &str)
+        ensures { AddsTokens self.old self.new ((string text.now) ∷ []) }
+    {
         self.is_whole = self.is_whole && self.writer.string(text).is_ok();
     }
 
     /// Adds a number.
-    pub(crate) fn number(&mut self, number: usize) {
+    pub(crate) fn number(&mut self, number: usize)
+        ensures { AddsTokens self.old self.new ((token.number (decimal number)) ∷ []) }
+    {
         self.is_whole = self.is_whole && self.writer.u64(number as u64).is_ok();
     }
 
     /// Adds a truth value.
-    pub(crate) fn boolean(&mut self, is_so: bool) {
+    pub(crate) fn boolean(&mut self, is_so: bool)
+        ensures { AddsTokens self.old self.new ((boolean is_so) ∷ []) }
+    {
         self.is_whole = self.is_whole && self.writer.boolean(is_so).is_ok();
     }
 
@@ -96,6 +120,8 @@ impl JsonText {
 
     /// The text, with no blank between its parts. The error says that memory was refused.
     pub(crate) fn finish(self) -> Result<String, AllocError>
+        ensures whole { IfOk result (λ _. IsTrue self.is_whole) }
+        ensures text { IfOk result (λ s. string_bytes s ≡ print self.tokens) }
         ensures compact { IfOk result (λ s. string_bytes s ≡ print (tokens (string_bytes s))) }
     {
         if !self.is_whole {

@@ -380,6 +380,25 @@ impl<T: IndexStorage> Checked<'_, T> {
         Ok(())
     }
 
+    /// Adds a text that has two trees without the precedences, of which one is kept.
+    fn push_decided_text(
+        &self,
+        text: &mut Text,
+        notes: Notes,
+        kept: &str,
+        ambiguity: &Ambiguity,
+    ) -> Result<(), AllocError>
+        requires proved { HasTwoTrees self.now.found.now.grm ambiguity.now }
+    {
+        let mut words = Words::new(text.allocator());
+        words.add_all("without it");
+        add_two_trees(&mut words, self.told.file, ambiguity);
+        words.add_all("(proved);");
+        words.add_all(kept);
+        notes.push(text, &words);
+        self.push_text_with_trees(text, notes, ambiguity)
+    }
+
     /// Adds notes on what precedences settle: why, and a text with two trees, of which one is kept.
     pub(crate) fn push_decided(
         &self,
@@ -402,13 +421,7 @@ impl<T: IndexStorage> Checked<'_, T> {
             );
         }
         if let Some(ambiguity) = ambiguity {
-            let mut words = Words::new(text.allocator());
-            words.add_all("without it");
-            add_two_trees(&mut words, self.told.file, ambiguity);
-            words.add_all("(proved);");
-            words.add_all(kept);
-            notes.push(&mut lines, &words);
-            self.push_text_with_trees(&mut lines, notes, ambiguity)?;
+            self.push_decided_text(&mut lines, notes, kept, ambiguity)?;
         }
         let lines = lines.finish()?;
         self.told.teller().add_notes(text, marks, lines.as_str());

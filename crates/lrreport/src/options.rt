@@ -1,5 +1,8 @@
 //! How a report is made.
 
+ghost use Rattle.std.specs.Prelude.{◌≡◌};
+ghost use Rattle.lrreport.specs.ToldConclusions.{has_hint};
+
 use lryacc::{Dialect, Expected};
 
 /// What is told of a file.
@@ -52,6 +55,16 @@ pub struct Options {
 }
 
 impl Options {
+    /// Whether it is told how what precedences settle is shown: in a report that does not show it.
+    pub(crate) fn has_hint(self) -> bool
+        ensures { result ≡ has_hint self }
+    {
+        match self.output {
+            Output::Report => !self.tells_settled,
+            Output::Summary | Output::Json | Output::Grammar | Output::States => false,
+        }
+    }
+
     /// How many conflicts are expected of a file that says so.
     pub(crate) fn beside(self, file: Expected) -> Expected {
         Expected {

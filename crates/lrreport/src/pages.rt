@@ -2,6 +2,7 @@
 
 ghost use Rattle.std.specs.Prelude.{◌≡◌, All, IfOk};
 ghost use Rattle.lrevidence.specs.Ambiguities.{IsProved};
+ghost use Rattle.lrshown.specs.VerdictWords.{AreProvedWords};
 
 use crate::conflicts::{Checked, entries_of, meetings};
 use crate::levels::Trials;
@@ -41,14 +42,15 @@ impl<T: IndexStorage> Checked<'_, T> {
         })
     }
 
-    /// The page, with that verdict and the line of it.
+    /// The page, with that verdict in these words.
     pub(crate) fn page(
         &self,
         alloc: Global,
         verdict: Verdict,
-        line: &str,
+        words: &str,
     ) -> Result<String, AllocError>
         requires proved { All (IsProved self.now.found.now.grm) self.now.told.evidence.now }
+        requires words { AreProvedWords self.now.found.now.grm words.now }
     {
         let trials = Trials::new(alloc, self)?;
         let mut cards = Vec::new(alloc);
@@ -60,7 +62,7 @@ impl<T: IndexStorage> Checked<'_, T> {
             source: self.told.source,
             file: self.told.file,
             found: self.found,
-            verdict: line,
+            verdict: words,
             is_good: verdict.status() == 0,
             cards: cards.as_slice(),
             notes: notes.as_slice(),

@@ -1,15 +1,24 @@
 //! The report on a file.
 
-ghost use Rattle.std.specs.Prelude.{◌≡◌, ◌≢◌, ◌⊎◌, not, All, map, IfOk, IfSome, IfNone, IsSome, MatchOption};
+ghost use Rattle.std.specs.Prelude.{◌≡◌, ◌≢◌, ◌⊎◌, ◌++◌, [], not, All, map, IfOk, IfSome, IfNone, MatchOption, codes, is_some, length, nat_lt};
+ghost use Rattle.std.specs.List.{list_any};
+ghost use Rattle.std.specs.String.{string_bytes};
 ghost use Rattle.lrspec.specs.merging.Graph.{IsGraphOf};
 ghost use Rattle.lrspec.specs.tables.Conflicts.{AreReductionsContested};
 ghost use Rattle.lrspec.specs.tables.Recognition.{IsUnambiguous};
 ghost use Rattle.lrverdicts.specs.declared.verdicts.Verdict.TheVariants.{Unambiguous};
 ghost use Rattle.lrfindings.specs.Findings.{AreFindings, FindNothing, HasNoConflicts};
 ghost use Rattle.lrverdicts.specs.Verdicts.{counts_of, status_of};
-ghost use Rattle.lrevidence.specs.Ambiguities.{HasTwoTrees, IsProved};
+ghost use Rattle.lrwriter.specs.Texts.{Adds};
+ghost use Rattle.lrdiagnostics.specs.ShownTexts.{shown_text};
+ghost use Rattle.lrshown.specs.VerdictWords.{verdict_words};
+ghost use Rattle.lrevidence.specs.Ambiguities.{HasTwoTrees, IsProved, PartsAtEntry};
 ghost use Rattle.lrevidence.specs.Entries.{AreListedIn};
-ghost use Rattle.lrreport.specs.declared.options.Output.TheVariants.{Grammar};
+ghost use Rattle.lrreport.specs.declared.options.Output.TheVariants.{Grammar, Summary};
+ghost use Rattle.json.specs.Print.{print};
+ghost use Rattle.lrshown.specs.Ambiguities.{has_text};
+ghost use Rattle.lrreport.specs.JsonHeads.{head_tokens};
+ghost use Rattle.lrreport.specs.ToldConclusions.{has_hint, last_line, line_of, EndsIn, Tells, TellsConclusion};
 ghost use Rattle.lrreport.specs.LeftOpen.{AreLeftOpen};
 ghost use Rattle.lrreport.specs.Conclusions.{IsConcluded, conclusion_of};
 
@@ -17,7 +26,7 @@ use crate::conflicts::{Checked, left_open};
 use crate::json_lines::{json_of_faults, json_of_findings, json_of_refusal};
 use crate::options::{Options, Output};
 use crate::told::Told;
-use lrdiagnostics::{Layout, Source, TOLD, Teller, Weight, messages_of};
+use lrdiagnostics::{Layout, Source, TOLD, Teller, Weight, add_shown, messages_of};
 use lrevidence::{Ambiguity, Effort, Evidence, evidence_for, find_ambiguity};
 use lrfindings::{Counts, Entry, FindError, Findings, Idle, Settled, Verdict, find, small_text};
 use lrgrammar::idx::IndexStorage;
@@ -52,6 +61,10 @@ pub struct Conclusion {
     pub verdict: Verdict,
     /// The conflicts, in the order of the file, and what is known of each.
     pub evidence: Vec<Evidence>,
+    /// How many more precedences settle.
+    pub settled: usize,
+    /// A text with two trees, one of which precedences choose, where it was looked for: only where they settle all conflicts.
+    pub decided: Option<Ambiguity>,
 }
 
 impl Report {
@@ -202,6 +215,8 @@ fn known_of<T: IndexStorage>(
         found.now.opened.items (map (λ e. e.entry) k.evidence.items)) }
     ensures counts { IfOk result (λ k. k.left ≡ counts_of (map (λ e. e.entry) k.evidence.items)) }
     ensures proved { IfOk result (λ k. All (IsProved found.now.grm) k.evidence.items) }
+    ensures parts { IfOk result (λ k. MatchOption found.now.graph (k.evidence.items ≡ [])
+        (λ h. All (PartsAtEntry found.now.grm h) k.evidence.items)) }
     ensures settled { IfOk result (λ k. All (IsProved found.now.grm) k.settled.items) }
     ensures decided { IfOk result (λ k. IfSome k.decided (HasTwoTrees found.now.grm)) }
 {
@@ -229,6 +244,10 @@ fn known_of<T: IndexStorage>(
 
 /// What is told of a file, and how.
 fn told_of<'a>(read: Read<'a>, idle: &'a Idle, known: &'a Known, options: Options) -> Told<'a>
+    ensures source { result.source.now.name.now ≡ read.entry.source.now.name.now }
+    ensures steps { result.options.steps ≡ options.steps }
+    ensures columns { result.options.columns ≡ options.columns }
+    ensures hint { has_hint result.options ≡ has_hint options }
     ensures evidence { result.evidence.now ≡ known.now.evidence.items }
     ensures settled { result.settled.now ≡ known.now.settled.items }
 {
@@ -245,8 +264,89 @@ fn told_of<'a>(read: Read<'a>, idle: &'a Idle, known: &'a Known, options: Option
     }
 }
 
-/// The lines on what was found in the grammar of a file, with that verdict.
-fn lines_on_findings<T: IndexStorage>(
+/// Adds the last line, which is folded where lines have so many columns at the most.
+fn add_last_line(text: &mut Text, line: &str, columns: Option<usize>)
+    ensures { columns ≡ None → Adds text.old text.new (shown_text line.now ++ codes "\n") }
+{
+    if columns.is_some() {
+        return Layout::new(columns).add_line(text, line, 4);
+    }
+    add_shown(text, line);
+    text.add_char('\n');
+}
+
+impl<T: IndexStorage> Checked<'_, T> {
+    /// Adds all that stands before the last line.
+    fn push_details(&self, text: &mut Text, warnings: &[Fault]) -> Result<(), AllocError>
+        requires proved { All (IsProved self.now.found.now.grm) self.now.told.evidence.now }
+        requires settled { All (IsProved self.now.found.now.grm) self.now.told.settled.now }
+    {
+        let options = self.told.options;
+        if options.output == Output::States {
+            return self.push_states(text);
+        }
+        let most = most_told(options);
+        self.told.push_warnings(text, warnings, most)?;
+        self.push_conflicts(text, most)?;
+        self.told.push_notes_on_all(text)?;
+        if options.tells_settled {
+            self.push_settled(text, most)?;
+        }
+        Ok(())
+    }
+
+    /// The line of the verdict.
+    fn line(
+        &self,
+        alloc: Global,
+        verdict: Verdict,
+        decided: Option<&Ambiguity>,
+    ) -> Result<String, AllocError>
+        requires proved { All (IsProved self.now.found.now.grm) self.now.told.evidence.now }
+        requires unambiguous { verdict ≡ Unambiguous → IsUnambiguous self.now.found.now.grm }
+        requires decided { IfSome decided (λ a. HasTwoTrees self.now.found.now.grm a.now) }
+        ensures { IfOk result (λ s. string_bytes s ≡ line_of self.now.told.source.now.name.now
+            (verdict_words verdict self.now.told.evidence.now
+            (nat_lt 0 self.now.told.options.steps) (length self.now.found.now.settled.items)
+            (has_hint self.now.told.options) (is_some decided.entry))) }
+    {
+        let has_hint = self.told.options.has_hint();
+        let words = self.verdict_words(alloc, verdict, decided, has_hint)?;
+        let (name, words) = (self.told.source.name, words.as_str());
+        format!(in alloc; "{name}: {words}")
+    }
+}
+
+/// That line alone, as it is shown.
+fn summary(alloc: Global, line: &str) -> Result<String, AllocError>
+    ensures { IfOk result (λ s. string_bytes s ≡ shown_text line.now ++ codes "\n") }
+{
+    let mut text = Text::new(alloc);
+    add_shown(&mut text, line);
+    text.add_char('\n');
+    text.finish()
+}
+
+/// The lines on what was found, of which that is the last one.
+fn lines<T: IndexStorage>(
+    alloc: Global,
+    checked: &Checked<'_, T>,
+    warnings: &[Fault],
+    line: &str,
+) -> Result<String, AllocError>
+    requires proved { All (IsProved checked.now.found.now.grm) checked.now.told.evidence.now }
+    requires settled { All (IsProved checked.now.found.now.grm) checked.now.told.settled.now }
+    ensures { checked.now.told.options.columns ≡ None → IfOk result (λ s.
+        EndsIn (shown_text line.now ++ codes "\n") (string_bytes s)) }
+{
+    let mut text = Text::new(alloc);
+    checked.push_details(&mut text, warnings)?;
+    add_last_line(&mut text, line, checked.told.options.columns);
+    text.finish()
+}
+
+/// What is told of what was found in the grammar of a file, with that verdict.
+fn text_on_findings<T: IndexStorage>(
     alloc: Global,
     read: Read<'_>,
     found: &Findings<T>,
@@ -258,36 +358,26 @@ fn lines_on_findings<T: IndexStorage>(
     requires settled { All (IsProved found.now.grm) known.now.settled.items }
     requires decided { IfSome known.now.decided (HasTwoTrees found.now.grm) }
     requires unambiguous { verdict ≡ Unambiguous → IsUnambiguous found.now.grm }
+    ensures told { IfOk result (λ s. Tells options.output options.columns
+        (last_line read.entry.source.now.name.now (verdict_words verdict known.now.evidence.items
+        (nat_lt 0 options.steps) (length found.now.settled.items) (has_hint options)
+        (is_some known.now.decided)))
+        (print (head_tokens read.entry.source.now.name.now verdict
+        (list_any has_text known.now.evidence.items))) (string_bytes s)) }
 {
     let checked = Checked {
         told: told_of(read, &found.idle, known, options),
         found,
     };
-    if options.output == Output::Json {
-        let expected = options.beside(read.expected);
-        return json_of_findings(alloc, &checked, read.warnings, expected, verdict);
-    }
-    let mut text = Text::new(alloc);
-    if options.output == Output::States {
-        checked.push_states(&mut text)?;
-    }
-    if options.output == Output::Report {
-        let most = most_told(options);
-        checked.told.push_warnings(&mut text, read.warnings, most)?;
-        checked.push_conflicts(&mut text, most)?;
-        checked.told.push_notes_on_all(&mut text)?;
-        if options.tells_settled {
-            checked.push_settled(&mut text, most)?;
+    let line = checked.line(alloc, verdict, known.decided.as_ref())?;
+    match options.output {
+        Output::Json => {
+            let expected = options.beside(read.expected);
+            json_of_findings(alloc, &checked, read.warnings, expected, verdict)
         }
+        Output::Summary => summary(alloc, line.as_str()),
+        _ => lines(alloc, &checked, read.warnings, line.as_str()),
     }
-    let line = checked.verdict_line(alloc, verdict, known.decided.as_ref(), options.output)?;
-    let columns = match options.output {
-        Output::Summary => None,
-        _ => options.columns,
-    };
-    let layout = Layout::new(columns);
-    layout.add_line(&mut text, line.as_str(), 4);
-    text.finish()
 }
 
 /// The page on what was found in the grammar of a file, with that verdict, where one is made.
@@ -310,8 +400,8 @@ fn page_on_findings<T: IndexStorage>(
         told: told_of(read, &found.idle, known, options),
         found,
     };
-    let line = checked.verdict_line(alloc, verdict, known.decided.as_ref(), Output::Summary)?;
-    Ok(Some(checked.page(alloc, verdict, line.as_str())?))
+    let words = checked.verdict_words(alloc, verdict, known.decided.as_ref(), false)?;
+    Ok(Some(checked.page(alloc, verdict, words.as_str())?))
 }
 
 /// What is told of a grammar, and was concluded of it.
@@ -323,16 +413,16 @@ struct Outcome {
     expected: Expected,
     verdict: Verdict,
     evidence: Vec<Evidence>,
+    settled: usize,
+    decided: Option<Ambiguity>,
 }
 
 impl Outcome {
-    /// The report on the file, with those options.
-    fn report(self, file: FileGrammar, options: Options) -> Report
-        requires { IsConcluded options.ignores_precedences (conclusion_of file self) }
-        ensures proved { IfSome result.conclusion (IsConcluded options.ignores_precedences) }
-        ensures concluded { IsSome result.conclusion }
+    /// The report on the file.
+    fn report(self, file: FileGrammar) -> Report
+        ensures text { result.text ≡ self.text }
+        ensures concluded { result.conclusion ≡ Some (conclusion_of file self) }
         ensures status { result.status ≡ status_of self.verdict }
-        ensures verdict { IfSome result.conclusion (λ c. c.verdict ≡ self.verdict) }
     {
         Report {
             text: self.text,
@@ -344,6 +434,8 @@ impl Outcome {
                 expected: self.expected,
                 verdict: self.verdict,
                 evidence: self.evidence,
+                settled: self.settled,
+                decided: self.decided,
             }),
         }
     }
@@ -359,21 +451,30 @@ fn outcome_on_findings<T: IndexStorage>(
     requires found { AreFindings T.MAX read.file.now found }
     requires kept { (found.has_precedences ≡ not options.ignores_precedences)
         ⊎ HasNoConflicts T.MAX read.file.now }
-    ensures { IfOk result (λ o.
+    ensures proved { IfOk result (λ o.
         IsConcluded options.ignores_precedences (conclusion_of read.entry.file.now o)) }
+    ensures told { IfOk result (λ o. TellsConclusion options read.entry.source.now.name.now
+        (conclusion_of read.entry.file.now o) (string_bytes o.text)) }
 {
     let known = known_of(alloc, read.file, &found, options)?;
     let expected = options.beside(read.expected);
     let verdict = Verdict::of(found.is_unambiguous, known.left, expected);
-    let text = lines_on_findings(alloc, read, &found, &known, verdict, options)?;
+    let text = text_on_findings(alloc, read, &found, &known, verdict, options)?;
     let page = page_on_findings(alloc, read, &found, &known, verdict, options)?;
+    let Known {
+        evidence,
+        decided,
+        ..
+    } = known;
     Ok(Outcome {
         text,
         page,
         has_precedences: found.has_precedences,
         expected,
         verdict,
-        evidence: known.evidence,
+        evidence,
+        settled: found.settled.len(),
+        decided,
     })
 }
 
@@ -383,8 +484,10 @@ fn outcome_by<T: IndexStorage>(
     read: Read<'_>,
     options: Options,
 ) -> Result<Outcome, FindError>
-    ensures { IfOk result (λ o.
+    ensures proved { IfOk result (λ o.
         IsConcluded options.ignores_precedences (conclusion_of read.entry.file.now o)) }
+    ensures told { IfOk result (λ o. TellsConclusion options read.entry.source.now.name.now
+        (conclusion_of read.entry.file.now o) (string_bytes o.text)) }
 {
     let wants_graph = options.makes_page || options.output == Output::States;
     let has_precedences = !options.ignores_precedences;
@@ -401,8 +504,10 @@ fn is_small(file: &FileGrammar) -> bool {
 
 /// What is told of a file that was read as a grammar, by the least index type that serves.
 fn outcome_of(alloc: Global, read: Read<'_>, options: Options) -> Result<Outcome, FindError>
-    ensures { IfOk result (λ o.
+    ensures proved { IfOk result (λ o.
         IsConcluded options.ignores_precedences (conclusion_of read.entry.file.now o)) }
+    ensures told { IfOk result (λ o. TellsConclusion options read.entry.source.now.name.now
+        (conclusion_of read.entry.file.now o) (string_bytes o.text)) }
 {
     if is_small(read.file) {
         match outcome_by::<u16>(alloc, read, options) {
@@ -440,6 +545,8 @@ pub fn report_on(
     ensures proved { IfOk result (λ r.
         IfSome r.conclusion (IsConcluded options.ignores_precedences)) }
     ensures status { IfOk result (λ r. IfSome r.conclusion (λ c. r.status ≡ status_of c.verdict)) }
+    ensures told { IfOk result (λ r. IfSome r.conclusion (λ c.
+        TellsConclusion options name.now c (string_bytes r.text))) }
     ensures unread { IfOk result (λ r.
         options.output ≢ Grammar → IfNone r.conclusion (r.status ≡ 2)) }
 {
@@ -460,7 +567,7 @@ pub fn report_on(
         warnings: warnings.as_slice(),
     };
     match outcome_of(alloc, read, options) {
-        Ok(outcome) => Ok(outcome.report(file, options)),
+        Ok(outcome) => Ok(outcome.report(file)),
         Err(why) => report_on_refusal(alloc, read, why, options),
     }
 }

@@ -1,12 +1,16 @@
-//! The line of a file's verdict.
+//! The words of a file's verdict. That something is proved is written by what takes the proof.
 
-ghost use Rattle.std.specs.Prelude.{◌≡◌, All, IfSome};
+ghost use Rattle.std.specs.Prelude.{◌≡◌, ◌==◌, [], All, IfOk, IfSome, codes, is_some, length, nat_lt, if◌then◌else◌};
+ghost use Rattle.std.specs.List.{count_by};
+ghost use Rattle.std.specs.String.{string_bytes};
 ghost use Rattle.lrspec.specs.tables.Recognition.{IsUnambiguous};
+ghost use Rattle.lrwriter.specs.Texts.{Adds};
 ghost use Rattle.lrverdicts.specs.declared.verdicts.Verdict.TheVariants.{Unambiguous};
 ghost use Rattle.lrevidence.specs.Ambiguities.{HasTwoTrees, IsProved};
+ghost use Rattle.lrshown.specs.Ambiguities.{has_own_text};
+ghost use Rattle.lrshown.specs.VerdictWords.{unambiguous_words, ambiguous_words, plain_words, texts_words, ambiguous_verdict, unknown_verdict, known_verdict, settled_words, decided_words, verdict_words};
 
 use crate::conflicts::Checked;
-use crate::options::Output;
 use crate::told::Told;
 use lrevidence::{Ambiguity, Evidence};
 use lrfindings::Verdict;
@@ -15,81 +19,188 @@ use lrwriter::Text;
 use std::alloc::{AllocError, Global};
 
 /// For how many entries a text with two trees is known that part by what meets in them.
-pub(crate) fn own_texts(evidence: &[Evidence]) -> usize {
+pub(crate) fn own_texts(evidence: &[Evidence]) -> usize
+    ensures { result ≡ count_by has_own_text evidence.now }
+{
     let mut count: usize = 0;
     for one in evidence {
         if one.has_own_text() {
-            count = count.saturating_add(1);
+            count += 1;
         }
     }
     count
 }
 
+/// Adds for how many of all conflicts a text of their own is known.
+fn push_texts(line: &mut Text, own: usize, all: usize)
+    ensures { Adds line.old line.new (texts_words own all) }
+{
+    if own == 0 {
+        line.add("a text with two trees by something else that meets there");
+    } else if own != all {
+        write!(line, "a text with two trees for {own} of them");
+    } else if all == 1 {
+        line.add("a text with two trees for it");
+    } else {
+        line.add("a text with two trees for each");
+    }
+}
+
+/// Adds how what precedences settle is shown, where that is to be told.
+fn push_hint(words: &mut Text, has_hint: bool)
+    ensures { Adds words.old words.new (if has_hint then codes " (--settled)" else []) }
+{
+    if has_hint {
+        words.add(" (--settled)");
+    }
+}
+
 impl Told<'_> {
-    /// Adds for how many of the conflicts a text is known.
-    fn push_texts(&self, line: &mut Text) {
-        match (own_texts(self.evidence), self.evidence.len()) {
-            (0, _) => line.add("a text with two trees by something else that meets there"),
-            (1, 1) => line.add("a text with two trees for it"),
-            (texts, all) if texts == all => line.add("a text with two trees for each"),
-            (texts, _) => write!(line, "a text with two trees for {texts} of them"),
+    /// Adds for how many of the conflicts a text of their own is known.
+    fn push_own_texts(&self, line: &mut Text)
+        ensures { Adds line.old line.new (texts_words
+            (count_by has_own_text self.now.evidence.now) (length self.now.evidence.now)) }
+    {
+        push_texts(line, own_texts(self.evidence), self.evidence.len());
+    }
+
+    /// Adds that what is told comes besides the conflicts, where there are some.
+    fn push_more(&self, words: &mut Text)
+        ensures { Adds words.old words.new
+            (if length self.now.evidence.now == 0 then [] else codes " more") }
+    {
+        if !self.evidence.is_empty() {
+            words.add(" more");
         }
+    }
+
+    /// Adds how many more conflicts precedences settle, and where it is to be told how these are shown.
+    fn push_settled_count(&self, words: &mut Text, settled: usize, has_hint: bool)
+        ensures { Adds words.old words.new
+            (settled_words settled self.now.evidence.now has_hint) }
+    {
+        if settled == 0 {
+            return;
+        }
+        write!(words, "; precedences settle {settled}");
+        self.push_more(words);
+        push_hint(words, has_hint);
     }
 }
 
 impl<T: IndexStorage> Checked<'_, T> {
-    /// Adds the verdict, and what is known of the conflicts where it was looked for.
-    fn push_verdict(&self, line: &mut Text, verdict: Verdict)
-        requires proved { All (IsProved self.now.found.now.grm) self.now.told.evidence.now }
-        requires unambiguous { verdict ≡ Unambiguous → IsUnambiguous self.now.found.now.grm }
+    /// Adds that no text has two trees.
+    fn push_unambiguous(&self, line: &mut Text)
+        requires proved { IsUnambiguous self.now.found.now.grm }
+        ensures { Adds line.old line.new unambiguous_words }
     {
-        let (told, conflicts) = (&self.told, self.told.evidence.len());
-        if conflicts == 0 || told.options.steps == 0 {
-            return write!(line, "{verdict}");
+        line.add("unambiguous (proved): no text has two trees");
+    }
+
+    /// Adds that the grammar is ambiguous, which that text shows.
+    fn push_ambiguous(&self, line: &mut Text, _text: &Ambiguity)
+        requires proved { HasTwoTrees self.now.found.now.grm _text.now }
+        ensures { Adds line.old line.new ambiguous_words }
+    {
+        line.add("ambiguous (proved)");
+    }
+
+    /// Adds a verdict by itself.
+    fn push_plain_verdict(&self, line: &mut Text, verdict: Verdict)
+        requires unambiguous { verdict ≡ Unambiguous → IsUnambiguous self.now.found.now.grm }
+        ensures { Adds line.old line.new (plain_words verdict) }
+    {
+        match verdict {
+            Verdict::Unambiguous => self.push_unambiguous(line),
+            other => write!(line, "{other}"),
         }
-        match (self.text_with_trees(told.evidence), verdict) {
-            (None, _) if conflicts == 1 => write!(line, "{verdict}, not known to be ambiguous"),
-            (None, _) => write!(line, "{verdict}, none known to be ambiguous"),
-            (Some(_), Verdict::Conflicts(_)) => {
-                write!(line, "ambiguous (proved): {verdict}, ");
-                told.push_texts(line);
+    }
+
+    /// Adds a verdict, and for how many of the conflicts a text is known, of which this is one.
+    fn push_ambiguous_verdict(&self, line: &mut Text, verdict: Verdict, text: &Ambiguity)
+        requires proved { HasTwoTrees self.now.found.now.grm text.now }
+        ensures { Adds line.old line.new (ambiguous_verdict verdict
+            (texts_words (count_by has_own_text self.now.told.evidence.now)
+            (length self.now.told.evidence.now))) }
+    {
+        match verdict {
+            Verdict::Conflicts(counts) => {
+                self.push_ambiguous(line, text);
+                write!(line, ": {counts}, ");
+                self.told.push_own_texts(line);
             }
-            (Some(_), _) => {
-                write!(line, "{verdict}; ambiguous (proved): ");
-                told.push_texts(line);
+            other => {
+                write!(line, "{other}; ");
+                self.push_ambiguous(line, text);
+                line.add(": ");
+                self.told.push_own_texts(line);
             }
         }
     }
 
-    /// The line of a file's verdict: with what is known of its conflicts, how many precedences settle, and how these are shown
-    /// where they could be; and that the grammar is ambiguous without them, where they decide a text.
-    pub(crate) fn verdict_line(
+    /// Adds a verdict, and that no text is known for so many conflicts.
+    fn push_unknown_verdict(&self, line: &mut Text, verdict: Verdict, all: usize)
+        requires unambiguous { verdict ≡ Unambiguous → IsUnambiguous self.now.found.now.grm }
+        ensures { Adds line.old line.new (unknown_verdict verdict all) }
+    {
+        self.push_plain_verdict(line, verdict);
+        if all == 1 {
+            line.add(", not known to be ambiguous");
+        } else {
+            line.add(", none known to be ambiguous");
+        }
+    }
+
+    /// Adds the verdict, and what is known of the conflicts where it was looked for.
+    fn push_verdict(&self, line: &mut Text, verdict: Verdict)
+        requires proved { All (IsProved self.now.found.now.grm) self.now.told.evidence.now }
+        requires unambiguous { verdict ≡ Unambiguous → IsUnambiguous self.now.found.now.grm }
+        ensures { Adds line.old line.new (known_verdict verdict self.now.told.evidence.now
+            (nat_lt 0 self.now.told.options.steps)) }
+    {
+        let evidence = self.told.evidence;
+        if evidence.is_empty() || self.told.options.steps == 0 {
+            return self.push_plain_verdict(line, verdict);
+        }
+        match self.any_text(evidence) {
+            Some(text) => self.push_ambiguous_verdict(line, verdict, text),
+            None => self.push_unknown_verdict(line, verdict, evidence.len()),
+        }
+    }
+
+    /// Adds that a text has two trees without the precedences, which decide it, where there is one.
+    fn push_decided_words(&self, line: &mut Text, decided: Option<&Ambiguity>)
+        requires proved { IfSome decided (λ a. HasTwoTrees self.now.found.now.grm a.now) }
+        ensures { Adds line.old line.new (decided_words (is_some decided.entry)) }
+    {
+        if let Some(text) = decided {
+            line.add("; without them ");
+            self.push_ambiguous(line, text);
+        }
+    }
+
+    /// The words of a file's verdict: with what is known of its conflicts, how many precedences settle, where it is to be told how
+    /// these are shown, and that the grammar is ambiguous without them, where they decide a text.
+    pub(crate) fn verdict_words(
         &self,
         alloc: Global,
         verdict: Verdict,
         decided: Option<&Ambiguity>,
-        output: Output,
+        has_hint: bool,
     ) -> Result<String, AllocError>
         requires proved { All (IsProved self.now.found.now.grm) self.now.told.evidence.now }
         requires unambiguous { verdict ≡ Unambiguous → IsUnambiguous self.now.found.now.grm }
         requires decided { IfSome decided (λ a. HasTwoTrees self.now.found.now.grm a.now) }
+        ensures words { IfOk result (λ s. string_bytes s
+            ≡ verdict_words verdict self.now.told.evidence.now
+            (nat_lt 0 self.now.told.options.steps) (length self.now.found.now.settled.items)
+            has_hint (is_some decided.entry)) }
     {
-        let mut line = Text::new(alloc);
-        line.add(self.told.source.name);
-        line.add(": ");
-        self.push_verdict(&mut line, verdict);
-        let settled = self.found.settled.len();
-        if settled > 0 {
-            let counts = verdict.counts();
-            let more = if counts.is_zero() { "" } else { " more" };
-            write!(line, "; precedences settle {settled}{more}");
-            if output == Output::Report && !self.told.options.tells_settled {
-                line.add(" (--settled)");
-            }
-        }
-        if decided.is_some() {
-            line.add("; without them ambiguous (proved)");
-        }
-        line.finish()
+        let mut words = Text::new(alloc);
+        self.push_verdict(&mut words, verdict);
+        self.told
+            .push_settled_count(&mut words, self.found.settled.len(), has_hint);
+        self.push_decided_words(&mut words, decided);
+        words.finish()
     }
 }

@@ -1,19 +1,29 @@
 -- texts with two trees
-use Rattle.std.specs.Prelude.{◌≡◌, ◌≢◌, ◌⊎◌, ℕ, ◌-◌, List, ◌++◌, All, Option, Some, None, IfSome}
-use Rattle.std.specs.Option.{ForSome}
-use Rattle.lrspec.specs.grammars.Grammar.{Grammar}
+use Rattle.std.specs.Prelude.{◌≡◌, ◌≢◌, ℕ, ◌-◌, ◌&&◌, ◌||◌, Bool, false, List, ◌++◌, All, Option, Some, None, IfSome, is_some, slice_get}
+use Rattle.std.specs.Option.{ForSome, option_map_or}
+use Rattle.lrspec.specs.grammars.Grammar.{Symbol, Grammar}
 use Rattle.lrspec.specs.grammars.Trees.{Tree}
 use Rattle.lryacc.specs.declared.numbering.FileGrammar.{FileGrammar}
 use Rattle.lrmoves.specs.Moves.{IsTreeBy}
+use Rattle.lrambiguity.specs.Derivations.{IsDerivedBy}
 use Rattle.lrshown.specs.declared.ambiguities.Ambiguity.{Ambiguity}
 use Rattle.lrshown.specs.declared.evidence.Evidence.{Evidence}
+use Rattle.lrshown.specs.declared.steps.TwoTrees.{TwoTrees}
 use Rattle.lrshown.specs.declared.steps.Step.{Step}
 use Rattle.lrshown.specs.declared.steps.Step.TheVariants.{Shift, Reduce}
 use Rattle.lrverdicts.specs.declared.conflicts.Entry.{Entry}
-use Rattle.lrshown.specs.Steps.{moves_by, first_of, shifts}
+use Rattle.lrshown.specs.Steps.{moves_by, first_of, is_same_step, shifts}
 use Rattle.lrshown.specs.ShownTexts.{choosing, start_of_text}
 
--- by its steps the text has two trees, which differ
+-- by its steps a rule derives symbols in two ways, which differ behind the dot
+pub record HasTwoWays (g : Grammar) (form : TwoTrees) : Type 0 where
+  pub rule : ℕ
+  pub symbols : List Symbol
+  pub first : IsDerivedBy g rule symbols (moves_by form.before.items ++ moves_by form.one.items)
+  pub second : IsDerivedBy g rule symbols (moves_by form.before.items ++ moves_by form.other.items)
+  pub differ : slice_get (moves_by form.one.items) 0 ≢ slice_get (moves_by form.other.items) 0
+
+-- by its steps the text has two trees, which differ, and so do the two ways that are drawn of it
 pub record HasTwoTrees (g : Grammar) (a : Ambiguity) : Type 0 where
   pub one : Tree
   pub other : Tree
@@ -22,6 +32,7 @@ pub record HasTwoTrees (g : Grammar) (a : Ambiguity) : Type 0 where
   pub second : IsTreeBy g
       (moves_by a.trees.before.items ++ moves_by a.trees.other.items) a.tokens.items other
   pub differ : one ≢ other
+  pub drawn : HasTwoWays g a.form
 
 -- a text that is told of an entry has two trees
 abbrev pub IsProved : Grammar → Evidence → Type 0
@@ -39,13 +50,22 @@ abbrev pub against : Option ℕ → Step
 against None = Shift
 against (Some p) = Reduce p
 
--- two steps are these, in one order or the other
-abbrev pub AreThese : Step → Step → Step → Step → Type 0
-AreThese s t one other = ((one ≡ s) × (other ≡ t)) ⊎ ((one ≡ t) × (other ≡ s))
+-- whether two steps are these, in one order or the other
+abbrev pub are_these : Step → Step → Step → Step → Bool
+are_these s t one other =
+    (is_same_step one s && is_same_step other t) || (is_same_step one t && is_same_step other s)
 
--- its trees part by what meets in an entry: one reduces there as the entry says, and the other does what meets that
-abbrev pub IsOf : Ambiguity → Entry → Type 0
-IsOf a e = AreThese (Reduce e.production) (against e.other) (first_of a.trees.one.items) (first_of a.trees.other.items)
+-- whether its trees part by what meets in an entry: one reduces there as the entry says, and the other does what meets that
+abbrev pub is_of : Ambiguity → Entry → Bool
+is_of a e = are_these (Reduce e.production) (against e.other) (first_of a.trees.one.items) (first_of a.trees.other.items)
+
+-- whether a text with two trees is known of an entry
+abbrev pub has_text : Evidence → Bool
+has_text e = is_some e.ambiguity
+
+-- whether one is known whose trees part by what meets in it
+abbrev pub has_own_text : Evidence → Bool
+has_own_text e = option_map_or (λ a. is_of a.value e.entry) e.ambiguity false
 
 -- how many tokens of what is shown stand before the dot
 abbrev pub shown_dot : FileGrammar → Ambiguity → ℕ

@@ -1,7 +1,7 @@
 //! Texts with two trees.
 
 ghost use Rattle.std.specs.Prelude.{◌≡◌, ◌<◌, ◌↔◌, IsTrue, length};
-ghost use Rattle.lrshown.specs.Ambiguities.{shown_dot, against, IsOf};
+ghost use Rattle.lrshown.specs.Ambiguities.{shown_dot, against, is_of};
 ghost use Rattle.lrshown.specs.declared.steps.Step.TheVariants.{Reduce};
 ghost use Rattle.lrshown.specs.ShownTexts.{start_of_text};
 
@@ -37,11 +37,12 @@ impl Ambiguity {
 
     /// Whether its trees part by what meets in an entry, and not by something else that meets in the same cell.
     pub fn is_of(&self, entry: &Entry) -> bool
-        ensures { IsTrue result ↔ IsOf self.now entry.now }
+        ensures { result ≡ is_of self.now entry.now }
     {
         let (one, other) = self.trees.candidates();
-        let (reduction, shift) = candidates_of(entry);
-        (one == reduction && other == shift) || (one == shift && other == reduction)
+        let (reduction, met) = candidates_of(entry);
+        (one.is_same(reduction) && other.is_same(met))
+            || (one.is_same(met) && other.is_same(reduction))
     }
 
     /// Whether it is told by its form alone, since it has more than 10,000 tokens.

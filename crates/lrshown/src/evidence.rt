@@ -1,7 +1,7 @@
 //! What is known of conflicts.
 
-ghost use Rattle.std.specs.Prelude.{◌↔◌, IsTrue, IfSome, IsSome};
-ghost use Rattle.lrshown.specs.Ambiguities.{IsOf};
+ghost use Rattle.std.specs.Prelude.{◌≡◌, IsTrue, IsSome};
+ghost use Rattle.lrshown.specs.Ambiguities.{has_own_text};
 
 use crate::ambiguities::Ambiguity;
 use lrgrammar::grammar::PartSymbol;
@@ -49,7 +49,7 @@ impl Evidence {
     /// Whether a text with two trees is known, and these part by what meets in the entry.
     pub fn has_own_text(&self) -> bool
         ensures known { IsTrue result → IsSome self.now.ambiguity }
-        ensures own { IfSome self.now.ambiguity (λ a. IsTrue result ↔ IsOf a.value self.now.entry) }
+        ensures own { result ≡ has_own_text self.now }
     {
         match &self.ambiguity {
             Some(ambiguity) => ambiguity.is_of(&self.entry),

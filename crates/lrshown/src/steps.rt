@@ -2,7 +2,7 @@
 
 ghost use Rattle.std.specs.Prelude.{◌≡◌, map, IfOk};
 ghost use Rattle.lrmoves.specs.StoredMoves.{move_of, moves_stored};
-ghost use Rattle.lrshown.specs.Steps.{move_by, moves_by, first_of, shifts};
+ghost use Rattle.lrshown.specs.Steps.{move_by, moves_by, first_of, is_same_step, shifts};
 
 use lrgrammar::idx::IndexStorage;
 use lrmoves::Move;
@@ -15,6 +15,19 @@ pub enum Step {
     Shift,
     /// A node of the production is put over the last trees, as many as its body has symbols.
     Reduce(usize),
+}
+
+impl Step {
+    /// Whether it is the same as another one.
+    pub(crate) fn is_same(self, other: Step) -> bool
+        ensures { result ≡ is_same_step self other }
+    {
+        match (self, other) {
+            (Step::Shift, Step::Shift) => true,
+            (Step::Reduce(one), Step::Reduce(other)) => one == other,
+            _ => false,
+        }
+    }
 }
 
 /// Two trees of the same symbols. Each is put together by the steps before the dot and then its own, of which the first one is

@@ -1,10 +1,11 @@
 //! The verdict of a grammar.
 
-ghost use Rattle.std.specs.Prelude.{◌≡◌, ◌↔◌, IsTrue};
+ghost use Rattle.std.specs.Prelude.{◌≡◌, ◌↔◌, IsTrue, Some};
 ghost use Rattle.lrspec.specs.tables.LrTables.{HasNoPrecedences, ListsNothing};
 ghost use Rattle.lrspec.specs.tables.Recognition.{IsUnambiguous};
 ghost use Rattle.lrspec.specs.tables.Table.{IsTableFor};
 ghost use Rattle.lrverdicts.specs.Verdicts.{counts_of, counts_in, status_of, IsVerdict, IsZero};
+ghost use Rattle.lrverdicts.specs.VerdictTexts.{kind_text, counts_text, expected_text, verdict_text};
 
 use crate::conflicts::Entry;
 use lrcells::statetable::StateTable;
@@ -129,6 +130,8 @@ struct Kind {
 }
 
 impl fmt::Display for Kind {
+    ghost output = { λ kind. Some (kind_text kind.number kind.name.now) };
+
     fn fmt<W: fmt::Write>(&self, f: &mut fmt::Formatter<W>) -> fmt::Result {
         let (number, name) = (self.number, self.name);
         let word = if number == 1 { "conflict" } else { "conflicts" };
@@ -137,6 +140,8 @@ impl fmt::Display for Kind {
 }
 
 impl fmt::Display for Counts {
+    ghost output = { λ counts. Some (counts_text counts) };
+
     fn fmt<W: fmt::Write>(&self, f: &mut fmt::Formatter<W>) -> fmt::Result {
         let shifts = Kind {
             number: self.shift_reduce,
@@ -154,32 +159,39 @@ impl fmt::Display for Counts {
     }
 }
 
-/// Writes how many conflicts are expected.
-fn write_expected<W: fmt::Write>(
-    f: &mut fmt::Formatter<W>,
-    shifts: u64,
-    reductions: u64,
-) -> fmt::Result {
-    match (shifts, reductions) {
-        (_, 0) => write!(f, "{shifts} shift/reduce expected"),
-        (0, _) => write!(f, "{reductions} reduce/reduce expected"),
-        _ => write!(
-            f,
-            "{shifts} shift/reduce and {reductions} reduce/reduce expected"
-        ),
+/// How many conflicts are expected: between a shift and a reduction, and between two reductions.
+#[derive(Clone, Copy)]
+struct Wanted(u64, u64);
+
+impl fmt::Display for Wanted {
+    ghost output = { λ wanted. Some (expected_text wanted.0 wanted.1) };
+
+    fn fmt<W: fmt::Write>(&self, f: &mut fmt::Formatter<W>) -> fmt::Result {
+        let (shifts, reductions) = (self.0, self.1);
+        match (shifts, reductions) {
+            (_, 0) => write!(f, "{shifts} shift/reduce expected"),
+            (0, _) => write!(f, "{reductions} reduce/reduce expected"),
+            _ => write!(
+                f,
+                "{shifts} shift/reduce and {reductions} reduce/reduce expected"
+            ),
+        }
     }
 }
 
+/// That it is proved stands in no verdict: what tells so takes the proof.
 impl fmt::Display for Verdict {
+    ghost output = { λ verdict. Some (verdict_text verdict) };
+
     fn fmt<W: fmt::Write>(&self, f: &mut fmt::Formatter<W>) -> fmt::Result {
         match *self {
-            Verdict::Unambiguous => f.write_str("unambiguous (proved): no text has two trees"),
-            Verdict::NoConflicts => f.write_str("no conflicts"),
+            Verdict::Unambiguous => write!(f, "unambiguous"),
+            Verdict::NoConflicts => write!(f, "no conflicts"),
             Verdict::Conflicts(counts) => write!(f, "{counts}"),
             Verdict::Expected(counts) => write!(f, "as expected: {counts}"),
             Verdict::Unexpected { found, expected } => {
-                write!(f, "{found}; ")?;
-                write_expected(f, expected.0, expected.1)
+                let wanted = Wanted(expected.0, expected.1);
+                write!(f, "{found}; {wanted}")
             }
         }
     }

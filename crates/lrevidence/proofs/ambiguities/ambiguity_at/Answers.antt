@@ -1,8 +1,23 @@
-use Rattle.lrevidence.proofs.NumberedTexts.{numbered}
+use Rattle.lrevidence.proofs.NumberedTexts.{HasMovesOf, numbered, parts}
 use Rattle.lrevidence.proofs.ambiguities.ambiguity_at.Goals as goal
 
-pub returns-in_ok-ambiguity-in-Some : goal.returns-in_ok-ambiguity-in-Some
-returns-in_ok-ambiguity-in-Some g c =
-    let known = c.in_ok-ambiguity-in-Some.ensures in
-    numbered g.T.IndexStorage.number c.args.reasons.now.grammar c.args.reasons.now.graph c.args.conflict c.in-Some.proved c.in_ok-ambiguity-in-Some.field-0
-    (rw c.in-Some.is at c.in_ok-proved.ensures.proof) (rw c.in-Some.is at c.in_ok-proved.ensures.differ) known.tokens known.before known.one known.other
+has_moves : (g : _) (c : goal.In_ok-ambiguity-in-Some g) → HasMovesOf g.T.IndexStorage.number c.in-Some.proved c.in_ok-ambiguity-in-Some.field-0
+has_moves g c = let known = c.in_ok-ambiguity-in-Some.ensures in record {
+  tokens = known.tokens;
+  before = known.before;
+  one = known.one;
+  other = known.other;
+  form_before = known.form_before;
+  form_one = known.form_one;
+  form_other = known.form_other;
+}
+
+pub returns-in_ok-ambiguity-in-Some-clause-trees : goal.returns-in_ok-ambiguity-in-Some-clause-trees
+returns-in_ok-ambiguity-in-Some-clause-trees g c =
+    numbered g.T.IndexStorage.number g.met.T.IndexStorage.injective c.args.reasons.now.grammar c.args.reasons.now.graph c.args.conflict c.in-Some.proved c.in_ok-ambiguity-in-Some.field-0
+    (rw c.in-Some.is at c.in_ok-proved.ensures.proof) (has_moves g c) (rw c.in-Some.is at c.in_ok-proved.ensures.differ)
+
+pub returns-in_ok-ambiguity-in-Some-clause-parts : goal.returns-in_ok-ambiguity-in-Some-clause-parts
+returns-in_ok-ambiguity-in-Some-clause-parts g c =
+    parts g.T.IndexStorage.number g.met.T.IndexStorage.injective c.args.reasons.now.grammar c.args.reasons.now.graph c.args.conflict c.in-Some.proved c.in_ok-ambiguity-in-Some.field-0
+    (rw c.in-Some.is at c.in_ok-proved.ensures.proof) (has_moves g c)

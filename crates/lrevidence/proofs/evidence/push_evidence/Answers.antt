@@ -1,6 +1,6 @@
 use Rattle.std.proofs.Common.{map}
 use Rattle.lrreasons.proofs.ReasonsInTurn.{all_more}
-use Rattle.lrshown.specs.Ambiguities.{IsProved}
+use Rattle.lrevidence.specs.Ambiguities.{IsProved, PartsAtEntry}
 use Rattle.lrevidence.proofs.EvidenceInTurn.{one_more}
 use Rattle.lrevidence.proofs.evidence.push_evidence.Goals as goal
 
@@ -12,4 +12,5 @@ loop-entry-preserved g c =
       one_more (λ e. e.entry) (map (λ e. e.entry) c.args.list.now.items) old new known c.args.entries.now c.loop-entry.entry-index _
           c.loop-entry-test.true c.loop-entry.invariant.0 c.in_ok-push.ensures.items c.in_ok-evidence_of.ensures.entry,
       all_more (IsProved c.args.reasons.now.grammar) old new known c.loop-entry.invariant.1 c.in_ok-push.ensures.items c.in_ok-evidence_of.ensures.proved,
+      all_more (PartsAtEntry c.args.reasons.now.grammar c.args.reasons.now.graph) old new known c.loop-entry.invariant.2 c.in_ok-push.ensures.items c.in_ok-evidence_of.ensures.parts,
     )

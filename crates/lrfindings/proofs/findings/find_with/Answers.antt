@@ -1,4 +1,7 @@
-use Rattle.std.proofs.Common.{◌∙◌}
+use Rattle.std.proofs.Common.{◌≡◌, ◌∙◌, false}
+use Rattle.std.proofs.lemmas.Bool.{false_from_ne_true}
+use Rattle.lrspec.specs.tables.LrTables.{HasNoPrecedences}
+use Rattle.lrspec.proofs.tables.NoPrecedences.{no_precedences}
 use Rattle.lrfindings.proofs.FoundNothing.{none_referred, nothing_found}
 use Rattle.lrspec.proofs.texts.ResultsPassedOn.{error_passed}
 use Rattle.lrfindings.specs.FindErrors.{IsNothingFound, parts_error, build_error}
@@ -12,6 +15,9 @@ pub returns-clause-found : goal.returns-clause-found
 returns-clause-found g c =
     let (h, built, kept) = c.in_ok-graph.ensures.built in
     let cells = c.in_ok-cells.ensures in
+    let grm = c.in_ok-grm.grm in
+    let decides_nothing : HasNoPrecedences grm → c.has_precedences.result ≡ false =
+    λ plain. false_from_ne_true _ (λ some. (no_precedences grm).0 plain (c.has_precedences.ensures.0 some)) in
     record {
       grammar = c.in_ok-grm.ensures.made;
       graph = h;
@@ -25,6 +31,8 @@ returns-clause-found g c =
           (none_referred c.in_ok-graph.graph c.as_ref.result _ c.as_ref.ensures.value cells.opened) (none_referred c.in_ok-graph.graph c.as_ref.result _ c.as_ref.ensures.value cells.settled);
       unambiguous = c.is_unambiguous-is_unambiguous.ensures.proved;
       known = c.is_unambiguous-is_unambiguous.ensures.told;
+      none_closed = λ plain. cells.none_closed (decides_nothing plain);
+      none_opened = λ plain. cells.none_opened (decides_nothing plain);
     }
 
 -- the parts are refused

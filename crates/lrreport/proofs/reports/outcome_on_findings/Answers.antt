@@ -1,4 +1,4 @@
-use Rattle.std.proofs.Common.{◌≡◌, ℕ, Bool, subst}
+use Rattle.std.proofs.Common.{◌≡◌, ℕ, Bool, arith, length, subst}
 use Rattle.std.specs.Prelude.{IsTrue}
 use Rattle.lrspec.specs.merging.Graph.{IsGraphOf}
 use Rattle.lrspec.specs.tables.Conflicts.{AreReductionsContested}
@@ -11,7 +11,9 @@ use Rattle.lrverdicts.specs.Verdicts.{IsVerdict}
 use Rattle.lrfindings.specs.declared.findings.Findings.{Findings}
 use Rattle.lrfindings.specs.Findings.{AreFindings}
 use Rattle.lrevidence.specs.Entries.{AreListedIn}
-use Rattle.lrreport.proofs.KeptGraph.{of_kept, kept_or}
+use Rattle.lrevidence.specs.Ambiguities.{PartsAtEntry}
+use Rattle.lrreport.proofs.KeptGraph.{of_kept, kept_or, each_of_kept}
+use Rattle.lrreport.proofs.LeftOpenEntries.{all_left}
 use Rattle.lrfindings.proofs.ListedNothing.{lists_nothing}
 use Rattle.lrreport.proofs.reports.outcome_on_findings.Goals as goal
 
@@ -38,14 +40,14 @@ known_of-requires-clause-contested g c =
 shown : (b : Bool) (left : Counts) (e : Expected) (v : Verdict) → IsVerdict b left e v → v ≡ Unambiguous → IsTrue b
 shown b left e v is told = (subst (λ v. IsVerdict b left e v) told is).0
 
-pub lines_on_findings-requires-clause-unambiguous : goal.lines_on_findings-requires-clause-unambiguous
-lines_on_findings-requires-clause-unambiguous g c = λ told. c.requires.found.unambiguous (shown c.args.found.is_unambiguous c.in_ok-known.known.left c.beside-expected.result c.of-verdict.result c.of-verdict.ensures told)
+pub text_on_findings-requires-clause-unambiguous : goal.text_on_findings-requires-clause-unambiguous
+text_on_findings-requires-clause-unambiguous g c = λ told. c.requires.found.unambiguous (shown c.args.found.is_unambiguous c.in_ok-known.known.left c.beside-expected.result c.of-verdict.result c.of-verdict.ensures told)
 
 pub page_on_findings-requires-clause-unambiguous : goal.page_on_findings-requires-clause-unambiguous
 page_on_findings-requires-clause-unambiguous g c = λ told. c.requires.found.unambiguous (shown c.args.found.is_unambiguous c.in_ok-known.known.left c.beside-expected.result c.of-verdict.result c.of-verdict.ensures told)
 
-pub returns : goal.returns
-returns g c = record {
+pub returns-clause-proved : goal.returns-clause-proved
+returns-clause-proved g c = record {
   max = g.T.IndexStorage.MAX;
   grammar = c.args.found.grm;
   graph = c.requires.found.graph;
@@ -61,5 +63,15 @@ returns g c = record {
   verdict = subst (λ counts. IsVerdict c.args.found.is_unambiguous counts c.beside-expected.result c.of-verdict.result) c.in_ok-known.ensures.counts c.of-verdict.ensures;
   unambiguous = c.requires.found.unambiguous;
   known = λ plain none. c.requires.found.known plain (lists_nothing c.args.found.table c.args.found.conflicts.items c.requires.found.conflicts none);
+  whole = λ plain. all_left c.args.found.conflicts.items c.args.found.closed.items c.args.found.opened.items _
+      (c.requires.found.none_closed plain) (c.requires.found.none_opened plain) c.in_ok-known.ensures.left;
   texts = c.in_ok-known.ensures.proved;
+  parts = each_of_kept c.requires.found.graph (PartsAtEntry c.args.found.grm) c.in_ok-known.known.evidence.items c.args.found.graph
+      c.requires.found.kept c.in_ok-known.ensures.parts;
+  without = c.in_ok-known.ensures.decided;
 }
+
+pub returns-clause-told : goal.returns-clause-told
+returns-clause-told g c =
+    let settled : c.len.result ≡ length c.args.found.settled.items = omega (arith, c.len.ensures, c.args.found.settled.ok.0) in
+    rw settled c.in_ok-text.ensures.told

@@ -14,4 +14,5 @@ invariant_of-page g c =
       proved =
           rw c.as_slice.ensures.value
           (all_shown checked.found.now.grm (λ card. card.meeting.now) cards each);
+      told = c.requires.words;
     }

@@ -1,0 +1,44 @@
+-- files that are checked in turn
+use Rattle.std.specs.Prelude.{◌≡◌, ◌≢◌, ◌⊎◌, ⊤, ℕ, List, [], ◌∷◌, ◌++◌, Option, IfSome, IfNone, max, string_bytes}
+use Rattle.std.specs.Io.KnownBytes.{Appends}
+use Rattle.lrverdicts.specs.Verdicts.{status_of}
+use Rattle.lrreport.specs.declared.options.Options.{Options}
+use Rattle.lrreport.specs.declared.options.Output.TheVariants.{Grammar}
+use Rattle.lrreport.specs.declared.reports.Report.{Report}
+use Rattle.lrreport.specs.Conclusions.{IsConcluded}
+use Rattle.lrreport.specs.ToldConclusions.{TellsConclusion}
+use Rattle.lrcheck.specs.declared.files.Outcome.{Outcome}
+use Rattle.lrcheck.specs.declared.files.Outcome.TheVariants.{Checked, Unread}
+
+-- a report on a file of that name: what it concludes is so, and its status and its text tell that
+pub record IsReport (options : Options) (name : List ℕ) (r : Report) : Type 0 where
+  pub proved : IfSome r.conclusion (IsConcluded options.ignores_precedences)
+  pub status : IfSome r.conclusion (λ c. r.status ≡ status_of c.verdict)
+  pub told : IfSome r.conclusion (λ c. TellsConclusion options name c (string_bytes r.text))
+  pub unread : options.output ≢ Grammar → IfNone r.conclusion (r.status ≡ 2)
+
+-- what comes of a file of that name
+abbrev pub IsOutcomeOf : Options → List ℕ → Outcome → Type 0
+IsOutcomeOf options name (Checked r) = IsReport options name r
+IsOutcomeOf options name (Unread e) = ⊤
+
+-- what is written of it, and its status
+abbrev pub text_of : Outcome → List ℕ
+text_of (Checked r) = string_bytes r.text
+text_of (Unread e) = []
+
+abbrev pub outcome_status : Outcome → ℕ
+outcome_status (Checked r) = r.status
+outcome_status (Unread e) = 2
+
+-- files of these names are checked in turn: what is written of each stands behind what was written before, and the status is the
+-- greatest of theirs and of their pages', which is 2 where one can't be written
+pub data AreChecked (options : Options) (old : Option (List ℕ)) : List (List ℕ) → Option (List ℕ) → ℕ → Type 0 where
+  none : AreChecked options old [] old 0
+  more :
+      {names : List (List ℕ)} {before after : Option (List ℕ)} {status : ℕ} (name : List ℕ) (o : Outcome) (page : ℕ)
+      → AreChecked options old names before status
+      → IsOutcomeOf options name o
+      → Appends before after (text_of o)
+      → (page ≡ 0) ⊎ (page ≡ 2)
+      → AreChecked options old (names ++ name ∷ []) after (max (max (outcome_status o) status) page)

@@ -1,0 +1,2 @@
+-- files that are checked in turn
+pub mod Checked

@@ -1,0 +1,40 @@
+-- words of verdicts, case by case
+use Rattle.std.proofs.Common.{◌≡◌, ◌≢◌, ℕ, List, [], ◌++◌, Bool, append_assoc, length, ap, refl, ◌∙◌, arith}
+use Rattle.std.specs.Prelude.{◌==◌, codes, decimal, if◌then◌else◌}
+use Rattle.std.proofs.lemmas.Bool.Decides.{nat_tests}
+use Rattle.lrverdicts.specs.declared.verdicts.Counts.{Counts}
+use Rattle.lrverdicts.specs.declared.verdicts.Verdict.{Verdict}
+use Rattle.lrverdicts.specs.declared.verdicts.Verdict.TheVariants.{Unambiguous, NoConflicts, Conflicts, Unexpected}
+use Rattle.lrverdicts.specs.declared.verdicts.Verdict.TheVariants as told
+use Rattle.lrverdicts.specs.VerdictTexts.{counts_text, verdict_text}
+use Rattle.lrshown.specs.declared.evidence.Evidence.{Evidence}
+use Rattle.lrshown.specs.VerdictWords.{ambiguous_verdict, ambiguous_words, plain_words, settled_words, unknown_verdict}
+
+pub unknown_for_more :
+    (v : Verdict) (all : ℕ) → all ≢ 1 → unknown_verdict v all ≡ plain_words v ++ codes ", none known to be ambiguous"
+unknown_for_more v all more =
+    let words : (if all == 1 then codes ", not known to be ambiguous" else codes ", none known to be ambiguous") ≡ codes ", none known to be ambiguous" =
+    grind (arith, nat_tests) in
+    ap (λ x. plain_words v ++ x) words
+
+pub settled_some :
+    (s : ℕ) (e : List Evidence) (hint : Bool) → s ≢ 0
+    → settled_words s e hint
+    ≡ codes "; precedences settle " ++ decimal s ++ (if length e == 0 then [] else codes " more") ++ (if hint then codes " (--settled)" else [])
+settled_some s e hint some = grind (arith, nat_tests)
+
+pub of_conflicts :
+    (c : Counts) (texts : List ℕ)
+    → ambiguous_verdict (Conflicts c) texts ≡ (ambiguous_words ++ (codes ": " ++ (counts_text c ++ codes ", "))) ++ texts
+of_conflicts c texts =
+    let from_the_right = append_assoc (ambiguous_words ++ codes ": ") (counts_text c) (codes ", ") ∙ append_assoc ambiguous_words (codes ": ") (counts_text c ++ codes ", ") in
+    ap (λ x. x ++ texts) from_the_right
+
+pub of_others :
+    (v : Verdict) (texts : List ℕ) → ((c : Counts) → v ≢ Conflicts c)
+    → ambiguous_verdict v texts ≡ verdict_text v ++ codes "; " ++ ambiguous_words ++ codes ": " ++ texts
+of_others Unambiguous texts other = refl
+of_others NoConflicts texts other = refl
+of_others (Conflicts c) texts other = absurd (other c refl)
+of_others (told.Expected c) texts other = refl
+of_others (Unexpected c wanted) texts other = refl

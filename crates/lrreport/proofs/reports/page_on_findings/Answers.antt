@@ -1,0 +1,19 @@
+use Rattle.std.proofs.Common.{false, length, nat_lt}
+use Rattle.lrreport.proofs.KeptGraph.{is_some_referred}
+use Rattle.lrreport.proofs.reports.page_on_findings.Goals as goal
+
+pub page-requires-clause-words : goal.page-requires-clause-words
+page-requires-clause-words g c = ∣ record {
+  verdict = c.args.verdict;
+  evidence = c.args.known.now.evidence.items;
+  searched = nat_lt 0 c.told_of.result.options.steps;
+  settled = length c.args.found.now.settled.items;
+  hint = false;
+  decided = c.args.known.now.decided;
+  are =
+      rw (c.as_str.ensures.value, ← c.told_of.ensures.evidence, ← is_some_referred c.args.known.now.decided c.as_ref.result c.as_ref.ensures.value)
+      c.in_ok-words.ensures.words;
+  unambiguous = c.requires.unambiguous;
+  texts = c.requires.proved;
+  without = c.requires.decided;
+} ∣₁

@@ -1,0 +1,44 @@
+use Rattle.std.proofs.Common.{◌∙◌}
+use Rattle.lrreport.proofs.KeptGraph.{is_some_referred}
+use Rattle.lrreport.proofs.ToldTexts.{lines_tell}
+use Rattle.lrreport.proofs.reports.text_on_findings.Goals as goal
+
+pub returns-in-Json : goal.returns-in-Json
+returns-in-Json g c = record {
+  told = rw (c.in-Json.is, ← c.told_of.ensures.source, ← c.told_of.ensures.evidence) c.json_of_findings.ensures;
+}
+
+pub returns-in-Summary : goal.returns-in-Summary
+returns-in-Summary g c =
+    let told = c.told_of.ensures in
+    record {
+      told =
+          rw (
+            ← told.source,
+            ← told.evidence,
+            ← told.steps,
+            ← told.hint,
+            ← is_some_referred c.args.known.now.decided c.as_ref.result c.as_ref.ensures.value,
+            ← c.in_ok-line.ensures,
+            ← c.as_str.ensures.value,
+            c.in-Summary.is,
+          ) c.summary.ensures;
+    }
+
+pub returns : goal.returns
+returns g c =
+    let told = c.told_of.ensures in
+    record {
+      told =
+          rw (
+            ← told.source,
+            ← told.evidence,
+            ← told.steps,
+            ← told.hint,
+            ← is_some_referred c.args.known.now.decided c.as_ref.result c.as_ref.ensures.value,
+            ← c.in_ok-line.ensures,
+            ← c.as_str-in_default.ensures.value,
+          )
+          (lines_tell c.lines.result c.args.options.output c.args.options.columns _ _ c.in_default.not-Summary c.in_default.not-Json
+          (λ unfolded. c.lines.ensures (told.columns ∙ unfolded)));
+    }
