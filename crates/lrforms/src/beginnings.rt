@@ -1,4 +1,5 @@
-//! Which tokens begin the texts of rules, and least texts that begin with a token.
+//! Which tokens begin the texts of rules, and least texts that begin with a token: as in `texts`, by Knuth's generalization of
+//! Dijkstra's algorithm, from the items before the token on.
 
 use crate::behind::BodyCosts;
 use crate::costs::Cost;

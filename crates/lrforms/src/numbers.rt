@@ -1,4 +1,5 @@
-//! Numbers of things by hashes.
+//! Numbers of things by hashes: a hash table with open addressing and linear probing, which has the numbers alone. The things stand
+//! elsewhere, in the order in which they came.
 
 use std::alloc::{AllocError, Global};
 

@@ -1,4 +1,4 @@
-//! What is to be looked at next.
+//! What is to be looked at next: a priority queue of buckets (Dial 1969), one for each cost.
 
 use std::alloc::{AllocError, Global};
 use std::collections::VecDeque;

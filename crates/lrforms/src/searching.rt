@@ -1,7 +1,10 @@
-//! The search for a form.
+//! The search for a form: a best-first search over pairs of partial derivations, as Isradisaikul and Myers (PLDI 2015) search for
+//! counterexamples to LALR conflicts.
 //!
 //! The two trees are known from the dot outwards: to the left as far as both have the same symbols, and to the right as far as
-//! what one yields was met by the other. They are whole where both end up at one rule.
+//! what one yields was met by the other. They are whole where both end up at one rule. Other than theirs, the search starts at
+//! the dot alone and not at a shortest path to the conflict: to the left it goes over sets of states at once; it uses no
+//! lookaheads, since what is found is checked; and a queue of buckets gives the node that costs least.
 
 use crate::ambiguous::{Ambiguous, Conflict, Search};
 use crate::items::Item;

@@ -1,4 +1,4 @@
-//! Weak compatibility of cores with gotos, and merging.
+//! Pager's weak compatibility (1977) of cores with gotos, and merging.
 
 ghost use Rattle.std.specs.Prelude.{◌≡◌, ◌≢◌, ℕ, ◌<◌, Bool, List, true, false, length, Some, slice_get, slice_set, IsTrue, IsSomeAnd, ◌↔◌};
 ghost use Rattle.lrspec.specs.grammars.ItemSets.{AreUpwards};

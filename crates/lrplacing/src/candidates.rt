@@ -1,4 +1,4 @@
-//! States by the fingerprints of their cores.
+//! States by the fingerprints of their cores: a hash table of so many buckets, each an ordered map.
 
 ghost use Rattle.std.specs.Prelude.{◌≡◌, ◌≢◌, ◌%◌, ℕ, [], ◌∷◌, ◌++◌, IfOk, OnOk};
 

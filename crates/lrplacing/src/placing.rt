@@ -1,4 +1,4 @@
-//! Placing gotos.
+//! Placing gotos: at an equal state, at the first one that is weakly compatible by Pager's rule (1977), or at a new one.
 
 ghost use Rattle.std.specs.Prelude.{◌≡◌, ◌≢◌, ℕ, true, false, IsTrue, ◌↔◌, ◌+◌, ◌<◌, ◌≤◌, ◌==◌, ◌&&◌, if◌then◌else◌, length, slice_get, slice_index, None, Some, IfOk, IfErr, OnOk, MatchOption, ◌⊎◌};
 ghost use Rattle.std.specs.List.{All};

@@ -1,4 +1,5 @@
-//! The search for a shortest list that serves one of the places at which it begins.
+//! The search for a shortest list that serves one of the places at which it begins: an A* search, back from there to the start
+//! state, by the length of the list so far and the distance that is left to that state.
 
 ghost use Rattle.std.specs.Prelude.{◌≡◌, ◌<◌, not, [], length, map, ◌∷◌, option_map, All, IfOk, OnOk, MatchOption, ◌++◌};
 ghost use Rattle.std.specs.Option.{option_to_list};
