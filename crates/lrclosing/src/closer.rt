@@ -1,5 +1,5 @@
-//! Closings by rows that stay from one closing to the next: for each rule the lookaheads of its productions. A work list has the
-//! rules whose row has grown since it was passed on.
+//! Closings by rows that stay from one closing to the next: for each rule the lookaheads of its productions. A work list has
+//! the rules whose row has grown since it was passed on.
 
 ghost use Rattle.std.specs.Prelude.{◌≡◌, ◌≢◌, ℕ, ◌<◌, ◌≤◌, ◌↔◌, ◌∷◌, ◌++◌, IsTrue, false, true, if◌then◌else◌, length, IfOk, MatchOption, slice_get, slice_set, replicate, None, Some, [], vec_capacity};
 ghost use Rattle.std.specs.List.{All};

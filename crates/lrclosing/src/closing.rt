@@ -1,4 +1,5 @@
-//! Closing a map of items: a work list of productions, each passed on again where what it is given has grown, until nothing grows.
+//! Closing a map of items: a work list of productions, each passed on again where what it is given has grown, until nothing
+//! grows.
 
 ghost use Rattle.std.specs.Prelude.{◌≡◌, ◌<◌, ◌≤◌, length, replicate, slice_set, IfOk, OnOk, IfNone, IfSome, IsTrue, Some, None, false, ℕ, []};
 ghost use Rattle.lrspec.specs.grammars.Grammar as math;

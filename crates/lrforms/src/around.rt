@@ -1,5 +1,5 @@
-//! What stands around a rule or an item in a whole text: Dijkstra's search, outwards from the rule to the start production, over
-//! pairs of a place on the way and a rule that begins there.
+//! What stands around a rule or an item in a whole text: Dijkstra's search, outwards from the rule to the start production,
+//! over pairs of a place on the way and a rule that begins there.
 
 use crate::behind::Behind;
 use crate::costs::Cost;

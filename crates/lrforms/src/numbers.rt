@@ -1,5 +1,5 @@
-//! Numbers of things by hashes: a hash table with open addressing and linear probing, which has the numbers alone. The things stand
-//! elsewhere, in the order in which they came.
+//! Numbers of things by hashes: a hash table with open addressing and linear probing, which has the numbers alone. The things
+//! stand elsewhere, in the order in which they came.
 
 use std::alloc::{AllocError, Global};
 

@@ -1,5 +1,5 @@
-//! Lists of symbols, each kept once and known by its number (hash consing): a list is its first symbol and the rest, so that what
-//! ends alike is shared.
+//! Lists of symbols, each kept once and known by its number (hash consing): a list is its first symbol and the rest, so that
+//! what ends alike is shared.
 
 use crate::beginnings::Firsts;
 use crate::numbers::{Hash, Numbers};

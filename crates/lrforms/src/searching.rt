@@ -1,5 +1,5 @@
-//! The search for a form: a best-first search over pairs of partial derivations, as Isradisaikul and Myers (PLDI 2015) search for
-//! counterexamples to LALR conflicts.
+//! The search for a form: a best-first search over pairs of partial derivations, as Isradisaikul and Myers (PLDI 2015) search
+//! for counterexamples to LALR conflicts.
 //!
 //! The two trees are known from the dot outwards: to the left as far as both have the same symbols, and to the right as far as
 //! what one yields was met by the other. They are whole where both end up at one rule. Other than theirs, the search starts at

@@ -1,5 +1,5 @@
-//! Sets of states, each kept once and known by its number (hash consing), with the sets before them and their items before a rule
-//! found once, when they are asked for first.
+//! Sets of states, each kept once and known by its number (hash consing), with the sets before them and their items before a
+//! rule found once, when they are asked for first.
 
 use crate::items::Item;
 use crate::numbers::{Hash, Numbers};

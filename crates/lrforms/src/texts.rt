@@ -1,5 +1,5 @@
-//! Least texts of rules: Knuth's generalization of Dijkstra's algorithm to productions (1977). A rule whose text is settled counts
-//! down what its callers miss, and a production that misses nothing comes into the queue.
+//! Least texts of rules: Knuth's generalization of Dijkstra's algorithm to productions (1977). A rule whose text is settled
+//! counts down what its callers miss, and a production that misses nothing comes into the queue.
 
 use crate::costs::Cost;
 use crate::rules::Rules;

@@ -1,5 +1,5 @@
-//! The list in which the entries of a matrix stand, and where its rows are placed: by row displacement, each row at the first place
-//! where it fits (Tarjan and Yao 1979).
+//! The list in which the entries of a matrix stand, and where its rows are placed: by row displacement, each row at the first
+//! place where it fits (Tarjan and Yao 1979).
 
 ghost use Rattle.std.specs.Prelude.{◌≡◌, ◌≢◌, ◌≤◌, ◌<◌, ◌+◌, ◌*◌, ◌^◌, ℕ, length, max, slice_index_or, IfOk, OnOk};
 ghost use Rattle.std.specs.List.{All};
