@@ -1,5 +1,5 @@
 #!/usr/bin/env python3
-"""Times `lrcheck`, which looks for a text with two trees for each conflict, beside `lrt conflicts` on the same grammar and
+"""Times `lrcheck`, which looks for a sentence with two trees for each conflict, beside `lrt conflicts` on the same grammar and
 Bison's counterexamples.
 
     check_reasons.py [--without-bison] LRCHECK LRT FOLDER..

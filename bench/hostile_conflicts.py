@@ -7,7 +7,7 @@ Each file is checked once with the options that stand by it, or with none. A lin
 at the most, and how many there may be; a call is ended after LONGEST seconds. Ends with status 1 where it took more, or did not
 end with status 0, 1 or 2.
 
-CONFLICTS are large grammar files with conflicts, for which texts with two trees are looked for, as `hostile_files.py` hands them
+CONFLICTS are large grammar files with conflicts, for which sentences with two trees are looked for, as `hostile_files.py` hands them
 over: each as a number and how the text is made of it.
 """
 

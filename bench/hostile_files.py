@@ -60,12 +60,12 @@ BRACE = re.compile(rb"%\{|%\}|[{}]")
 QUOTE = re.compile(rb"['\"]")
 MARK_OF_COMMENT = re.compile(rb"/\*|\*/|//")
 BYTES = b"%'\":;|/*{}<>[]\\$@#\n\r\t \x00\x7f\x80\xc3\xff" + b"azAZ09._-=,&"
-TEXT = r"a text with two trees for (it|each|\d+ of them)"
+TEXT = r"a sentence with two trees for (it|each|\d+ of them)"
 VERDICT = re.compile(
-    r"(unambiguous \(proved\): no text has two trees|no conflicts"
+    r"(unambiguous \(proved\): no sentence has two trees|no conflicts"
     r"|(as expected: |ambiguous \(proved\): )?\d+ (shift|reduce)/reduce conflicts?(, \d+ reduce/reduce conflicts?)?"
     rf"(, {TEXT}|(; \d+ .+ expected)?(; ambiguous \(proved\): {TEXT}|, (not|none) known to be ambiguous)?))"
-    r"(; precedences settle \d+( more)?)?(; without them ambiguous \(proved\))?"
+    r"(; \d+( more)? resolved by precedence)?(; without precedences ambiguous \(proved\))?"
 )
 
 

@@ -225,7 +225,7 @@ def read_by_lrcheck(program, text, folder):
     reading = Reading(conflicts=numbers_of_conflicts(told))
     warnings = [warning["message"] for warning in told["warnings"]]
     reading.useless_rules = sum(it.startswith("this rule is never reached") for it in warnings)
-    reading.useless_productions = sum(it.startswith("this derives no text") for it in warnings)
+    reading.useless_productions = sum(it.startswith("this derives no sentence") for it in warnings)
     reading.counts = {name: told[name] for name in ("rules", "productions", "tokens")}
     grammar = told["grammar"]
     reading.rules = grammar["rules"]

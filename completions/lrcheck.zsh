@@ -8,9 +8,9 @@ _arguments -S \
     '--grammar[Prints the grammar alone, as lrt reads it, or adds it to --json]' \
     '--page=[Writes a page for a browser, of one file]:page:_files -g "*.html(-.)"' \
     '--all[Shows each conflict by itself, and not the first 20 alone]' \
-    '--settled[Shows also what precedences settle]' \
-    '--trees[Draws both trees of each text]' \
-    '--steps=[Looks for a text with two trees for N steps a conflict; 0 for no search]:number: ' \
+    '--settled[Shows also what precedences resolve]' \
+    '--trees[Draws both trees of each sentence]' \
+    '--steps=[Looks for a sentence with two trees for N steps a conflict; 0 for no search]:number: ' \
     '--without-precedences[Leaves precedences out of the grammars]' \
     '--plain[Uses no colours, and folds no lines]' \
     '--grmtools[Takes each file for one of grmtools]' \

@@ -15,13 +15,12 @@ fn options_of(kind: u32) -> Option<Options> {
     let output = match kind {
         0 => Output::Report,
         1 | 3 => Output::Summary,
-        2 => Output::Json,
+        2 => Output::Json { has_grammar: true },
         _ => return None,
     };
     Some(Options {
         output,
         steps: STEPS,
-        tells_grammar: output == Output::Json,
         makes_page: kind == 3,
         dialect: Dialect::Bison,
         ..Options::default()

@@ -1,7 +1,7 @@
 //! The table of the grammar of a text, and the names of its tokens and rules.
 
 ghost use Rattle.std.specs.Prelude.{IfOk};
-ghost use Rattle.lrc.specs.Told.{IsFlat};
+ghost use Rattle.lrc.specs.Told.{IsFlat, IsSaidBy};
 
 use crate::answers::Problem;
 use lrfindings::{FindError, find};
@@ -26,7 +26,9 @@ impl From<FlatError> for Problem {
 }
 
 /// The grammar that a text is read as.
-fn grammar_of(alloc: Global, text: &[u8]) -> Result<FileGrammar, Problem> {
+fn grammar_of(alloc: Global, text: &[u8]) -> Result<FileGrammar, Problem>
+    ensures { IfOk result (IsSaidBy text.now) }
+{
     match read_file(alloc, text, Dialect::Bison)? {
         FileRead::Grammar(file, _, _) => Ok(file),
         FileRead::Faults(_) => Err(Problem::Input),
@@ -35,7 +37,7 @@ fn grammar_of(alloc: Global, text: &[u8]) -> Result<FileGrammar, Problem> {
 
 /// The table of the grammar of a text, as one list of numbers.
 pub(crate) fn table_of(alloc: Global, text: &[u8]) -> Result<Vec<u32>, Problem>
-    ensures { IfOk result (λ v. IsFlat v.items) }
+    ensures { IfOk result (λ v. IsFlat text.now v.items) }
 {
     let file = grammar_of(alloc, text)?;
     let found = find::<u32>(alloc, &file, true, false)?;

@@ -5,13 +5,15 @@ use Rattle.lrverdicts.specs.Verdicts.{status_of}
 use Rattle.lrreport.specs.declared.options.Options.{Options}
 use Rattle.lrreport.specs.declared.options.Output.TheVariants.{Grammar}
 use Rattle.lrreport.specs.declared.reports.Report.{Report}
-use Rattle.lrreport.specs.Conclusions.{IsConcluded}
+use Rattle.lrreport.specs.Conclusions.{IsConcluded, IsSaidBy}
 use Rattle.lrreport.specs.ToldConclusions.{TellsConclusion}
 use Rattle.lrcheck.specs.declared.files.Outcome.{Outcome}
 use Rattle.lrcheck.specs.declared.files.Outcome.TheVariants.{Checked, Unread}
 
--- a report on a file of that name: what it concludes is so, and its status and its text tell that
+-- a report on a file of that name: what it concludes is so, of a text that was read, and its status and its text tell that
 pub record IsReport (options : Options) (name : List ℕ) (r : Report) : Type 0 where
+  pub read : List ℕ
+  pub said : IfSome r.conclusion (IsSaidBy options read)
   pub proved : IfSome r.conclusion (IsConcluded options.ignores_precedences)
   pub status : IfSome r.conclusion (λ c. r.status ≡ status_of c.verdict)
   pub told : IfSome r.conclusion (λ c. TellsConclusion options name c (string_bytes r.text))

@@ -1,14 +1,14 @@
 //! What the program is called with.
 
 use clap::{Arg, ArgAction, ArgMatches, Command, value_parser};
-use lrreport::{Dialect, Options, Output};
+use lrreport::{Detail, Dialect, Lines, Options, Output};
 use std::alloc::{AllocError, Global};
 
 /// What the help ends with.
 const AFTER_HELP: &str = "Example:
   $ lrcheck --summary a.y b.y
-  a.y: ambiguous (proved): 1 shift/reduce conflict, a text with two trees for it
-  b.y: unambiguous (proved): no text has two trees
+  a.y: ambiguous (proved): 1 shift/reduce conflict, a sentence with two trees for it
+  b.y: unambiguous (proved): no sentence has two trees
 
 Exit status, the greatest over the files:
   0  no conflicts, or just those that are expected
@@ -58,7 +58,7 @@ fn detail<'a>(alloc: Global, name: &'a str, help: &'a str) -> Result<Arg<'a>, Al
 
 /// The option for drawings.
 fn trees<'a>(alloc: Global) -> Result<Arg<'a>, AllocError> {
-    detail(alloc, "trees", "Draws both trees of each text")?.conflicts_with("json")
+    detail(alloc, "trees", "Draws both trees of each sentence")?.conflicts_with("json")
 }
 
 /// Adds the options that say what is told more than that.
@@ -66,7 +66,7 @@ fn add_details<'a>(args: &mut Vec<Arg<'a>>) -> Result<(), AllocError> {
     let alloc = *args.allocator();
     let help = "Shows each conflict by itself, and not the first 20 alone";
     args.push(detail(alloc, "all", help)?)?;
-    args.push(detail(alloc, "settled", "Shows also what precedences settle")?)?;
+    args.push(detail(alloc, "settled", "Shows also what precedences resolve")?)?;
     args.push(trees(alloc)?)?;
     Ok(())
 }
@@ -96,7 +96,7 @@ fn steps<'a>(alloc: Global) -> Arg<'a> {
         .long("steps")
         .value_name("N")
         .value_parser(value_parser!(usize))
-        .help("Looks for a text with two trees for N steps a conflict; 0 for no search")
+        .help("Looks for a sentence with two trees for N steps a conflict; 0 for no search")
 }
 
 /// Where a page is written.
@@ -144,7 +144,9 @@ fn output_of(matches: &ArgMatches<'_>) -> Output {
     } else if matches.get_flag("states") {
         Output::States
     } else if matches.get_flag("json") {
-        Output::Json
+        Output::Json {
+            has_grammar: matches.get_flag("grammar"),
+        }
     } else if matches.get_flag("grammar") {
         Output::Grammar
     } else {
@@ -156,15 +158,18 @@ fn output_of(matches: &ArgMatches<'_>) -> Output {
 pub(crate) fn options_of(matches: &ArgMatches<'_>) -> Options {
     Options {
         output: output_of(matches),
-        tells_all: matches.get_flag("all"),
-        tells_settled: matches.get_flag("settled"),
+        detail: Detail {
+            all: matches.get_flag("all"),
+            resolved: matches.get_flag("settled"),
+            trees: matches.get_flag("trees"),
+        },
+        lines: Lines {
+            columns: None,
+            is_plain: matches.get_flag("plain"),
+            has_colours: false,
+        },
         steps: matches.get_one::<usize>("steps").unwrap_or(STEPS),
-        draws_trees: matches.get_flag("trees"),
         ignores_precedences: matches.get_flag("without-precedences"),
-        columns: None,
-        is_plain: matches.get_flag("plain"),
-        has_colours: false,
-        tells_grammar: matches.get_flag("grammar"),
         expected: matches.get_one::<u64>("expect"),
         makes_page: matches.get_str("page").is_some(),
         dialect: if matches.get_flag("grmtools") {

@@ -9,7 +9,7 @@ mod terminals;
 use crate::command_line::{command_line, options_of};
 use crate::files::{INPUT, Stop, check_all};
 use crate::pages::is_over_input;
-use crate::terminals::{Progress, columns, has_colours};
+use crate::terminals::{Progress, lines_of};
 use clap::error::ErrorKind;
 use clap::{ArgMatches, Command};
 use lrreport::Options;
@@ -70,8 +70,7 @@ fn check_named(
     }
     let options = options_of(matches);
     let options = Options {
-        columns: columns(rt, options)?,
-        has_colours: has_colours(rt, options)?,
+        lines: lines_of(rt, options)?,
         ..options
     };
     check_all(rt, &mut rt.stdout(), names, options, page, progress)

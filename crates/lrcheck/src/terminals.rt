@@ -1,6 +1,6 @@
 //! What is written to a terminal alone: colours, and how far the work has come.
 
-use lrreport::{Options, Output};
+use lrreport::{Lines, Options, Output};
 use std::alloc::AllocError;
 use std::env::{self, VarError};
 use std::io::IsTerminal;
@@ -24,8 +24,8 @@ const COLUMNS: usize = 80;
 
 /// How many columns the lines of a report have at the most, which are folded at a terminal alone: as many as COLUMNS says,
 /// between 60 and 120.
-pub(crate) fn columns(rt: &HostRuntime, options: Options) -> Result<Option<usize>, AllocError> {
-    if options.is_plain || !rt.stdout().is_terminal() {
+fn columns(rt: &HostRuntime, options: Options) -> Result<Option<usize>, AllocError> {
+    if options.lines.is_plain || !rt.stdout().is_terminal() {
         return Ok(None);
     }
     let told = match env::var(rt, "COLUMNS") {
@@ -37,12 +37,21 @@ pub(crate) fn columns(rt: &HostRuntime, options: Options) -> Result<Option<usize
 }
 
 /// Whether a report has colours. What other programs read has none.
-pub(crate) fn has_colours(rt: &HostRuntime, options: Options) -> Result<bool, AllocError> {
-    let is_for_programs = matches!(options.output, Output::Json | Output::Grammar);
-    if is_for_programs || options.is_plain || !rt.stdout().is_terminal() {
+fn has_colours(rt: &HostRuntime, options: Options) -> Result<bool, AllocError> {
+    let is_for_programs = matches!(options.output, Output::Json { .. } | Output::Grammar);
+    if is_for_programs || options.lines.is_plain || !rt.stdout().is_terminal() {
         return Ok(false);
     }
     Ok(!refuses_colours(rt)?)
+}
+
+/// How the lines of a report are written.
+pub(crate) fn lines_of(rt: &HostRuntime, options: Options) -> Result<Lines, AllocError> {
+    Ok(Lines {
+        columns: columns(rt, options)?,
+        is_plain: options.lines.is_plain,
+        has_colours: has_colours(rt, options)?,
+    })
 }
 
 /// A line on standard error that tells which file is checked, where that is a terminal and a second has passed.

@@ -1,4 +1,4 @@
--- texts with two trees, entries that are listed, and what is known of one after the other
+-- sentences with two trees, entries that are listed, and what is known of one after the other
 pub mod NumberedTexts
 pub mod ListedEntries
 pub mod EvidenceInTurn

@@ -1,4 +1,4 @@
--- texts with two trees, and where these part
+-- sentences with two trees, and where these part
 use Rattle.std.specs.Prelude.{◌≢◌, ℕ, IfSome}
 use Rattle.lrspec.specs.grammars.Grammar.{Grammar}
 use Rattle.lrspec.specs.merging.Graph.{Graph}

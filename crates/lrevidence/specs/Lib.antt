@@ -1,3 +1,3 @@
--- texts with two trees, which part somewhere, and entries that a table lists
+-- sentences with two trees, which part somewhere, and entries that a table lists
 pub mod Ambiguities
 pub mod Entries

@@ -1,4 +1,4 @@
-//! Texts with two trees.
+//! Sentences with two trees.
 
 ghost use Rattle.std.specs.Prelude.{◌≡◌, map, IfOk, IfSome};
 ghost use Rattle.lrtable.specs.RunAnswers.{text_of};
@@ -44,7 +44,7 @@ fn trees_of_form<T: IndexStorage>(alloc: Global, form: &Form<T>) -> Result<TwoTr
 }
 
 /// Both trees of a text.
-fn trees_of_text<T: IndexStorage>(
+fn trees_of_sentence<T: IndexStorage>(
     alloc: Global,
     ambiguity: &lrambiguity::Ambiguity<T>,
 ) -> Result<TwoTrees, AllocError>
@@ -84,12 +84,12 @@ fn numbered<T: IndexStorage>(
 {
     Ok(Ambiguity {
         tokens: numbers_of(alloc, proved.ambiguity.text.as_slice())?,
-        trees: trees_of_text(alloc, &proved.ambiguity)?,
+        trees: trees_of_sentence(alloc, &proved.ambiguity)?,
         form: trees_of_form(alloc, &proved.form)?,
     })
 }
 
-/// A text with two trees, which part at the conflict, where one is found in so many steps.
+/// A sentence with two trees, which part at the conflict, where one is found in so many steps.
 pub(crate) fn ambiguity_at<T: IndexStorage>(
     alloc: Global,
     reasons: &Reasons<'_, T>,

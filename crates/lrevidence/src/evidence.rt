@@ -35,7 +35,7 @@ fn example_of<T: IndexStorage>(
 /// What is looked for.
 #[derive(Clone, Copy, Debug, PartialEq, Eq)]
 pub struct Effort {
-    /// How many steps a search for a text with two trees takes at the most, for each entry; for 0 there is none.
+    /// How many steps a search for a sentence with two trees takes at the most, for each entry; for 0 there is none.
     pub steps: usize,
     /// How much work all searches together may do, in pieces of the size of `Reasons::allow`.
     pub work: usize,
@@ -56,7 +56,7 @@ impl Effort {
     }
 }
 
-/// What is known of an entry, where a search for a text with two trees takes so many steps, with an example or without.
+/// What is known of an entry, where a search for a sentence with two trees takes so many steps, with an example or without.
 fn evidence_of<T: IndexStorage>(
     alloc: Global,
     reasons: &Reasons<'_, T>,
@@ -154,7 +154,7 @@ pub fn evidence_for<T: IndexStorage>(
     Ok(list)
 }
 
-/// A text with two trees, which part at one of the entries: that of the first entry for which one is found.
+/// A sentence with two trees, which part at one of the entries: that of the first entry for which one is found.
 fn first_ambiguity<T: IndexStorage>(
     alloc: Global,
     reasons: &Reasons<'_, T>,
@@ -174,7 +174,7 @@ fn first_ambiguity<T: IndexStorage>(
     Ok(None)
 }
 
-/// A text with two trees, which part at one of the entries, where one is found: that of the first entry that has one. For each the
+/// A sentence with two trees, which part at one of the entries, where one is found: that of the first entry that has one. For each the
 /// search takes so many steps at the most, and all together do so much work. The error says that memory was refused.
 pub fn find_ambiguity<T: IndexStorage>(
     alloc: Global,

@@ -1,4 +1,4 @@
-//! Why there are the conflicts of a grammar file: texts with two trees, and after what a conflict is real, by the numbers that
+//! Why there are the conflicts of a grammar file: sentences with two trees, and after what a conflict is real, by the numbers that
 //! tokens, rules and productions have in the file.
 #![tactic(auto)]
 
@@ -10,6 +10,6 @@ mod examples;
 pub use crate::evidence::{Effort, Evidence, evidence_for, find_ambiguity};
 pub use lrshown::{
     Ambiguity, Example, Node, Outlook, Step, Tree, TwoTrees, Visit, body_of, candidates_of,
-    list_of, name_of_rule, names_of, names_of_tokens, rule_name, start_of, symbol_name, text_of,
-    token_name,
+    list_of, name_of_rule, names_of, names_of_tokens, node_name, rule_name, start_of, symbol_name,
+    text_of, token_name, tree_words,
 };

@@ -1,6 +1,6 @@
 -- without a graph nothing is found
-use Rattle.std.proofs.Common.{◌≡◌, Bor, List, [], ◌∷◌, map, Option, None, Some, option_map, refl, arith}
-use Rattle.std.specs.Prelude.{IfNone}
+use Rattle.std.proofs.Common.{◌≡◌, ◌∙◌, List, [], ◌∷◌, map, Option, None, Some, Result, Ok, Err, refl, arith}
+use Rattle.std.specs.Prelude.{IfNone, IfOk}
 use Rattle.std.specs.List.Sorted.{IsPermutation}
 use Rattle.std.proofs.lemmas.List.Sorted.{Contains-permutation, IsPermutation-sym}
 use Rattle.lrspec.specs.tables.LrTables.{ListsNothing}
@@ -22,19 +22,26 @@ none_listed b [] nothing moved = refl
 none_listed b (e ∷ es) nothing moved =
     let none : map told (e ∷ es) ≡ [] = no_more (map told (e ∷ es)) (rw (nothing.0, nothing.1) at moved) in absurd cc
 
--- there is none behind the reference either
-pub none_referred : {X : Type 0} (o : Option X) (r : Option (Bor X)) (P : Type 0) → option_map (λ b. b.now) r ≡ o → IfNone r P → IfNone o P
-none_referred None None P e h = h
-none_referred None (Some b) P e h = absurd cc
-none_referred (Some x) r P e h = tt
-
 module _ {T : Type 0} (f : Findings T) where
+  -- the conflicts of the table are left where no token has a precedence, as it is where there is no graph
   pub nothing_found :
-      {X : Type 0} (o : Option X) (b : Table) → IfNone o (ListsNothing b) → IsPermutation (listed (lists_of b)) (map told f.conflicts.items)
-      → IfNone o (f.opened.items ≡ []) → IfNone o (f.settled.items ≡ []) → IfNone o (FindNothing f)
-  nothing_found None b nothing moved opened settled = record {
-    conflicts = none_listed b f.conflicts.items nothing moved;
-    opened = opened;
-    settled = settled;
-  }
-  nothing_found (Some x) b nothing moved opened settled = tt
+      {X : Type 0} (o : Option X) (b : Table) (plain : Type 0) → IfNone o (ListsNothing b) → IfNone o plain
+      → IsPermutation (listed (lists_of b)) (map told f.conflicts.items) → (plain → f.left.items ≡ f.conflicts.items)
+      → (plain → f.resolved.items ≡ []) → IfNone o (FindNothing f)
+  nothing_found None b plain nothing is moved left resolved =
+      let none = none_listed b f.conflicts.items nothing moved in
+      record {
+        conflicts = none;
+        left = left is ∙ none;
+        resolved = resolved is;
+      }
+  nothing_found (Some x) b plain nothing is moved left resolved = tt
+
+-- where it holds it holds of the answer, whether or not there is a graph
+pub plain_answer : {X Y Z E : Type 0} (r : Result (Option X × Y × Z) E) (plain : Type 0) → plain → IfOk r (λ b. IfNone b.0 plain)
+plain_answer (Err e) plain is = tt
+plain_answer (Ok b) plain is = where_none b.0 plain is
+  where
+    where_none : {X : Type 0} (o : Option X) (plain : Type 0) → plain → IfNone o plain
+    where_none None plain is = is
+    where_none (Some x) plain is = tt

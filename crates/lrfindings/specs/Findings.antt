@@ -8,20 +8,23 @@ use Rattle.lrspec.specs.tables.LrTables.{HasNoPrecedences, ListsNothing}
 use Rattle.lrspec.specs.tables.Recognition.{IsUnambiguous}
 use Rattle.lrspec.specs.tables.Table.{Table, IsTableOf, lists_of}
 use Rattle.lryacc.specs.declared.numbering.FileGrammar.{FileGrammar}
+use Rattle.lrfindings.specs.CellConflicts.{conflicts_left, resolved_in}
+use Rattle.lrfindings.specs.StoredCells.{resolution}
 use Rattle.lrfindings.specs.FileGrammars.{IsGrammarOfFile}
 use Rattle.lrfindings.specs.declared.findings.Findings.{Findings}
 use Rattle.lrverdicts.specs.Listed.{told, listed}
 
--- no conflict is found, and none that precedences settle
+-- no conflict is found, and none that precedences resolve
 pub record FindNothing {T : Type 0} (f : Findings T) : Type 0 where
   pub conflicts : f.conflicts.items ≡ []
-  pub opened : f.opened.items ≡ []
-  pub settled : f.settled.items ≡ []
+  pub left : f.left.items ≡ []
+  pub resolved : f.resolved.items ≡ []
 
 -- the grammar is that of the file, with indices up to the greatest; graph, table and conflicts are the
--- grammar's, and there is a graph unless nothing is found; it is told to be unambiguous only where no text
--- has two trees, and always where the table lists nothing and no token has a precedence; and where none has one,
--- no conflict of the table is closed, and none is opened
+-- grammar's, and there is a graph unless nothing is found; it is told to be unambiguous only where no sentence
+-- has two trees, and always where the table lists nothing and no token has a precedence; the conflicts that are left open are
+-- those of the table where no token has a precedence, and else those that precedences leave open in the cells of the graph; and
+-- what is resolved is what precedences resolve there
 pub record AreFindings {T : Type 0} (max : ℕ) (file : FileGrammar) (f : Findings T) : Type 0 where
   pub grammar : IsGrammarOfFile max file f.has_precedences f.grm
   pub graph : Graph
@@ -32,10 +35,13 @@ pub record AreFindings {T : Type 0} (max : ℕ) (file : FileGrammar) (f : Findin
   pub states : f.states ≡ length graph
   pub without : IfNone f.graph (FindNothing f)
   pub conflicts : IsPermutation (listed (lists_of f.table)) (map told f.conflicts.items)
+  pub left_listed :
+      HasNoPrecedences f.grm → IsPermutation (listed (lists_of f.table)) (map told f.left.items)
+  pub left :
+      ¬ (HasNoPrecedences f.grm) → IsPermutation (conflicts_left f.grm graph) (map told f.left.items)
+  pub resolved : IsPermutation (resolved_in f.grm graph) (map resolution f.resolved.items)
   pub unambiguous : IsTrue f.is_unambiguous → IsUnambiguous f.grm
   pub known : HasNoPrecedences f.grm → ListsNothing f.table → IsTrue f.is_unambiguous
-  pub none_closed : HasNoPrecedences f.grm → f.closed.items ≡ []
-  pub none_opened : HasNoPrecedences f.grm → f.opened.items ≡ []
 
 -- with its precedences, the grammar of the file has a table that lists no conflict
 pub record HasNoConflicts (max : ℕ) (file : FileGrammar) : Type 0 where

@@ -1,4 +1,7 @@
--- the grammar of a file, and what is promised of findings in it, or where there are none
+-- the grammar of a file, which conflicts precedences leave open and what they resolve, and what is promised of findings, or
+-- where there are none
 pub mod FileGrammars
+pub mod CellConflicts
+pub mod StoredCells
 pub mod Findings
 pub mod FindErrors

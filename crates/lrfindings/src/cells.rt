@@ -1,17 +1,30 @@
-//! What precedences make of the cells in which a shift and reductions meet.
+//! What precedences make of the cells in which a shift and reductions meet, and which conflicts they leave open.
 //!
 //! As Bison does it, each reduction of a cell is tried against the shift, in the order of the productions, as long as the shift
-//! stands; a table tries the first one alone. A `%precedence` line says which level is higher, and settles nothing between its
+//! stands; a table tries the first one alone. A `%precedence` line says which level is higher, and resolves nothing between its
 //! own tokens. A production whose precedence would be that of such a line has the odd level below its tokens, whose level is
 //! even: so the table shifts, and both are left.
 
-ghost use Rattle.std.specs.Prelude.{◌≡◌, [], IfOk};
+ghost use Rattle.std.specs.Prelude.{◌≡◌, ◌++◌, ◌<◌, ◌≤◌, ℕ, false, [], length, map, is_some, option_map, slice_index_or, IfOk, OnOk};
+ghost use Rattle.std.specs.List.{cons_option, flat_map, range_with_len};
+ghost use Rattle.std.specs.List.Sorted.{IsPermutation};
+ghost use Rattle.lrspec.specs.grammars.Grammar as math;
+ghost use Rattle.lrspec.specs.grammars.ItemSets.{AreUpwards, Fits};
+ghost use Rattle.lrspec.specs.merging.Graph.{closed_of, edge, IsGraphOf};
+ghost use Rattle.lrtext.specs.StoredParts.{precedence_of};
+ghost use Rattle.lritems.specs.ItemsOf.{set_of};
+ghost use Rattle.lrrows.specs.ReadGraphs.{IsReadable};
+ghost use Rattle.lrrows.specs.StateRows.{complete_items};
+ghost use Rattle.lrverdicts.specs.Listed.{told};
+ghost use Rattle.lrfindings.specs.CellConflicts.{outcome_of, leaves_shift, leaves_reduction, decision, shift_stands, reductions_left, decided, resolved_of, resolved_by, resolved_at, resolved_in, conflicts_of, conflicts_by, conflicts_at, conflicts_left};
+ghost use Rattle.lrfindings.specs.StoredCells.{outcome_in, resolution, precedence_at, ArePrecedencesOf, complete, looking_at};
 
-use crate::idle::{Deciding, Idle};
-use lrgrammar::grammar::{AssocKind, PartProd, PartSymbol, Precedence};
-use lrgrammar::idx::{IndexStorage, PIdx, SIdx, StIdx, Symbol, TIdx};
+use crate::useless::{Deciding, UselessPrecedences};
+use lrgrammar::grammar::{AssocKind, PartProd, PartSymbol, Precedence, YaccGrammar};
+use lrgrammar::idx::{IndexStorage, PIdx, StIdx, Symbol, TIdx};
 use lrgrammar::vob::Vob;
-use lrtable::StateGraph;
+use lrgraphs::stategraph::StateGraph;
+use lritems::itemset::Itemset;
 use lrverdicts::{Entry, place_of};
 use lryacc::FileGrammar;
 use std::alloc::{AllocError, Global};
@@ -27,9 +40,20 @@ pub enum Winner {
     Neither,
 }
 
+impl Winner {
+    /// The word for it in JSON.
+    pub fn word(self) -> &'static str {
+        match self {
+            Winner::Shift => "shift",
+            Winner::Reduce => "reduce",
+            Winner::Neither => "neither",
+        }
+    }
+}
+
 /// A shift and a reduction between which precedences decide.
 #[derive(Clone, Copy, Debug, PartialEq, Eq)]
-pub struct Settled {
+pub struct Resolved {
     /// What meets.
     pub entry: Entry,
     /// What is done.
@@ -47,15 +71,29 @@ enum Outcome {
     Open,
 }
 
-/// The precedences of a grammar: those of its tokens and of its productions, by their numbers.
-#[derive(Drop)]
-struct Precedences {
-    tokens: Vec<Option<Precedence>>,
-    productions: Vec<Option<Precedence>>,
-    /// The tokens that have one.
-    with: Vec<usize>,
+/// What the precedences of a token and of a production make of the shift and the reduction.
+fn compare(token: Option<Precedence>, production: Option<Precedence>) -> Outcome
+    ensures { result ≡ outcome_of (option_map precedence_of token)
+        (option_map precedence_of production) }
+{
+    let (Some(shift), Some(reduce)) = (token, production) else {
+        return Outcome::Open;
+    };
+    if reduce.level % 2 == 1 && reduce.level.checked_add(1) == Some(shift.level) {
+        return Outcome::Tie;
+    }
+    Outcome::Won(if reduce.level < shift.level {
+        Winner::Shift
+    } else if shift.level < reduce.level {
+        Winner::Reduce
+    } else {
+        match shift.kind {
+            AssocKind::Left => Winner::Reduce,
+            AssocKind::Right => Winner::Shift,
+            AssocKind::Nonassoc => Winner::Neither,
+        }
+    })
 }
-
 /// The last token of a body.
 pub(crate) fn last_token(prod: &PartProd) -> Option<usize> {
     for symbol in prod.symbols.iter().rev() {
@@ -74,146 +112,183 @@ pub fn precedence_token(prod: &PartProd) -> Option<usize> {
     }
 }
 
+/// The precedences of a grammar: those of its tokens and of its productions, by their numbers.
+#[derive(Drop)]
+struct Precedences {
+    tokens: Vec<Option<Precedence>>,
+    productions: Vec<Option<Precedence>>,
+}
+
+/// The precedences of the tokens of a grammar.
+fn of_tokens<T: IndexStorage>(
+    alloc: Global,
+    grm: &YaccGrammar<T>,
+) -> Result<Vec<Option<Precedence>>, AllocError>
+    ensures { IfOk result (λ v. (t : ℕ) →
+        precedence_at v.items t ≡ math.token_precedence grm.now t) }
+{
+    let mut precedences = Vec::new(alloc);
+    for token in 0..usize::from(grm.tokens_len()) {
+        precedences.push(grm.token_precedence(TIdx(T::from_usize(token).unwrap())))?;
+    }
+    Ok(precedences)
+}
+
+/// The precedences of the productions of a grammar.
+fn of_productions<T: IndexStorage>(
+    alloc: Global,
+    grm: &YaccGrammar<T>,
+) -> Result<Vec<Option<Precedence>>, AllocError>
+    ensures { IfOk result (λ v. (p : ℕ) →
+        precedence_at v.items p ≡ math.production_precedence grm.now p) }
+{
+    let mut precedences = Vec::new(alloc);
+    for production in 0..usize::from(grm.prods_len()) {
+        precedences.push(grm.prod_precedence(PIdx(T::from_usize(production).unwrap())))?;
+    }
+    Ok(precedences)
+}
+
 impl Precedences {
-    /// Those of a file's grammar.
-    fn new(alloc: Global, file: &FileGrammar) -> Result<Precedences, AllocError> {
-        let mut precedences = Precedences {
-            tokens: Vec::new(alloc),
-            productions: Vec::new(alloc),
-            with: Vec::new(alloc),
-        };
-        precedences.add_tokens(file)?;
-        precedences.add_productions(file)?;
-        Ok(precedences)
-    }
-
-    /// Adds those of the tokens.
-    fn add_tokens(&mut self, file: &FileGrammar) -> Result<(), AllocError> {
-        for number in 0..file.parts.tokens.len() {
-            let precedence = file.parts.tokens[number].precedence;
-            if precedence.is_some() {
-                self.with.push(number)?;
-            }
-            self.tokens.push(precedence)?;
-        }
-        Ok(())
-    }
-
-    /// Adds those of the productions.
-    fn add_productions(&mut self, file: &FileGrammar) -> Result<(), AllocError> {
-        for prod in &file.parts.prods {
-            let precedence = match precedence_token(prod) {
-                Some(token) => self.of_token(token),
-                None => None,
-            };
-            self.productions.push(precedence)?;
-        }
-        Ok(())
-    }
-
-    /// That of a token.
-    fn of_token(&self, token: usize) -> Option<Precedence> {
-        self.tokens.get(token).copied().flatten()
-    }
-
-    /// That of a production.
-    fn of_production(&self, production: usize) -> Option<Precedence> {
-        self.productions.get(production).copied().flatten()
+    /// Those of a grammar.
+    fn new<T: IndexStorage>(alloc: Global, grm: &YaccGrammar<T>) -> Result<Precedences, AllocError>
+        ensures { IfOk result (ArePrecedencesOf grm.now) }
+    {
+        Ok(Precedences {
+            tokens: of_tokens(alloc, grm)?,
+            productions: of_productions(alloc, grm)?,
+        })
     }
 
     /// What they make of the shift of a token and the reduction by a production.
-    fn outcome(&self, token: usize, production: usize) -> Outcome {
-        let (Some(shift), Some(reduce)) = (self.of_token(token), self.of_production(production))
-        else {
-            return Outcome::Open;
-        };
-        if reduce.level % 2 == 1 && reduce.level.checked_add(1) == Some(shift.level) {
-            return Outcome::Tie;
-        }
-        Outcome::Won(if reduce.level < shift.level {
-            Winner::Shift
-        } else if shift.level < reduce.level {
-            Winner::Reduce
-        } else {
-            match shift.kind {
-                AssocKind::Left => Winner::Reduce,
-                AssocKind::Right => Winner::Shift,
-                AssocKind::Nonassoc => Winner::Neither,
-            }
-        })
-    }
-}
-
-/// What is found in the cells of a table.
-#[derive(Drop)]
-pub(crate) struct CellFindings {
-    /// The decisions between a shift and a reduction.
-    pub(crate) settled: Vec<Settled>,
-    /// Entries of the table's lists that are none where each reduction is tried by itself.
-    pub(crate) closed: Vec<Entry>,
-    /// Entries that are left then, and stand in no list of the table.
-    pub(crate) opened: Vec<Entry>,
-    /// What of the file takes no part in the decisions, and what of its tokens in no rule.
-    pub(crate) idle: Idle,
-}
-
-impl CellFindings {
-    /// What is found where no precedence decides: which precedences settle nothing, and which tokens are in no rule.
-    pub(crate) fn without_decisions(
-        alloc: Global,
-        file: &FileGrammar,
-    ) -> Result<CellFindings, AllocError>
-        ensures closed { IfOk result (λ c. c.closed.items ≡ []) }
-        ensures opened { IfOk result (λ c. c.opened.items ≡ []) }
-        ensures settled { IfOk result (λ c. c.settled.items ≡ []) }
+    fn compared(&self, token: usize, production: usize) -> Outcome
+        ensures { result ≡ outcome_in self.now token production }
     {
-        Ok(CellFindings {
-            settled: Vec::new(alloc),
-            closed: Vec::new(alloc),
-            opened: Vec::new(alloc),
-            idle: Deciding::new(alloc, file)?.idle(file)?,
-        })
+        compare(
+            self.tokens.get(token).copied().flatten(),
+            self.productions.get(production).copied().flatten(),
+        )
     }
 }
 
-/// What was found in cells so far.
+impl Outcome {
+    /// Whether the shift stands.
+    fn leaves_shift(self) -> bool
+        ensures { result ≡ leaves_shift self }
+    {
+        !matches!(self, Outcome::Won(Winner::Reduce | Winner::Neither))
+    }
+
+    /// Whether the reduction is left.
+    fn leaves_reduction(self) -> bool
+        ensures { result ≡ leaves_reduction self }
+    {
+        !matches!(self, Outcome::Won(Winner::Shift | Winner::Neither))
+    }
+}
+
+/// A cell of a table.
+#[derive(Clone, Copy)]
+struct Cell {
+    state: usize,
+    token: usize,
+}
+
+impl Cell {
+    /// What meets in it.
+    fn entry(self, file: &FileGrammar, production: usize, other: Option<usize>) -> Entry
+        ensures { told result ≡ (self.token, production, other, self.state) }
+    {
+        Entry {
+            place: place_of(file, production),
+            state: self.state,
+            production,
+            other,
+            token: self.token,
+        }
+    }
+}
+
+/// By what is decided: the file, and its precedences.
+#[derive(Clone, Copy)]
+struct Rules<'a> {
+    file: &'a FileGrammar,
+    precedences: &'a Precedences,
+}
+
+/// What precedences resolve, so far.
 #[derive(Drop)]
-struct Cells {
-    settled: Vec<Settled>,
-    closed: Vec<Entry>,
-    opened: Vec<Entry>,
+struct Decisions {
+    resolved: Vec<Resolved>,
     /// Which tokens and productions take part in decisions.
     deciding: Deciding,
 }
 
-impl Cells {
-    /// Nothing was found.
-    fn new(alloc: Global, file: &FileGrammar) -> Result<Cells, AllocError> {
-        Ok(Cells {
-            settled: Vec::new(alloc),
-            closed: Vec::new(alloc),
-            opened: Vec::new(alloc),
-            deciding: Deciding::new(alloc, file)?,
-        })
+/// What is left of a cell with a shift.
+#[derive(Drop)]
+struct Left {
+    /// Whether the shift stands.
+    stands: bool,
+    /// The reductions.
+    reductions: Vec<usize>,
+}
+
+impl Decisions {
+    /// Tries a reduction against the shift of a cell, and answers what precedences make of both.
+    fn try_reduction(
+        &mut self,
+        rules: Rules<'_>,
+        cell: Cell,
+        production: usize,
+    ) -> Result<Outcome, AllocError>
+        ensures outcome { IfOk result (λ o.
+            o ≡ outcome_in rules.entry.precedences.now cell.token production) }
+        ensures resolved { IfOk result (λ o. map resolution self.new.resolved.items
+            ≡ map resolution self.old.resolved.items
+            ++ resolved_of cell.state cell.token (cons_option (decision o production) [])) }
+    {
+        let outcome = rules.precedences.compared(cell.token, production);
+        if outcome != Outcome::Open {
+            self.deciding.note(rules.file, cell.token, production);
+        }
+        if let Outcome::Won(winner) = outcome {
+            let entry = cell.entry(rules.file, production, None);
+            self.resolved.push(Resolved { entry, winner })?;
+        }
+        Ok(outcome)
     }
 
-    /// What was found, in the order of the file.
-    fn in_order(self, file: &FileGrammar) -> Result<CellFindings, AllocError> {
-        let Cells {
-            mut settled,
-            mut closed,
-            mut opened,
-            deciding,
-        } = self;
-        settled.sort_unstable_by_key(|settled| settled.entry);
-        closed.sort_unstable();
-        opened.sort_unstable();
-        Ok(CellFindings {
-            settled,
-            closed,
-            opened,
-            idle: deciding.idle(file)?,
-        })
+    /// Tries the reductions of a cell one after another, each against a shift that still stands.
+    fn try_reductions(
+        &mut self,
+        rules: Rules<'_>,
+        cell: Cell,
+        reductions: &[usize],
+    ) -> Result<Left, AllocError>
+        ensures stands { IfOk result (λ l. l.stands
+            ≡ shift_stands (outcome_in rules.entry.precedences.now cell.token) reductions.now) }
+        ensures left { IfOk result (λ l. l.reductions.items
+            ≡ reductions_left (outcome_in rules.entry.precedences.now cell.token)
+            reductions.now) }
+        ensures resolved { OnOk result (map resolution self.new.resolved.items
+            ≡ map resolution self.old.resolved.items ++ resolved_of cell.state cell.token
+            (decided (outcome_in rules.entry.precedences.now cell.token) reductions.now)) }
+    {
+        let mut left = Left {
+            stands: true,
+            reductions: Vec::new(*self.resolved.allocator()),
+        };
+        for production in reductions {
+            if left.stands {
+                let outcome = self.try_reduction(rules, cell, *production)?;
+                left.stands = outcome.leaves_shift();
+                if !outcome.leaves_reduction() {
+                    continue;
+                }
+            }
+            left.reductions.push(*production)?;
+        }
+        Ok(left)
     }
 }
 
@@ -226,230 +301,303 @@ struct Reduction<'a> {
 
 impl Reduction<'_> {
     /// Whether the state could reduce at the token.
-    fn is_at(&self, token: usize) -> bool {
+    fn is_at(&self, token: usize) -> bool
+        ensures { result ≡ slice_index_or self.now.tokens.now token false }
+    {
         token < self.tokens.len() && self.tokens.get(token)
     }
 }
 
-/// A cell with a shift, of which the reductions were tried one after another, each against a shift that still stands.
-#[derive(Drop)]
-struct Cell {
-    state: usize,
-    token: usize,
-    /// Whether the shift is left.
-    is_shifting: bool,
-    /// The reductions, and for each whether it is left.
-    reductions: Vec<(usize, bool)>,
-    /// Whether the table lists the shift beside the first reduction.
-    is_listed: bool,
+/// The complete items of a closed state but for that of the start production, upwards.
+fn reductions_of<'a, T: IndexStorage>(
+    grm: &YaccGrammar<T>,
+    closed: &'a Itemset<T>,
+) -> Result<Vec<Reduction<'a>>, AllocError>
+    requires { Fits grm.now (set_of T.number closed.now) }
+    ensures { IfOk result (λ v. map complete v.items
+        ≡ complete_items grm.now (set_of T.number closed.now)) }
+{
+    let mut reductions = Vec::new(grm.allocator());
+    for (key, tokens) in &closed.items {
+        if key.1 == grm.prod_len(key.0) && key.0 != grm.start_prod() {
+            let production = usize::from(key.0);
+            reductions.push(Reduction { production, tokens })?;
+        }
+    }
+    Ok(reductions)
 }
 
-impl Cell {
-    /// The first reduction.
-    fn first(&self) -> Option<usize> {
-        Some(self.reductions.first()?.0)
-    }
-
-    /// The first reduction that is left.
-    fn first_left(&self) -> Option<usize> {
-        for (production, is_left) in &self.reductions {
-            if *is_left {
-                return Some(*production);
-            }
+/// Makes the list that of the productions by which a state could reduce at the token.
+fn list_at(
+    productions: &mut Vec<usize>,
+    reductions: &[Reduction<'_>],
+    token: usize,
+) -> Result<(), AllocError>
+    ensures { OnOk result (productions.new.items
+        ≡ looking_at (map complete reductions.now) token) }
+{
+    productions.clear();
+    for reduction in reductions {
+        if reduction.is_at(token) {
+            productions.push(reduction.production)?;
         }
-        None
     }
+    Ok(())
+}
+
+/// Adds the conflicts of a cell of which these reductions are left.
+fn add_conflicts(
+    entries: &mut Vec<Entry>,
+    file: &FileGrammar,
+    cell: Cell,
+    stands: bool,
+    reductions: &[usize],
+) -> Result<(), AllocError>
+    ensures { OnOk result (map told entries.new.items ≡ map told entries.old.items
+        ++ conflicts_of cell.state cell.token stands reductions.now) }
+{
+    let Some((first, others)) = reductions.split_first() else {
+        return Ok(());
+    };
+    if stands {
+        entries.push(cell.entry(file, *first, None))?;
+    }
+    for other in others {
+        entries.push(cell.entry(file, *first, Some(*other)))?;
+    }
+    Ok(())
+}
+
+/// Whether a state shifts a token.
+fn shifts<T: IndexStorage>(graph: &StateGraph<T>, state: StIdx<T>, token: usize) -> bool
+    requires { token ≤ T.MAX }
+    ensures { result ≡ is_some (edge graph.now (T.number state.0) (math.Token token)) }
+{
+    let tidx = TIdx(T::from_usize(token).unwrap());
+    graph.edge(state, Symbol::Token(tidx)).is_some()
 }
 
 /// What is looked at.
 #[derive(Clone, Copy)]
 struct Looked<'a, T: IndexStorage> {
-    file: &'a FileGrammar,
+    rules: Rules<'a>,
+    grm: &'a YaccGrammar<T>,
     graph: &'a StateGraph<T>,
-    precedences: &'a Precedences,
 }
 
-impl<T: IndexStorage> Looked<'_, T> {
-    /// What meets in a cell.
-    fn entry(&self, cell: &Cell, production: usize, other: Option<usize>) -> Entry {
-        Entry {
-            place: place_of(self.file, production),
-            state: cell.state,
-            production,
-            other,
-            token: cell.token,
-        }
-    }
+/// What is found in the cells of a table.
+#[derive(Drop)]
+pub(crate) struct CellFindings {
+    /// The decisions between a shift and a reduction.
+    pub(crate) resolved: Vec<Resolved>,
+    /// The conflicts that are left open.
+    pub(crate) left: Vec<Entry>,
+    /// What of the file takes no part in the decisions, and what of its tokens in no rule.
+    pub(crate) useless: UselessPrecedences,
+}
 
-    /// Whether the state shifts the token.
-    fn shifts(&self, state: StIdx<T>, token: usize) -> bool {
-        match T::from_usize(token) {
-            Some(token) => self.graph.edge(state, Symbol::Token(TIdx(token))).is_some(),
-            None => false,
-        }
-    }
-
-    /// The complete items of a state, upwards by production, of which the productions of `$accept` are none.
-    fn reductions<'b>(
-        &'b self,
+impl CellFindings {
+    /// What is found where no precedence decides: the conflicts of the table are left open, in their order.
+    pub(crate) fn without_decisions(
         alloc: Global,
-        state: StIdx<T>,
-    ) -> Result<Vec<Reduction<'b>>, AllocError> {
-        let mut reductions = Vec::new(alloc);
-        if usize::from(state) >= usize::from(self.graph.all_states_len()) {
-            return Ok(reductions);
-        }
-        for (key, tokens) in &self.graph.closed_state(state).items {
-            let (production, dot) = (usize::from(key.0), usize::from(key.1));
-            if let Some(prod) = self.file.parts.prods.get(production) {
-                if dot == prod.symbols.len() {
-                    reductions.push(Reduction { production, tokens })?;
-                }
-            }
-        }
-        Ok(reductions)
+        file: &FileGrammar,
+        conflicts: &[Entry],
+    ) -> Result<CellFindings, AllocError>
+        ensures left { IfOk result (λ c. c.left.items ≡ conflicts.now) }
+        ensures resolved { IfOk result (λ c. c.resolved.items ≡ []) }
+    {
+        Ok(CellFindings {
+            resolved: Vec::new(alloc),
+            left: conflicts.iter().copied().collect(alloc)?,
+            useless: Deciding::new(alloc, file)?.useless(file)?,
+        })
+    }
+}
+
+/// What is found in the cells of a graph so far.
+#[derive(Drop)]
+struct Cells {
+    decisions: Decisions,
+    /// The conflicts that are left.
+    left: Vec<Entry>,
+}
+
+impl Cells {
+    /// Nothing is found.
+    fn new(alloc: Global, file: &FileGrammar) -> Result<Cells, AllocError>
+        ensures left { IfOk result (λ c. c.left.items ≡ []) }
+        ensures resolved { IfOk result (λ c. c.decisions.resolved.items ≡ []) }
+    {
+        Ok(Cells {
+            decisions: Decisions {
+                resolved: Vec::new(alloc),
+                deciding: Deciding::new(alloc, file)?,
+            },
+            left: Vec::new(alloc),
+        })
     }
 
-    /// Tries the reductions of a cell, one after another, each against a shift that still stands.
-    fn try_reductions(
-        &self,
-        cells: &mut Cells,
+    /// What was found, in the order of the file.
+    fn in_order(self, file: &FileGrammar) -> Result<CellFindings, AllocError>
+        ensures left { IfOk result (λ c.
+            IsPermutation (map told self.left.items) (map told c.left.items)) }
+        ensures resolved { IfOk result (λ c. IsPermutation
+            (map resolution self.decisions.resolved.items) (map resolution c.resolved.items)) }
+    {
+        let Cells {
+            decisions,
+            mut left,
+        } = self;
+        let Decisions {
+            mut resolved,
+            deciding,
+        } = decisions;
+        resolved.sort_unstable_by_key(|resolved| resolved.entry);
+        left.sort_unstable();
+        Ok(CellFindings {
+            resolved,
+            left,
+            useless: deciding.useless(file)?,
+        })
+    }
+
+    /// Adds what is found in a cell, with a shift or without, and with these reductions.
+    fn add_cell(
+        &mut self,
+        rules: Rules<'_>,
+        cell: Cell,
+        shifts: bool,
+        reductions: &[usize],
+    ) -> Result<(), AllocError>
+        ensures left { OnOk result (map told self.new.left.items ≡ map told self.old.left.items
+            ++ conflicts_by (outcome_in rules.entry.precedences.now cell.token)
+            cell.state cell.token shifts reductions.now) }
+        ensures resolved { OnOk result (map resolution self.new.decisions.resolved.items
+            ≡ map resolution self.old.decisions.resolved.items
+            ++ resolved_by (outcome_in rules.entry.precedences.now cell.token)
+            cell.state cell.token shifts reductions.now) }
+    {
+        if !shifts {
+            return add_conflicts(&mut self.left, rules.file, cell, false, reductions);
+        }
+        let left = self.decisions.try_reductions(rules, cell, reductions)?;
+        add_conflicts(
+            &mut self.left,
+            rules.file,
+            cell,
+            left.stands,
+            left.reductions.as_slice(),
+        )
+    }
+
+    /// Adds what is found at a token in a state with these complete items; the list is made that of the productions by which
+    /// the state could reduce there.
+    fn add_token<T: IndexStorage>(
+        &mut self,
+        looked: Looked<'_, T>,
         state: StIdx<T>,
         reductions: &[Reduction<'_>],
+        productions: &mut Vec<usize>,
         token: usize,
-    ) -> Result<Cell, AllocError> {
-        let mut cell = Cell {
+    ) -> Result<(), AllocError>
+        requires precedences { ArePrecedencesOf looked.grm.now looked.rules.precedences.now }
+        requires fits { Fits looked.grm.now (closed_of looked.graph.now (T.number state.0)) }
+        requires upwards { AreUpwards (closed_of looked.graph.now (T.number state.0)) }
+        requires reductions { map complete reductions.now
+            ≡ complete_items looked.grm.now (closed_of looked.graph.now (T.number state.0)) }
+        requires small { token ≤ T.MAX }
+        ensures left { OnOk result (map told self.new.left.items ≡ map told self.old.left.items
+            ++ conflicts_at looked.entry.grm.now looked.entry.graph.now (T.number state.0) token) }
+        ensures resolved { OnOk result (map resolution self.new.decisions.resolved.items
+            ≡ map resolution self.old.decisions.resolved.items
+            ++ resolved_at looked.entry.grm.now looked.entry.graph.now (T.number state.0) token) }
+    {
+        list_at(productions, reductions, token)?;
+        if productions.is_empty() {
+            return Ok(());
+        }
+        let cell = Cell {
             state: usize::from(state),
             token,
-            is_shifting: true,
-            reductions: Vec::new(*cells.settled.allocator()),
-            is_listed: false,
         };
-        for reduction in reductions {
-            if !reduction.is_at(token) {
-                continue;
-            }
-            let production = reduction.production;
-            let outcome = self.precedences.outcome(token, production);
-            let is_first = cell.reductions.is_empty();
-            cell.is_listed = cell.is_listed || is_first && outcome == Outcome::Open;
-            let is_left = !cell.is_shifting
-                || self.try_reduction(cells, &mut cell, production, outcome)?;
-            cell.reductions.push((production, is_left))?;
-        }
-        Ok(cell)
-    }
-
-    /// Does what precedences make of the shift of a cell and a reduction, and answers whether the reduction is left.
-    fn try_reduction(
-        &self,
-        cells: &mut Cells,
-        cell: &mut Cell,
-        production: usize,
-        outcome: Outcome,
-    ) -> Result<bool, AllocError> {
-        if outcome != Outcome::Open {
-            cells.deciding.note(self.file, cell.token, production);
-        }
-        let Outcome::Won(winner) = outcome else {
-            return Ok(true);
-        };
-        cell.is_shifting = winner == Winner::Shift;
-        let entry = self.entry(cell, production, None);
-        cells.settled.push(Settled { entry, winner })?;
-        Ok(winner == Winner::Reduce)
-    }
-
-    /// Adds the entries in which a cell and the table's lists differ: those with the shift.
-    fn add_shifts(&self, cells: &mut Cells, cell: &Cell) -> Result<(), AllocError> {
-        let listed = if cell.is_listed { cell.first() } else { None };
-        let left = if cell.is_shifting {
-            cell.first_left()
-        } else {
-            None
-        };
-        if listed != left {
-            if let Some(production) = listed {
-                cells.closed.push(self.entry(cell, production, None))?;
-            }
-            if let Some(production) = left {
-                cells.opened.push(self.entry(cell, production, None))?;
-            }
-        }
+        let shifts = shifts(looked.graph, state, token);
+        self.add_cell(looked.rules, cell, shifts, productions.as_slice())?;
         Ok(())
     }
 
-    /// Adds the entries in which they differ: those between reductions.
-    fn add_reductions(&self, cells: &mut Cells, cell: &Cell) -> Result<(), AllocError> {
-        let (Some(first), left) = (cell.first(), cell.first_left()) else {
-            return Ok(());
-        };
-        for (production, is_left) in &cell.reductions {
-            let is_open = *is_left && left != Some(*production);
-            let is_same = is_open && left == Some(first);
-            if *production != first && !is_same {
-                cells
-                    .closed
-                    .push(self.entry(cell, first, Some(*production)))?;
-            }
-            if is_open && !is_same {
-                if let Some(left) = left {
-                    cells
-                        .opened
-                        .push(self.entry(cell, left, Some(*production)))?;
-                }
-            }
-        }
-        Ok(())
-    }
-
-    /// Adds what precedences make of a cell.
-    fn add_cell(
-        &self,
-        cells: &mut Cells,
+    /// Adds what is found in the cells of a state.
+    fn add_state<T: IndexStorage>(
+        &mut self,
+        looked: Looked<'_, T>,
         state: StIdx<T>,
-        reductions: &[Reduction<'_>],
-        token: usize,
-    ) -> Result<(), AllocError> {
-        if !reductions.iter().any(|reduction| reduction.is_at(token))
-            || !self.shifts(state, token)
-        {
-            return Ok(());
-        }
-        let cell = self.try_reductions(cells, state, reductions, token)?;
-        self.add_shifts(cells, &cell)?;
-        self.add_reductions(cells, &cell)
-    }
-
-    /// Adds what precedences make of the cells of a state.
-    fn add_state(&self, cells: &mut Cells, state: StIdx<T>) -> Result<(), AllocError> {
-        let alloc = *self.file.production_places.allocator();
-        let reductions = self.reductions(alloc, state)?;
+    ) -> Result<(), AllocError>
+        requires precedences { ArePrecedencesOf looked.grm.now looked.rules.precedences.now }
+        requires graph { IsReadable looked.grm.now looked.graph.now }
+        requires below { T.number state.0 < length looked.graph.now }
+        ensures left { OnOk result (map told self.new.left.items ≡ map told self.old.left.items
+            ++ flat_map (conflicts_at looked.entry.grm.now looked.entry.graph.now
+            (T.number state.0)) (range_with_len 0 (math.token_count looked.entry.grm.now))) }
+        ensures resolved { OnOk result (map resolution self.new.decisions.resolved.items
+            ≡ map resolution self.old.decisions.resolved.items
+            ++ flat_map (resolved_at looked.entry.grm.now looked.entry.graph.now
+            (T.number state.0)) (range_with_len 0 (math.token_count looked.entry.grm.now))) }
+    {
+        let reductions = reductions_of(looked.grm, looked.graph.closed_state(state))?;
         if reductions.is_empty() {
             return Ok(());
         }
-        for token in &self.precedences.with {
-            self.add_cell(cells, state, reductions.as_slice(), *token)?;
+        let mut productions = Vec::new(looked.grm.allocator());
+        for token in 0..usize::from(looked.grm.tokens_len()) {
+            self.add_token(
+                looked,
+                state,
+                reductions.as_slice(),
+                &mut productions,
+                token,
+            )?;
         }
         Ok(())
     }
 }
 
-/// What precedences make of the cells of a graph, in the order of the file.
-pub(crate) fn cells_of<T: IndexStorage>(
-    alloc: Global,
-    file: &FileGrammar,
-    graph: &StateGraph<T>,
-) -> Result<CellFindings, AllocError> {
-    let mut cells = Cells::new(alloc, file)?;
-    let precedences = Precedences::new(alloc, file)?;
-    let looked = Looked {
-        file,
-        graph,
-        precedences: &precedences,
-    };
-    for state in graph.iter_stidxs() {
-        looked.add_state(&mut cells, state)?;
+/// What is found in the cells of a graph.
+fn cells_in<T: IndexStorage>(alloc: Global, looked: Looked<'_, T>) -> Result<Cells, AllocError>
+    requires precedences { ArePrecedencesOf looked.grm.now looked.rules.precedences.now }
+    requires graph { IsReadable looked.grm.now looked.graph.now }
+    ensures left { IfOk result (λ c. map told c.left.items
+        ≡ conflicts_left looked.entry.grm.now looked.entry.graph.now) }
+    ensures resolved { IfOk result (λ c. map resolution c.decisions.resolved.items
+        ≡ resolved_in looked.entry.grm.now looked.entry.graph.now) }
+{
+    let mut cells = Cells::new(alloc, looked.rules.file)?;
+    for state in looked.graph.iter_stidxs() {
+        cells.add_state(looked, state)?;
     }
-    cells.in_order(file)
+    Ok(cells)
+}
+
+/// What is found in the cells of a graph, in the order of the file.
+pub(crate) fn cells_of<'a, T: IndexStorage>(
+    alloc: Global,
+    file: &'a FileGrammar,
+    grm: &'a YaccGrammar<T>,
+    graph: &'a StateGraph<T>,
+) -> Result<CellFindings, AllocError>
+    requires { IsGraphOf grm.now graph.now }
+    ensures left { IfOk result (λ c.
+        IsPermutation (conflicts_left grm.now graph.now) (map told c.left.items)) }
+    ensures resolved { IfOk result (λ c.
+        IsPermutation (resolved_in grm.now graph.now) (map resolution c.resolved.items)) }
+{
+    grm.in_order();
+    let precedences = Precedences::new(alloc, grm)?;
+    let looked = Looked {
+        rules: Rules {
+            file,
+            precedences: &precedences,
+        },
+        grm,
+        graph,
+    };
+    cells_in(alloc, looked)?.in_order(file)
 }

@@ -1,17 +1,21 @@
 //! What is found in the grammar of a file.
 
-ghost use Rattle.std.specs.Prelude.{◌≡◌, ◌⊎◌, [], length, Bool, IsTrue, IfOk, IfErr, IfNone, IfSome, false};
-ghost use Rattle.lrspec.specs.merging.Graph.{Graph};
+ghost use Rattle.std.specs.Prelude.{◌≡◌, ◌⊎◌, [], length, map, Bool, IsTrue, IfOk, IfErr, IfNone, IfSome, false};
+ghost use Rattle.std.specs.List.Sorted.{IsPermutation};
+ghost use Rattle.lrspec.specs.merging.Graph.{Graph, IsGraphOf};
 ghost use Rattle.lrspec.specs.tables.Built.{IsBuilt};
-ghost use Rattle.lrspec.specs.tables.LrTables.{ListsNothing};
+ghost use Rattle.lrspec.specs.tables.LrTables.{HasNoPrecedences, ListsNothing};
 ghost use Rattle.lrtable.specs.Refusals.{IsBuildRefusal};
+ghost use Rattle.lrverdicts.specs.Listed.{told};
+ghost use Rattle.lrfindings.specs.CellConflicts.{conflicts_left, resolved_in};
+ghost use Rattle.lrfindings.specs.StoredCells.{resolution};
 ghost use Rattle.lrfindings.specs.declared.findings.FindError.TheVariants.{Memory};
 ghost use Rattle.lrfindings.specs.Findings.{AreFindings, FindNothing, HasNoConflicts};
 ghost use Rattle.lrfindings.specs.FindErrors.{IsNothingFound};
 
-use crate::cells::{CellFindings, Settled, cells_of};
-use crate::idle::Idle;
+use crate::cells::{CellFindings, Resolved, cells_of};
 use crate::parts::grammar_of;
+use crate::useless::UselessPrecedences;
 use lrgrammar::grammar::{GrammarError, YaccGrammar};
 use lrgrammar::idx::IndexStorage;
 use lrtable::{BuildError, Minimiser, StateGraph, StateTable, from_yacc, from_yacc_if_contested};
@@ -26,8 +30,8 @@ pub struct Findings<T: IndexStorage> {
     pub has_precedences: bool,
     /// The grammar.
     pub grm: YaccGrammar<T>,
-    /// The state graph of the grammar. None where it wasn't wanted and no entries meet in a cell of its table, so that nothing is
-    /// searched in it.
+    /// The state graph of the grammar. None where it wasn't wanted, no token has a precedence and no entries meet in a cell of its
+    /// table, so that nothing is searched in it.
     pub graph: Option<StateGraph<T>>,
     /// The table of the graph.
     pub table: StateTable<T>,
@@ -35,16 +39,14 @@ pub struct Findings<T: IndexStorage> {
     pub states: usize,
     /// The conflicts of the table, in the order of the file.
     pub conflicts: Vec<Entry>,
-    /// Those of them that are settled where each reduction is tried by itself against a shift, as Bison does; in their order.
-    pub closed: Vec<Entry>,
-    /// The conflicts that are left then and that the table does not list, as those of tokens of one `%precedence` line; in the
-    /// order of the file.
-    pub opened: Vec<Entry>,
-    /// What precedences settle, in the order of the file.
-    pub settled: Vec<Settled>,
-    /// Which precedences settle nothing, all of them where none is in force; and which tokens are in no rule.
-    pub idle: Idle,
-    /// Whether the table shows that no text has two trees.
+    /// The conflicts that are left open where each reduction is tried by itself against a shift, as Bison does, in the order of the
+    /// file: those of the table where no token has a precedence.
+    pub left: Vec<Entry>,
+    /// What precedences resolve, in the order of the file.
+    pub resolved: Vec<Resolved>,
+    /// Which precedences resolve nothing, all of them where none is in force; and which tokens are in no rule.
+    pub useless: UselessPrecedences,
+    /// Whether the table shows that no sentence has two trees.
     pub is_unambiguous: bool,
 }
 
@@ -53,7 +55,7 @@ impl<T: IndexStorage> Findings<T> {
     fn is_nothing(&self) -> bool
         ensures { IsTrue result → FindNothing self.now }
     {
-        self.conflicts.is_empty() && self.opened.is_empty() && self.settled.is_empty()
+        self.conflicts.is_empty() && self.left.is_empty() && self.resolved.is_empty()
     }
 }
 
@@ -67,7 +69,7 @@ pub enum FindError {
     #[error(transparent)]
     Refused(GrammarError),
     /// A state accepts and reduces at the end of the text, so that there is no table.
-    #[error("a state accepts and reduces at the end of the text")]
+    #[error("a state accepts and reduces at the end of the input")]
     NoTable,
     /// Memory was refused.
     #[error("out of memory")]
@@ -113,19 +115,20 @@ impl<T: IndexStorage> From<BuildError<T>> for FindError {
     }
 }
 
-/// The graph of a grammar, where it is wanted or entries meet in a cell of the table; the table; and how many states they have.
-/// The error is that of `from_yacc`.
+/// The graph of a grammar, where it is wanted, a token has a precedence, or entries meet in a cell of the table; the table; and
+/// how many states they have. The error is that of `from_yacc`.
 fn tabled<T: IndexStorage>(
     grm: &YaccGrammar<T>,
     wants_graph: bool,
 ) -> Result<(Option<StateGraph<T>>, StateTable<T>, usize), BuildError<T>>
     ensures built { IfOk result (λ b. (h : Graph) × IsBuilt grm.now h b.1
         × IfSome b.0 (λ g. g ≡ h)) }
+    ensures plain { IfOk result (λ b. IfNone b.0 (HasNoPrecedences grm.now)) }
     ensures without { IfOk result (λ b. IfNone b.0 (ListsNothing b.1)) }
     ensures states { IfOk result (λ b. b.2 ≡ length b.1.actions) }
     ensures refused { IfErr result (IsBuildRefusal T.number T.MAX grm.now) }
 {
-    if !wants_graph {
+    if !wants_graph && !grm.has_precedences() {
         return from_yacc_if_contested(grm.allocator(), grm, Minimiser::Pager);
     }
     let (graph, table) = from_yacc(grm.allocator(), grm, Minimiser::Pager)?;
@@ -133,21 +136,26 @@ fn tabled<T: IndexStorage>(
     Ok((Some(graph), table, states))
 }
 
-/// What is found in the cells of a table, where precedences may decide in them: not without a graph, since no entries meet then.
+/// What is found in the cells of a table with these conflicts, where precedences may decide in them.
 fn found_in_cells<T: IndexStorage>(
     alloc: Global,
     file: &FileGrammar,
+    grm: &YaccGrammar<T>,
     graph: Option<&StateGraph<T>>,
+    conflicts: &[Entry],
     may_decide: bool,
 ) -> Result<CellFindings, AllocError>
-    ensures opened { IfNone graph.entry (IfOk result (λ c. c.opened.items ≡ [])) }
-    ensures settled { IfNone graph.entry (IfOk result (λ c. c.settled.items ≡ [])) }
-    ensures none_closed { may_decide ≡ false → IfOk result (λ c. c.closed.items ≡ []) }
-    ensures none_opened { may_decide ≡ false → IfOk result (λ c. c.opened.items ≡ []) }
+    requires { IfSome graph (λ h. IsGraphOf grm.now h.now) }
+    ensures left { IsTrue may_decide → IfSome graph.entry (λ h. IfOk result (λ c.
+        IsPermutation (conflicts_left grm.now h.now) (map told c.left.items))) }
+    ensures resolved { IsTrue may_decide → IfSome graph.entry (λ h. IfOk result (λ c.
+        IsPermutation (resolved_in grm.now h.now) (map resolution c.resolved.items))) }
+    ensures all_left { may_decide ≡ false → IfOk result (λ c. c.left.items ≡ conflicts.now) }
+    ensures none_resolved { may_decide ≡ false → IfOk result (λ c. c.resolved.items ≡ []) }
 {
     match graph {
-        Some(graph) if may_decide => cells_of(alloc, file, graph),
-        _ => CellFindings::without_decisions(alloc, file),
+        Some(graph) if may_decide => cells_of(alloc, file, grm, graph),
+        _ => CellFindings::without_decisions(alloc, file, conflicts),
     }
 }
 
@@ -163,15 +171,16 @@ fn find_with<T: IndexStorage>(
     ensures refused { IfErr result (IsNothingFound T.MAX file.now has_precedences) }
 {
     let grm = grammar_of::<T>(alloc, file, has_precedences)?;
+    let may_decide = grm.has_precedences();
     let (graph, table, states) = tabled(&grm, wants_graph)?;
     let is_unambiguous = is_unambiguous(&grm, &table);
-    let cells = found_in_cells(alloc, file, graph.as_ref(), grm.has_precedences())?;
     let conflicts = entries_of(alloc, file, &table)?;
+    let listed = conflicts.as_slice();
+    let cells = found_in_cells(alloc, file, &grm, graph.as_ref(), listed, may_decide)?;
     let CellFindings {
-        settled,
-        closed,
-        opened,
-        idle,
+        resolved,
+        left,
+        useless,
     } = cells;
     Ok(Findings {
         has_precedences,
@@ -180,16 +189,15 @@ fn find_with<T: IndexStorage>(
         table,
         states,
         conflicts,
-        closed,
-        opened,
-        settled,
-        idle,
+        left,
+        resolved,
+        useless,
         is_unambiguous,
     })
 }
 
 /// What is found in the grammar of a file, with its precedences or without them; without them also where there are no
-/// conflicts and they settle nothing. There is a graph where it is wanted, and where there are conflicts or some are settled.
+/// conflicts and they resolve nothing. There is a graph where it is wanted, and where there are conflicts or some are resolved.
 /// `TooLarge` where the index type is too small for the grammar or its graph.
 pub fn find<T: IndexStorage>(
     alloc: Global,

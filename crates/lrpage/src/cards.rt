@@ -20,10 +20,10 @@ const NAMED: usize = 12;
 /// How many cards are open from the beginning.
 const OPEN: usize = 3;
 
-/// The place of the first of the entries for which a text with two trees is known that part by what meets in it, or else of the
+/// The place of the first of the entries for which a sentence with two trees is known that part by what meets in it, or else of the
 /// first that has any; or else of the first of all.
-fn first_with_text(meeting: &[Evidence]) -> usize {
-    let own = meeting.iter().position(|it| it.has_own_text());
+fn first_with_sentence(meeting: &[Evidence]) -> usize {
+    let own = meeting.iter().position(|it| it.has_own_sentence());
     let any = meeting.iter().position(|it| it.ambiguity.is_some());
     own.or(any).unwrap_or(0)
 }
@@ -65,13 +65,13 @@ impl<T: IndexStorage> Page<'_, T> {
         page.add(" <span class=\"tag marked\">ambiguous (proved)</span>");
     }
 
-    /// Adds whether a text with two trees is known that part by what meets in an entry.
+    /// Adds whether a sentence with two trees is known that part by what meets in an entry.
     fn add_tag(&self, page: &mut Text, evidence: &Evidence)
         requires proved { ForSome evidence.now.ambiguity
             (λ a. IsShown self.now.found.now.grm a.value) }
     {
         match &evidence.ambiguity {
-            Some(text) if evidence.has_own_text() => self.add_proved_tag(page, text),
+            Some(text) if evidence.has_own_sentence() => self.add_proved_tag(page, text),
             _ if self.steps > 0 => {
                 page.add(" <span class=\"tag\">not known to be ambiguous</span>");
             }
@@ -101,12 +101,12 @@ impl<T: IndexStorage> Page<'_, T> {
         let (entry, steps) = (&evidence.entry, self.steps);
         if evidence.is_cut_off {
             page.add(
-                "<p>No text with two trees was looked for to the end: the allowance of this file was used up.",
+                "<p>No sentence with two trees was looked for to the end: the allowance of this file was used up.",
             );
         } else {
             write!(
                 page,
-                "<p>No text with two trees was found in {steps} steps."
+                "<p>No sentence with two trees was found in {steps} steps."
             );
         }
         page.add(" Both are possible");
@@ -171,7 +171,7 @@ impl<T: IndexStorage> Page<'_, T> {
     fn add_all_known(&self, page: &mut Text, meeting: &[Evidence])
         requires proved { AreShown self.now.found.now.grm meeting.now }
     {
-        let first = first_with_text(meeting);
+        let first = first_with_sentence(meeting);
         if let Some(evidence) = meeting.get(first) {
             self.add_known(page, evidence);
         }
@@ -188,7 +188,7 @@ impl<T: IndexStorage> Page<'_, T> {
             "<details class=\"part\" id=\"c{number}\"{open}><summary>"
         );
         self.add_heading(page, card.meeting);
-        if let Some(evidence) = card.meeting.get(first_with_text(card.meeting)) {
+        if let Some(evidence) = card.meeting.get(first_with_sentence(card.meeting)) {
             self.add_tag(page, evidence);
         }
         page.add("</summary>\n");

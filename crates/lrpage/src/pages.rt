@@ -52,7 +52,7 @@ pub struct Card<'a> {
     pub meeting: &'a [Evidence],
     /// The places of what meets.
     pub marks: Vec<Mark>,
-    /// How it can be settled; empty where that is not told.
+    /// How it can be resolved; empty where that is not told.
     pub help: String,
 }
 
@@ -73,7 +73,7 @@ pub struct Page<'a, T: IndexStorage> {
     pub notes: &'a [String],
     /// The conflicts.
     pub cards: &'a [Card<'a>],
-    /// How many steps a search for a text with two trees could take; with 0 nothing is told of texts.
+    /// How many steps a search for a sentence with two trees could take; with 0 nothing is told of texts.
     pub steps: usize,
     /// Each text that is shown as one with two trees has them.
     pub ghost proved: { All (λ card. AreShown found.now.grm card.meeting.now) cards.now },

@@ -1,6 +1,6 @@
 //! What a page does by itself: trees, edges, the filter, and links into parts that are closed or left out.
 
-/// The script. It makes no text of the page into markup.
+/// The script. It makes no sentence of the page into markup.
 pub(crate) const SCRIPT: &str = r#"'use strict';
 const SVG = 'http://www.w3.org/2000/svg';
 const FONT = '13px ui-monospace, "DejaVu Sans Mono", Menlo, Consolas, monospace';

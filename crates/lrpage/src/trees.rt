@@ -1,4 +1,4 @@
-//! Texts with two trees, as the script draws them.
+//! Sentences with two trees, as the script draws them.
 
 ghost use Rattle.lrshown.specs.Ambiguities.{IsShown};
 
@@ -109,13 +109,17 @@ impl<T: IndexStorage> Page<'_, T> {
         }
     }
 
-    /// Adds a text with two trees, and both trees of the part of it in which they differ.
+    /// Adds a sentence with two trees, and both trees of the part of it in which they differ.
     pub(crate) fn add_ambiguity(&self, page: &mut Text, entry: &Entry, ambiguity: &Ambiguity)
         requires proved { IsShown self.now.found.now.grm ambiguity.now }
     {
         let tokens = text_of(self.file, ambiguity.tokens.as_slice());
         let is_long = ambiguity.is_long();
-        page.add(if is_long { "<p>A text" } else { "<p>This text" });
+        page.add(if is_long {
+            "<p>A sentence"
+        } else {
+            "<p>This sentence"
+        });
         self.add_start(page, ambiguity.start(self.file));
         if is_long {
             let count = tokens.len();

@@ -1,7 +1,7 @@
--- conflicts that are left open, entries that are told in groups, and tokens of JSON that are added
-mod LeftOpenEntries
+-- what is kept of findings, entries that are told in groups, and tokens of JSON that are added
 mod Groups
 mod KeptGraph
+mod KeptFindings
 mod AddedTokens
 mod WordsOfVerdicts
 mod ToldTexts

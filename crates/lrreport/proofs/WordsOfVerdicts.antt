@@ -8,7 +8,7 @@ use Rattle.lrverdicts.specs.declared.verdicts.Verdict.TheVariants.{Unambiguous, 
 use Rattle.lrverdicts.specs.declared.verdicts.Verdict.TheVariants as told
 use Rattle.lrverdicts.specs.VerdictTexts.{counts_text, verdict_text}
 use Rattle.lrshown.specs.declared.evidence.Evidence.{Evidence}
-use Rattle.lrshown.specs.VerdictWords.{ambiguous_verdict, ambiguous_words, plain_words, settled_words, unknown_verdict}
+use Rattle.lrshown.specs.VerdictWords.{ambiguous_verdict, ambiguous_words, plain_words, resolved_words, unknown_verdict}
 
 pub unknown_for_more :
     (v : Verdict) (all : ℕ) → all ≢ 1 → unknown_verdict v all ≡ plain_words v ++ codes ", none known to be ambiguous"
@@ -17,11 +17,11 @@ unknown_for_more v all more =
     grind (arith, nat_tests) in
     ap (λ x. plain_words v ++ x) words
 
-pub settled_some :
+pub resolved_some :
     (s : ℕ) (e : List Evidence) (hint : Bool) → s ≢ 0
-    → settled_words s e hint
-    ≡ codes "; precedences settle " ++ decimal s ++ (if length e == 0 then [] else codes " more") ++ (if hint then codes " (--settled)" else [])
-settled_some s e hint some = grind (arith, nat_tests)
+    → resolved_words s e hint
+    ≡ codes "; " ++ decimal s ++ (if length e == 0 then [] else codes " more") ++ codes " resolved by precedence" ++ (if hint then codes " (--settled)" else [])
+resolved_some s e hint some = grind (arith, nat_tests)
 
 pub of_conflicts :
     (c : Counts) (texts : List ℕ)

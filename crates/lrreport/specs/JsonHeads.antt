@@ -8,10 +8,10 @@ use Rattle.lrverdicts.specs.declared.verdicts.Verdict.{Verdict}
 use Rattle.lrverdicts.specs.declared.verdicts.Verdict.TheVariants.{Unambiguous, NoConflicts, Conflicts, Unexpected}
 use Rattle.lrverdicts.specs.declared.verdicts.Verdict.TheVariants as told
 use Rattle.lrverdicts.specs.Verdicts.{counts_in}
-use Rattle.lrshown.specs.Ambiguities.{has_text}
+use Rattle.lrshown.specs.Ambiguities.{has_sentence}
 use Rattle.lrreport.specs.declared.reports.Conclusion.{Conclusion}
 
--- a verdict in few words, where a text with two trees is known or not
+-- a verdict in few words, where a sentence with two trees is known or not
 abbrev pub verdict_word : Verdict → Bool → List ℕ
 verdict_word Unambiguous known = codes "unambiguous"
 verdict_word NoConflicts known = codes "no conflicts"
@@ -42,7 +42,7 @@ head_tokens name verdict known =
 
 -- what is told as JSON of a conclusion begins so
 abbrev pub json_head : List ℕ → Conclusion → List ℕ
-json_head name c = print (head_tokens name c.verdict (list_any has_text c.evidence.items))
+json_head name c = print (head_tokens name c.verdict (list_any has_sentence c.evidence.items))
 
 -- a text begins with another one
 pub record BeginsWith (head text : List ℕ) : Type 0 where

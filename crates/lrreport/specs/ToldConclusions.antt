@@ -8,18 +8,18 @@ use Rattle.lrreport.specs.declared.options.Output.TheVariants.{Report, Summary, 
 use Rattle.lrreport.specs.declared.reports.Conclusion.{Conclusion}
 use Rattle.lrreport.specs.JsonHeads.{BeginsWith, json_head}
 
--- how what precedences settle is shown is told in a report that does not show it
+-- how what precedences resolve is shown is told in a report that does not show it
 abbrev pub is_report : Output → Bool
 is_report Report = true
 is_report output = false
 
 abbrev pub has_hint : Options → Bool
-has_hint options = is_report options.output && not options.tells_settled
+has_hint options = is_report options.output && not options.detail.resolved
 
 -- the words of what is concluded
 abbrev pub words_of : Options → Conclusion → List ℕ
 words_of options c =
-    verdict_words c.verdict c.evidence.items (nat_lt 0 options.steps) c.settled (has_hint options) (is_some c.decided)
+    verdict_words c.verdict c.evidence.items (nat_lt 0 options.steps) c.resolved (has_hint options) (is_some c.decided)
 
 -- the line of a file of that name
 abbrev pub line_of : List ℕ → List ℕ → List ℕ
@@ -40,9 +40,9 @@ abbrev pub Tells : Output → Option ℕ → List ℕ → List ℕ → List ℕ 
 Tells Summary columns line head text = text ≡ line
 Tells Report None line head text = EndsIn line text
 Tells States None line head text = EndsIn line text
-Tells Json columns line head text = BeginsWith head text
+Tells (Json grammar) columns line head text = BeginsWith head text
 Tells output columns line head text = ⊤
 
 abbrev pub TellsConclusion : Options → List ℕ → Conclusion → List ℕ → Type 0
 TellsConclusion options name c text =
-    Tells options.output options.columns (last_line name (words_of options c)) (json_head name c) text
+    Tells options.output options.lines.columns (last_line name (words_of options c)) (json_head name c) text

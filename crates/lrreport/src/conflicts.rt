@@ -3,15 +3,14 @@
 ghost use Rattle.std.specs.Prelude.{◌≡◌, All, IfOk, IfSome, is_some};
 ghost use Rattle.std.specs.List.{flat_map, list_any};
 ghost use Rattle.lrevidence.specs.Ambiguities.{HasTwoTrees, IsProved};
-ghost use Rattle.lrshown.specs.Ambiguities.{has_text};
-ghost use Rattle.lrreport.specs.LeftOpen.{AreLeftOpen};
+ghost use Rattle.lrshown.specs.Ambiguities.{has_sentence};
 
 use crate::levels::Trials;
 use crate::told::Told;
 use crate::words::Words;
 use lrdiagnostics::{Mark, Style};
 use lrevidence::{Ambiguity, Evidence};
-use lrfindings::{Entry, Findings, is_among};
+use lrfindings::{Entry, Findings};
 use lrgrammar::idx::{IndexStorage, StIdx, TIdx};
 use lrtable::Action;
 use lrwriter::Text;
@@ -36,6 +35,18 @@ pub(crate) enum Choice {
     Neither,
 }
 
+impl Choice {
+    /// The word for it in JSON.
+    pub(crate) fn word(self) -> &'static str {
+        match self {
+            Choice::Shift => "shift",
+            Choice::Reduce => "reduce",
+            Choice::Other => "other",
+            Choice::Neither => "neither",
+        }
+    }
+}
+
 /// A file's grammar, with what was found in it.
 #[derive(Drop)]
 pub(crate) struct Checked<'a, T: IndexStorage> {
@@ -52,7 +63,7 @@ fn shift_label(
 ) -> Result<String, AllocError> {
     match (is_first, is_start) {
         (true, false) => format!(in alloc; "shift: or go on{so}"),
-        (true, true) => format!(in alloc; "shift: or the text ends here{so}"),
+        (true, true) => format!(in alloc; "shift: or the input ends here{so}"),
         _ => String::from_str(alloc, "or go on here"),
     }
 }
@@ -79,7 +90,7 @@ impl Told<'_> {
         for (place, entry) in entries.iter().enumerate() {
             names.add_listed(place == 0, self.token_name(entry.token));
         }
-        Style::Bold.add(text, word, self.options.has_colours);
+        Style::Bold.add(text, word, self.options.lines.has_colours);
         write!(text, ": {kinds} at ");
         let indent = word.len().saturating_add(2);
         let column = indent.saturating_add(kinds.len()).saturating_add(4);
@@ -216,7 +227,7 @@ impl<T: IndexStorage> Checked<'_, T> {
 
     /// The text of the first of the entries that has one whose trees part by what meets in it, but for those at a token, and its
     /// entry's token.
-    pub(crate) fn own_text_but_at<'e>(
+    pub(crate) fn own_sentence_but_at<'e>(
         &self,
         meeting: &'e [Evidence],
         but: Option<usize>,
@@ -236,10 +247,10 @@ impl<T: IndexStorage> Checked<'_, T> {
     }
 
     /// The text of the first of the entries that has one, whatever its trees part by.
-    pub(crate) fn any_text<'e>(&self, meeting: &'e [Evidence]) -> Option<&'e Ambiguity>
+    pub(crate) fn any_sentence<'e>(&self, meeting: &'e [Evidence]) -> Option<&'e Ambiguity>
         requires proved { All (IsProved self.now.found.now.grm) meeting.now }
         ensures trees { IfSome result (λ text. HasTwoTrees self.now.found.now.grm text.now) }
-        ensures known { is_some result ≡ list_any has_text meeting.now }
+        ensures known { is_some result ≡ list_any has_sentence meeting.now }
     {
         for evidence in meeting {
             if let Some(ambiguity) = &evidence.ambiguity {
@@ -249,14 +260,14 @@ impl<T: IndexStorage> Checked<'_, T> {
         None
     }
 
-    /// A text with two trees of one of the entries: one whose trees part by what meets in it, where there is such a one.
-    pub(crate) fn text_with_trees<'e>(&self, meeting: &'e [Evidence]) -> Option<&'e Ambiguity>
+    /// A sentence with two trees of one of the entries: one whose trees part by what meets in it, where there is such a one.
+    pub(crate) fn sentence_with_trees<'e>(&self, meeting: &'e [Evidence]) -> Option<&'e Ambiguity>
         requires proved { All (IsProved self.now.found.now.grm) meeting.now }
         ensures { IfSome result (λ text. HasTwoTrees self.now.found.now.grm text.now) }
     {
-        match self.own_text_but_at(meeting, None) {
+        match self.own_sentence_but_at(meeting, None) {
             Some((_, ambiguity)) => Some(ambiguity),
-            None => self.any_text(meeting),
+            None => self.any_sentence(meeting),
         }
     }
 
@@ -283,7 +294,7 @@ impl<T: IndexStorage> Checked<'_, T> {
     pub(crate) fn push_conflicts(&self, text: &mut Text, most: usize) -> Result<(), AllocError>
         requires proved { All (IsProved self.now.found.now.grm) self.now.told.evidence.now }
     {
-        let tells_all = self.told.options.tells_all;
+        let tells_all = self.told.options.detail.all;
         let meetings = meetings(text.allocator(), self.told.evidence, tells_all)?;
         let trials = Trials::new(text.allocator(), self)?;
         for (place, meeting) in meetings.iter().enumerate() {
@@ -294,24 +305,6 @@ impl<T: IndexStorage> Checked<'_, T> {
         push_more(text, meetings.len().saturating_sub(most));
         Ok(())
     }
-}
-
-/// The conflicts that are left open, in the order of the file.
-pub(crate) fn left_open<T: IndexStorage>(
-    alloc: Global,
-    found: &Findings<T>,
-) -> Result<Vec<Entry>, AllocError>
-    ensures { IfOk result (λ entries. AreLeftOpen found.now.conflicts.items
-        found.now.closed.items found.now.opened.items entries.items) }
-{
-    let mut entries = Vec::from_slice(alloc, found.opened.as_slice())?;
-    for entry in &found.conflicts {
-        if !is_among(found.closed.as_slice(), entry) {
-            entries.push(*entry)?;
-        }
-    }
-    entries.sort_unstable();
-    Ok(entries)
 }
 
 /// What is known of entries, in groups, in each of which the same meets in the same state; each entry by itself where all are

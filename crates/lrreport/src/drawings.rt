@@ -1,8 +1,7 @@
 //! Drawings of trees, a line a node.
 
-use crate::texts::node_name;
 use lrdiagnostics::add_shown;
-use lrevidence::{Tree, Visit};
+use lrevidence::{Tree, Visit, node_name};
 use lrwriter::Text;
 use lryacc::FileGrammar;
 use std::alloc::AllocError;
@@ -50,7 +49,7 @@ impl Drawing<'_> {
             text.add(if *is_last { "   " } else { self.pen.past });
         }
         if !above.is_empty() {
-            let is_last = self.tree.is_last(self.file, number);
+            let is_last = self.tree.is_last(number);
             text.add(if is_last {
                 self.pen.end
             } else {
@@ -92,7 +91,7 @@ pub(crate) fn push_drawing(
         match visit {
             Visit::Enter(number) => {
                 drawing.push_line(text, *number, above.as_slice(), false);
-                above.push(tree.is_last(file, *number))?;
+                above.push(tree.is_last(*number))?;
             }
             Visit::Leaf(number) => {
                 drawing.push_line(text, *number, above.as_slice(), leaves == dot);

@@ -1,21 +1,18 @@
-//! How conflicts can be settled.
+//! Searches how conflicts can be resolved: by the levels that an author would try first, each tried on all conflicts of the file.
 
+use crate::advice::{Advice, Hindrance, NewLevels, Place};
 use crate::levels::{Group, Level, Proposal, Rank, Trial, Trials};
-use crate::texts::add_names;
 use crate::told::Told;
-use crate::verdicts::own_texts;
+use crate::verdicts::own_sentences;
 use crate::words::Words;
 use lrevidence::Evidence;
 use lrgrammar::idx::IndexStorage;
 use lrwriter::Text;
-use lryacc::{Dialect, FileGrammar};
+use lryacc::Dialect;
 use std::alloc::{AllocError, Global};
 
 /// How many tokens each grammar has, before those that its file brings in.
 const FIRST_TOKENS: usize = 3;
-
-/// How many tokens are named at the most.
-const NAMED: usize = 4;
 
 /// What is known of the levels of a conflict with a shift.
 #[derive(Drop)]
@@ -32,67 +29,33 @@ struct Sides {
     has_source: bool,
 }
 
-/// The precedence line that makes no group.
-fn plain_line(dialect: Dialect) -> &'static str {
-    match dialect {
-        Dialect::Bison => "%precedence",
-        Dialect::Grmtools => "%nonassoc",
-    }
+/// What comes of trying levels.
+#[derive(Drop)]
+enum Tried {
+    /// They resolve the conflict, and nothing else is decided otherwise than before.
+    Good(NewLevels),
+    /// They don't, or something else is.
+    Bad,
+    /// Too much was tried already.
+    Untried,
 }
 
-/// Where a new line stands.
-#[derive(Clone, Copy, PartialEq, Eq)]
-enum Place {
-    /// Above all others.
-    Above,
-    /// Below all others.
-    Below,
-}
-
-impl Place {
-    /// The other one.
-    fn other(self) -> Place {
+impl Trial {
+    /// The same with the levels where it is good.
+    fn with(self, levels: NewLevels) -> Tried {
         match self {
-            Place::Above => Place::Below,
-            Place::Below => Place::Above,
-        }
-    }
-
-    /// The level of such a line.
-    fn rank(self) -> Rank {
-        match self {
-            Place::Above => Rank::Above,
-            Place::Below => Rank::Below,
+            Trial::Good => Tried::Good(levels),
+            Trial::Bad => Tried::Bad,
+            Trial::Untried => Tried::Untried,
         }
     }
 }
 
-/// Adds where a new line keeps the shift, and that it reduces in the other place, where it may.
-fn add_places(words: &mut Words, place: Place, can_reduce: bool) {
-    words.add_all(match place {
-        Place::Above => "above all others",
-        Place::Below => "below all others",
-    });
-    words.add_all("to keep the shift");
-    if can_reduce {
-        words.add_piece(",");
-        words.add_all(match place {
-            Place::Above => "below them to reduce",
-            Place::Below => "above them to reduce",
-        });
-    }
-}
-
-/// Adds the names of tokens, unless these are many.
-fn add_tokens(words: &mut Words, file: &FileGrammar, tokens: &[usize]) {
-    match tokens {
-        [one, other] => {
-            add_names(words, file, &[*one]);
-            words.add("and");
-            add_names(words, file, &[*other]);
-        }
-        _ if tokens.len() > NAMED => words.add_all("these tokens"),
-        _ => add_names(words, file, tokens),
+/// The level of a new line.
+fn rank_of(place: Place) -> Rank {
+    match place {
+        Place::Above => Rank::Above,
+        Place::Below => Rank::Below,
     }
 }
 
@@ -126,7 +89,7 @@ impl Told<'_> {
         Ok(Some(note))
     }
 
-    /// For how many conflicts no text was looked for to the end, because the file's allowance was used up, if for some.
+    /// For how many conflicts no sentence was looked for to the end, because the file's allowance was used up, if for some.
     fn cut_off_note(&self, alloc: Global) -> Result<Option<String>, AllocError> {
         let (count, all) = (cut_off(self.evidence), self.evidence.len());
         if count == 0 {
@@ -190,7 +153,17 @@ impl<'a, T: IndexStorage> Trials<'_, 'a, T> {
         })
     }
 
-    /// The group of a line in which nothing is settled.
+    /// Whether levels resolve the conflict, and decide nothing else.
+    fn is_good(
+        &self,
+        alloc: Global,
+        proposal: &Proposal,
+        meeting: &[Evidence],
+    ) -> Result<bool, AllocError> {
+        Ok(self.run(alloc, proposal, meeting)? == Trial::Good)
+    }
+
+    /// The group of a line in which nothing is resolved.
     fn plain_group(&self) -> Group {
         match self.told().options.dialect {
             Dialect::Bison => Group::Open,
@@ -198,7 +171,7 @@ impl<'a, T: IndexStorage> Trials<'_, 'a, T> {
         }
     }
 
-    /// That tokens stand in a new line of a level in which nothing is settled.
+    /// That tokens stand in a new line of a level in which nothing is resolved.
     fn one_line(
         &self,
         alloc: Global,
@@ -208,89 +181,66 @@ impl<'a, T: IndexStorage> Trials<'_, 'a, T> {
         Proposal::of_tokens(alloc, tokens, rank, self.plain_group())
     }
 
-    /// Adds that the tokens of the conflict get one level, which is that of its production too.
-    fn add_group(
+    /// That the tokens of the conflict get one level, which is that of its production too.
+    fn one_level(
         &self,
-        words: &mut Words,
+        alloc: Global,
         sides: &Sides,
         meeting: &[Evidence],
-    ) -> Result<Trial, AllocError> {
-        let (alloc, tokens) = (words.allocator(), sides.without.as_slice());
+    ) -> Result<Tried, AllocError> {
+        let tokens = sides.without.as_slice();
         let either = Proposal::of_tokens(alloc, tokens, Rank::Below, Group::Either)?;
-        let trial = self.run(alloc, &either, meeting)?;
-        if trial == Trial::Good {
-            words.add("give");
-            add_tokens(words, self.told().file, tokens);
-            words.add_all("one level by %left or %right to settle it");
-            return Ok(trial);
+        let mut is_right = false;
+        let mut trial = self.run(alloc, &either, meeting)?;
+        if trial != Trial::Good {
+            let right = Proposal::of_tokens(alloc, tokens, Rank::Below, Group::Shift)?;
+            is_right = true;
+            trial = self.run(alloc, &right, meeting)?;
         }
-        let right = Proposal::of_tokens(alloc, tokens, Rank::Below, Group::Shift)?;
-        let trial = self.run(alloc, &right, meeting)?;
-        if trial == Trial::Good {
-            words.add_all("to keep the shift, give");
-            add_tokens(words, self.told().file, tokens);
-            words.add_all("one level by %right, below all others");
-        }
-        Ok(trial)
+        let tokens = Vec::from_slice(alloc, tokens)?;
+        Ok(trial.with(NewLevels::One { tokens, is_right }))
     }
 
-    /// Adds that the token of the production gets a level, and the tokens of the conflict one below it.
-    fn add_two_lines(
+    /// That the token of the production gets a level, and the tokens of the conflict one below it.
+    fn two_levels(
         &self,
-        words: &mut Words,
+        alloc: Global,
         sides: &Sides,
         source: usize,
         meeting: &[Evidence],
-    ) -> Result<Trial, AllocError> {
-        let (alloc, tokens) = (words.allocator(), sides.without.as_slice());
-        let group = self.plain_group();
+    ) -> Result<Tried, AllocError> {
+        let (tokens, group) = (sides.without.as_slice(), self.plain_group());
         let mut proposal = self.one_line(alloc, &[source], Rank::Below)?;
         proposal.add(tokens, Rank::LastBelow, group)?;
         let trial = self.run(alloc, &proposal, meeting)?;
-        if trial != Trial::Good {
-            return Ok(trial);
-        }
         let mut other = self.one_line(alloc, tokens, Rank::Below)?;
         other.add(&[source], Rank::LastBelow, group)?;
-        words.add_all("to keep the shift, give");
-        add_tokens(words, self.told().file, &[source]);
-        words.add_all("a level by");
-        words.add(plain_line(self.told().options.dialect));
-        words.add_piece(",");
-        words.add("and");
-        add_tokens(words, self.told().file, tokens);
-        words.add_all("one in a line below it");
-        if self.run(alloc, &other, meeting)? == Trial::Good {
-            words.add_piece(";");
-            words.add_all("the other way round, to reduce");
-        }
-        Ok(trial)
+        let can_reduce = trial == Trial::Good && self.is_good(alloc, &other, meeting)?;
+        Ok(trial.with(NewLevels::Two {
+            source,
+            tokens: Vec::from_slice(alloc, tokens)?,
+            can_reduce,
+        }))
     }
 
-    /// Adds that tokens without a level get one, in the place in which they keep the shift, and, where that changes nothing else,
-    /// in the other one.
-    fn add_line(
+    /// That tokens without a level get one, in the place in which they keep the shift, and, where that changes nothing else, in the
+    /// other one.
+    fn line(
         &self,
-        words: &mut Words,
+        alloc: Global,
         tokens: &[usize],
         place: Place,
         meeting: &[Evidence],
-    ) -> Result<Trial, AllocError> {
-        let alloc = words.allocator();
-        let proposal = self.one_line(alloc, tokens, place.rank())?;
+    ) -> Result<Tried, AllocError> {
+        let proposal = self.one_line(alloc, tokens, rank_of(place))?;
         let trial = self.run(alloc, &proposal, meeting)?;
-        if trial != Trial::Good {
-            return Ok(trial);
-        }
-        let other = self.one_line(alloc, tokens, place.other().rank())?;
-        let can_reduce = self.run(alloc, &other, meeting)? == Trial::Good;
-        words.add("give");
-        add_tokens(words, self.told().file, tokens);
-        words.add_all("a level by");
-        words.add(plain_line(self.told().options.dialect));
-        words.add_piece(":");
-        add_places(words, place, can_reduce);
-        Ok(trial)
+        let other = self.one_line(alloc, tokens, rank_of(place.other()))?;
+        let can_reduce = trial == Trial::Good && self.is_good(alloc, &other, meeting)?;
+        Ok(trial.with(NewLevels::Line {
+            tokens: Vec::from_slice(alloc, tokens)?,
+            place,
+            can_reduce,
+        }))
     }
 
     /// That a production gets a level by `%prec`, and tokens one in the last line.
@@ -307,133 +257,105 @@ impl<'a, T: IndexStorage> Trials<'_, 'a, T> {
         Ok(proposal)
     }
 
-    /// Adds that the production gets a level by `%prec`, where all tokens have one.
-    fn add_prec(
+    /// That the production gets a level by `%prec`, where all tokens have one.
+    fn prec(
         &self,
-        words: &mut Words,
+        alloc: Global,
         production: usize,
         meeting: &[Evidence],
-    ) -> Result<Trial, AllocError> {
-        let alloc = words.allocator();
+    ) -> Result<Tried, AllocError> {
         let proposal = self.named(alloc, production, Rank::Above, &[])?;
         let trial = self.run(alloc, &proposal, meeting)?;
-        if trial != Trial::Good {
-            return Ok(trial);
-        }
         let other = self.named(alloc, production, Rank::Below, &[])?;
-        let can_reduce = self.run(alloc, &other, meeting)? == Trial::Good;
-        words.add_all("give this production a level by %prec:");
-        add_places(words, Place::Above, can_reduce);
-        Ok(trial)
+        let can_reduce = trial == Trial::Good && self.is_good(alloc, &other, meeting)?;
+        Ok(trial.with(NewLevels::Prec { can_reduce }))
     }
 
-    /// Adds that the production gets a level by `%prec`, and the tokens without a level one below it.
-    fn add_prec_and_line(
+    /// That the production gets a level by `%prec`, and the tokens without a level one below it.
+    fn prec_and_line(
         &self,
-        words: &mut Words,
+        alloc: Global,
         sides: &Sides,
         meeting: &[Evidence],
-    ) -> Result<Trial, AllocError> {
-        let (alloc, tokens) = (words.allocator(), sides.without.as_slice());
-        let rank = if sides.has_other {
-            Rank::Above
+    ) -> Result<Tried, AllocError> {
+        let tokens = sides.without.as_slice();
+        let place = if sides.has_other {
+            Place::Above
         } else {
-            Rank::Below
+            Place::Below
         };
-        let proposal = self.named(alloc, sides.production, rank, tokens)?;
+        let proposal = self.named(alloc, sides.production, rank_of(place), tokens)?;
         let trial = self.run(alloc, &proposal, meeting)?;
-        if trial == Trial::Good {
-            words.add_all("to keep the shift, give this production a level by %prec");
-            words.add_all(if sides.has_other {
-                "above all others, and"
-            } else {
-                "and"
-            });
-            add_tokens(words, self.told().file, tokens);
-            words.add_all(if sides.has_other {
-                "one below them"
-            } else {
-                "one in a line below it"
-            });
-        }
-        Ok(trial)
+        let tokens = Vec::from_slice(alloc, tokens)?;
+        Ok(trial.with(NewLevels::PrecAndLine { tokens, place }))
     }
 
-    /// Adds levels that settle a conflict of a production with a shift, where some do.
-    fn add_levels(
+    /// Levels that resolve a conflict of a production with a shift, where some do.
+    fn levels_for(
         &self,
-        words: &mut Words,
+        alloc: Global,
         sides: &Sides,
         meeting: &[Evidence],
-    ) -> Result<Trial, AllocError> {
+    ) -> Result<Tried, AllocError> {
         let tokens = sides.without.as_slice();
         match sides.source {
             Some(_) if sides.has_source && tokens.is_empty() => {
-                words.add_all(
-                    "both have one level of %precedence, which settles nothing between them: use",
-                );
-                words.add_all(if meeting.iter().all(|it| self.is_of_operator(&it.entry)) {
-                    "%left or %right"
-                } else {
-                    "%right to keep the shift"
-                });
-                Ok(Trial::Good)
+                let is_of_operator = meeting.iter().all(|it| self.is_of_operator(&it.entry));
+                Ok(Tried::Good(NewLevels::Associativity { is_of_operator }))
             }
-            Some(_) if sides.has_source => self.add_line(words, tokens, Place::Below, meeting),
-            Some(source) if tokens.contains(&source) => self.add_group(words, sides, meeting),
+            Some(_) if sides.has_source => self.line(alloc, tokens, Place::Below, meeting),
+            Some(source) if tokens.contains(&source) => self.one_level(alloc, sides, meeting),
             Some(source) if tokens.is_empty() => {
-                self.add_line(words, &[source], Place::Above, meeting)
+                self.line(alloc, &[source], Place::Above, meeting)
             }
-            Some(source) if !sides.has_other => {
-                self.add_two_lines(words, sides, source, meeting)
-            }
-            _ if tokens.is_empty() => self.add_prec(words, sides.production, meeting),
-            _ => self.add_prec_and_line(words, sides, meeting),
+            Some(source) if !sides.has_other => self.two_levels(alloc, sides, source, meeting),
+            _ if tokens.is_empty() => self.prec(alloc, sides.production, meeting),
+            _ => self.prec_and_line(alloc, sides, meeting),
         }
     }
 
-    /// Adds how a conflict of a production with a shift can be settled.
-    fn add_help_of_shift(
+    /// How a conflict of a production with a shift can be resolved; None where too much was tried already.
+    fn advice_on_shift(
         &self,
-        words: &mut Words,
+        alloc: Global,
         production: usize,
         meeting: &[Evidence],
-    ) -> Result<Trial, AllocError> {
-        let sides = self.sides(words.allocator(), production, meeting)?;
-        let trial = self.add_levels(words, &sides, meeting)?;
-        if trial == Trial::Bad {
-            words.add_all(if meeting.iter().any(|it| self.is_crowded(&it.entry)) {
-                "more than two meet here, so levels settle it only together with the others: rewrite the rules"
-            } else {
-                "levels for it would decide other conflicts too, and not as the table does: rewrite the rules"
-            });
-        }
-        Ok(trial)
+    ) -> Result<Option<Advice>, AllocError> {
+        let sides = self.sides(alloc, production, meeting)?;
+        Ok(match self.levels_for(alloc, &sides, meeting)? {
+            Tried::Good(levels) => Some(Advice::Levels(levels)),
+            Tried::Bad if meeting.iter().any(|it| self.is_crowded(&it.entry)) => {
+                Some(Advice::Rewrite(Hindrance::Crowded))
+            }
+            Tried::Bad => Some(Advice::Rewrite(Hindrance::Others)),
+            Tried::Untried => None,
+        })
     }
 
-    /// How a conflict can be settled; no words where precedences are left out, or where too much was tried already.
-    pub(crate) fn help(&self, alloc: Global, meeting: &[Evidence]) -> Result<Words, AllocError> {
-        let mut words = Words::new(alloc);
+    /// How a conflict can be resolved; None where precedences are left out, or where too much was tried already.
+    fn advice(&self, alloc: Global, meeting: &[Evidence]) -> Result<Option<Advice>, AllocError> {
         let told = self.told();
         let (Some(first), false) = (meeting.first(), told.options.ignores_precedences) else {
-            return Ok(words);
+            return Ok(None);
         };
         let entry = first.entry;
-        words.add("help:");
         if told.is_action(entry.production) {
-            words.add_all(
-                "this action must run before it is known which alternative it is: put it at the end, or into a rule of its own",
-            );
-        } else if own_texts(meeting) == 0 {
-            words.add_all(
-                "this may need more lookahead than one token; levels would then make the parser reject valid input",
-            );
+            Ok(Some(Advice::MoveAction))
+        } else if own_sentences(meeting) == 0 {
+            Ok(Some(Advice::Lookahead))
         } else if entry.other.is_some() || !told.can_have_level(entry.token) {
-            words.add_all(
-                "precedences settle no such conflict: drop one of the productions, or rewrite the rules",
-            );
-        } else if self.add_help_of_shift(&mut words, entry.production, meeting)? == Trial::Untried {
-            return Ok(Words::new(alloc));
+            Ok(Some(Advice::Rewrite(Hindrance::Kind)))
+        } else {
+            self.advice_on_shift(alloc, entry.production, meeting)
+        }
+    }
+
+    /// The words for how a conflict can be resolved; none where nothing is advised.
+    pub(crate) fn help(&self, alloc: Global, meeting: &[Evidence]) -> Result<Words, AllocError> {
+        let mut words = Words::new(alloc);
+        if let Some(advice) = self.advice(alloc, meeting)? {
+            words.add("help:");
+            self.told().add_advice(&mut words, &advice);
         }
         Ok(words)
     }

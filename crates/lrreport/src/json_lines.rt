@@ -8,16 +8,16 @@ ghost use Rattle.json.specs.Print.{print};
 ghost use Rattle.lrspec.specs.tables.Recognition.{IsUnambiguous};
 ghost use Rattle.lrverdicts.specs.declared.verdicts.Verdict.TheVariants.{Unambiguous};
 ghost use Rattle.lrevidence.specs.Ambiguities.{HasTwoTrees, IsProved};
-ghost use Rattle.lrshown.specs.Ambiguities.{has_text};
+ghost use Rattle.lrshown.specs.Ambiguities.{has_sentence};
 ghost use Rattle.lrreport.specs.JsonTexts.{AddsTokens};
 ghost use Rattle.lrreport.specs.JsonHeads.{verdict_word, is_proved, count_tokens, head_tokens, BeginsWith};
 
-use crate::conflicts::{Checked, Choice, entries_of};
+use crate::conflicts::{Checked, entries_of};
 use crate::grammars::{add_grammar, productions_of_file, rules_of_file, tokens_of_file};
 use crate::helps::cut_off;
 use crate::json_parts::{add_faults, add_tokens_of, add_unplaced};
 use crate::json_texts::JsonText;
-use crate::settled::won_by;
+use crate::resolved::won_by;
 use crate::trees::alternatives;
 use lrdiagnostics::Source;
 use lrevidence::{Ambiguity, Evidence};
@@ -37,25 +37,6 @@ fn word_of(verdict: Verdict, is_ambiguous: bool) -> &'static str
         Verdict::Conflicts(_) => "conflicts",
         Verdict::Expected(_) => "as expected",
         Verdict::Unexpected { .. } => "unexpected",
-    }
-}
-
-/// What precedences have the table do, as a word.
-fn word_of_winner(winner: Winner) -> &'static str {
-    match winner {
-        Winner::Shift => "shift",
-        Winner::Reduce => "reduce",
-        Winner::Neither => "neither",
-    }
-}
-
-/// What the table does where entries meet, in a word.
-fn word_of_choice(choice: Choice) -> &'static str {
-    match choice {
-        Choice::Shift => "shift",
-        Choice::Reduce => "reduce",
-        Choice::Other => "other",
-        Choice::Neither => "neither",
     }
 }
 
@@ -136,9 +117,9 @@ fn add_nothing_found(json: &mut JsonText) {
 fn end_line(
     mut json: JsonText,
     file: Option<&FileGrammar>,
-    tells_grammar: bool,
+    has_grammar: bool,
 ) -> Result<String, AllocError> {
-    if tells_grammar {
+    if has_grammar {
         json.key("grammar");
         match file {
             Some(file) => add_grammar(&mut json, file),
@@ -156,7 +137,7 @@ pub(crate) fn json_of_faults(
     alloc: Global,
     source: &Source<'_>,
     faults: &[Fault],
-    tells_grammar: bool,
+    has_grammar: bool,
 ) -> Result<String, AllocError> {
     let mut json = JsonText::new(alloc);
     json.begin_object();
@@ -170,7 +151,7 @@ pub(crate) fn json_of_faults(
     add_faults(&mut json, source, &[])?;
     json.key("errors");
     add_faults(&mut json, source, faults)?;
-    end_line(json, None, tells_grammar)
+    end_line(json, None, has_grammar)
 }
 
 /// The line of a file with a grammar in which nothing could be found, and why.
@@ -180,7 +161,7 @@ pub(crate) fn json_of_refusal(
     file: &FileGrammar,
     warnings: &[Fault],
     message: &str,
-    tells_grammar: bool,
+    has_grammar: bool,
 ) -> Result<String, AllocError> {
     let mut json = JsonText::new(alloc);
     json.begin_object();
@@ -196,7 +177,7 @@ pub(crate) fn json_of_refusal(
     json.begin_array();
     add_unplaced(&mut json, message);
     json.end_array();
-    end_line(json, Some(file), tells_grammar)
+    end_line(json, Some(file), has_grammar)
 }
 
 /// The line of a file in whose grammar this was found, with so many conflicts expected.
@@ -206,12 +187,13 @@ pub(crate) fn json_of_findings<T: IndexStorage>(
     warnings: &[Fault],
     expected: Expected,
     verdict: Verdict,
+    has_grammar: bool,
 ) -> Result<String, AllocError>
     requires proved { All (IsProved checked.now.found.now.grm) checked.now.told.evidence.now }
-    requires settled { All (IsProved checked.now.found.now.grm) checked.now.told.settled.now }
+    requires resolved { All (IsProved checked.now.found.now.grm) checked.now.told.resolved.now }
     requires unambiguous { verdict ≡ Unambiguous → IsUnambiguous checked.now.found.now.grm }
     ensures { IfOk result (λ s. BeginsWith (print (head_tokens checked.now.told.source.now.name.now
-        verdict (list_any has_text checked.now.told.evidence.now))) (string_bytes s)) }
+        verdict (list_any has_sentence checked.now.told.evidence.now))) (string_bytes s)) }
 {
     let told = checked.told;
     let mut json = JsonText::new(alloc);
@@ -223,7 +205,7 @@ pub(crate) fn json_of_findings<T: IndexStorage>(
     add_faults(&mut json, told.source, warnings)?;
     json.key("errors");
     add_faults(&mut json, told.source, &[])?;
-    let line = end_line(json, Some(told.file), told.options.tells_grammar)?;
+    let line = end_line(json, Some(told.file), has_grammar)?;
     let head = checked.head(alloc, verdict)?;
     begun_with(alloc, line, head.as_str())
 }
@@ -244,9 +226,9 @@ impl<'a, T: IndexStorage> Checked<'a, T> {
         requires proved { All (IsProved self.now.found.now.grm) self.now.told.evidence.now }
         requires unambiguous { verdict ≡ Unambiguous → IsUnambiguous self.now.found.now.grm }
         ensures { AddsTokens json.old json.new (head_tokens self.now.told.source.now.name.now verdict
-            (list_any has_text self.now.told.evidence.now)) }
+            (list_any has_sentence self.now.told.evidence.now)) }
     {
-        let shown = self.any_text(self.told.evidence);
+        let shown = self.any_sentence(self.told.evidence);
         json.begin_object();
         add_verdict(
             json,
@@ -263,7 +245,7 @@ impl<'a, T: IndexStorage> Checked<'a, T> {
         requires unambiguous { verdict ≡ Unambiguous → IsUnambiguous self.now.found.now.grm }
         ensures { IfOk result (λ s. string_bytes s
             ≡ print (head_tokens self.now.told.source.now.name.now verdict
-            (list_any has_text self.now.told.evidence.now))) }
+            (list_any has_sentence self.now.told.evidence.now))) }
     {
         let mut json = JsonText::new(alloc);
         self.add_head(&mut json, verdict);
@@ -298,15 +280,15 @@ impl<'a, T: IndexStorage> Checked<'a, T> {
     /// Adds what was found.
     fn add_findings(&self, json: &mut JsonText) -> Result<(), AllocError>
         requires proved { All (IsProved self.now.found.now.grm) self.now.told.evidence.now }
-        requires settled { All (IsProved self.now.found.now.grm) self.now.told.settled.now }
+        requires resolved { All (IsProved self.now.found.now.grm) self.now.told.resolved.now }
     {
         let alternatives = alternatives(json.allocator(), self.told.file)?;
         json.key("conflicts");
         self.add_conflicts(json, alternatives.as_slice())?;
         json.key("settled");
-        self.add_settled(json, alternatives.as_slice())?;
+        self.add_resolved(json, alternatives.as_slice())?;
         json.key("unused_precedences");
-        self.told.add_idle_precedences(json);
+        self.told.add_useless_precedences(json);
         json.key("unused_tokens");
         self.told.add_unused_tokens(json);
         Ok(())
@@ -362,9 +344,9 @@ impl<'a, T: IndexStorage> Checked<'a, T> {
         json.begin_object();
         self.add_meeting(json, entries.as_slice())?;
         json.key("chosen");
-        json.string(word_of_choice(self.choice(&first.entry)));
+        json.string(self.choice(&first.entry).word());
         json.key("ambiguity");
-        let ambiguity = self.text_with_trees(meeting);
+        let ambiguity = self.sentence_with_trees(meeting);
         self.add_ambiguity(json, &first.entry, ambiguity, alternatives)?;
         json.key("after");
         self.told.add_example(json, first);
@@ -383,7 +365,7 @@ impl<'a, T: IndexStorage> Checked<'a, T> {
         self.told
             .evidence
             .chunk_by(|one, other| {
-                !self.told.options.tells_all
+                !self.told.options.detail.all
                     && one.entry.meets_like(&other.entry)
                     && self.choice(&one.entry) == self.choice(&other.entry)
             })
@@ -402,35 +384,35 @@ impl<'a, T: IndexStorage> Checked<'a, T> {
         Ok(())
     }
 
-    /// Adds what precedences settle, in the order of the file.
-    fn add_settled(&self, json: &mut JsonText, alternatives: &[usize]) -> Result<(), AllocError>
-        requires proved { All (IsProved self.now.found.now.grm) self.now.told.settled.now }
+    /// Adds what precedences resolve, in the order of the file.
+    fn add_resolved(&self, json: &mut JsonText, alternatives: &[usize]) -> Result<(), AllocError>
+        requires proved { All (IsProved self.now.found.now.grm) self.now.told.resolved.now }
     {
         json.begin_array();
         for meeting in self
             .found
-            .settled
+            .resolved
             .as_slice()
             .chunk_by(|one, other| one.entry.meets_like(&other.entry))
         {
             for winner in [Winner::Shift, Winner::Reduce, Winner::Neither] {
                 let entries = won_by(json.allocator(), meeting, winner)?;
-                self.add_settling(json, entries.as_slice(), winner, alternatives)?;
+                self.add_resolution(json, entries.as_slice(), winner, alternatives)?;
             }
         }
         json.end_array();
         Ok(())
     }
 
-    /// Adds what precedences settle alike in a state, for the same production, if there is something.
-    fn add_settling(
+    /// Adds what precedences resolve alike in a state, for the same production, if there is something.
+    fn add_resolution(
         &self,
         json: &mut JsonText,
         entries: &[Entry],
         winner: Winner,
         alternatives: &[usize],
     ) -> Result<(), AllocError>
-        requires proved { All (IsProved self.now.found.now.grm) self.now.told.settled.now }
+        requires proved { All (IsProved self.now.found.now.grm) self.now.told.resolved.now }
     {
         let Some(first) = entries.first() else {
             return Ok(());
@@ -438,7 +420,7 @@ impl<'a, T: IndexStorage> Checked<'a, T> {
         json.begin_object();
         self.add_meeting(json, entries)?;
         json.key("winner");
-        json.string(word_of_winner(winner));
+        json.string(winner.word());
         json.key("ambiguity");
         self.add_ambiguity(json, first, self.decided(entries), alternatives)?;
         json.key("searched");

@@ -125,7 +125,7 @@ impl Told<'_> {
 }
 
 impl<T: IndexStorage> Checked<'_, T> {
-    /// Adds a text with two trees at an entry: the rule whose two ways they are, the text, whether the trees part by what meets in
+    /// Adds a sentence with two trees at an entry: the rule whose two ways they are, the text, whether the trees part by what meets in
     /// the entry, how many tokens the text has, and, where it is too long to be told, its form. Null where there is none.
     pub(crate) fn add_ambiguity(
         &self,

@@ -1,6 +1,6 @@
-//! New levels that could settle a conflict, tried on all conflicts of a file.
+//! New levels that could resolve a conflict, tried on all conflicts of a file.
 //!
-//! A level is harmless where it settles open conflicts as the table decides them: by the shift. It may settle one by the
+//! A level is harmless where it resolves open conflicts as the table decides them: by the shift. It may resolve one by the
 //! reduction where a rule and its operator meet: there the state that is come to by the reduction shifts the token too.
 
 use crate::conflicts::Checked;
@@ -37,7 +37,7 @@ pub(crate) enum Group {
     Either,
     /// To shift, by `%right`.
     Shift,
-    /// Nothing is settled, by `%precedence`.
+    /// Nothing is resolved, by `%precedence`.
     Open,
     /// Neither, by `%nonassoc`.
     Neither,
@@ -73,7 +73,7 @@ pub(crate) struct Proposal {
 /// What comes of new levels.
 #[derive(Clone, Copy, PartialEq, Eq)]
 pub(crate) enum Trial {
-    /// The conflict is settled, and nothing else is decided otherwise than before.
+    /// The conflict is resolved, and nothing else is decided otherwise than before.
     Good,
     /// It is not, or something else is.
     Bad,
@@ -149,7 +149,7 @@ struct Levels<'p> {
 #[derive(Drop)]
 pub(crate) struct Trials<'c, 'a, T: IndexStorage> {
     pub(crate) checked: &'c Checked<'a, T>,
-    /// State and token of each entry, left open or settled, in order. What stands here twice has more than two candidates.
+    /// State and token of each entry, left open or resolved, in order. What stands here twice has more than two candidates.
     cells: Vec<(usize, usize)>,
     /// Of each state of an entry the rule of which it has operators, if of one.
     rules: BTreeMap<usize, Option<usize>>,
@@ -170,7 +170,7 @@ impl<'c, 'a, T: IndexStorage> Trials<'c, 'a, T> {
             left: Cell::new(MOST),
         };
         trials.add_entries()?;
-        trials.add_settled()?;
+        trials.add_resolved()?;
         trials.cells.sort_unstable();
         Ok(trials)
     }
@@ -193,11 +193,12 @@ impl<'c, 'a, T: IndexStorage> Trials<'c, 'a, T> {
         Ok(())
     }
 
-    /// Adds the entries that precedences settle.
-    fn add_settled(&mut self) -> Result<(), AllocError> {
+    /// Adds the entries that precedences resolve.
+    fn add_resolved(&mut self) -> Result<(), AllocError> {
         let checked = self.checked;
-        for settled in &checked.found.settled {
-            self.cells.push((settled.entry.state, settled.entry.token))?;
+        for resolved in &checked.found.resolved {
+            self.cells
+                .push((resolved.entry.state, resolved.entry.token))?;
         }
         Ok(())
     }
@@ -289,7 +290,7 @@ impl<'c, 'a, T: IndexStorage> Trials<'c, 'a, T> {
         };
         self.left.set(left);
         let levels = self.levels(alloc, proposal)?;
-        let settles = meeting.iter().all(|it| self.outcome(
+        let resolves = meeting.iter().all(|it| self.outcome(
             &levels,
             it.entry.token,
             it.entry.production,
@@ -297,7 +298,7 @@ impl<'c, 'a, T: IndexStorage> Trials<'c, 'a, T> {
         let is_harmless = evidence
             .iter()
             .all(|it| self.is_harmless(&levels, &it.entry));
-        Ok(if settles && is_harmless {
+        Ok(if resolves && is_harmless {
             Trial::Good
         } else {
             Trial::Bad

@@ -2,6 +2,7 @@
 #![tactic(auto)]
 
 mod actions;
+mod advice;
 mod conflicts;
 mod drawings;
 mod grammars;
@@ -15,7 +16,7 @@ mod notes;
 mod options;
 mod pages;
 mod reports;
-mod settled;
+mod resolved;
 mod states;
 mod texts;
 mod told;
@@ -24,6 +25,6 @@ mod verdicts;
 mod warnings;
 mod words;
 
-pub use crate::options::{Options, Output};
+pub use crate::options::{Detail, Lines, Options, Output};
 pub use crate::reports::{Conclusion, Report, report_on};
 pub use lryacc::Dialect;

@@ -11,7 +11,7 @@ use crate::texts::{
     labels,
 };
 use crate::told::Told;
-use crate::verdicts::own_texts;
+use crate::verdicts::own_sentences;
 use crate::words::Words;
 use lrdiagnostics::{Layout, Mark};
 use lrevidence::{
@@ -67,22 +67,22 @@ impl Notes {
     }
 }
 
-/// The tokens of the entries for which there is no text with two trees that part by what meets in them.
+/// The tokens of the entries for which there is no sentence with two trees that part by what meets in them.
 fn unknown(alloc: Global, meeting: &[Evidence]) -> Result<Vec<usize>, AllocError> {
     let mut tokens = Vec::new(alloc);
     for evidence in meeting {
-        if !evidence.has_own_text() {
+        if !evidence.has_own_sentence() {
             tokens.push(evidence.entry.token)?;
         }
     }
     Ok(tokens)
 }
 
-/// Whether each of the entries has a text with two trees that part by what meets in it.
-fn have_texts(meeting: &[Evidence]) -> bool
+/// Whether each of the entries has a sentence with two trees that part by what meets in it.
+fn have_sentences(meeting: &[Evidence]) -> bool
     ensures { IsTrue result → All (λ evidence. IsSome evidence.ambiguity) meeting.now }
 {
-    meeting.iter().all(|it| it.has_own_text())
+    meeting.iter().all(|it| it.has_own_sentence())
 }
 
 impl Told<'_> {
@@ -103,12 +103,19 @@ impl Told<'_> {
         tree: &Tree,
         dot: usize,
     ) -> Result<(), AllocError> {
-        if self.options.draws_trees {
+        if self.options.detail.trees {
             text.add_times(' ', notes.indent.saturating_add(2));
             label.push(text);
             text.add_char('\n');
             let indent = notes.indent.saturating_add(6);
-            return push_drawing(text, self.file, tree, dot, indent, self.options.is_plain);
+            return push_drawing(
+                text,
+                self.file,
+                tree,
+                dot,
+                indent,
+                self.options.lines.is_plain,
+            );
         }
         let mut words = Words::new(text.allocator());
         add_tree_words(&mut words, self.file, tree, dot)?;
@@ -136,7 +143,7 @@ impl Told<'_> {
         self.push_tree(text, notes, second.0, second.1, dot)
     }
 
-    /// Adds at which of the entries no text with two trees was found.
+    /// Adds at which of the entries no sentence with two trees was found.
     fn push_unknown(
         &self,
         text: &mut Text,
@@ -182,7 +189,7 @@ impl Told<'_> {
         Ok(())
     }
 
-    /// Adds how far a search went that found no text.
+    /// Adds how far a search went that found no sentence.
     fn add_effort(&self, words: &mut Words, evidence: &Evidence) {
         if evidence.is_cut_off {
             words.add_all("(not searched to the end: the allowance of this file was used up):");
@@ -236,7 +243,7 @@ impl Told<'_> {
 }
 
 impl<T: IndexStorage> Checked<'_, T> {
-    /// Adds a text with two trees, and both. Where these part by something else that meets in the cell of the entry, it is said so.
+    /// Adds a sentence with two trees, and both. Where these part by something else that meets in the cell of the entry, it is said so.
     fn push_ambiguity(
         &self,
         text: &mut Text,
@@ -254,11 +261,11 @@ impl<T: IndexStorage> Checked<'_, T> {
         });
         add_two_trees(&mut words, self.told.file, ambiguity);
         notes.push(text, &words);
-        self.push_text_with_trees(text, notes, ambiguity)
+        self.push_sentence(text, notes, ambiguity)
     }
 
     /// Adds a text, and both trees of the part of it in which they differ; of a long text that part alone.
-    fn push_text_with_trees(
+    fn push_sentence(
         &self,
         text: &mut Text,
         notes: Notes,
@@ -303,7 +310,7 @@ impl<T: IndexStorage> Checked<'_, T> {
         if meeting.len() > 2 {
             notes.push_text(
                 text,
-                "so it is at each other token (proved; --all shows the texts)",
+                "so it is at each other token (proved; --all shows the sentences)",
             );
         }
     }
@@ -318,13 +325,13 @@ impl<T: IndexStorage> Checked<'_, T> {
     ) -> Result<(), AllocError>
         requires proved { All (IsProved self.now.found.now.grm) meeting.now }
     {
-        if have_texts(meeting) {
+        if have_sentences(meeting) {
             self.push_each(text, notes, meeting);
         } else {
             self.told.push_unknown(text, notes, meeting)?;
         }
-        if own_texts(meeting) == 2 {
-            if let Some((token, ambiguity)) = self.own_text_but_at(meeting, Some(first)) {
+        if own_sentences(meeting) == 2 {
+            if let Some((token, ambiguity)) = self.own_sentence_but_at(meeting, Some(first)) {
                 self.push_also(text, notes, token, ambiguity)?;
             }
         }
@@ -343,11 +350,11 @@ impl<T: IndexStorage> Checked<'_, T> {
         let Some(first) = meeting.first() else {
             return Ok(());
         };
-        if let Some((token, ambiguity)) = self.own_text_but_at(meeting, None) {
+        if let Some((token, ambiguity)) = self.own_sentence_but_at(meeting, None) {
             self.push_ambiguity(text, notes, &first.entry, ambiguity)?;
             return self.push_others(text, notes, meeting, token);
         }
-        if let Some(ambiguity) = self.text_with_trees(meeting) {
+        if let Some(ambiguity) = self.sentence_with_trees(meeting) {
             return self.push_ambiguity(text, notes, &first.entry, ambiguity);
         }
         match &first.example {
@@ -356,7 +363,7 @@ impl<T: IndexStorage> Checked<'_, T> {
         }
     }
 
-    /// Adds what is known of entries at which the same meets, and how they can be settled, as notes under such marks.
+    /// Adds what is known of entries at which the same meets, and how they can be resolved, as notes under such marks.
     pub(crate) fn push_notes(
         &self,
         text: &mut Text,
@@ -380,8 +387,8 @@ impl<T: IndexStorage> Checked<'_, T> {
         Ok(())
     }
 
-    /// Adds a text that has two trees without the precedences, of which one is kept.
-    fn push_decided_text(
+    /// Adds a sentence that has two trees without the precedences, of which one is kept.
+    fn push_decided_sentence(
         &self,
         text: &mut Text,
         notes: Notes,
@@ -396,10 +403,10 @@ impl<T: IndexStorage> Checked<'_, T> {
         words.add_all("(proved);");
         words.add_all(kept);
         notes.push(text, &words);
-        self.push_text_with_trees(text, notes, ambiguity)
+        self.push_sentence(text, notes, ambiguity)
     }
 
-    /// Adds notes on what precedences settle: why, and a text with two trees, of which one is kept.
+    /// Adds notes on what precedences resolve: why, and a sentence with two trees, of which one is kept.
     pub(crate) fn push_decided(
         &self,
         text: &mut Text,
@@ -417,11 +424,11 @@ impl<T: IndexStorage> Checked<'_, T> {
         if is_cut_off {
             notes.push_text(
                 &mut lines,
-                "no text was looked for to the end, since the allowance of this file was used up",
+                "no sentence was looked for to the end, since the allowance of this file was used up",
             );
         }
         if let Some(ambiguity) = ambiguity {
-            self.push_decided_text(&mut lines, notes, kept, ambiguity)?;
+            self.push_decided_sentence(&mut lines, notes, kept, ambiguity)?;
         }
         let lines = lines.finish()?;
         self.told.teller().add_notes(text, marks, lines.as_str());

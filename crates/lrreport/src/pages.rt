@@ -13,7 +13,7 @@ use lrpage::{Card, Page};
 use lrwriter::Text;
 use std::alloc::{AllocError, Global};
 
-/// How entries at which the same meets can be settled, in one line.
+/// How entries at which the same meets can be resolved, in one line.
 fn help_line<T: IndexStorage>(
     alloc: Global,
     trials: &Trials<'_, '_, T>,

@@ -16,19 +16,20 @@ ghost use Rattle.lrevidence.specs.Ambiguities.{HasTwoTrees, IsProved, PartsAtEnt
 ghost use Rattle.lrevidence.specs.Entries.{AreListedIn};
 ghost use Rattle.lrreport.specs.declared.options.Output.TheVariants.{Grammar, Summary};
 ghost use Rattle.json.specs.Print.{print};
-ghost use Rattle.lrshown.specs.Ambiguities.{has_text};
+ghost use Rattle.lrshown.specs.Ambiguities.{has_sentence};
 ghost use Rattle.lrreport.specs.JsonHeads.{head_tokens};
 ghost use Rattle.lrreport.specs.ToldConclusions.{has_hint, last_line, line_of, EndsIn, Tells, TellsConclusion};
-ghost use Rattle.lrreport.specs.LeftOpen.{AreLeftOpen};
-ghost use Rattle.lrreport.specs.Conclusions.{IsConcluded, conclusion_of};
+ghost use Rattle.lrreport.specs.Conclusions.{IsConcluded, IsSaidBy, conclusion_of, expected_beside};
 
-use crate::conflicts::{Checked, left_open};
+use crate::conflicts::Checked;
 use crate::json_lines::{json_of_faults, json_of_findings, json_of_refusal};
 use crate::options::{Options, Output};
 use crate::told::Told;
 use lrdiagnostics::{Layout, Source, TOLD, Teller, Weight, add_shown, messages_of};
 use lrevidence::{Ambiguity, Effort, Evidence, evidence_for, find_ambiguity};
-use lrfindings::{Counts, Entry, FindError, Findings, Idle, Settled, Verdict, find, small_text};
+use lrfindings::{
+    Counts, Entry, FindError, Findings, Resolved, UselessPrecedences, Verdict, find, small_text,
+};
 use lrgrammar::idx::IndexStorage;
 use lrwriter::Text;
 use lryacc::{Expected, Fault, FileGrammar, FileRead, read_file};
@@ -52,7 +53,7 @@ pub struct Report {
 pub struct Conclusion {
     /// The grammar of the file, as it was read.
     pub file: FileGrammar,
-    /// Whether its precedences are in force: neither where they are left out, nor where there are no conflicts and they settle
+    /// Whether its precedences are in force: neither where they are left out, nor where there are no conflicts and they resolve
     /// nothing.
     pub has_precedences: bool,
     /// How many conflicts are expected.
@@ -61,9 +62,9 @@ pub struct Conclusion {
     pub verdict: Verdict,
     /// The conflicts, in the order of the file, and what is known of each.
     pub evidence: Vec<Evidence>,
-    /// How many more precedences settle.
-    pub settled: usize,
-    /// A text with two trees, one of which precedences choose, where it was looked for: only where they settle all conflicts.
+    /// How many more precedences resolve.
+    pub resolved: usize,
+    /// A sentence with two trees, one of which precedences choose, where it was looked for: only where they resolve all conflicts.
     pub decided: Option<Ambiguity>,
 }
 
@@ -84,7 +85,7 @@ impl Report {
 
 /// How many faults of a file, or conflicts, are told one by one at the most.
 fn most_told(options: Options) -> usize {
-    if options.tells_all { usize::MAX } else { TOLD }
+    if options.detail.all { usize::MAX } else { TOLD }
 }
 
 /// A file that was read as a grammar.
@@ -106,13 +107,13 @@ fn report_on_faults(
     ensures conclusion { IfOk result (λ r. r.conclusion ≡ None) }
     ensures status { IfOk result (λ r. r.status ≡ 2) }
 {
-    if options.output == Output::Json {
-        let text = json_of_faults(alloc, source, faults, options.tells_grammar)?;
+    if let Output::Json { has_grammar } = options.output {
+        let text = json_of_faults(alloc, source, faults, has_grammar)?;
         return Ok(Report::unread(text));
     }
     let teller = Teller {
         source,
-        has_colours: options.has_colours,
+        has_colours: options.lines.has_colours,
     };
     let messages = messages_of(alloc, faults)?;
     let mut text = Text::new(alloc);
@@ -139,14 +140,14 @@ fn report_on_refusal(
         return Err(AllocError);
     }
     let (name, why) = (read.source.name, format!(in alloc; "{why}")?);
-    let text = if options.output == Output::Json {
+    let text = if let Output::Json { has_grammar } = options.output {
         json_of_refusal(
             alloc,
             read.source,
             read.file,
             read.warnings,
             why.as_str(),
-            options.tells_grammar,
+            has_grammar,
         )?
     } else {
         format!(in alloc; "{name}: error: {why}\n")?
@@ -161,14 +162,14 @@ struct Known {
     left: Counts,
     /// Of the conflicts that are left open.
     evidence: Vec<Evidence>,
-    /// Of what precedences settle, where that is asked for.
-    settled: Vec<Evidence>,
-    /// A text with two trees, where precedences settle all conflicts.
+    /// Of what precedences resolve, where that is asked for.
+    resolved: Vec<Evidence>,
+    /// A sentence with two trees, where precedences resolve all conflicts.
     decided: Option<Ambiguity>,
 }
 
 /// How much work the searches at all conflicts of a file may do together, for each step that one of them may take; and as much
-/// those at all that precedences settle.
+/// those at all that precedences resolve.
 const WORK: usize = 1_000;
 
 /// How much work searches may do together.
@@ -182,22 +183,24 @@ fn effort_of(options: Options) -> Effort {
         _ if options.steps == 0 => 0,
         _ if options.makes_page => usize::MAX,
         Output::Report => most_told(options),
-        Output::Json => usize::MAX,
+        Output::Json { .. } => usize::MAX,
         Output::Summary | Output::Grammar | Output::States => 0,
     };
     Effort {
         steps: options.steps,
         work: work_of(options),
         examples,
-        counts_each: options.tells_all || options.makes_page || options.output == Output::Json,
+        counts_each: options.detail.all
+            || options.makes_page
+            || matches!(options.output, Output::Json { .. }),
     }
 }
 
-/// The entries that precedences settle.
-fn settled_entries(alloc: Global, settled: &[Settled]) -> Result<Vec<Entry>, AllocError>
-    ensures { IfOk result (λ v. v.items ≡ map (λ s. s.entry) settled.now) }
+/// The entries that precedences resolve.
+fn resolved_entries(alloc: Global, resolved: &[Resolved]) -> Result<Vec<Entry>, AllocError>
+    ensures { IfOk result (λ v. v.items ≡ map (λ s. s.entry) resolved.now) }
 {
-    settled.iter().map(|it| it.entry).collect(alloc)
+    resolved.iter().map(|it| it.entry).collect(alloc)
 }
 
 /// What is known of a grammar beside what was found in it.
@@ -211,52 +214,56 @@ fn known_of<T: IndexStorage>(
     requires listed { IfSome found.now.graph (λ h.
         AreListedIn found.now.grm h found.now.conflicts.items) }
     requires contested { IfSome found.now.graph (AreReductionsContested found.now.grm) }
-    ensures left { IfOk result (λ k. AreLeftOpen found.now.conflicts.items found.now.closed.items
-        found.now.opened.items (map (λ e. e.entry) k.evidence.items)) }
+    ensures left { IfOk result (λ k. map (λ e. e.entry) k.evidence.items ≡ found.now.left.items) }
     ensures counts { IfOk result (λ k. k.left ≡ counts_of (map (λ e. e.entry) k.evidence.items)) }
     ensures proved { IfOk result (λ k. All (IsProved found.now.grm) k.evidence.items) }
     ensures parts { IfOk result (λ k. MatchOption found.now.graph (k.evidence.items ≡ [])
         (λ h. All (PartsAtEntry found.now.grm h) k.evidence.items)) }
-    ensures settled { IfOk result (λ k. All (IsProved found.now.grm) k.settled.items) }
+    ensures resolved { IfOk result (λ k. All (IsProved found.now.grm) k.resolved.items) }
     ensures decided { IfOk result (λ k. IfSome k.decided (HasTwoTrees found.now.grm)) }
 {
-    let (entries, effort) = (left_open(alloc, found)?, effort_of(options));
-    let evidence = evidence_for(alloc, file, found, entries.as_slice(), effort)?;
-    let settled = settled_entries(alloc, found.settled.as_slice())?;
-    let decided = if entries.is_empty() && !settled.is_empty() {
-        let (entries, steps) = (settled.as_slice(), options.steps);
+    let (entries, effort) = (found.left.as_slice(), effort_of(options));
+    let evidence = evidence_for(alloc, file, found, entries, effort)?;
+    let resolved = resolved_entries(alloc, found.resolved.as_slice())?;
+    let decided = if entries.is_empty() && !resolved.is_empty() {
+        let (entries, steps) = (resolved.as_slice(), options.steps);
         find_ambiguity(alloc, found, entries, steps, work_of(options))?
     } else {
         None
     };
-    let settled = if options.tells_settled {
-        evidence_for(alloc, file, found, settled.as_slice(), effort)?
+    let resolved = if options.detail.resolved {
+        evidence_for(alloc, file, found, resolved.as_slice(), effort)?
     } else {
         Vec::new(alloc)
     };
     Ok(Known {
-        left: Counts::of(entries.as_slice()),
+        left: Counts::of(entries),
         evidence,
-        settled,
+        resolved,
         decided,
     })
 }
 
 /// What is told of a file, and how.
-fn told_of<'a>(read: Read<'a>, idle: &'a Idle, known: &'a Known, options: Options) -> Told<'a>
+fn told_of<'a>(
+    read: Read<'a>,
+    useless: &'a UselessPrecedences,
+    known: &'a Known,
+    options: Options,
+) -> Told<'a>
     ensures source { result.source.now.name.now ≡ read.entry.source.now.name.now }
     ensures steps { result.options.steps ≡ options.steps }
-    ensures columns { result.options.columns ≡ options.columns }
+    ensures columns { result.options.lines.columns ≡ options.lines.columns }
     ensures hint { has_hint result.options ≡ has_hint options }
     ensures evidence { result.evidence.now ≡ known.now.evidence.items }
-    ensures settled { result.settled.now ≡ known.now.settled.items }
+    ensures resolved { result.resolved.now ≡ known.now.resolved.items }
 {
     Told {
         source: read.source,
         file: read.file,
         evidence: known.evidence.as_slice(),
-        settled: known.settled.as_slice(),
-        idle,
+        resolved: known.resolved.as_slice(),
+        useless,
         options: Options {
             expected: options.beside(read.expected).shift_reduce,
             ..options
@@ -279,7 +286,7 @@ impl<T: IndexStorage> Checked<'_, T> {
     /// Adds all that stands before the last line.
     fn push_details(&self, text: &mut Text, warnings: &[Fault]) -> Result<(), AllocError>
         requires proved { All (IsProved self.now.found.now.grm) self.now.told.evidence.now }
-        requires settled { All (IsProved self.now.found.now.grm) self.now.told.settled.now }
+        requires resolved { All (IsProved self.now.found.now.grm) self.now.told.resolved.now }
     {
         let options = self.told.options;
         if options.output == Output::States {
@@ -289,8 +296,8 @@ impl<T: IndexStorage> Checked<'_, T> {
         self.told.push_warnings(text, warnings, most)?;
         self.push_conflicts(text, most)?;
         self.told.push_notes_on_all(text)?;
-        if options.tells_settled {
-            self.push_settled(text, most)?;
+        if options.detail.resolved {
+            self.push_resolved(text, most)?;
         }
         Ok(())
     }
@@ -307,7 +314,7 @@ impl<T: IndexStorage> Checked<'_, T> {
         requires decided { IfSome decided (λ a. HasTwoTrees self.now.found.now.grm a.now) }
         ensures { IfOk result (λ s. string_bytes s ≡ line_of self.now.told.source.now.name.now
             (verdict_words verdict self.now.told.evidence.now
-            (nat_lt 0 self.now.told.options.steps) (length self.now.found.now.settled.items)
+            (nat_lt 0 self.now.told.options.steps) (length self.now.found.now.resolved.items)
             (has_hint self.now.told.options) (is_some decided.entry))) }
     {
         let has_hint = self.told.options.has_hint();
@@ -335,13 +342,13 @@ fn lines<T: IndexStorage>(
     line: &str,
 ) -> Result<String, AllocError>
     requires proved { All (IsProved checked.now.found.now.grm) checked.now.told.evidence.now }
-    requires settled { All (IsProved checked.now.found.now.grm) checked.now.told.settled.now }
-    ensures { checked.now.told.options.columns ≡ None → IfOk result (λ s.
+    requires resolved { All (IsProved checked.now.found.now.grm) checked.now.told.resolved.now }
+    ensures { checked.now.told.options.lines.columns ≡ None → IfOk result (λ s.
         EndsIn (shown_text line.now ++ codes "\n") (string_bytes s)) }
 {
     let mut text = Text::new(alloc);
     checked.push_details(&mut text, warnings)?;
-    add_last_line(&mut text, line, checked.told.options.columns);
+    add_last_line(&mut text, line, checked.told.options.lines.columns);
     text.finish()
 }
 
@@ -355,25 +362,32 @@ fn text_on_findings<T: IndexStorage>(
     options: Options,
 ) -> Result<String, AllocError>
     requires proved { All (IsProved found.now.grm) known.now.evidence.items }
-    requires settled { All (IsProved found.now.grm) known.now.settled.items }
+    requires resolved { All (IsProved found.now.grm) known.now.resolved.items }
     requires decided { IfSome known.now.decided (HasTwoTrees found.now.grm) }
     requires unambiguous { verdict ≡ Unambiguous → IsUnambiguous found.now.grm }
-    ensures told { IfOk result (λ s. Tells options.output options.columns
+    ensures told { IfOk result (λ s. Tells options.output options.lines.columns
         (last_line read.entry.source.now.name.now (verdict_words verdict known.now.evidence.items
-        (nat_lt 0 options.steps) (length found.now.settled.items) (has_hint options)
+        (nat_lt 0 options.steps) (length found.now.resolved.items) (has_hint options)
         (is_some known.now.decided)))
         (print (head_tokens read.entry.source.now.name.now verdict
-        (list_any has_text known.now.evidence.items))) (string_bytes s)) }
+        (list_any has_sentence known.now.evidence.items))) (string_bytes s)) }
 {
     let checked = Checked {
-        told: told_of(read, &found.idle, known, options),
+        told: told_of(read, &found.useless, known, options),
         found,
     };
     let line = checked.line(alloc, verdict, known.decided.as_ref())?;
     match options.output {
-        Output::Json => {
+        Output::Json { has_grammar } => {
             let expected = options.beside(read.expected);
-            json_of_findings(alloc, &checked, read.warnings, expected, verdict)
+            json_of_findings(
+                alloc,
+                &checked,
+                read.warnings,
+                expected,
+                verdict,
+                has_grammar,
+            )
         }
         Output::Summary => summary(alloc, line.as_str()),
         _ => lines(alloc, &checked, read.warnings, line.as_str()),
@@ -397,7 +411,7 @@ fn page_on_findings<T: IndexStorage>(
         return Ok(None);
     }
     let checked = Checked {
-        told: told_of(read, &found.idle, known, options),
+        told: told_of(read, &found.useless, known, options),
         found,
     };
     let words = checked.verdict_words(alloc, verdict, known.decided.as_ref(), false)?;
@@ -413,7 +427,7 @@ struct Outcome {
     expected: Expected,
     verdict: Verdict,
     evidence: Vec<Evidence>,
-    settled: usize,
+    resolved: usize,
     decided: Option<Ambiguity>,
 }
 
@@ -434,7 +448,7 @@ impl Outcome {
                 expected: self.expected,
                 verdict: self.verdict,
                 evidence: self.evidence,
-                settled: self.settled,
+                resolved: self.resolved,
                 decided: self.decided,
             }),
         }
@@ -455,6 +469,7 @@ fn outcome_on_findings<T: IndexStorage>(
         IsConcluded options.ignores_precedences (conclusion_of read.entry.file.now o)) }
     ensures told { IfOk result (λ o. TellsConclusion options read.entry.source.now.name.now
         (conclusion_of read.entry.file.now o) (string_bytes o.text)) }
+    ensures expected { IfOk result (λ o. o.expected ≡ expected_beside options read.entry.expected) }
 {
     let known = known_of(alloc, read.file, &found, options)?;
     let expected = options.beside(read.expected);
@@ -473,7 +488,7 @@ fn outcome_on_findings<T: IndexStorage>(
         expected,
         verdict,
         evidence,
-        settled: found.settled.len(),
+        resolved: found.resolved.len(),
         decided,
     })
 }
@@ -488,6 +503,7 @@ fn outcome_by<T: IndexStorage>(
         IsConcluded options.ignores_precedences (conclusion_of read.entry.file.now o)) }
     ensures told { IfOk result (λ o. TellsConclusion options read.entry.source.now.name.now
         (conclusion_of read.entry.file.now o) (string_bytes o.text)) }
+    ensures expected { IfOk result (λ o. o.expected ≡ expected_beside options read.entry.expected) }
 {
     let wants_graph = options.makes_page || options.output == Output::States;
     let has_precedences = !options.ignores_precedences;
@@ -508,6 +524,7 @@ fn outcome_of(alloc: Global, read: Read<'_>, options: Options) -> Result<Outcome
         IsConcluded options.ignores_precedences (conclusion_of read.entry.file.now o)) }
     ensures told { IfOk result (λ o. TellsConclusion options read.entry.source.now.name.now
         (conclusion_of read.entry.file.now o) (string_bytes o.text)) }
+    ensures expected { IfOk result (λ o. o.expected ≡ expected_beside options read.entry.expected) }
 {
     if is_small(read.file) {
         match outcome_by::<u16>(alloc, read, options) {
@@ -544,6 +561,7 @@ pub fn report_on(
 ) -> Result<Report, AllocError>
     ensures proved { IfOk result (λ r.
         IfSome r.conclusion (IsConcluded options.ignores_precedences)) }
+    ensures said { IfOk result (λ r. IfSome r.conclusion (IsSaidBy options bytes.now)) }
     ensures status { IfOk result (λ r. IfSome r.conclusion (λ c. r.status ≡ status_of c.verdict)) }
     ensures told { IfOk result (λ r. IfSome r.conclusion (λ c.
         TellsConclusion options name.now c (string_bytes r.text))) }

@@ -5,7 +5,7 @@
 
 use crate::actions::push_targets;
 use crate::conflicts::{Checked, entries_of};
-use crate::settled::won_by;
+use crate::resolved::won_by;
 use crate::told::Told;
 use crate::words::Words;
 use lrevidence::{body_of, symbol_name};
@@ -86,7 +86,7 @@ impl<'a, T: IndexStorage> Listing<'a, T> {
     /// Shows the states of what was found.
     fn new(alloc: Global, checked: &'a Checked<'a, T>) -> Result<Listing<'a, T>, AllocError> {
         let conflicts = entries_of(alloc, checked.told.evidence)?;
-        let errors = won_by(alloc, checked.found.settled.as_slice(), Winner::Neither)?;
+        let errors = won_by(alloc, checked.found.resolved.as_slice(), Winner::Neither)?;
         Ok(Listing {
             checked,
             rules: checked.rules(alloc)?,

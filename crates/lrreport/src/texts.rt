@@ -2,8 +2,8 @@
 
 use crate::words::Words;
 use lrevidence::{
-    Ambiguity, Node, Step, Tree, Visit, name_of_rule, names_of, names_of_tokens, symbol_name,
-    text_of, token_name,
+    Ambiguity, Node, Step, Tree, name_of_rule, names_of, names_of_tokens, symbol_name, text_of,
+    token_name, tree_words,
 };
 use lrgrammar::grammar::PartSymbol;
 use lrwriter::Text;
@@ -67,7 +67,7 @@ pub(crate) fn leaves<'a>(
     Ok(names)
 }
 
-/// Adds the words of a text with two trees, or of the part of a long one in which they differ, with a dot where they part.
+/// Adds the words of a sentence with two trees, or of the part of a long one in which they differ, with a dot where they part.
 pub(crate) fn add_text(
     words: &mut Words,
     file: &FileGrammar,
@@ -96,7 +96,11 @@ pub(crate) fn add_start(words: &mut Words, file: &FileGrammar, start: Option<Par
 /// Adds that a text, which comes next, has two trees; of a long one, how long it is, and that what comes next is a part of it.
 pub(crate) fn add_two_trees(words: &mut Words, file: &FileGrammar, ambiguity: &Ambiguity) {
     let is_long = ambiguity.is_long();
-    words.add_all(if is_long { "a text" } else { "this text" });
+    words.add_all(if is_long {
+        "a sentence"
+    } else {
+        "this sentence"
+    });
     add_start(words, file, ambiguity.start(file));
     if is_long {
         let count = text_of(file, ambiguity.tokens.as_slice()).len();
@@ -125,35 +129,6 @@ pub(crate) fn add_list(
     Ok(())
 }
 
-/// The name of what stands at a node: a symbol, or the rule of a production.
-pub(crate) fn node_name<'a>(file: &'a FileGrammar, tree: &Tree, number: usize) -> &'a str {
-    match tree.nodes.get(number) {
-        Some(Node::Leaf(symbol)) => symbol_name(file, *symbol),
-        Some(Node::Inner(production)) => name_of_rule(file, *production),
-        None => "",
-    }
-}
-
-/// Whether what one comes to, going through a tree, goes on a word: behind an opening bracket, or by a closing one.
-fn goes_on(before: Visit, visit: Visit) -> bool {
-    matches!(before, Visit::Enter(_)) || matches!(visit, Visit::Leave(_))
-}
-
-/// Adds a word of a tree in brackets.
-fn add_tree_word(words: &mut Words, file: &FileGrammar, tree: &Tree, visits: &[Visit]) {
-    words.begin();
-    for visit in visits {
-        match *visit {
-            Visit::Enter(number) => {
-                words.add_piece(node_name(file, tree, number));
-                words.add_piece("(");
-            }
-            Visit::Leaf(number) => words.add_piece(node_name(file, tree, number)),
-            Visit::Leave(_) => words.add_piece(")"),
-        }
-    }
-}
-
 /// Adds the words of a tree in brackets, as `E(E(E '+' E) . '+' E)`, with a dot before that leaf.
 pub(crate) fn add_tree_words(
     words: &mut Words,
@@ -161,22 +136,8 @@ pub(crate) fn add_tree_words(
     tree: &Tree,
     dot: usize,
 ) -> Result<(), AllocError> {
-    let visits = tree.visits(words.allocator())?;
-    let mut leaves: usize = 0;
-    for word in visits
-        .as_slice()
-        .chunk_by(|before, visit| goes_on(*before, *visit))
-    {
-        if word.iter().any(|visit| matches!(visit, Visit::Leaf(_))) {
-            if leaves == dot {
-                words.add(".");
-            }
-            leaves = leaves.saturating_add(1);
-        }
-        add_tree_word(words, file, tree, word);
-    }
-    if leaves <= dot {
-        words.add(".");
+    for word in &tree_words(words.allocator(), file, tree, dot)? {
+        words.add(word.as_str());
     }
     Ok(())
 }

@@ -3,7 +3,7 @@
 use crate::options::Options;
 use lrdiagnostics::{Layout, Source, Teller};
 use lrevidence::{Evidence, name_of_rule, token_name};
-use lrfindings::{Entry, Idle, precedence_token};
+use lrfindings::{Entry, UselessPrecedences, precedence_token};
 use lrgrammar::grammar::{PartProd, PartSymbol, Precedence};
 use lryacc::{FileGrammar, Span};
 
@@ -14,10 +14,10 @@ pub(crate) struct Told<'a> {
     pub(crate) file: &'a FileGrammar,
     /// What is known of the conflicts that are left open.
     pub(crate) evidence: &'a [Evidence],
-    /// What is known of what precedences settle, where that is asked for; else nothing.
-    pub(crate) settled: &'a [Evidence],
-    /// Which precedences settle nothing, and which tokens are in no rule.
-    pub(crate) idle: &'a Idle,
+    /// What is known of what precedences resolve, where that is asked for; else nothing.
+    pub(crate) resolved: &'a [Evidence],
+    /// Which precedences resolve nothing, and which tokens are in no rule.
+    pub(crate) useless: &'a UselessPrecedences,
     pub(crate) options: Options,
 }
 
@@ -98,12 +98,12 @@ impl<'a> Told<'a> {
     pub(crate) fn teller(&self) -> Teller<'a> {
         Teller {
             source: self.source,
-            has_colours: self.options.has_colours,
+            has_colours: self.options.lines.has_colours,
         }
     }
 
     /// How lines of words are made.
     pub(crate) fn layout(&self) -> Layout {
-        Layout::new(self.options.columns)
+        Layout::new(self.options.lines.columns)
     }
 }

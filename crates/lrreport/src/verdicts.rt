@@ -7,8 +7,8 @@ ghost use Rattle.lrspec.specs.tables.Recognition.{IsUnambiguous};
 ghost use Rattle.lrwriter.specs.Texts.{Adds};
 ghost use Rattle.lrverdicts.specs.declared.verdicts.Verdict.TheVariants.{Unambiguous};
 ghost use Rattle.lrevidence.specs.Ambiguities.{HasTwoTrees, IsProved};
-ghost use Rattle.lrshown.specs.Ambiguities.{has_own_text};
-ghost use Rattle.lrshown.specs.VerdictWords.{unambiguous_words, ambiguous_words, plain_words, texts_words, ambiguous_verdict, unknown_verdict, known_verdict, settled_words, decided_words, verdict_words};
+ghost use Rattle.lrshown.specs.Ambiguities.{has_own_sentence};
+ghost use Rattle.lrshown.specs.VerdictWords.{unambiguous_words, ambiguous_words, plain_words, sentences_words, ambiguous_verdict, unknown_verdict, known_verdict, resolved_words, decided_words, verdict_words};
 
 use crate::conflicts::Checked;
 use crate::told::Told;
@@ -18,13 +18,13 @@ use lrgrammar::idx::IndexStorage;
 use lrwriter::Text;
 use std::alloc::{AllocError, Global};
 
-/// For how many entries a text with two trees is known that part by what meets in them.
-pub(crate) fn own_texts(evidence: &[Evidence]) -> usize
-    ensures { result ≡ count_by has_own_text evidence.now }
+/// For how many entries a sentence with two trees is known that part by what meets in them.
+pub(crate) fn own_sentences(evidence: &[Evidence]) -> usize
+    ensures { result ≡ count_by has_own_sentence evidence.now }
 {
     let mut count: usize = 0;
     for one in evidence {
-        if one.has_own_text() {
+        if one.has_own_sentence() {
             count += 1;
         }
     }
@@ -32,21 +32,21 @@ pub(crate) fn own_texts(evidence: &[Evidence]) -> usize
 }
 
 /// Adds for how many of all conflicts a text of their own is known.
-fn push_texts(line: &mut Text, own: usize, all: usize)
-    ensures { Adds line.old line.new (texts_words own all) }
+fn push_sentences(line: &mut Text, own: usize, all: usize)
+    ensures { Adds line.old line.new (sentences_words own all) }
 {
     if own == 0 {
-        line.add("a text with two trees by something else that meets there");
+        line.add("a sentence with two trees by something else that meets there");
     } else if own != all {
-        write!(line, "a text with two trees for {own} of them");
+        write!(line, "a sentence with two trees for {own} of them");
     } else if all == 1 {
-        line.add("a text with two trees for it");
+        line.add("a sentence with two trees for it");
     } else {
-        line.add("a text with two trees for each");
+        line.add("a sentence with two trees for each");
     }
 }
 
-/// Adds how what precedences settle is shown, where that is to be told.
+/// Adds how what precedences resolve is shown, where that is to be told.
 fn push_hint(words: &mut Text, has_hint: bool)
     ensures { Adds words.old words.new (if has_hint then codes " (--settled)" else []) }
 {
@@ -57,11 +57,11 @@ fn push_hint(words: &mut Text, has_hint: bool)
 
 impl Told<'_> {
     /// Adds for how many of the conflicts a text of their own is known.
-    fn push_own_texts(&self, line: &mut Text)
-        ensures { Adds line.old line.new (texts_words
-            (count_by has_own_text self.now.evidence.now) (length self.now.evidence.now)) }
+    fn push_own_sentences(&self, line: &mut Text)
+        ensures { Adds line.old line.new (sentences_words
+            (count_by has_own_sentence self.now.evidence.now) (length self.now.evidence.now)) }
     {
-        push_texts(line, own_texts(self.evidence), self.evidence.len());
+        push_sentences(line, own_sentences(self.evidence), self.evidence.len());
     }
 
     /// Adds that what is told comes besides the conflicts, where there are some.
@@ -74,27 +74,28 @@ impl Told<'_> {
         }
     }
 
-    /// Adds how many more conflicts precedences settle, and where it is to be told how these are shown.
-    fn push_settled_count(&self, words: &mut Text, settled: usize, has_hint: bool)
+    /// Adds how many more conflicts precedences resolve, and where it is to be told how these are shown.
+    fn push_resolved_count(&self, words: &mut Text, resolved: usize, has_hint: bool)
         ensures { Adds words.old words.new
-            (settled_words settled self.now.evidence.now has_hint) }
+            (resolved_words resolved self.now.evidence.now has_hint) }
     {
-        if settled == 0 {
+        if resolved == 0 {
             return;
         }
-        write!(words, "; precedences settle {settled}");
+        write!(words, "; {resolved}");
         self.push_more(words);
+        words.add(" resolved by precedence");
         push_hint(words, has_hint);
     }
 }
 
 impl<T: IndexStorage> Checked<'_, T> {
-    /// Adds that no text has two trees.
+    /// Adds that no sentence has two trees.
     fn push_unambiguous(&self, line: &mut Text)
         requires proved { IsUnambiguous self.now.found.now.grm }
         ensures { Adds line.old line.new unambiguous_words }
     {
-        line.add("unambiguous (proved): no text has two trees");
+        line.add("unambiguous (proved): no sentence has two trees");
     }
 
     /// Adds that the grammar is ambiguous, which that text shows.
@@ -120,25 +121,25 @@ impl<T: IndexStorage> Checked<'_, T> {
     fn push_ambiguous_verdict(&self, line: &mut Text, verdict: Verdict, text: &Ambiguity)
         requires proved { HasTwoTrees self.now.found.now.grm text.now }
         ensures { Adds line.old line.new (ambiguous_verdict verdict
-            (texts_words (count_by has_own_text self.now.told.evidence.now)
+            (sentences_words (count_by has_own_sentence self.now.told.evidence.now)
             (length self.now.told.evidence.now))) }
     {
         match verdict {
             Verdict::Conflicts(counts) => {
                 self.push_ambiguous(line, text);
                 write!(line, ": {counts}, ");
-                self.told.push_own_texts(line);
+                self.told.push_own_sentences(line);
             }
             other => {
                 write!(line, "{other}; ");
                 self.push_ambiguous(line, text);
                 line.add(": ");
-                self.told.push_own_texts(line);
+                self.told.push_own_sentences(line);
             }
         }
     }
 
-    /// Adds a verdict, and that no text is known for so many conflicts.
+    /// Adds a verdict, and that no sentence is known for so many conflicts.
     fn push_unknown_verdict(&self, line: &mut Text, verdict: Verdict, all: usize)
         requires unambiguous { verdict ≡ Unambiguous → IsUnambiguous self.now.found.now.grm }
         ensures { Adds line.old line.new (unknown_verdict verdict all) }
@@ -162,24 +163,24 @@ impl<T: IndexStorage> Checked<'_, T> {
         if evidence.is_empty() || self.told.options.steps == 0 {
             return self.push_plain_verdict(line, verdict);
         }
-        match self.any_text(evidence) {
+        match self.any_sentence(evidence) {
             Some(text) => self.push_ambiguous_verdict(line, verdict, text),
             None => self.push_unknown_verdict(line, verdict, evidence.len()),
         }
     }
 
-    /// Adds that a text has two trees without the precedences, which decide it, where there is one.
+    /// Adds that a sentence has two trees without the precedences, which decide it, where there is one.
     fn push_decided_words(&self, line: &mut Text, decided: Option<&Ambiguity>)
         requires proved { IfSome decided (λ a. HasTwoTrees self.now.found.now.grm a.now) }
         ensures { Adds line.old line.new (decided_words (is_some decided.entry)) }
     {
         if let Some(text) = decided {
-            line.add("; without them ");
+            line.add("; without precedences ");
             self.push_ambiguous(line, text);
         }
     }
 
-    /// The words of a file's verdict: with what is known of its conflicts, how many precedences settle, where it is to be told how
+    /// The words of a file's verdict: with what is known of its conflicts, how many precedences resolve, where it is to be told how
     /// these are shown, and that the grammar is ambiguous without them, where they decide a text.
     pub(crate) fn verdict_words(
         &self,
@@ -193,13 +194,13 @@ impl<T: IndexStorage> Checked<'_, T> {
         requires decided { IfSome decided (λ a. HasTwoTrees self.now.found.now.grm a.now) }
         ensures words { IfOk result (λ s. string_bytes s
             ≡ verdict_words verdict self.now.told.evidence.now
-            (nat_lt 0 self.now.told.options.steps) (length self.now.found.now.settled.items)
+            (nat_lt 0 self.now.told.options.steps) (length self.now.found.now.resolved.items)
             has_hint (is_some decided.entry)) }
     {
         let mut words = Text::new(alloc);
         self.push_verdict(&mut words, verdict);
         self.told
-            .push_settled_count(&mut words, self.found.settled.len(), has_hint);
+            .push_resolved_count(&mut words, self.found.resolved.len(), has_hint);
         self.push_decided_words(&mut words, decided);
         words.finish()
     }

@@ -1,4 +1,4 @@
-//! What a file is warned of: by its reading, of precedences that settle nothing, and of tokens that are in no rule.
+//! What a file is warned of: by its reading, of precedences that resolve nothing, and of tokens that are in no rule.
 
 use crate::json_parts::add_place;
 use crate::json_texts::JsonText;
@@ -17,21 +17,21 @@ fn place_of(message: &Message) -> usize {
 }
 
 impl<'a> Told<'a> {
-    /// The tokens whose places in precedence lines settle nothing.
-    fn idle_levels(&self) -> &'a [usize] {
+    /// The tokens whose places in precedence lines resolve nothing.
+    fn useless_levels(&self) -> &'a [usize] {
         if self.options.ignores_precedences {
             &[]
         } else {
-            self.idle.levels.as_slice()
+            self.useless.levels.as_slice()
         }
     }
 
-    /// The productions whose `%prec` settles nothing.
-    fn idle_productions(&self) -> &'a [usize] {
+    /// The productions whose `%prec` resolves nothing.
+    fn useless_productions(&self) -> &'a [usize] {
         if self.options.ignores_precedences {
             &[]
         } else {
-            self.idle.productions.as_slice()
+            self.useless.productions.as_slice()
         }
     }
 
@@ -40,15 +40,15 @@ impl<'a> Told<'a> {
         Some(self.precedence(token)?.level)
     }
 
-    /// Adds a message for each precedence line with tokens that settle nothing.
-    fn add_idle_lines(&self, messages: &mut Vec<Message>) -> Result<(), AllocError> {
+    /// Adds a message for each precedence line with tokens that resolve nothing.
+    fn add_useless_lines(&self, messages: &mut Vec<Message>) -> Result<(), AllocError> {
         let alloc = *messages.allocator();
         for line in self
-            .idle_levels()
+            .useless_levels()
             .chunk_by(|one, other| self.level(*one) == self.level(*other))
         {
             messages.push(Message {
-                words: String::from_str(alloc, "this precedence settles nothing")?,
+                words: String::from_str(alloc, "useless precedence: it resolves nothing")?,
                 places: self.level_places(alloc, line)?,
             })?;
         }
@@ -64,10 +64,10 @@ impl<'a> Told<'a> {
         Ok(places)
     }
 
-    /// Where the `%prec` stand that settle nothing, and of which no fault is told.
+    /// Where the `%prec` stand that resolve nothing, and of which no fault is told.
     fn prec_places(&self, alloc: Global, faults: &[Fault]) -> Result<Vec<Span>, AllocError> {
         let mut places = Vec::new(alloc);
-        for production in self.idle_productions() {
+        for production in self.useless_productions() {
             let Some(named) = self.file.named_precedence(*production) else {
                 continue;
             };
@@ -82,8 +82,8 @@ impl<'a> Told<'a> {
         Ok(places)
     }
 
-    /// Adds a message of the `%prec` that settle nothing.
-    fn add_idle_productions(
+    /// Adds a message of the `%prec` that resolve nothing.
+    fn add_useless_productions(
         &self,
         messages: &mut Vec<Message>,
         faults: &[Fault],
@@ -92,15 +92,15 @@ impl<'a> Told<'a> {
         add_message(
             messages,
             places,
-            "this %prec settles nothing",
-            "%prec settle nothing",
+            "useless %prec: it resolves nothing",
+            "useless %prec: they resolve nothing",
         )
     }
 
     /// Where the unused tokens are declared that are in useless rules, or those that are not.
     fn unused_places(&self, alloc: Global, is_in_useless: bool) -> Result<Vec<Span>, AllocError> {
         let mut places = Vec::new(alloc);
-        for token in &self.idle.tokens {
+        for token in &self.useless.tokens {
             if self.file.is_in_useless(*token) == is_in_useless {
                 places.extend(self.file.declared_place(*token))?;
             }
@@ -134,8 +134,8 @@ impl<'a> Told<'a> {
     ) -> Result<(), AllocError> {
         let mut messages = messages_of(text.allocator(), faults)?;
         self.add_unused(&mut messages)?;
-        self.add_idle_lines(&mut messages)?;
-        self.add_idle_productions(&mut messages, faults)?;
+        self.add_useless_lines(&mut messages)?;
+        self.add_useless_productions(&mut messages, faults)?;
         messages.sort_by_key(place_of)?;
         let teller = self.teller();
         teller.add_messages(text, messages.as_slice(), Weight::Warning, most)?;
@@ -145,8 +145,8 @@ impl<'a> Told<'a> {
         Ok(())
     }
 
-    /// Adds a precedence that settles nothing: what it is one of, its token, and its place.
-    fn add_idle(&self, json: &mut JsonText, kind: &str, token: usize, place: Span) {
+    /// Adds a precedence that resolves nothing: what it is one of, its token, and its place.
+    fn add_useless(&self, json: &mut JsonText, kind: &str, token: usize, place: Span) {
         json.begin_object();
         json.key("kind");
         json.string(kind);
@@ -156,17 +156,17 @@ impl<'a> Told<'a> {
         json.end_object();
     }
 
-    /// Adds the precedences that settle nothing: tokens of precedence lines, and then those behind `%prec`.
-    pub(crate) fn add_idle_precedences(&self, json: &mut JsonText) {
+    /// Adds the precedences that resolve nothing: tokens of precedence lines, and then those behind `%prec`.
+    pub(crate) fn add_useless_precedences(&self, json: &mut JsonText) {
         json.begin_array();
-        for token in self.idle_levels() {
+        for token in self.useless_levels() {
             if let Some(place) = self.file.level_place(*token) {
-                self.add_idle(json, "level", *token, place);
+                self.add_useless(json, "level", *token, place);
             }
         }
-        for production in self.idle_productions() {
+        for production in self.useless_productions() {
             if let Some(named) = self.file.named_precedence(*production) {
-                self.add_idle(json, "prec", named.token, named.place);
+                self.add_useless(json, "prec", named.token, named.place);
             }
         }
         json.end_array();
@@ -175,7 +175,7 @@ impl<'a> Told<'a> {
     /// Adds the tokens that are in no rule, or in useless ones alone, each with the place of its declaration.
     pub(crate) fn add_unused_tokens(&self, json: &mut JsonText) {
         json.begin_array();
-        for token in &self.idle.tokens {
+        for token in &self.useless.tokens {
             if let Some(place) = self.file.declared_place(*token) {
                 json.begin_object();
                 json.key("name");

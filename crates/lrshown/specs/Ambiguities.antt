@@ -1,4 +1,4 @@
--- texts with two trees
+-- sentences with two trees
 use Rattle.std.specs.Prelude.{◌≡◌, ◌≢◌, ℕ, ◌-◌, ◌&&◌, ◌||◌, Bool, false, List, ◌++◌, All, Option, Some, None, IfSome, is_some, slice_get}
 use Rattle.std.specs.Option.{ForSome, option_map_or}
 use Rattle.lrspec.specs.grammars.Grammar.{Symbol, Grammar}
@@ -13,7 +13,7 @@ use Rattle.lrshown.specs.declared.steps.Step.{Step}
 use Rattle.lrshown.specs.declared.steps.Step.TheVariants.{Shift, Reduce}
 use Rattle.lrverdicts.specs.declared.conflicts.Entry.{Entry}
 use Rattle.lrshown.specs.Steps.{moves_by, first_of, is_same_step, shifts}
-use Rattle.lrshown.specs.ShownTexts.{choosing, start_of_text}
+use Rattle.lrshown.specs.ShownTexts.{choosing, start_of_sentence}
 
 -- by its steps a rule derives symbols in two ways, which differ behind the dot
 pub record HasTwoWays (g : Grammar) (form : TwoTrees) : Type 0 where
@@ -23,7 +23,7 @@ pub record HasTwoWays (g : Grammar) (form : TwoTrees) : Type 0 where
   pub second : IsDerivedBy g rule symbols (moves_by form.before.items ++ moves_by form.other.items)
   pub differ : slice_get (moves_by form.one.items) 0 ≢ slice_get (moves_by form.other.items) 0
 
--- by its steps the text has two trees, which differ, and so do the two ways that are drawn of it
+-- by its steps the sentence has two trees, which differ, and so do the two ways that are drawn of it
 pub record HasTwoTrees (g : Grammar) (a : Ambiguity) : Type 0 where
   pub one : Tree
   pub other : Tree
@@ -59,14 +59,14 @@ are_these s t one other =
 abbrev pub is_of : Ambiguity → Entry → Bool
 is_of a e = are_these (Reduce e.production) (against e.other) (first_of a.trees.one.items) (first_of a.trees.other.items)
 
--- whether a text with two trees is known of an entry
-abbrev pub has_text : Evidence → Bool
-has_text e = is_some e.ambiguity
+-- whether a sentence with two trees is known of an entry
+abbrev pub has_sentence : Evidence → Bool
+has_sentence e = is_some e.ambiguity
 
 -- whether one is known whose trees part by what meets in it
-abbrev pub has_own_text : Evidence → Bool
-has_own_text e = option_map_or (λ a. is_of a.value e.entry) e.ambiguity false
+abbrev pub has_own_sentence : Evidence → Bool
+has_own_sentence e = option_map_or (λ a. is_of a.value e.entry) e.ambiguity false
 
 -- how many tokens of what is shown stand before the dot
 abbrev pub shown_dot : FileGrammar → Ambiguity → ℕ
-shown_dot file a = shifts a.trees.before.items - choosing (start_of_text file a.tokens.items)
+shown_dot file a = shifts a.trees.before.items - choosing (start_of_sentence file a.tokens.items)

@@ -1,5 +1,10 @@
--- steps of trees, what is shown of texts, texts with two trees, and the words of verdicts
+-- steps of trees, the trees that they put together, as they are and as they are stored, these in brackets, what is shown of
+-- texts, sentences with two trees, and the words of verdicts
 pub mod Steps
+pub mod DrawnTrees
+pub mod StoredTrees
+pub mod BracketTexts
+pub mod BracketSteps
 pub mod ShownTexts
 pub mod Ambiguities
 pub mod VerdictWords

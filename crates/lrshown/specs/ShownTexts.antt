@@ -36,8 +36,8 @@ abbrev pub chosen_by : FileGrammar → Option PartSymbol → Option PartSymbol
 chosen_by file symbol = chosen_in file.parts.prods.items symbol
 
 -- the start rule that the first token of a text chooses, if it chooses one
-abbrev pub start_of_text : FileGrammar → List ℕ → Option PartSymbol
-start_of_text file tokens = chosen_by file (option_map Token (slice_get tokens 0))
+abbrev pub start_of_sentence : FileGrammar → List ℕ → Option PartSymbol
+start_of_sentence file tokens = chosen_by file (option_map Token (slice_get tokens 0))
 
 -- how many symbols choose a start rule
 abbrev pub choosing : Option PartSymbol → ℕ
@@ -46,7 +46,7 @@ choosing (Some rule) = 1
 
 -- a text without the token that chooses its start rule, if its first one does
 abbrev pub behind_choice : FileGrammar → List ℕ → List ℕ
-behind_choice file tokens = drop (choosing (start_of_text file tokens)) tokens
+behind_choice file tokens = drop (choosing (start_of_sentence file tokens)) tokens
 
 -- a text without the token that ends it, if its last one does
 abbrev pub without_end : List ℕ → List ℕ

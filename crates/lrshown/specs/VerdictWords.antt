@@ -8,11 +8,11 @@ use Rattle.lrverdicts.specs.declared.verdicts.Verdict.TheVariants.{Unambiguous, 
 use Rattle.lrverdicts.specs.VerdictTexts.{verdict_text}
 use Rattle.lrshown.specs.declared.ambiguities.Ambiguity.{Ambiguity}
 use Rattle.lrshown.specs.declared.evidence.Evidence.{Evidence}
-use Rattle.lrshown.specs.Ambiguities.{HasTwoTrees, IsProved, has_text, has_own_text}
+use Rattle.lrshown.specs.Ambiguities.{HasTwoTrees, IsProved, has_sentence, has_own_sentence}
 
--- that no text has two trees
+-- that no sentence has two trees
 abbrev pub unambiguous_words : List ℕ
-unambiguous_words = codes "unambiguous (proved): no text has two trees"
+unambiguous_words = codes "unambiguous (proved): no sentence has two trees"
 
 -- that one has
 abbrev pub ambiguous_words : List ℕ
@@ -24,12 +24,12 @@ plain_words Unambiguous = unambiguous_words
 plain_words verdict = verdict_text verdict
 
 -- a text is known for so many of all conflicts whose trees part by what meets in them
-abbrev pub texts_words : ℕ → ℕ → List ℕ
-texts_words own all =
-    if own == 0 then codes "a text with two trees by something else that meets there"
+abbrev pub sentences_words : ℕ → ℕ → List ℕ
+sentences_words own all =
+    if own == 0 then codes "a sentence with two trees by something else that meets there"
     else (if own == all then
-    (if all == 1 then codes "a text with two trees for it" else codes "a text with two trees for each")
-    else codes "a text with two trees for " ++ decimal own ++ codes " of them")
+    (if all == 1 then codes "a sentence with two trees for it" else codes "a sentence with two trees for each")
+    else codes "a sentence with two trees for " ++ decimal own ++ codes " of them")
 
 -- a verdict, and that texts are known
 abbrev pub ambiguous_verdict : Verdict → List ℕ → List ℕ
@@ -47,37 +47,38 @@ abbrev pub known_verdict : Verdict → List Evidence → Bool → List ℕ
 known_verdict verdict evidence searched =
     if length evidence == 0 then plain_words verdict
     else (if not searched then plain_words verdict
-    else (if list_any has_text evidence then
-    ambiguous_verdict verdict (texts_words (count_by has_own_text evidence) (length evidence))
+    else (if list_any has_sentence evidence then
+    ambiguous_verdict verdict (sentences_words (count_by has_own_sentence evidence) (length evidence))
     else unknown_verdict verdict (length evidence)))
 
--- how many more precedences settle, and how these are shown
-abbrev pub settled_words : ℕ → List Evidence → Bool → List ℕ
-settled_words settled evidence hint =
-    if settled == 0 then []
-    else codes "; precedences settle " ++ decimal settled
+-- how many more precedences resolve, and how these are shown
+abbrev pub resolved_words : ℕ → List Evidence → Bool → List ℕ
+resolved_words resolved evidence hint =
+    if resolved == 0 then []
+    else codes "; " ++ decimal resolved
     ++ (if length evidence == 0 then [] else codes " more")
+    ++ codes " resolved by precedence"
     ++ (if hint then codes " (--settled)" else [])
 
 -- that the grammar is ambiguous without its precedences
 abbrev pub decided_words : Bool → List ℕ
-decided_words decided = if decided then codes "; without them " ++ ambiguous_words else []
+decided_words decided = if decided then codes "; without precedences " ++ ambiguous_words else []
 
 -- what is told of a verdict: with the conflicts that are left open, and what is known of them where texts were looked for; with
--- how many precedences settle, and whether these decide a text
+-- how many precedences resolve, and whether these decide a text
 abbrev pub verdict_words : Verdict → List Evidence → Bool → ℕ → Bool → Bool → List ℕ
-verdict_words verdict evidence searched settled hint decided =
-    known_verdict verdict evidence searched ++ settled_words settled evidence hint ++ decided_words decided
+verdict_words verdict evidence searched resolved hint decided =
+    known_verdict verdict evidence searched ++ resolved_words resolved evidence hint ++ decided_words decided
 
 -- words of a verdict that tell nothing as proved of the grammar but what is so
 pub record TellProved (g : Grammar) (words : List ℕ) : Type 0 where
   pub verdict : Verdict
   pub evidence : List Evidence
   pub searched : Bool
-  pub settled : ℕ
+  pub resolved : ℕ
   pub hint : Bool
   pub decided : Option Ambiguity
-  pub are : words ≡ verdict_words verdict evidence searched settled hint (is_some decided)
+  pub are : words ≡ verdict_words verdict evidence searched resolved hint (is_some decided)
   pub unambiguous : verdict ≡ Unambiguous → IsUnambiguous g
   pub texts : All (IsProved g) evidence
   pub without : IfSome decided (HasTwoTrees g)

@@ -1,9 +1,9 @@
-//! Texts with two trees.
+//! Sentences with two trees.
 
 ghost use Rattle.std.specs.Prelude.{◌≡◌, ◌<◌, ◌↔◌, IsTrue, length};
 ghost use Rattle.lrshown.specs.Ambiguities.{shown_dot, against, is_of};
 ghost use Rattle.lrshown.specs.declared.steps.Step.TheVariants.{Reduce};
-ghost use Rattle.lrshown.specs.ShownTexts.{start_of_text};
+ghost use Rattle.lrshown.specs.ShownTexts.{start_of_sentence};
 
 use crate::names::start_of;
 use crate::steps::{Step, TwoTrees};
@@ -14,7 +14,7 @@ use lryacc::FileGrammar;
 /// How many tokens a text has at the most that is shown whole.
 const LONGEST: usize = 10_000;
 
-/// A text with two trees, which part at a conflict.
+/// A sentence with two trees, which part at a conflict.
 #[derive(Debug, Drop)]
 pub struct Ambiguity {
     /// The tokens by the grammar: with the one that ends a text, and, where the file has several start rules, with the one that
@@ -29,7 +29,7 @@ pub struct Ambiguity {
 impl Ambiguity {
     /// The start rule from which the text is derived, where the file has several: the one that its first token chooses.
     pub fn start(&self, file: &FileGrammar) -> Option<PartSymbol>
-        ensures { result ≡ start_of_text file.now self.now.tokens.items }
+        ensures { result ≡ start_of_sentence file.now self.now.tokens.items }
     {
         let first = self.tokens.first().copied();
         start_of(file, first.map(PartSymbol::Token))

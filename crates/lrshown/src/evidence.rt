@@ -1,7 +1,7 @@
 //! What is known of conflicts.
 
 ghost use Rattle.std.specs.Prelude.{◌≡◌, IsTrue, IsSome};
-ghost use Rattle.lrshown.specs.Ambiguities.{has_own_text};
+ghost use Rattle.lrshown.specs.Ambiguities.{has_own_sentence};
 
 use crate::ambiguities::Ambiguity;
 use lrgrammar::grammar::PartSymbol;
@@ -37,7 +37,7 @@ pub struct Example {
 pub struct Evidence {
     /// The entry.
     pub entry: Entry,
-    /// A text with two trees, which part at it, where one is found.
+    /// A sentence with two trees, which part at it, where one is found.
     pub ambiguity: Option<Box<Ambiguity>>,
     /// Where none is, after what it is real, where that is looked for; None for an entry that the table doesn't list.
     pub example: Option<Box<Example>>,
@@ -46,10 +46,10 @@ pub struct Evidence {
 }
 
 impl Evidence {
-    /// Whether a text with two trees is known, and these part by what meets in the entry.
-    pub fn has_own_text(&self) -> bool
+    /// Whether a sentence with two trees is known, and these part by what meets in the entry.
+    pub fn has_own_sentence(&self) -> bool
         ensures known { IsTrue result → IsSome self.now.ambiguity }
-        ensures own { result ≡ has_own_text self.now }
+        ensures own { result ≡ has_own_sentence self.now }
     {
         match &self.ambiguity {
             Some(ambiguity) => ambiguity.is_of(&self.entry),

@@ -2,12 +2,14 @@
 #![tactic(auto)]
 
 mod ambiguities;
+mod brackets;
 mod evidence;
 mod names;
 mod steps;
 mod trees;
 
 pub use crate::ambiguities::{Ambiguity, candidates_of};
+pub use crate::brackets::{node_name, tree_words};
 pub use crate::evidence::{Evidence, Example, Outlook};
 pub use crate::names::{
     body_of, list_of, name_of_rule, names_of, names_of_tokens, rule_name, start_of, symbol_name,

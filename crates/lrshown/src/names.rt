@@ -3,13 +3,17 @@
 ghost use Rattle.std.specs.Prelude.{◌≡◌};
 ghost use Rattle.lrshown.specs.ShownTexts.{chosen_in_body, chosen_by, shown_list};
 ghost use Rattle.lrshown.specs.ShownTexts.{behind_choice, without_end, shown_text};
+ghost use Rattle.lrshown.specs.DrawnTrees.{body};
+ghost use Rattle.lrshown.specs.BracketTexts.{token_text, rule_text, symbol_text, production_text};
 
 use lrgrammar::grammar::PartSymbol;
 use lryacc::FileGrammar;
 use std::alloc::{AllocError, Global};
 
 /// The name of a token; `$end` for the one behind all of the file.
-pub fn token_name(file: &FileGrammar, token: usize) -> &str {
+pub fn token_name(file: &FileGrammar, token: usize) -> &str
+    ensures { result.now ≡ token_text file.now token }
+{
     match file.parts.tokens.get(token) {
         Some(token) => token.name.as_str(),
         None => "$end",
@@ -17,7 +21,9 @@ pub fn token_name(file: &FileGrammar, token: usize) -> &str {
 }
 
 /// The name of a rule; empty for what is none.
-pub fn rule_name(file: &FileGrammar, rule: usize) -> &str {
+pub fn rule_name(file: &FileGrammar, rule: usize) -> &str
+    ensures { result.now ≡ rule_text file.now rule }
+{
     match file.parts.rules.get(rule) {
         Some(name) => name.as_str(),
         None => "",
@@ -25,7 +31,9 @@ pub fn rule_name(file: &FileGrammar, rule: usize) -> &str {
 }
 
 /// The name of a symbol.
-pub fn symbol_name(file: &FileGrammar, symbol: PartSymbol) -> &str {
+pub fn symbol_name(file: &FileGrammar, symbol: PartSymbol) -> &str
+    ensures { result.now ≡ symbol_text file.now symbol }
+{
     match symbol {
         PartSymbol::Rule(rule) => rule_name(file, rule),
         PartSymbol::Token(token) => token_name(file, token),
@@ -33,7 +41,9 @@ pub fn symbol_name(file: &FileGrammar, symbol: PartSymbol) -> &str {
 }
 
 /// The symbols of the body of a production.
-pub fn body_of(file: &FileGrammar, production: usize) -> &[PartSymbol] {
+pub fn body_of(file: &FileGrammar, production: usize) -> &[PartSymbol]
+    ensures { result.now ≡ body file.now production }
+{
     match file.parts.prods.get(production) {
         Some(prod) => prod.symbols.as_slice(),
         None => &[],
@@ -67,7 +77,9 @@ pub fn names_of_tokens<'a>(
 }
 
 /// The name of the rule of a production; empty for what is none.
-pub fn name_of_rule(file: &FileGrammar, production: usize) -> &str {
+pub fn name_of_rule(file: &FileGrammar, production: usize) -> &str
+    ensures { result.now ≡ production_text file.now production }
+{
     match file.parts.prods.get(production) {
         Some(prod) => rule_name(file, prod.rule),
         None => "",

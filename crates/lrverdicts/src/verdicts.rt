@@ -49,9 +49,9 @@ impl Counts {
 /// What is told of a grammar.
 #[derive(Clone, Copy, Debug, PartialEq, Eq)]
 pub enum Verdict {
-    /// No text has two trees.
+    /// No sentence has two trees.
     Unambiguous,
-    /// There are no conflicts, but precedences may have settled some.
+    /// There are no conflicts, but precedences may have resolved some.
     NoConflicts,
     /// There are conflicts.
     Conflicts(Counts),

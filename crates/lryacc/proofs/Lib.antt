@@ -1,8 +1,12 @@
--- productions that are added, faults by their places, lists out of which elements were taken, what stays of a grammar, and bodies
--- that are read
+-- productions that are added, faults by their places, lists out of which elements were taken, what stays of a grammar, bodies
+-- that are read, names of rules among lexemes, lexemes that are found one after another, and
+-- gaps that are read byte by byte
 pub mod AddedProductions
 pub mod MapsOfFaults
 pub mod Sublists
 pub mod PlacedLemmas
 pub mod KeptLemmas
 pub mod BodiesRead
+pub mod RuleNames
+pub mod Scanning
+pub mod GapsByBytes

@@ -12,6 +12,7 @@ use Rattle.lryacc.specs.declared.useful.Useless.{Useless}
 use Rattle.lryacc.specs.Bodies.{IsReadFrom}
 use Rattle.lryacc.specs.Headers.{HoldsHeader}
 use Rattle.lryacc.specs.KeptProductions.{IsWithout}
+use Rattle.lryacc.specs.Lexemes.{AreLexemesOf}
 use Rattle.lryacc.specs.ProductionPlaces.{file_places}
 
 -- a grammar has the bodies of a file, of which there is at least one: it is one with a production for each start rule and each
@@ -37,9 +38,11 @@ HasBodies dialect bodies (Grammar file expected warnings) =
     (starts : List Lexeme) × IsGrammarOf dialect starts bodies file warnings.items
 HasBodies dialect bodies (Faults faults) = Unit {0}
 
--- bodies that were all read of the same lexemes; which of the text these are is not said
-pub record AreBodiesRead (dialect : Dialect) (bodies : List Alternative) : Type 0 where
+-- bodies that were all read of the lexemes of a text
+pub record AreBodiesRead (text : List ℕ) (dialect : Dialect) (bodies : List Alternative)
+    : Type 0 where
   pub lexemes : List Lexeme
+  pub of_text : AreLexemesOf text dialect lexemes
   pub each : All (IsReadFrom lexemes dialect) bodies
 
 -- what a text comes to that is taken for one of a dialect: it is read as one, or as one of grmtools where it says so
@@ -47,5 +50,5 @@ pub record ComesTo (text : List ℕ) (taken : Dialect) (read : FileRead) : Type 
   pub dialect : Dialect
   pub is : (dialect ≡ taken) ⊎ HoldsHeader text
   pub bodies : List Alternative
-  pub are_read : AreBodiesRead dialect bodies
+  pub are_read : AreBodiesRead text dialect bodies
   pub has : HasBodies dialect bodies read

@@ -18,3 +18,15 @@ pub mod Headers
 pub mod FilesRead
 -- bodies among lexemes
 pub mod Bodies
+-- the lexemes of a text
+pub mod Lexemes
+-- bytes of one class
+pub mod Runs
+-- a scanner, and what it finds
+pub mod Scans
+-- what stands between lexemes
+pub mod Gaps
+-- gaps that are read up to a place within them
+pub mod GapsRead
+-- all lexemes of a text
+pub mod AllLexemes

@@ -1,6 +1,8 @@
 //! Blanks, comments and `#line` between lexemes.
 
-ghost use Rattle.std.specs.Prelude.{◌≤◌, length, IfOk};
+ghost use Rattle.std.specs.Prelude.{◌≡◌, ℕ, ◌+◌, ◌<◌, ◌≤◌, length, slice_index, IfNone, IfOk, IfSome, IsTrue};
+ghost use Rattle.lryacc.specs.Gaps.{IsGap, IsLineMark, is_blank};
+ghost use Rattle.lryacc.specs.GapsRead.{BeginsGap, IsGapUpTo};
 
 use crate::dialects::Dialect;
 use crate::faults::{Fault, FaultKind};
@@ -20,7 +22,9 @@ enum Within {
 }
 
 /// Whether the byte is a blank. For Bison a comma counts as one.
-fn is_blank(byte: u8, dialect: Dialect) -> bool {
+fn is_blank(byte: u8, dialect: Dialect) -> bool
+    ensures { result ≡ is_blank dialect byte }
+{
     match byte {
         b' ' | b'\t' | b'\n' | b'\r' => true,
         0x0b | 0x0c | b',' => dialect == Dialect::Bison,
@@ -86,6 +90,7 @@ fn numbers_line(rest: &[u8]) -> bool {
 /// Whether a line that numbers the next one by `#line` begins at the place.
 fn is_line_mark(text: &[u8], at: usize) -> bool
     requires { at ≤ length text.now }
+    ensures { IsTrue result → IsLineMark text.now at }
 {
     let begins = at == 0 || text[at - 1] == b'\n';
     match text[at..].strip_prefix(b"#line ") {
@@ -96,7 +101,9 @@ fn is_line_mark(text: &[u8], at: usize) -> bool
 
 /// What the byte at a place behind a gap brings; None where a lexeme begins with it.
 fn begun(text: &[u8], at: usize, byte: u8, dialect: Dialect) -> Option<Within>
-    requires { at ≤ length text.now }
+    requires inside { at ≤ length text.now }
+    requires byte { slice_index text.now at ≡ byte }
+    ensures { IfSome result (BeginsGap dialect text.now at) }
 {
     match byte {
         b'/' => Some(Within::Slash(at)),
@@ -112,28 +119,39 @@ fn fault_at(kind: FaultKind, start: usize, end: usize) -> Fault {
     Fault { kind, span }
 }
 
+/// What the byte behind the one at a place stands in; None where a lexeme begins with the one at the place.
+fn step(text: &[u8], at: usize, within: Within, dialect: Dialect) -> Result<Option<Within>, Fault>
+    requires { at < length text.now }
+    ensures on { IfOk result (λ next. IfSome next (λ next. (from : ℕ)
+        → IsGapUpTo dialect text.now from at within → IsGapUpTo dialect text.now from (at + 1) next)) }
+    ensures ends { IfOk result (λ next. IfNone next (within ≡ Within.Gap)) }
+{
+    let byte = text[at];
+    Ok(Some(match within {
+        Within::Gap => return Ok(begun(text, at, byte, dialect)),
+        Within::Slash(_) if byte == b'/' => Within::Line,
+        Within::Slash(opened) if byte == b'*' => Within::Block(opened, false),
+        Within::Slash(opened) => return Err(fault_at(FaultKind::InvalidCharacter, opened, at)),
+        Within::Line if byte == b'\n' => Within::Gap,
+        Within::Line => Within::Line,
+        Within::Block(_, true) if byte == b'/' => Within::Gap,
+        Within::Block(opened, _) => Within::Block(opened, byte == b'*'),
+    }))
+}
+
 /// The place from `from` on at which a lexeme begins, or the text's length if none does.
 pub(crate) fn gap_end(text: &[u8], from: usize, dialect: Dialect) -> Result<usize, Fault>
     requires { from ≤ length text.now }
     ensures from { IfOk result (λ end. from ≤ end) }
     ensures inside { IfOk result (λ end. end ≤ length text.now) }
+    ensures gap { IfOk result (IsGap dialect text.now from) }
 {
     let mut within = Within::Gap;
     for at in from..text.len() {
-        let byte = text[at];
-        within = match within {
-            Within::Gap => match begun(text, at, byte, dialect) {
-                Some(within) => within,
-                None => return Ok(at),
-            },
-            Within::Slash(_) if byte == b'/' => Within::Line,
-            Within::Slash(opened) if byte == b'*' => Within::Block(opened, false),
-            Within::Slash(opened) => return Err(fault_at(FaultKind::InvalidCharacter, opened, at)),
-            Within::Line if byte == b'\n' => Within::Gap,
-            Within::Line => Within::Line,
-            Within::Block(_, true) if byte == b'/' => Within::Gap,
-            Within::Block(opened, _) => Within::Block(opened, byte == b'*'),
-        };
+        match step(text, at, within, dialect)? {
+            Some(next) => within = next,
+            None => return Ok(at),
+        }
     }
     let end = text.len();
     match within {

@@ -1,6 +1,8 @@
 //! The lexemes of a grammar file of grmtools.
 
-ghost use Rattle.std.specs.Prelude.{◌≡◌, ◌+◌, ◌<◌, ◌≤◌, length, IfOk, IsTrue};
+ghost use Rattle.std.specs.Prelude.{◌≡◌, ◌+◌, ◌<◌, ◌≤◌, ◌⊎◌, true, codes, length, slice_index, IfOk, IsTrue};
+ghost use Rattle.std.specs.Char.{is_ascii_digit};
+ghost use Rattle.lryacc.specs.Lexemes.{Are, Begins, IsGrmtoolsLexeme};
 
 use crate::faults::{Fault, FaultKind, Wanted};
 use crate::lexemes::{LexemeKind, invalid};
@@ -18,9 +20,11 @@ fn wants(wanted: Wanted, start: usize, end: usize) -> Fault {
 
 /// The number that begins at a place. A name that stands right behind it is a fault.
 fn number(text: &[u8], from: usize) -> Result<(LexemeKind, usize), Fault>
-    requires { from < length text.now }
+    requires from { from < length text.now }
+    requires first { is_ascii_digit (slice_index text.now from) ≡ true }
     ensures from { IfOk result (λ found. from < found.1) }
     ensures inside { IfOk result (λ found. found.1 ≤ length text.now) }
+    ensures is { IfOk result (λ found. IsGrmtoolsLexeme found.0 text.now from found.1) }
 {
     let end = Run::Word.end(text, from + 1);
     if Run::Digits.is_all(&text[from..end]) {
@@ -34,7 +38,8 @@ fn number(text: &[u8], from: usize) -> Result<(LexemeKind, usize), Fault>
 
 /// Whether a quote or a backslash stands between quotes by itself, as in `'''` and `'\'`.
 fn is_lone_mark(bytes: &[u8]) -> bool
-    ensures { IsTrue result → 3 ≤ length bytes.now }
+    ensures inside { IsTrue result → 3 ≤ length bytes.now }
+    ensures closes { IsTrue result → slice_index bytes.now 2 ≡ slice_index bytes.now 0 }
 {
     match bytes {
         [quote, b'\\', end, next, ..] => *end == *quote && *next != *quote,
@@ -45,9 +50,11 @@ fn is_lone_mark(bytes: &[u8]) -> bool
 
 /// The name, or the text, in quotes whose first quote stands at a place. Only in a text a quote may stand behind a backslash.
 fn quoted(text: &[u8], from: usize) -> Result<(LexemeKind, usize), Fault>
-    requires { from < length text.now }
+    requires from { from < length text.now }
+    requires first { Begins 39 text.now from ⊎ Begins 34 text.now from }
     ensures from { IfOk result (λ found. from < found.1) }
     ensures inside { IfOk result (λ found. found.1 ≤ length text.now) }
+    ensures is { IfOk result (λ found. IsGrmtoolsLexeme found.0 text.now from found.1) }
 {
     if is_lone_mark(&text[from..]) {
         return Ok((LexemeKind::QuotedName, from + 3));
@@ -76,7 +83,8 @@ fn quoted(text: &[u8], from: usize) -> Result<(LexemeKind, usize), Fault>
 fn ended(kind: LexemeKind, from: usize, last: usize) -> Result<(LexemeKind, usize), Fault>
     requires order { from < last }
     requires fits { last < usize.MAX }
-    ensures { IfOk result (λ found. found.1 ≡ last + 1) }
+    ensures kind { IfOk result (λ found. found.0 ≡ kind) }
+    ensures end { IfOk result (λ found. found.1 ≡ last + 1) }
 {
     if last == from + 1 {
         return Err(Fault {
@@ -118,9 +126,11 @@ fn type_end(text: &[u8], from: usize) -> usize
 
 /// The type of a rule that begins with `->` at a place.
 fn rule_type(text: &[u8], from: usize) -> Result<(LexemeKind, usize), Fault>
-    requires { from < length text.now }
+    requires from { from < length text.now }
+    requires first { Are text.now from (from + 2) (codes "->") }
     ensures from { IfOk result (λ found. from < found.1) }
     ensures inside { IfOk result (λ found. found.1 ≤ length text.now) }
+    ensures is { IfOk result (λ found. IsGrmtoolsLexeme found.0 text.now from found.1) }
 {
     let end = type_end(text, from);
     match text[from..end].trim_ascii() {
@@ -149,9 +159,11 @@ fn lacks_colon(name: &[u8], line: &[u8]) -> bool {
 
 /// The directive whose `%` stands at a place, with the rest of its line where that is Rust.
 fn directive(text: &[u8], from: usize) -> Result<(LexemeKind, usize), Fault>
-    requires { from < length text.now }
+    requires from { from < length text.now }
+    requires first { Begins 37 text.now from }
     ensures from { IfOk result (λ found. from < found.1) }
     ensures inside { IfOk result (λ found. found.1 ≤ length text.now) }
+    ensures is { IfOk result (λ found. IsGrmtoolsLexeme found.0 text.now from found.1) }
 {
     let end = Run::Directive.end(text, from + 1);
     let name = &text[from..end];
@@ -171,9 +183,11 @@ fn directive(text: &[u8], from: usize) -> Result<(LexemeKind, usize), Fault>
 
 /// The lexeme whose `%` stands at a place.
 fn behind_percent(text: &[u8], from: usize) -> Result<(LexemeKind, usize), Fault>
-    requires { from < length text.now }
+    requires from { from < length text.now }
+    requires first { Begins 37 text.now from }
     ensures from { IfOk result (λ found. from < found.1) }
     ensures inside { IfOk result (λ found. found.1 ≤ length text.now) }
+    ensures is { IfOk result (λ found. IsGrmtoolsLexeme found.0 text.now from found.1) }
 {
     match text.get(from + 1) {
         Some(b'%') => Ok((LexemeKind::Separator, from + 2)),
@@ -184,9 +198,11 @@ fn behind_percent(text: &[u8], from: usize) -> Result<(LexemeKind, usize), Fault
 
 /// The action whose brace stands at a place.
 fn action(text: &[u8], from: usize) -> Result<(LexemeKind, usize), Fault>
-    requires { from < length text.now }
+    requires from { from < length text.now }
+    requires first { Begins 123 text.now from }
     ensures from { IfOk result (λ found. from < found.1) }
     ensures inside { IfOk result (λ found. found.1 ≤ length text.now) }
+    ensures is { IfOk result (λ found. IsGrmtoolsLexeme found.0 text.now from found.1) }
 {
     let opening = Span::new(from, from + 1);
     Ok((LexemeKind::Action, rust_code_end(text, opening, from + 1)?))
@@ -197,6 +213,7 @@ pub(crate) fn grmtools_lexeme_at(text: &[u8], from: usize) -> Result<(LexemeKind
     requires { from < length text.now }
     ensures from { IfOk result (λ found. from < found.1) }
     ensures inside { IfOk result (λ found. found.1 ≤ length text.now) }
+    ensures is { IfOk result (λ found. IsGrmtoolsLexeme found.0 text.now from found.1) }
 {
     let first = text[from];
     match first {

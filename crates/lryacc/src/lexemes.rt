@@ -1,7 +1,9 @@
 //! The lexemes of a grammar file.
 
-ghost use Rattle.std.specs.Prelude.{◌≡◌, ◌+◌, ◌<◌, ◌≤◌, length, IfOk};
+ghost use Rattle.std.specs.Prelude.{◌≡◌, ◌+◌, ◌<◌, ◌≤◌, true, length, slice_index, IfOk};
+ghost use Rattle.std.specs.Char.{is_ascii_digit};
 ghost use Rattle.lryacc.specs.Bodies.{is_symbol};
+ghost use Rattle.lryacc.specs.Lexemes.{Begins, EndsWith, IsBisonLexeme, is_name_start};
 
 use crate::code::{Ending, code_end};
 use crate::dialects::Dialect;
@@ -82,7 +84,9 @@ pub struct Lexeme {
 }
 
 /// Whether a name may begin with the byte.
-pub(crate) fn is_name_start(byte: u8) -> bool {
+pub(crate) fn is_name_start(byte: u8) -> bool
+    ensures { result ≡ is_name_start byte }
+{
     byte.is_ascii_alphabetic() || matches!(byte, b'.' | b'_')
 }
 
@@ -96,9 +100,11 @@ fn is_number(word: &[u8]) -> bool {
 
 /// The number that begins at a place. A name that stands right behind it is a fault.
 fn number(text: &[u8], from: usize) -> Result<(LexemeKind, usize), Fault>
-    requires { from < length text.now }
+    requires from { from < length text.now }
+    requires first { is_ascii_digit (slice_index text.now from) ≡ true }
     ensures from { IfOk result (λ found. from < found.1) }
     ensures inside { IfOk result (λ found. found.1 ≤ length text.now) }
+    ensures is { IfOk result (λ found. IsBisonLexeme found.0 text.now from found.1) }
 {
     let end = Run::Name.end(text, from + 1);
     if is_number(&text[from..end]) {
@@ -116,6 +122,7 @@ fn tag_end(text: &[u8], from: usize) -> Result<usize, Fault>
     requires { from < length text.now }
     ensures from { IfOk result (λ end. from < end) }
     ensures inside { IfOk result (λ end. end ≤ length text.now) }
+    ensures closes { IfOk result (EndsWith 62 text.now from) }
 {
     let mut depth: usize = 0;
     let mut before = b'<';
@@ -140,9 +147,11 @@ fn tag_end(text: &[u8], from: usize) -> Result<usize, Fault>
 
 /// The bracket that begins at a place: a name, perhaps between blanks.
 fn bracket(text: &[u8], from: usize) -> Result<(LexemeKind, usize), Fault>
-    requires { from < length text.now }
+    requires from { from < length text.now }
+    requires first { Begins 91 text.now from }
     ensures from { IfOk result (λ found. from < found.1) }
     ensures inside { IfOk result (λ found. found.1 ≤ length text.now) }
+    ensures is { IfOk result (λ found. IsBisonLexeme found.0 text.now from found.1) }
 {
     let name = gap_end(text, from + 1, Dialect::Bison)?;
     let behind = gap_end(text, Run::Name.end(text, name), Dialect::Bison)?;
@@ -196,6 +205,7 @@ fn code(
     requires inside { from + mark ≤ length text.now }
     ensures from { IfOk result (λ found. from < found.1) }
     ensures inside { IfOk result (λ found. found.1 ≤ length text.now) }
+    ensures kind { IfOk result (λ found. found.0 ≡ kind) }
 {
     let opening = Span::new(from, from + mark);
     Ok((kind, code_end(text, opening, from + mark, ending)?))
@@ -203,9 +213,11 @@ fn code(
 
 /// The lexeme whose `%` stands at a place.
 fn behind_percent(text: &[u8], from: usize) -> Result<(LexemeKind, usize), Fault>
-    requires { from < length text.now }
+    requires from { from < length text.now }
+    requires first { Begins 37 text.now from }
     ensures from { IfOk result (λ found. from < found.1) }
     ensures inside { IfOk result (λ found. found.1 ≤ length text.now) }
+    ensures is { IfOk result (λ found. IsBisonLexeme found.0 text.now from found.1) }
 {
     let Some(byte) = text.get(from + 1) else {
         return Err(invalid(from));
@@ -229,9 +241,11 @@ fn behind_percent(text: &[u8], from: usize) -> Result<(LexemeKind, usize), Fault
 
 /// The lexeme of old Yacc whose backslash stands at a place.
 fn behind_backslash(text: &[u8], from: usize) -> Result<(LexemeKind, usize), Fault>
-    requires { from < length text.now }
+    requires from { from < length text.now }
+    requires first { Begins 92 text.now from }
     ensures from { IfOk result (λ found. from < found.1) }
     ensures inside { IfOk result (λ found. found.1 ≤ length text.now) }
+    ensures is { IfOk result (λ found. IsBisonLexeme found.0 text.now from found.1) }
 {
     match text.get(from + 1) {
         Some(b'\\') => Ok((LexemeKind::Separator, from + 2)),
@@ -255,9 +269,11 @@ fn may_follow_colon(byte: u8) -> bool {
 
 /// The colon at a place.
 fn colon(text: &[u8], from: usize) -> Result<(LexemeKind, usize), Fault>
-    requires { from < length text.now }
+    requires from { from < length text.now }
+    requires first { Begins 58 text.now from }
     ensures from { IfOk result (λ found. from < found.1) }
     ensures inside { IfOk result (λ found. found.1 ≤ length text.now) }
+    ensures is { IfOk result (λ found. IsBisonLexeme found.0 text.now from found.1) }
 {
     match text.get(from + 1) {
         Some(byte) if !may_follow_colon(*byte) => Err(invalid(from)),
@@ -267,9 +283,11 @@ fn colon(text: &[u8], from: usize) -> Result<(LexemeKind, usize), Fault>
 
 /// The character whose quote stands at a place.
 fn character(text: &[u8], from: usize) -> Result<(LexemeKind, usize), Fault>
-    requires { from < length text.now }
+    requires from { from < length text.now }
+    requires first { Begins 39 text.now from }
     ensures from { IfOk result (λ found. from < found.1) }
     ensures inside { IfOk result (λ found. found.1 ≤ length text.now) }
+    ensures is { IfOk result (λ found. IsBisonLexeme found.0 text.now from found.1) }
 {
     let Quoted { end, bytes, last } = between_quotes(text, from, b'\'')?;
     let kind = match bytes {
@@ -283,18 +301,22 @@ fn character(text: &[u8], from: usize) -> Result<(LexemeKind, usize), Fault>
 
 /// The text whose quote stands at a place.
 fn quoted_text(text: &[u8], from: usize) -> Result<(LexemeKind, usize), Fault>
-    requires { from < length text.now }
+    requires from { from < length text.now }
+    requires first { Begins 34 text.now from }
     ensures from { IfOk result (λ found. from < found.1) }
     ensures inside { IfOk result (λ found. found.1 ≤ length text.now) }
+    ensures is { IfOk result (λ found. IsBisonLexeme found.0 text.now from found.1) }
 {
     Ok((LexemeKind::Text, between_quotes(text, from, b'"')?.end))
 }
 
 /// The text to be translated that begins at a place with `_(`.
 fn translated(text: &[u8], from: usize) -> Result<(LexemeKind, usize), Fault>
-    requires { from + 2 < length text.now }
+    requires from { from + 2 < length text.now }
+    requires first { Begins 95 text.now from }
     ensures from { IfOk result (λ found. from < found.1) }
     ensures inside { IfOk result (λ found. found.1 ≤ length text.now) }
+    ensures is { IfOk result (λ found. IsBisonLexeme found.0 text.now from found.1) }
 {
     let end = between_quotes(text, from + 2, b'"')?.end;
     if text.get(end) != Some(&b')') {
@@ -305,9 +327,11 @@ fn translated(text: &[u8], from: usize) -> Result<(LexemeKind, usize), Fault>
 
 /// The tag that begins at a place.
 fn tag(text: &[u8], from: usize) -> Result<(LexemeKind, usize), Fault>
-    requires { from < length text.now }
+    requires from { from < length text.now }
+    requires first { Begins 60 text.now from }
     ensures from { IfOk result (λ found. from < found.1) }
     ensures inside { IfOk result (λ found. found.1 ≤ length text.now) }
+    ensures is { IfOk result (λ found. IsBisonLexeme found.0 text.now from found.1) }
 {
     let end = tag_end(text, from)?;
     let kind = match &text[from..end] {
@@ -322,6 +346,7 @@ pub(crate) fn lexeme_at(text: &[u8], from: usize) -> Result<(LexemeKind, usize),
     requires { from < length text.now }
     ensures from { IfOk result (λ found. from < found.1) }
     ensures inside { IfOk result (λ found. found.1 ≤ length text.now) }
+    ensures is { IfOk result (λ found. IsBisonLexeme found.0 text.now from found.1) }
 {
     let first = text[from];
     match first {

@@ -1,6 +1,7 @@
 //! Characters and texts in quotes.
 
-ghost use Rattle.std.specs.Prelude.{◌<◌, ◌≤◌, length, IfOk, IfSome};
+ghost use Rattle.std.specs.Prelude.{◌≡◌, ◌≢◌, ◌+◌, ◌<◌, ◌≤◌, length, slice_index, IfOk, IfSome};
+ghost use Rattle.lryacc.specs.Lexemes.{EndsWith};
 
 use crate::faults::{Fault, FaultKind};
 use crate::places::Span;
@@ -114,6 +115,10 @@ pub(crate) fn between_quotes(text: &[u8], from: usize, quote: u8) -> Result<Quot
     requires { from < length text.now }
     ensures from { IfOk result (λ found. from < found.end) }
     ensures inside { IfOk result (λ found. found.end ≤ length text.now) }
+    ensures closes { IfOk result (λ found. EndsWith quote text.now from found.end) }
+    ensures plain { IfOk result (λ found. found.bytes ≡ 1
+        → slice_index text.now (from + 1) ≢ 92
+        → (found.end ≡ from + 3) × (slice_index text.now (from + 1) ≡ found.last)) }
 {
     let mut bytes: usize = 0;
     let mut last = 0;

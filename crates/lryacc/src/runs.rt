@@ -1,6 +1,8 @@
 //! Runs of bytes of one class.
 
-ghost use Rattle.std.specs.Prelude.{◌≤◌, length};
+ghost use Rattle.std.specs.Prelude.{◌≡◌, ◌≤◌, length};
+ghost use Rattle.lryacc.specs.Lexemes.{IsRun};
+ghost use Rattle.lryacc.specs.Runs.{has};
 
 /// Bytes of one class that stand one behind another.
 #[derive(Clone, Copy)]
@@ -25,7 +27,9 @@ pub(crate) enum Run {
 
 impl Run {
     /// Whether it may have the byte.
-    pub(crate) fn has(self, byte: u8) -> bool {
+    pub(crate) fn has(self, byte: u8) -> bool
+        ensures { result ≡ has self byte }
+    {
         match self {
             Run::Digits => byte.is_ascii_digit(),
             Run::HexDigits => byte.is_ascii_hexdigit(),
@@ -47,6 +51,7 @@ impl Run {
         requires { from ≤ length text.now }
         ensures from { from ≤ result }
         ensures inside { result ≤ length text.now }
+        ensures run { IsRun (has self) text.now from result }
     {
         for at in from..text.len() {
             if !self.has(text[at]) {

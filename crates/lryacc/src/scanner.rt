@@ -1,7 +1,9 @@
 //! The lexemes of a file, one after another.
 
-ghost use Rattle.std.specs.Prelude.{◌≡◌, ◌<◌, ◌≤◌, ◌-◌, length, IfOk};
+ghost use Rattle.std.specs.Prelude.{◌≡◌, ◌<◌, ◌≤◌, ◌-◌, length, slice_index_or, slice_set, IfOk, IfSome, MatchOption, OnOk, vec_len};
 ghost use Rattle.std.specs.Iterator.{at_most};
+ghost use Rattle.lryacc.specs.AllLexemes.{AreAllLexemesOf, is_separator};
+ghost use Rattle.lryacc.specs.Lexemes.{AreLexemesOf, IsLexeme, as_rule, go_before_colon, is_between, is_name, with_rules};
 
 use crate::code::{Ending, code_end};
 use crate::dialects::Dialect;
@@ -28,6 +30,7 @@ fn lexeme_of(text: &[u8], from: usize, dialect: Dialect) -> Result<(LexemeKind, 
     requires { from < length text.now }
     ensures from { IfOk result (λ found. from < found.1) }
     ensures inside { IfOk result (λ found. found.1 ≤ length text.now) }
+    ensures is { IfOk result (λ found. IsLexeme dialect found.0 text.now from found.1) }
 {
     match dialect {
         Dialect::Bison => lexeme_at(text, from),
@@ -37,7 +40,12 @@ fn lexeme_of(text: &[u8], from: usize, dialect: Dialect) -> Result<(LexemeKind, 
 
 impl<'a> Scanner<'a> {
     /// The lexemes of the file.
-    pub fn new(text: &'a [u8], dialect: Dialect) -> Scanner<'a> {
+    pub fn new(text: &'a [u8], dialect: Dialect) -> Scanner<'a>
+        ensures text { result.text.now ≡ text.entry.now }
+        ensures dialect { result.dialect ≡ dialect }
+        ensures begins { result.at ≡ 0 }
+        ensures none { result.separators ≡ 0 }
+    {
         Scanner {
             text,
             dialect,
@@ -49,7 +57,10 @@ impl<'a> Scanner<'a> {
     /// The epilogue, which reaches to the end of the file; None where it has no fault, as that of grmtools.
     fn epilogue_fault(&mut self, mark: Span) -> Option<Fault>
         ensures text { self.new.text ≡ self.old.text }
+        ensures dialect { self.new.dialect ≡ self.old.dialect }
         ensures goes { self.old.at ≤ self.new.at }
+        ensures end { self.new.at ≡ length self.old.text.now }
+        ensures separators { self.new.separators ≡ self.old.separators }
     {
         let found = match self.dialect {
             Dialect::Bison => code_end(self.text, mark, self.at, Ending::File),
@@ -62,6 +73,7 @@ impl<'a> Scanner<'a> {
     /// Goes on behind a fault.
     fn pass_over(&mut self, fault: Fault) -> Fault
         ensures text { self.new.text ≡ self.old.text }
+        ensures dialect { self.new.dialect ≡ self.old.dialect }
         ensures goes { self.old.at ≤ self.new.at }
     {
         let behind = fault.span.end.max(self.at).min(self.text.len());
@@ -99,8 +111,19 @@ fn behind_mark(text: &[u8], from: usize, marks: &[u8]) -> usize
     text.len()
 }
 
+/// Whether the lexeme is a separator.
+fn is_separator(kind: LexemeKind) -> bool
+    ensures { result ≡ is_separator kind }
+{
+    matches!(kind, LexemeKind::Separator)
+}
+
 impl<'a> Iterator for Scanner<'a> {
     type Item = Result<Lexeme, Fault>;
+
+    ghost use Rattle.lryacc.specs.Scans.{Scans};
+
+    ghost next_gives = { Scans };
 
     ghost remaining = { λ s. at_most (length s.text.now - s.at) };
 
@@ -125,7 +148,7 @@ impl<'a> Iterator for Scanner<'a> {
         };
         self.at = end;
         let span = Span::new(start, end);
-        if kind == LexemeKind::Separator {
+        if is_separator(kind) {
             self.separators = self.separators.saturating_add(1);
             if self.separators == 2 {
                 if let Some(fault) = self.epilogue_fault(span) {
@@ -138,21 +161,46 @@ impl<'a> Iterator for Scanner<'a> {
 }
 
 /// Whether a lexeme may stand between the name of a rule and its colon.
-fn may_stand_between(kind: LexemeKind) -> bool {
+fn may_stand_between(kind: LexemeKind) -> bool
+    ensures { result ≡ is_between kind }
+{
     matches!(kind, LexemeKind::BracketName | LexemeKind::RuleType)
 }
 
-/// Notes that a name is that of a rule, where a colon stands behind it, perhaps with a name in brackets or a type of grmtools
-/// between them.
-fn name_rule(lexemes: &mut Vec<Lexeme>) {
-    let place = match lexemes.as_slice() {
-        [.., one, other] if one.kind == LexemeKind::Name && may_stand_between(other.kind) => {
-            lexemes.len() - 2
-        }
-        [.., last] if last.kind == LexemeKind::Name => lexemes.len() - 1,
-        _ => return,
-    };
-    lexemes[place].kind = LexemeKind::RuleName;
+/// Whether the lexeme is a name.
+fn is_name(kind: LexemeKind) -> bool
+    ensures { result ≡ is_name kind }
+{
+    matches!(kind, LexemeKind::Name)
+}
+
+/// The place of the name at the end of lexemes that a colon behind them makes that of a rule, perhaps with a name in brackets or a
+/// type of grmtools between them.
+fn rule_place(lexemes: &[Lexeme]) -> Option<usize>
+    ensures inside { IfSome result (λ place. place < length lexemes.now) }
+    ensures named { MatchOption result
+        (with_rules go_before_colon lexemes.now ≡ lexemes.now)
+        (λ place. (other : Lexeme) → with_rules go_before_colon lexemes.now ≡
+        slice_set lexemes.now place (as_rule (slice_index_or lexemes.now place other))) }
+{
+    let last = lexemes.len().checked_sub(1)?;
+    if is_name(lexemes[last].kind) {
+        return Some(last);
+    }
+    let one = last.checked_sub(1)?;
+    if is_name(lexemes[one].kind) && may_stand_between(lexemes[last].kind) {
+        return Some(one);
+    }
+    None
+}
+
+/// Notes that a name is that of a rule, where a colon stands behind the lexemes.
+fn name_rule(lexemes: &mut Vec<Lexeme>)
+    ensures { lexemes.new.items ≡ with_rules go_before_colon lexemes.old.items }
+{
+    if let Some(place) = rule_place(lexemes.as_slice()) {
+        lexemes[place].kind = LexemeKind::RuleName;
+    }
 }
 
 /// The lexemes of a file, and what is wrong among them.
@@ -163,8 +211,12 @@ pub(crate) struct Scanned {
 }
 
 impl Scanned {
+    ghost use Rattle.lryacc.specs.Scans.{Adds};
+
     /// Adds what a scanner found.
-    fn add(&mut self, found: Result<Lexeme, Fault>) -> Result<(), AllocError> {
+    fn add(&mut self, found: Result<Lexeme, Fault>) -> Result<(), AllocError>
+        ensures { OnOk result (Adds found self.old self.new) }
+    {
         match found {
             Ok(lexeme) => {
                 if lexeme.kind == LexemeKind::Colon {
@@ -179,7 +231,12 @@ impl Scanned {
 }
 
 /// The lexemes of a file, and what is wrong among them.
-pub(crate) fn scan(alloc: Global, text: &[u8], dialect: Dialect) -> Result<Scanned, AllocError> {
+pub(crate) fn scan(alloc: Global, text: &[u8], dialect: Dialect) -> Result<Scanned, AllocError>
+    ensures lexemes { IfOk result (λ scanned.
+        AreLexemesOf text.now dialect scanned.lexemes.items) }
+    ensures all { IfOk result (λ scanned. vec_len scanned.faults ≡ 0
+        → AreAllLexemesOf text.now dialect scanned.lexemes.items) }
+{
     let mut scanned = Scanned {
         lexemes: Vec::new(alloc),
         faults: Vec::new(alloc),

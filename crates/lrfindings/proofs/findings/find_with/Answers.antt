@@ -1,8 +1,12 @@
-use Rattle.std.proofs.Common.{◌≡◌, ◌∙◌, false}
-use Rattle.std.proofs.lemmas.Bool.{false_from_ne_true}
+use Rattle.std.proofs.Common.{◌≡◌, ◌∙◌, true, false, map, option_map}
+use Rattle.std.specs.List.Sorted.{IsPermutation}
 use Rattle.lrspec.specs.tables.LrTables.{HasNoPrecedences}
-use Rattle.lrspec.proofs.tables.NoPrecedences.{no_precedences}
-use Rattle.lrfindings.proofs.FoundNothing.{none_referred, nothing_found}
+use Rattle.lrspec.specs.tables.Table.{lists_of}
+use Rattle.lrverdicts.specs.Listed.{told}
+use Rattle.lrfindings.specs.CellConflicts.{conflicts_left, resolved_in}
+use Rattle.lrfindings.specs.StoredCells.{resolution}
+use Rattle.lrfindings.proofs.FoundInCells.{of_kept, decides, decides_not, some_if_true, settled_either, all_are_left}
+use Rattle.lrfindings.proofs.FoundNothing.{nothing_found}
 use Rattle.lrspec.proofs.texts.ResultsPassedOn.{error_passed}
 use Rattle.lrfindings.specs.FindErrors.{IsNothingFound, parts_error, build_error}
 use Rattle.lrfindings.proofs.NothingFound.{by_parts, by_build}
@@ -16,8 +20,13 @@ returns-clause-found g c =
     let (h, built, kept) = c.in_ok-graph.ensures.built in
     let cells = c.in_ok-cells.ensures in
     let grm = c.in_ok-grm.grm in
-    let decides_nothing : HasNoPrecedences grm → c.has_precedences.result ≡ false =
-    λ plain. false_from_ne_true _ (λ some. (no_precedences grm).0 plain (c.has_precedences.ensures.0 some)) in
+    let graph = c.in_ok-graph.graph in
+    let plain = c.in_ok-graph.ensures.plain in
+    let test = c.has_precedences-may_decide.ensures in
+    let not : HasNoPrecedences grm → c.has_precedences-may_decide.result ≡ false = decides_not grm c.has_precedences-may_decide.result test in
+    let left = c.in_ok-cells.cells.left in
+    let resolved = c.in_ok-cells.cells.resolved in
+    let all_left : HasNoPrecedences grm → left.items ≡ c.in_ok-conflicts.conflicts.items = λ is. cells.all_left (not is) ∙ c.as_slice-listed.ensures.value in
     record {
       grammar = c.in_ok-grm.ensures.made;
       graph = h;
@@ -27,12 +36,16 @@ returns-clause-found g c =
       kept = kept;
       states = c.in_ok-graph.ensures.states ∙ built.table.action_grid.rows;
       conflicts = c.in_ok-conflicts.ensures;
-      without = nothing_found _ c.in_ok-graph.graph c.in_ok-graph.table c.in_ok-graph.ensures.without c.in_ok-conflicts.ensures
-          (none_referred c.in_ok-graph.graph c.as_ref.result _ c.as_ref.ensures.value cells.opened) (none_referred c.in_ok-graph.graph c.as_ref.result _ c.as_ref.ensures.value cells.settled);
+      without = nothing_found _ graph c.in_ok-graph.table (HasNoPrecedences grm) c.in_ok-graph.ensures.without plain c.in_ok-conflicts.ensures
+          all_left (λ is. cells.none_resolved (not is));
+      left_listed = λ is. all_are_left (lists_of c.in_ok-graph.table) _ _ c.in_ok-conflicts.ensures (all_left is);
+      left = λ some. of_kept graph c.as_ref.result h (HasNoPrecedences grm) (λ k. IsPermutation (conflicts_left grm k) (map told left.items))
+          c.as_ref.ensures.value kept plain some (cells.left (decides grm c.has_precedences-may_decide.result test some));
+      resolved = settled_either grm h resolved.items c.has_precedences-may_decide.result test cells.none_resolved
+          (λ decided. of_kept graph c.as_ref.result h (HasNoPrecedences grm) (λ k. IsPermutation (resolved_in grm k) (map resolution resolved.items))
+          c.as_ref.ensures.value kept plain (some_if_true grm c.has_precedences-may_decide.result test decided) (cells.resolved decided));
       unambiguous = c.is_unambiguous-is_unambiguous.ensures.proved;
       known = c.is_unambiguous-is_unambiguous.ensures.told;
-      none_closed = λ plain. cells.none_closed (decides_nothing plain);
-      none_opened = λ plain. cells.none_opened (decides_nothing plain);
     }
 
 -- the parts are refused

@@ -1,4 +1,4 @@
-use Rattle.std.proofs.Common.{◌≡◌, ℕ, Bool, arith, length, subst}
+use Rattle.std.proofs.Common.{◌≡◌, ◌∙◌, ℕ, Bool, arith, length, subst, sym}
 use Rattle.std.specs.Prelude.{IsTrue}
 use Rattle.lrspec.specs.merging.Graph.{IsGraphOf}
 use Rattle.lrspec.specs.tables.Conflicts.{AreReductionsContested}
@@ -13,8 +13,7 @@ use Rattle.lrfindings.specs.Findings.{AreFindings}
 use Rattle.lrevidence.specs.Entries.{AreListedIn}
 use Rattle.lrevidence.specs.Ambiguities.{PartsAtEntry}
 use Rattle.lrreport.proofs.KeptGraph.{of_kept, kept_or, each_of_kept}
-use Rattle.lrreport.proofs.LeftOpenEntries.{all_left}
-use Rattle.lrfindings.proofs.ListedNothing.{lists_nothing}
+use Rattle.lrreport.proofs.KeptFindings.{are_left, so_many_resolved, known_without, none_known}
 use Rattle.lrreport.proofs.reports.outcome_on_findings.Goals as goal
 
 -- the entries are those of the graph's table
@@ -51,20 +50,15 @@ returns-clause-proved g c = record {
   max = g.T.IndexStorage.MAX;
   grammar = c.args.found.grm;
   graph = c.requires.found.graph;
-  listed = c.args.found.conflicts.items;
-  closed = c.args.found.closed.items;
-  opened = c.args.found.opened.items;
   shown = c.args.found.is_unambiguous;
   of_file = c.requires.found.grammar;
   kept = c.requires.kept;
   of_grammar = c.requires.found.of_grammar;
-  lists = listed _ _ c.args.found c.requires.found;
-  left = c.in_ok-known.ensures.left;
+  left = rw c.in_ok-known.ensures.left (are_left _ _ c.args.found c.requires.found);
+  resolved = omega (arith, c.len.ensures, c.args.found.resolved.ok.0) ∙ so_many_resolved _ _ c.args.found c.requires.found;
   verdict = subst (λ counts. IsVerdict c.args.found.is_unambiguous counts c.beside-expected.result c.of-verdict.result) c.in_ok-known.ensures.counts c.of-verdict.ensures;
   unambiguous = c.requires.found.unambiguous;
-  known = λ plain none. c.requires.found.known plain (lists_nothing c.args.found.table c.args.found.conflicts.items c.requires.found.conflicts none);
-  whole = λ plain. all_left c.args.found.conflicts.items c.args.found.closed.items c.args.found.opened.items _
-      (c.requires.found.none_closed plain) (c.requires.found.none_opened plain) c.in_ok-known.ensures.left;
+  known = λ plain none. known_without _ _ c.args.found c.requires.found plain (sym c.in_ok-known.ensures.left ∙ none_known _ none);
   texts = c.in_ok-known.ensures.proved;
   parts = each_of_kept c.requires.found.graph (PartsAtEntry c.args.found.grm) c.in_ok-known.known.evidence.items c.args.found.graph
       c.requires.found.kept c.in_ok-known.ensures.parts;
@@ -73,5 +67,5 @@ returns-clause-proved g c = record {
 
 pub returns-clause-told : goal.returns-clause-told
 returns-clause-told g c =
-    let settled : c.len.result ≡ length c.args.found.settled.items = omega (arith, c.len.ensures, c.args.found.settled.ok.0) in
-    rw settled c.in_ok-text.ensures.told
+    let resolved : c.len.result ≡ length c.args.found.resolved.items = omega (arith, c.len.ensures, c.args.found.resolved.ok.0) in
+    rw resolved c.in_ok-text.ensures.told

@@ -39,6 +39,6 @@ returns g c =
             ← c.in_ok-line.ensures,
             ← c.as_str-in_default.ensures.value,
           )
-          (lines_tell c.lines.result c.args.options.output c.args.options.columns _ _ c.in_default.not-Summary c.in_default.not-Json
+          (lines_tell c.lines.result c.args.options.output c.args.options.lines.columns _ _ c.in_default.not-Summary c.in_default.not-Json
           (λ unfolded. c.lines.ensures (told.columns ∙ unfolded)));
     }

@@ -5,9 +5,9 @@ use Rattle.lrreport.proofs.conflicts.Checked.push_ambiguous_verdict.Goals as goa
 pub returns-in-Conflicts : goal.returns-in-Conflicts
 returns-in-Conflicts g c =
     rw (c.in-Conflicts.is, of_conflicts c.in-Conflicts.counts _)
-    (adds_both (adds_both c.push_ambiguous.ensures c.write.ensures) c.push_own_texts.ensures)
+    (adds_both (adds_both c.push_ambiguous.ensures c.write.ensures) c.push_own_sentences.ensures)
 
 pub returns-in_default : goal.returns-in_default
 returns-in_default g c =
     rw (of_others c.args.verdict _ c.in_default.not-Conflicts)
-    (adds_both (adds_both (adds_both c.write-in_default.ensures c.push_ambiguous-in_default.ensures) c.add.ensures) c.push_own_texts-in_default.ensures)
+    (adds_both (adds_both (adds_both c.write-in_default.ensures c.push_ambiguous-in_default.ensures) c.add.ensures) c.push_own_sentences-in_default.ensures)

@@ -1,0 +1,18 @@
+use Rattle.std.proofs.Common.{◌≡◌, ◌++◌, map}
+use Rattle.std.specs.List.{flat_map, range_with_len}
+use Rattle.lrverdicts.specs.Listed.{told}
+use Rattle.lrfindings.specs.CellConflicts.{conflicts_at, resolved_at}
+use Rattle.lrfindings.specs.StoredCells.{resolution}
+use Rattle.lrfindings.proofs.cells.Cells.add_state.Given as goal
+
+abbrev pub invariant-loop-token : goal.invariant-loop-token
+invariant-loop-token g l =
+    let s = g.T.IndexStorage.number l.state.0 in
+    record {
+      left :
+          map told l.self.left.items
+          ≡ map told l.fn.self.left.items ++ flat_map (conflicts_at l.looked.grm.now l.looked.graph.now s) (range_with_len 0 l.token);
+      resolved :
+          map resolution l.self.decisions.resolved.items
+          ≡ map resolution l.fn.self.decisions.resolved.items ++ flat_map (resolved_at l.looked.grm.now l.looked.graph.now s) (range_with_len 0 l.token);
+    }

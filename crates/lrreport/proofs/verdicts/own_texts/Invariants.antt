@@ -1,8 +1,0 @@
--- those so far
-use Rattle.std.proofs.Common.{◌≡◌, ◌≤◌, take}
-use Rattle.std.specs.List.{count_by}
-use Rattle.lrshown.specs.Ambiguities.{has_own_text}
-use Rattle.lrreport.proofs.verdicts.own_texts.Given as goal
-
-abbrev pub invariant-loop-one : goal.invariant-loop-one
-invariant-loop-one l = (l.count ≡ count_by has_own_text (take l.one-index l.evidence)) × (l.count ≤ l.one-index)

@@ -1,0 +1,250 @@
+//! How a conflict can be resolved, and the words for it.
+
+use crate::texts::add_names;
+use crate::told::Told;
+use crate::words::Words;
+use lryacc::{Dialect, FileGrammar};
+
+/// How many tokens are named at the most.
+const NAMED: usize = 4;
+
+/// Where a new precedence line stands.
+#[derive(Clone, Copy, PartialEq, Eq)]
+pub(crate) enum Place {
+    /// Above all others.
+    Above,
+    /// Below all others.
+    Below,
+}
+
+impl Place {
+    /// The other one.
+    pub(crate) fn other(self) -> Place {
+        match self {
+            Place::Above => Place::Below,
+            Place::Below => Place::Above,
+        }
+    }
+}
+
+/// Why no levels resolve a conflict by itself.
+#[derive(Clone, Copy)]
+pub(crate) enum Hindrance {
+    /// No precedence resolves such a conflict.
+    Kind,
+    /// More than two meet in a cell.
+    Crowded,
+    /// They would decide other conflicts too.
+    Others,
+}
+
+/// Levels that resolve a conflict. Where they do so the other way round too, by the reduction, `can_reduce` says so.
+#[derive(Drop)]
+pub(crate) enum NewLevels {
+    /// An associativity for a line of `%precedence`; either one where a rule and its own operator meet.
+    Associativity {
+        is_of_operator: bool,
+    },
+    /// One level for the tokens of the conflict, from one of which the production has its own: by `%right`, or else by `%left`
+    /// too.
+    One {
+        tokens: Vec<usize>,
+        is_right: bool,
+    },
+    /// A level for the token from which the production has its own, and one below it for the tokens of the conflict.
+    Two {
+        source: usize,
+        tokens: Vec<usize>,
+        can_reduce: bool,
+    },
+    /// A level for tokens in a new line.
+    Line {
+        tokens: Vec<usize>,
+        place: Place,
+        can_reduce: bool,
+    },
+    /// A level for the production by `%prec`, above all others.
+    Prec {
+        can_reduce: bool,
+    },
+    /// A level for it in that place, and one right below it for tokens.
+    PrecAndLine {
+        tokens: Vec<usize>,
+        place: Place,
+    },
+}
+
+/// How a conflict can be resolved.
+#[derive(Drop)]
+pub(crate) enum Advice {
+    /// To move an action that stands in the middle of a production.
+    MoveAction,
+    /// By more lookahead, if at all.
+    Lookahead,
+    /// By other rules.
+    Rewrite(Hindrance),
+    /// By levels.
+    Levels(NewLevels),
+}
+
+impl Hindrance {
+    /// The words for it, and that the rules are to be rewritten.
+    fn words(self) -> &'static str {
+        match self {
+            Hindrance::Kind =>
+                "precedence resolves no such conflict: drop one of the productions, or rewrite the rules",
+            Hindrance::Crowded =>
+                "more than two meet here, so levels resolve it only together with the others: rewrite the rules",
+            Hindrance::Others =>
+                "levels for it would decide other conflicts too, and not as the table does: rewrite the rules",
+        }
+    }
+}
+
+/// The precedence line that makes no group.
+fn plain_line(dialect: Dialect) -> &'static str {
+    match dialect {
+        Dialect::Bison => "%precedence",
+        Dialect::Grmtools => "%nonassoc",
+    }
+}
+
+/// Adds where a new line keeps the shift, and that it reduces in the other place, where it may.
+fn add_places(words: &mut Words, place: Place, can_reduce: bool) {
+    words.add_all(match place {
+        Place::Above => "above all others",
+        Place::Below => "below all others",
+    });
+    words.add_all("to keep the shift");
+    if can_reduce {
+        words.add_piece(",");
+        words.add_all(match place {
+            Place::Above => "below them to reduce",
+            Place::Below => "above them to reduce",
+        });
+    }
+}
+
+/// Adds the names of tokens, unless these are many.
+fn add_tokens(words: &mut Words, file: &FileGrammar, tokens: &[usize]) {
+    match tokens {
+        [one, other] => {
+            add_names(words, file, &[*one]);
+            words.add("and");
+            add_names(words, file, &[*other]);
+        }
+        _ if tokens.len() > NAMED => words.add_all("these tokens"),
+        _ => add_names(words, file, tokens),
+    }
+}
+
+/// Adds an associativity for what has one level of a line without one.
+fn add_associativity(words: &mut Words, is_of_operator: bool) {
+    words.add_all("both have one level of %precedence, which resolves nothing between them: use");
+    words.add_all(if is_of_operator {
+        "%left or %right"
+    } else {
+        "%right to keep the shift"
+    });
+}
+
+impl Told<'_> {
+    /// Adds that tokens get a level by a line that makes no group.
+    fn add_plain_level(&self, words: &mut Words, tokens: &[usize]) {
+        add_tokens(words, self.file, tokens);
+        words.add_all("a level by");
+        words.add(plain_line(self.options.dialect));
+    }
+
+    /// Adds that tokens get one level.
+    fn add_one_level(&self, words: &mut Words, tokens: &[usize], is_right: bool) {
+        words.add_all(if is_right {
+            "to keep the shift, give"
+        } else {
+            "give"
+        });
+        add_tokens(words, self.file, tokens);
+        words.add_all(if is_right {
+            "one level by %right, below all others"
+        } else {
+            "one level by %left or %right to resolve it"
+        });
+    }
+
+    /// Adds that a token gets a level, and others one below it.
+    fn add_two_levels(&self, words: &mut Words, source: usize, tokens: &[usize], can_reduce: bool) {
+        words.add_all("to keep the shift, give");
+        self.add_plain_level(words, &[source]);
+        words.add_piece(",");
+        words.add("and");
+        add_tokens(words, self.file, tokens);
+        words.add_all("one in a line below it");
+        if can_reduce {
+            words.add_piece(";");
+            words.add_all("the other way round, to reduce");
+        }
+    }
+
+    /// Adds that the production gets a level in a place, and tokens one below it.
+    fn add_prec_and_line(&self, words: &mut Words, tokens: &[usize], place: Place) {
+        words.add_all("to keep the shift, give this production a level by %prec");
+        words.add_all(match place {
+            Place::Above => "above all others, and",
+            Place::Below => "and",
+        });
+        add_tokens(words, self.file, tokens);
+        words.add_all(match place {
+            Place::Above => "one below them",
+            Place::Below => "one in a line below it",
+        });
+    }
+
+    /// Adds levels that resolve a conflict.
+    fn add_levels(&self, words: &mut Words, levels: &NewLevels) {
+        match levels {
+            NewLevels::Associativity { is_of_operator } => add_associativity(
+                words,
+                *is_of_operator,
+            ),
+            NewLevels::One { tokens, is_right } => {
+                self.add_one_level(words, tokens.as_slice(), *is_right);
+            }
+            NewLevels::Two {
+                source,
+                tokens,
+                can_reduce,
+            } => self.add_two_levels(words, *source, tokens.as_slice(), *can_reduce),
+            NewLevels::Line {
+                tokens,
+                place,
+                can_reduce,
+            } => {
+                words.add("give");
+                self.add_plain_level(words, tokens.as_slice());
+                words.add_piece(":");
+                add_places(words, *place, *can_reduce);
+            }
+            NewLevels::Prec { can_reduce } => {
+                words.add_all("give this production a level by %prec:");
+                add_places(words, Place::Above, *can_reduce);
+            }
+            NewLevels::PrecAndLine { tokens, place } => {
+                self.add_prec_and_line(words, tokens.as_slice(), *place);
+            }
+        }
+    }
+
+    /// Adds how a conflict can be resolved.
+    pub(crate) fn add_advice(&self, words: &mut Words, advice: &Advice) {
+        match advice {
+            Advice::MoveAction => words.add_all(
+                "this action must run before it is known which alternative it is: put it at the end, or into a rule of its own",
+            ),
+            Advice::Lookahead => words.add_all(
+                "this may need more lookahead than one token; levels would then make the parser reject valid input",
+            ),
+            Advice::Rewrite(hindrance) => words.add_all(hindrance.words()),
+            Advice::Levels(levels) => self.add_levels(words, levels),
+        }
+    }
+}

@@ -1,0 +1,236 @@
+//! What precedences resolve, each with the places of the productions that meet, and why.
+
+ghost use Rattle.std.specs.Prelude.{All, IfSome};
+ghost use Rattle.lrevidence.specs.Ambiguities.{HasTwoTrees, IsProved};
+
+use crate::conflicts::{Checked, DONE, push_more};
+use crate::told::Told;
+use lrdiagnostics::add_shown;
+use lrevidence::Ambiguity;
+use lrfindings::{Entry, Resolved, Winner};
+use lrgrammar::idx::IndexStorage;
+use lrwriter::Text;
+use std::alloc::{AllocError, Global};
+
+/// Why a shift or a reduction wins, or neither.
+#[derive(Clone, Copy, Debug, PartialEq, Eq, PartialOrd, Ord)]
+enum Reason {
+    /// The token has the higher level.
+    Token,
+    /// They have one level, of a `%right` line.
+    Right,
+    /// The production has the higher level.
+    Production,
+    /// They have one level, of a `%left` line.
+    Left,
+    /// They have one level, of a `%nonassoc` line.
+    Nonassoc,
+}
+
+impl Reason {
+    /// That of what wins between a token and a production, which may have one level.
+    fn of(winner: Winner, is_level: bool) -> Reason {
+        match (winner, is_level) {
+            (Winner::Shift, false) => Reason::Token,
+            (Winner::Shift, true) => Reason::Right,
+            (Winner::Reduce, false) => Reason::Production,
+            (Winner::Reduce, true) => Reason::Left,
+            (Winner::Neither, _) => Reason::Nonassoc,
+        }
+    }
+
+    /// What is said of what the table does, where it reduces, and where it shifts.
+    fn done(self) -> (&'static str, &'static str) {
+        match self {
+            Reason::Token | Reason::Right => ("", DONE),
+            Reason::Production | Reason::Left => (DONE, ""),
+            Reason::Nonassoc => ("", ""),
+        }
+    }
+
+    /// Which of two trees is kept.
+    fn kept(self) -> &'static str {
+        match self {
+            Reason::Token | Reason::Right => "that of the shift is kept",
+            Reason::Production | Reason::Left => "that of the reduction is kept",
+            Reason::Nonassoc => "none is kept",
+        }
+    }
+}
+
+/// What is resolved in one state between one production and shifts, for one reason.
+#[derive(Drop)]
+struct Resolution {
+    reason: Reason,
+    entries: Vec<Entry>,
+}
+
+impl Resolution {
+    /// Whether something belongs to it.
+    fn is_like(&self, entry: &Entry, reason: Reason) -> bool {
+        let is_meeting = match self.entries.first() {
+            Some(first) => first.meets_like(entry),
+            None => false,
+        };
+        is_meeting && self.reason == reason
+    }
+}
+
+/// The entries of which one wins.
+pub(crate) fn won_by(
+    alloc: Global,
+    resolved: &[Resolved],
+    winner: Winner,
+) -> Result<Vec<Entry>, AllocError> {
+    let mut entries = Vec::new(alloc);
+    for one in resolved {
+        if one.winner == winner {
+            entries.push(one.entry)?;
+        }
+    }
+    Ok(entries)
+}
+
+impl Told<'_> {
+    /// Whether the token of an entry and its production have one level.
+    fn is_level(&self, entry: Entry) -> bool {
+        let level = match self.token_of(entry.production) {
+            Some(token) => self.precedence(token),
+            None => None,
+        };
+        match (level, self.precedence(entry.token)) {
+            (Some(one), Some(other)) => one.level == other.level,
+            _ => false,
+        }
+    }
+
+    /// What is resolved, in the order of the file, and of one production by the reasons.
+    fn reasoned(
+        &self,
+        alloc: Global,
+        resolved: &[Resolved],
+    ) -> Result<Vec<(Entry, Reason)>, AllocError> {
+        let mut list = Vec::new(alloc);
+        for resolved in resolved {
+            let entry = resolved.entry;
+            list.push((entry, Reason::of(resolved.winner, self.is_level(entry))))?;
+        }
+        list.sort_unstable_by_key(|it| (
+            (it.0.place, it.0.state, it.0.production),
+            (it.1, it.0.token),
+        ));
+        Ok(list)
+    }
+
+    /// What is resolved, put together where the same meets in the same state, and wins for the same reason.
+    fn resolutions(
+        &self,
+        alloc: Global,
+        resolved: &[Resolved],
+    ) -> Result<Vec<Resolution>, AllocError> {
+        let mut list: Vec<Resolution> = Vec::new(alloc);
+        for (entry, reason) in &self.reasoned(alloc, resolved)? {
+            match list.last_mut() {
+                Some(last) if last.is_like(entry, *reason) => last.entries.push(*entry)?,
+                _ => list.push(Resolution {
+                    reason: *reason,
+                    entries: vec![in alloc; *entry]?,
+                })?,
+            }
+        }
+        Ok(list)
+    }
+
+    /// Why the same wins at all the entries.
+    fn reason(&self, alloc: Global, resolution: &Resolution) -> Result<String, AllocError> {
+        let mut text = Text::new(alloc);
+        text.add(match resolution.reason {
+            Reason::Token if resolution.entries.len() > 1 => "the tokens have the higher level",
+            Reason::Token => "the token has the higher level",
+            Reason::Right => "both have one level, and it is %right",
+            Reason::Production => "the production has the higher level",
+            Reason::Left => "both have one level, and it is %left",
+            Reason::Nonassoc =>
+                "both have one level, and it is %nonassoc: the token is an error here",
+        });
+        if let (Reason::Production, Some(entry)) = (resolution.reason, resolution.entries.first()) {
+            if let Some(token) = self.named_token_of(entry.production) {
+                text.add(", that of ");
+                add_shown(&mut text, self.token_name(token));
+            }
+        }
+        text.finish()
+    }
+}
+
+impl<'a, T: IndexStorage> Checked<'a, T> {
+    /// A sentence with two trees that part by what meets in one of the entries, where one is found.
+    pub(crate) fn decided(&self, entries: &[Entry]) -> Option<&'a Ambiguity>
+        requires proved { All (IsProved self.now.found.now.grm) self.now.told.resolved.now }
+        ensures { IfSome result (λ a. HasTwoTrees self.now.found.now.grm a.now) }
+    {
+        let resolved = self.told.resolved;
+        for entry in entries {
+            if let Ok(at) = resolved.binary_search_by_key(entry, |it| it.entry) {
+                if let Some(ambiguity) = &resolved[at].ambiguity {
+                    if ambiguity.is_of(entry) {
+                        return Some(&**ambiguity);
+                    }
+                }
+            }
+        }
+        None
+    }
+
+    /// Whether a text was looked for at each of the entries.
+    pub(crate) fn are_searched(&self, entries: &[Entry]) -> bool {
+        let resolved = self.told.resolved;
+        entries.iter().all(|entry| resolved
+            .binary_search_by_key(entry, |it| it.entry)
+            .is_ok_and(|at| resolved.get(at).is_some_and(|it| !it.is_cut_off)))
+    }
+
+    /// Adds what is resolved.
+    fn push_resolution(&self, text: &mut Text, resolution: &Resolution) -> Result<(), AllocError>
+        requires proved { All (IsProved self.now.found.now.grm) self.now.told.resolved.now }
+    {
+        let entries = resolution.entries.as_slice();
+        let Some(first) = entries.first() else {
+            return Ok(());
+        };
+        let alloc = text.allocator();
+        let (reduced, shifted) = resolution.reason.done();
+        let mut marks = Vec::new(alloc);
+        marks.push(self.told.reduction_mark(alloc, first.production, reduced)?)?;
+        self.push_shifts(&mut marks, entries, shifted)?;
+        self.told.push_heading(text, "resolved", entries);
+        self.told.teller().add_placed(text, marks.as_slice())?;
+        let (why, kept) = (
+            self.told.reason(alloc, resolution)?,
+            resolution.reason.kept(),
+        );
+        self.push_decided(
+            text,
+            marks.as_slice(),
+            why.as_str(),
+            kept,
+            self.decided(entries),
+            self.told.options.steps > 0 && !self.are_searched(entries),
+        )?;
+        text.add_char('\n');
+        Ok(())
+    }
+
+    /// Adds what precedences resolve: the first ones, so many at the most, and how many there are besides.
+    pub(crate) fn push_resolved(&self, text: &mut Text, most: usize) -> Result<(), AllocError>
+        requires proved { All (IsProved self.now.found.now.grm) self.now.told.resolved.now }
+    {
+        let resolved = self.found.resolved.as_slice();
+        let resolutions = self.told.resolutions(text.allocator(), resolved)?;
+        for resolution in resolutions.iter().take(most) {
+            self.push_resolution(text, resolution)?;
+        }
+        push_more(text, resolutions.len().saturating_sub(most));
+        Ok(())
+    }
+}

@@ -1,0 +1,191 @@
+-- the lexemes of a text
+use Rattle.std.specs.Prelude.{◌≡◌, ◌≢◌, ℕ, ◌+◌, ◌<◌, ◌≤◌, ◌⊎◌, ◌&&◌, ◌||◌, ◌==◌, if◌then◌else◌, not, Bool, true, false, List, [], ◌∷◌, codes, length, slice_index, slice_range}
+use Rattle.std.specs.Char.{is_ascii_alphabetic, is_ascii_alphanumeric, is_ascii_digit}
+use Rattle.lryacc.specs.declared.dialects.Dialect.{Dialect}
+use Rattle.lryacc.specs.declared.dialects.Dialect.TheVariants.{Bison, Grmtools}
+use Rattle.lryacc.specs.declared.lexemes.Lexeme.{Lexeme}
+use Rattle.lryacc.specs.declared.lexemes.LexemeKind.{LexemeKind}
+use Rattle.lryacc.specs.declared.lexemes.LexemeKind.TheVariants as kind
+
+-- ---- classes of bytes
+
+-- what a name begins with for Bison: a letter, `.` or `_`
+abbrev pub is_name_start : ℕ → Bool
+is_name_start byte = is_ascii_alphabetic byte || (byte == 46 || byte == 95)
+
+-- what it goes on with: a letter, a digit, `.`, `_` or `-`
+abbrev pub is_in_name : ℕ → Bool
+is_in_name byte = is_ascii_alphanumeric byte || (byte == 46 || (byte == 95 || byte == 45))
+
+-- what a name has for grmtools: letters, digits and `_`
+abbrev pub is_in_word : ℕ → Bool
+is_in_word byte = is_ascii_alphanumeric byte || byte == 95
+
+-- what it begins with: all of them but digits
+abbrev pub is_word_start : ℕ → Bool
+is_word_start byte = is_in_word byte && not (is_ascii_digit byte)
+
+-- what the name of a directive has for grmtools: the same, and `-`
+abbrev pub is_in_directive : ℕ → Bool
+is_in_directive byte = is_ascii_alphanumeric byte || (byte == 95 || byte == 45)
+
+-- `%`
+abbrev pub is_percent : ℕ → Bool
+is_percent byte = byte == 37
+
+-- ---- the bytes of a text from `start` up to `end`
+
+-- they are these
+abbrev pub Are : List ℕ → ℕ → ℕ → List ℕ → Type 0
+Are text start end bytes = slice_range text start end ≡ bytes
+
+-- they are all those of a class that stand there one behind another
+pub record IsRun (class : ℕ → Bool) (text : List ℕ) (start end : ℕ) : Type 0 where
+  pub ordered : start ≤ end
+  pub inside : end ≤ length text
+  pub each : (at : ℕ) → start ≤ at → at < end → class (slice_index text at) ≡ true
+  pub ends : end < length text → class (slice_index text end) ≡ false
+
+-- the first is of one class, and those behind it are all of another that stand there
+pub record IsWord (first goes_on : ℕ → Bool) (text : List ℕ) (start end : ℕ) : Type 0 where
+  pub begins : first (slice_index text start) ≡ true
+  pub rest : IsRun goes_on text (start + 1) end
+
+-- they begin with this byte
+abbrev pub Begins : ℕ → List ℕ → ℕ → Type 0
+Begins byte text start = slice_index text start ≡ byte
+
+-- they end with this byte, which is not the first of them
+pub record EndsWith (byte : ℕ) (text : List ℕ) (start end : ℕ) : Type 0 where
+  pub last : ℕ
+  pub behind : start < last
+  pub ends : end ≡ last + 1
+  pub is : slice_index text last ≡ byte
+
+-- they begin with one byte, and end with another one
+pub record IsBetween (opening closing : ℕ) (text : List ℕ) (start end : ℕ) : Type 0 where
+  pub opens : Begins opening text start
+  pub closes : EndsWith closing text start end
+
+-- they are a character between `'`: the byte that stands there, but behind a backslash
+pub record IsCharacter (byte : ℕ) (text : List ℕ) (start end : ℕ) : Type 0 where
+  pub quotes : IsBetween 39 39 text start end
+  pub plain : slice_index text (start + 1) ≢ 92
+      → (end ≡ start + 3) × (slice_index text (start + 1) ≡ byte)
+
+-- ---- lexemes
+
+-- what a lexeme of a kind is for Bison
+abbrev pub IsBisonLexeme : LexemeKind → List ℕ → ℕ → ℕ → Type 0
+IsBisonLexeme kind.Name text start end = IsWord is_name_start is_in_name text start end
+IsBisonLexeme kind.BracketName text start end = IsBetween 91 93 text start end
+IsBisonLexeme kind.Number text start end = IsWord is_ascii_digit is_in_name text start end
+IsBisonLexeme (kind.Character byte) text start end = IsCharacter byte text start end
+IsBisonLexeme kind.Text text start end = IsBetween 34 34 text start end
+IsBisonLexeme kind.TranslatedText text start end = IsBetween 95 41 text start end
+IsBisonLexeme kind.Tag text start end = IsBetween 60 62 text start end
+IsBisonLexeme kind.AnyTag text start end =
+    Are text start end (codes "<>") ⊎ Are text start end (codes "<*>")
+IsBisonLexeme kind.Directive text start end = Begins 37 text start ⊎ Begins 92 text start
+IsBisonLexeme kind.Separator text start end =
+    Are text start end (codes "%%") ⊎ Are text start end (codes "\\\\")
+IsBisonLexeme kind.Action text start end = Begins 123 text start
+IsBisonLexeme kind.Predicate text start end = Are text start (start + 2) (codes "%?")
+IsBisonLexeme kind.Prologue text start end = Are text start (start + 2) (codes "%{")
+IsBisonLexeme kind.Colon text start end = Are text start end (codes ":")
+IsBisonLexeme kind.Bar text start end = Are text start end (codes "|")
+IsBisonLexeme kind.Semicolon text start end = Are text start end (codes ";")
+IsBisonLexeme kind.Equals text start end = Are text start end (codes "=")
+IsBisonLexeme _ text start end = ⊥
+
+-- what it is for grmtools
+abbrev pub IsGrmtoolsLexeme : LexemeKind → List ℕ → ℕ → ℕ → Type 0
+IsGrmtoolsLexeme kind.Name text start end = IsWord is_word_start is_in_word text start end
+IsGrmtoolsLexeme kind.Number text start end = IsWord is_ascii_digit is_in_word text start end
+IsGrmtoolsLexeme kind.QuotedName text start end =
+    IsBetween 39 39 text start end ⊎ IsBetween 34 34 text start end
+IsGrmtoolsLexeme kind.QuotedText text start end =
+    IsBetween 39 39 text start end ⊎ IsBetween 34 34 text start end
+IsGrmtoolsLexeme kind.RuleType text start end = Are text start (start + 2) (codes "->")
+IsGrmtoolsLexeme kind.Directive text start end =
+    IsWord is_percent is_in_directive text start end
+IsGrmtoolsLexeme kind.DirectiveLine text start end = Begins 37 text start
+IsGrmtoolsLexeme kind.Separator text start end = Are text start end (codes "%%")
+IsGrmtoolsLexeme kind.Action text start end = Begins 123 text start
+IsGrmtoolsLexeme kind.Colon text start end = Are text start end (codes ":")
+IsGrmtoolsLexeme kind.Bar text start end = Are text start end (codes "|")
+IsGrmtoolsLexeme kind.Semicolon text start end = Are text start end (codes ";")
+IsGrmtoolsLexeme _ text start end = ⊥
+
+-- what it is for a dialect
+abbrev pub IsLexeme : Dialect → LexemeKind → List ℕ → ℕ → ℕ → Type 0
+IsLexeme Bison = IsBisonLexeme
+IsLexeme Grmtools = IsGrmtoolsLexeme
+
+-- a lexeme stands in a text
+pub record IsLexemeOf (text : List ℕ) (dialect : Dialect) (lexeme : Lexeme) : Type 0 where
+  pub some : lexeme.span.start < lexeme.span.end
+  pub inside : lexeme.span.end ≤ length text
+  pub is : IsLexeme dialect lexeme.kind text lexeme.span.start lexeme.span.end
+
+-- lexemes of a text in their order, from one place on up to another: between them, and before the first, stands what may
+abbrev pub AreInOrder : (ℕ → ℕ → Type 0) → List ℕ → Dialect → ℕ → List Lexeme → ℕ → Type 0
+AreInOrder MayBeBetween text dialect from [] to = from ≡ to
+AreInOrder MayBeBetween text dialect from (lexeme ∷ lexemes) to =
+    MayBeBetween from lexeme.span.start × IsLexemeOf text dialect lexeme
+    × AreInOrder MayBeBetween text dialect lexeme.span.end lexemes to
+
+-- ---- names of rules
+
+-- whether a lexeme is a name
+abbrev pub is_name : LexemeKind → Bool
+is_name kind.Name = true
+is_name _ = false
+
+-- whether it is a colon
+abbrev pub is_colon : LexemeKind → Bool
+is_colon kind.Colon = true
+is_colon _ = false
+
+-- whether it may stand between the name of a rule and its colon
+abbrev pub is_between : LexemeKind → Bool
+is_between kind.BracketName = true
+is_between kind.RuleType = true
+is_between _ = false
+
+-- whether a colon comes first among lexemes
+abbrev pub begins_with_colon : List Lexeme → Bool
+begins_with_colon [] = false
+begins_with_colon (lexeme ∷ lexemes) = is_colon lexeme.kind
+
+-- whether a name before these lexemes is that of a rule: a colon comes first, perhaps behind a name in brackets or a type
+abbrev pub follow_rule : List Lexeme → Bool
+follow_rule [] = false
+follow_rule (lexeme ∷ lexemes) =
+    is_colon lexeme.kind || is_between lexeme.kind && begins_with_colon lexemes
+
+-- whether they do once a colon is added behind them
+abbrev pub go_before_colon : List Lexeme → Bool
+go_before_colon [] = true
+go_before_colon (lexeme ∷ []) = is_between lexeme.kind
+go_before_colon _ = false
+
+-- a name, as that of a rule
+abbrev pub as_rule : Lexeme → Lexeme
+as_rule lexeme = record lexeme { kind = kind.RuleName }
+
+-- the lexemes, with the names of rules noted that stand before such as these
+abbrev pub with_rules : (List Lexeme → Bool) → List Lexeme → List Lexeme
+with_rules follow [] = []
+with_rules follow (lexeme ∷ lexemes) =
+    (if is_name lexeme.kind && follow lexemes then as_rule lexeme else lexeme)
+    ∷ with_rules follow lexemes
+
+-- ---- all lexemes
+
+-- lexemes of a text in their order, none over another; names are noted as those of rules
+pub record AreLexemesOf (text : List ℕ) (dialect : Dialect) (lexemes : List Lexeme) : Type 0 where
+  pub bare : List Lexeme
+  pub last : ℕ
+  pub order : AreInOrder (λ end start. end ≤ start) text dialect 0 bare last
+  pub named : lexemes ≡ with_rules follow_rule bare
