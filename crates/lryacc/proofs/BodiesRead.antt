@@ -1,5 +1,5 @@
 -- a body goes on
-use Rattle.std.proofs.Common.{◌≡◌, ℕ, ◌+◌, arith, Bool, true, false, List, [], ◌∷◌, ◌++◌, Option, None, Some, Result, Ok, Err, IfOk, refl, ap, sym, ◌∙◌, subst}
+use Rattle.std.proofs.Common.{◌≡◌, ℕ, ◌+◌, ◌≤◌, arith, Bool, true, false, List, [], ◌∷◌, ◌++◌, Option, None, Some, Result, Ok, Err, IfOk, refl, ap, sym, ◌∙◌, subst}
 use Rattle.std.specs.Prelude.{IfSome, MatchBool, MatchOption, slice_get}
 use Rattle.std.specs.Option.{option_map}
 use Rattle.lryacc.specs.declared.contents.BodyPart.{BodyPart}
@@ -12,8 +12,10 @@ use Rattle.lryacc.specs.declared.lexemes.LexemeKind.{LexemeKind}
 use Rattle.lryacc.specs.declared.lexemes.LexemeKind.TheVariants as kind
 use Rattle.lryacc.specs.declared.reader.Reader.{Reader}
 use Rattle.lryacc.specs.declared.rules.Body.{Body}
-use Rattle.lryacc.specs.Bodies.{IsBehindMark, IsBody, IsReadFrom, IsSameFile, MayBeRead, Passes, ReadsBody, ReadsBodies, ReadsBehind, ReadsOn, SkipsKind, Stays, GoesOn, TakesAnySymbol, TakesKind, is_action, is_aside, is_mark, is_part, is_symbol}
+use Rattle.lryacc.specs.Bodies.{AddsBody, BeginsBody, IsBody, IsReadFrom, IsRuleBefore, IsSameFile, MayBeRead, Passes, PassesNoDelimiter, ReadsBody, ReadsBodies, ReadsBehind, ReadsOn, SkipsKind, Stays, GoesOn, TakesAnySymbol, TakesBar, TakesKind, is_action, is_aside, is_mark, is_part, is_rule_name, is_symbol}
 use Rattle.lryacc.specs.Bodies.IsBody.{begins, symbol, action, aside, named}
+use Rattle.lryacc.specs.Delimiters.{delimiter_at, delimiter_of, delimiters_before}
+use Rattle.lryacc.proofs.DelimitersPassed.{count-next, rule_behind, rule_named, rule_over}
 
 -- it is the same body
 pub IsBody-same : (lexemes : List Lexeme) (from at at' : ℕ) (ps ps' : List BodyPart) → at' ≡ at → ps' ≡ ps → IsBody lexemes from at ps → IsBody lexemes from at' ps'
@@ -177,42 +179,146 @@ pub skips_same : {old new : Reader} (k : LexemeKind) (is : Bool) → MatchBool i
 skips_same k true skips = skips.passes.file
 skips_same k false stays = stays.file
 
--- a body was read whose parts are these
-pub may_be_read : {old now : Reader} (before after : Body) → IsSameFile old now → ReadsBody old now before after → before.parts.items ≡ [] → IsBehindMark old.lexemes.now old.at → MayBeRead now after.parts.items
-may_be_read {old} {now} before after same read first behind = λ body is.
+-- a body was read whose rule and parts are these
+pub may_be_read : {old now : Reader} (before after : Body) (rule : Lexeme) → IsSameFile old now → ReadsBody old now before after → before.parts.items ≡ [] → BeginsBody old rule → MayBeRead now rule after.parts.items
+may_be_read {old} {now} before after rule same read first begins_here = λ body of is.
     let lexemes = old.lexemes.now in
     let nothing : IsBody lexemes old.at old.at before.parts.items =
     IsBody-same lexemes old.at old.at old.at [] before.parts.items refl first begins in
     let here : IsReadFrom lexemes old.dialect body = record {
       from = old.at;
-      behind = behind;
+      behind = begins_here.behind;
+      rule = subst (λ (name : Lexeme). IsRuleBefore lexemes old.at name) (sym of) begins_here.rule_is;
       to = now.at;
       parts = IsBody-same lexemes old.at now.at now.at after.parts.items body.parts.items refl is (read.parts old.at nothing);
       ends = read.ends;
     } in
     rw (same.lexemes, same.dialect) here
 
--- a mark was taken
-pub behind_taken : {old new : Reader} {lexeme : Lexeme} (k : LexemeKind) → TakesKind old new k lexeme → is_mark k ≡ true → IsBehindMark new.lexemes.now new.at
-behind_taken {old} {new} {lexeme} k takes is_one = record {
-  before = old.at;
-  next = takes.passes.at;
-  mark = lexeme;
-  here = subst (λ (xs : List Lexeme). slice_get xs old.at ≡ Some lexeme) (sym takes.passes.file.lexemes) takes.here;
-  is = ap is_mark takes.is ∙ is_one;
+-- a body has no delimiter
+no_delimiter_kind : (k : LexemeKind) → is_symbol k ≡ true → delimiter_of k ≡ 0
+no_delimiter_kind kind.RuleName is = cc
+no_delimiter_kind kind.Colon is = cc
+no_delimiter_kind kind.Bar is = cc
+no_delimiter_kind kind.Separator is = cc
+no_delimiter_kind _ is = refl
+
+no_delimiter_action : (k : LexemeKind) → is_action k ≡ true → delimiter_of k ≡ 0
+no_delimiter_action kind.RuleName is = cc
+no_delimiter_action kind.Colon is = cc
+no_delimiter_action kind.Bar is = cc
+no_delimiter_action kind.Separator is = cc
+no_delimiter_action _ is = refl
+
+no_delimiter_aside : (k : LexemeKind) → is_aside k ≡ true → delimiter_of k ≡ 0
+no_delimiter_aside kind.RuleName is = cc
+no_delimiter_aside kind.Colon is = cc
+no_delimiter_aside kind.Bar is = cc
+no_delimiter_aside kind.Separator is = cc
+no_delimiter_aside _ is = refl
+
+-- a lexeme more that is none
+count_same : (lexemes : List Lexeme) (from at : ℕ) (lexeme : Lexeme) → slice_get lexemes at ≡ Some lexeme → delimiter_of lexeme.kind ≡ 0 → delimiters_before lexemes at ≡ delimiters_before lexemes from → delimiters_before lexemes (at + 1) ≡ delimiters_before lexemes from
+count_same lexemes from at lexeme here none same =
+    let no : delimiter_at (slice_get lexemes at) ≡ 0 = ap delimiter_at here ∙ none in
+    omega (arith, count-next lexemes at)
+
+pub body_counts : (lexemes : List Lexeme) (from to : ℕ) (parts : List BodyPart) → IsBody lexemes from to parts → (from ≤ to) × (delimiters_before lexemes to ≡ delimiters_before lexemes from)
+body_counts lexemes from _ _ begins = (omega arith, refl)
+body_counts lexemes from _ _ (symbol {at} {parts} lexeme body here is) =
+    let so_far = body_counts lexemes from at parts body in
+    (omega (arith, so_far.0), count_same lexemes from at lexeme here (no_delimiter_kind lexeme.kind is) so_far.1)
+body_counts lexemes from _ _ (action {at} {parts} lexeme name body here is) =
+    let so_far = body_counts lexemes from at parts body in
+    (omega (arith, so_far.0), count_same lexemes from at lexeme here (no_delimiter_action lexeme.kind is) so_far.1)
+body_counts lexemes from _ _ (aside {at} {parts} lexeme body here is) =
+    let so_far = body_counts lexemes from at parts body in
+    (omega (arith, so_far.0), count_same lexemes from at lexeme here (no_delimiter_aside lexeme.kind is) so_far.1)
+body_counts lexemes from _ _ (named {at} {parts} directive lexeme body here is there is_too) =
+    let so_far = body_counts lexemes from at parts body in
+    let next = count_same lexemes from at directive here (ap delimiter_of is) so_far.1 in
+    (omega (arith, so_far.0), count_same lexemes from (at + 1) lexeme there (no_delimiter_kind lexeme.kind is_too) next)
+
+-- no delimiter is passed, twice
+pub over_again : {old now new : Reader} → PassesNoDelimiter old now → PassesNoDelimiter now new → PassesNoDelimiter old new
+over_again one other = record {
+  file = IsSameFile-again one.file other.file;
+  on = omega (arith, one.on, other.on);
+  count = other.count ∙ one.count;
 }
 
--- a `|` was taken, if one was there
-pub behind_bar : (old new : Reader) (bar : Option Lexeme) → MatchOption bar (Stays old new) (λ (lexeme : Lexeme). TakesKind old new kind.Bar lexeme) → IfSome bar (λ _. IsBehindMark new.lexemes.now new.at)
-behind_bar old new None stays = tt
-behind_bar old new (Some lexeme) takes = behind_taken {old = old} {new = new} {lexeme = lexeme} kind.Bar takes refl
+-- the reader stays, and passes nothing
+pub over_stays : {old new : Reader} → Stays old new → PassesNoDelimiter old new
+over_stays stays = record { file = stays.file; on = omega (arith, stays.at); count = stays.count }
+
+-- what is passed over or not is no delimiter
+pub over_skips : {old new : Reader} (k : LexemeKind) → delimiter_of k ≡ 0 → (is : Bool) → MatchBool is (SkipsKind old new k) (Stays old new) → PassesNoDelimiter old new
+over_skips k none true skips = record {
+  file = skips.passes.file;
+  on = omega (arith, skips.passes.at);
+  count = omega (arith, skips.count);
+}
+over_skips k none false stays = over_stays stays
+
+-- the last name of a rule before the reader is the same where no delimiter is passed
+pub rule_kept : {old new : Reader} (rule : Lexeme) → PassesNoDelimiter old new → IsRuleBefore old.lexemes.now old.at rule → IsRuleBefore new.lexemes.now new.at rule
+rule_kept {old} {new} rule over before =
+    let same : delimiters_before old.lexemes.now new.at ≡ delimiters_before old.lexemes.now old.at =
+    subst (λ (xs : List Lexeme). delimiters_before xs new.at ≡ delimiters_before old.lexemes.now old.at) over.file.lexemes over.count in
+    rw over.file.lexemes (rule_over old.lexemes.now old.at new.at rule over.on same before)
+
+-- it was taken
+pub rule_taken : {old new : Reader} {rule : Lexeme} → TakesKind old new kind.RuleName rule → IsRuleBefore new.lexemes.now new.at rule
+rule_taken {old} {new} {rule} taken =
+    rw (taken.passes.file.lexemes, taken.passes.at)
+    (rule_named old.lexemes.now old.at rule taken.here (ap is_rule_name taken.is))
+
+-- a mark was taken
+pub begins_taken : {old new : Reader} {mark : Lexeme} (rule : Lexeme) (k : LexemeKind) → TakesKind old new k mark → is_mark k ≡ true → is_rule_name k ≡ false → IsRuleBefore old.lexemes.now old.at rule → BeginsBody new rule
+begins_taken {old} {new} {mark} rule k taken is_one none before = record {
+  behind = record {
+    before = old.at;
+    next = taken.passes.at;
+    mark = mark;
+    here = subst (λ (xs : List Lexeme). slice_get xs old.at ≡ Some mark) (sym taken.passes.file.lexemes) taken.here;
+    is = ap is_mark taken.is ∙ is_one;
+  };
+  rule_is = rw (taken.passes.file.lexemes, taken.passes.at)
+      (rule_behind old.lexemes.now old.at rule mark taken.here (ap is_rule_name taken.is ∙ none) before);
+}
 
 -- the reader stays behind a mark
-pub behind_still : {old new : Reader} → Stays old new → IsBehindMark old.lexemes.now old.at → IsBehindMark new.lexemes.now new.at
-behind_still {old} {new} stays behind = record {
-  before = behind.before;
-  next = stays.at ∙ behind.next;
-  mark = behind.mark;
-  here = subst (λ (xs : List Lexeme). slice_get xs behind.before ≡ Some behind.mark) (sym stays.file.lexemes) behind.here;
-  is = behind.is;
+pub begins_still : {old new : Reader} (rule : Lexeme) → Stays old new → BeginsBody old rule → BeginsBody new rule
+begins_still {old} {new} rule stays begins_here = record {
+  behind = record {
+    before = begins_here.behind.before;
+    next = stays.at ∙ begins_here.behind.next;
+    mark = begins_here.behind.mark;
+    here = subst (λ (xs : List Lexeme). slice_get xs begins_here.behind.before ≡ Some begins_here.behind.mark) (sym stays.file.lexemes) begins_here.behind.here;
+    is = begins_here.behind.is;
+  };
+  rule_is = rule_kept rule (over_stays stays) begins_here.rule_is;
 }
+
+-- a body was read, and the `|` behind it
+pub begins_next : {old now new : Reader} (rule bar : Lexeme) → BeginsBody old rule → AddsBody old now rule → TakesBar now new bar → BeginsBody new rule
+begins_next {old} {now} {new} rule bar begins_here added taken =
+    let same : delimiters_before old.lexemes.now now.at ≡ delimiters_before old.lexemes.now old.at =
+    subst (λ (xs : List Lexeme). delimiters_before xs now.at ≡ delimiters_before old.lexemes.now old.at) added.lexemes added.count in
+    let there : IsRuleBefore now.lexemes.now now.at rule =
+    rw added.lexemes (rule_over old.lexemes.now old.at now.at rule added.on same begins_here.rule_is) in
+    begins_taken rule kind.Bar taken.taken refl refl (rule_kept rule taken.over there)
+
+-- whether a `|` was taken or not, the file is the same
+pub bar_same : {old new : Reader} (bar : Option Lexeme) → MatchOption bar (PassesNoDelimiter old new) (TakesBar old new) → IsSameFile old new
+bar_same None over = over.file
+bar_same (Some bar) taken = IsSameFile-again taken.over.file taken.taken.passes.file
+
+-- it is taken behind `;`, or those are passed over
+pub bar_taken : (old now new : Reader) (bar : Option Lexeme) → PassesNoDelimiter old now → MatchOption bar (Stays now new) (λ (lexeme : Lexeme). TakesKind now new kind.Bar lexeme) → MatchOption bar (PassesNoDelimiter old new) (TakesBar old new)
+bar_taken old now new None over stays = over_again over (over_stays stays)
+bar_taken old now new (Some bar) over taken = record { before = now; over = over; taken = taken }
+
+-- a body is added by a reader that stays
+pub alternative-count : (old now new : Reader) → now.lexemes.now ≡ old.lexemes.now → new.lexemes.now ≡ now.lexemes.now → new.at ≡ now.at → delimiters_before old.lexemes.now now.at ≡ delimiters_before old.lexemes.now old.at → delimiters_before new.lexemes.now new.at ≡ delimiters_before old.lexemes.now old.at
+alternative-count old now new one other at same = rw (other, one, at) same

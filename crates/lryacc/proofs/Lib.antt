@@ -6,6 +6,7 @@ pub mod MapsOfFaults
 pub mod Sublists
 pub mod PlacedLemmas
 pub mod KeptLemmas
+pub mod DelimitersPassed
 pub mod BodiesRead
 pub mod RuleNames
 pub mod Scanning

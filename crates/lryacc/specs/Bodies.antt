@@ -1,5 +1,5 @@
 -- the bodies of a file, as they stand among its lexemes
-use Rattle.std.specs.Prelude.{◌≡◌, ℕ, ◌+◌, ◌<◌, All, Bool, true, false, List, [], ◌∷◌, ◌++◌, Option, Some, IfSome, slice_get}
+use Rattle.std.specs.Prelude.{◌≡◌, ℕ, ◌+◌, ◌<◌, ◌≤◌, All, Bool, true, false, List, [], ◌∷◌, ◌++◌, Option, Some, IfSome, slice_get}
 use Rattle.std.specs.Option.{option_map}
 use Rattle.lryacc.specs.declared.contents.Alternative.{Alternative}
 use Rattle.lryacc.specs.declared.contents.BodyPart.{BodyPart}
@@ -11,6 +11,7 @@ use Rattle.lryacc.specs.declared.lexemes.LexemeKind.{LexemeKind}
 use Rattle.lryacc.specs.declared.lexemes.LexemeKind.TheVariants as kind
 use Rattle.lryacc.specs.declared.reader.Reader.{Reader}
 use Rattle.lryacc.specs.declared.rules.Body.{Body}
+use Rattle.lryacc.specs.Delimiters.{delimiter_at, delimiter_of, delimiters_before}
 
 -- symbols: names, characters and texts, and for grmtools names in quotes
 abbrev pub is_symbol : LexemeKind → Bool
@@ -77,32 +78,48 @@ pub record IsSameFile (old new : Reader) : Type 0 where
   pub dialect : new.dialect ≡ old.dialect
   pub bodies : new.contents.alternatives.items ≡ old.contents.alternatives.items
 
+-- how many delimiters a reader has gone over
+abbrev pub delimiters_read : Reader → ℕ
+delimiters_read reader = delimiters_before reader.lexemes.now reader.at
+
 -- the reader stands where it was
 pub record Stays (old new : Reader) : Type 0 where
   pub file : IsSameFile old new
   pub at : new.at ≡ old.at
+  pub count : delimiters_read new ≡ delimiters_read old
+
+-- the reader goes on, and goes over no delimiter
+pub record PassesNoDelimiter (old new : Reader) : Type 0 where
+  pub file : IsSameFile old new
+  pub on : old.at ≤ new.at
+  pub count : delimiters_read new ≡ delimiters_read old
 
 -- the reader goes over one lexeme
 pub record Passes (old new : Reader) : Type 0 where
   pub file : IsSameFile old new
   pub at : new.at ≡ old.at + 1
+  pub count : delimiters_read new
+      ≡ delimiters_read old + delimiter_at (slice_get old.lexemes.now old.at)
 
 -- the reader takes a lexeme of that kind
 pub record TakesKind (old new : Reader) (kind : LexemeKind) (lexeme : Lexeme) : Type 0 where
   pub passes : Passes old new
   pub here : slice_get old.lexemes.now old.at ≡ Some lexeme
   pub is : lexeme.kind ≡ kind
+  pub count : delimiters_read new ≡ delimiters_read old + delimiter_of kind
 
 -- the reader goes over a lexeme of that kind
 pub record SkipsKind (old new : Reader) (kind : LexemeKind) : Type 0 where
   pub passes : Passes old new
   pub here : option_map (λ lexeme. lexeme.kind) (slice_get old.lexemes.now old.at) ≡ Some kind
+  pub count : delimiters_read new ≡ delimiters_read old + delimiter_of kind
 
 -- the reader takes a symbol
 pub record TakesSymbol (old new : Reader) (lexeme : Lexeme) : Type 0 where
   pub passes : Passes old new
   pub here : slice_get old.lexemes.now old.at ≡ Some lexeme
   pub is : is_symbol lexeme.kind ≡ true
+  pub count : delimiters_read new ≡ delimiters_read old
 
 -- the reader goes on in a body
 pub record ReadsOn (old new : Reader) (before after : Body) : Type 0 where
@@ -156,12 +173,39 @@ pub record IsBehindMark (lexemes : List Lexeme) (at : ℕ) : Type 0 where
   pub here : slice_get lexemes before ≡ Some mark
   pub is : is_mark mark.kind ≡ true
 
--- a body that was read: its parts are the symbols and the actions among lexemes that follow one another, from right behind a
--- `:` or a `|` up to the end of the file, or up to one with which no body of the dialect goes on
+-- whether a lexeme is the name of a rule
+abbrev pub is_rule_name : LexemeKind → Bool
+is_rule_name kind.RuleName = true
+is_rule_name _ = false
+
+-- the last name of a rule before a place
+pub record IsRuleBefore (lexemes : List Lexeme) (at : ℕ) (rule : Lexeme) : Type 0 where
+  pub place : ℕ
+  pub before : place < at
+  pub here : slice_get lexemes place ≡ Some rule
+  pub is : is_rule_name rule.kind ≡ true
+  pub last : (between : ℕ) → place < between → between < at
+      → IfSome (slice_get lexemes between) (λ lexeme. is_rule_name lexeme.kind ≡ false)
+
+-- the reader stands right behind a mark, and the last name of a rule before that is this one
+pub record BeginsBody (reader : Reader) (rule : Lexeme) : Type 0 where
+  pub behind : IsBehindMark reader.lexemes.now reader.at
+  pub rule_is : IsRuleBefore reader.lexemes.now reader.at rule
+
+-- the reader takes a `|`, and goes over no other delimiter before it
+pub record TakesBar (old new : Reader) (bar : Lexeme) : Type 0 where
+  pub before : Reader
+  pub over : PassesNoDelimiter old before
+  pub taken : TakesKind before new kind.Bar bar
+
+-- a body that was read: its rule is the one whose name stands last before it, and its parts are the symbols and the actions among
+-- lexemes that follow one another, from right behind a `:` or a `|` up to the end of the file, or up to one with which no body of
+-- the dialect goes on
 pub record IsReadFrom (lexemes : List Lexeme) (dialect : Dialect) (body : Alternative)
     : Type 0 where
   pub from : ℕ
   pub behind : IsBehindMark lexemes from
+  pub rule : IsRuleBefore lexemes from body.rule
   pub to : ℕ
   pub parts : IsBody lexemes from to body.parts.items
   pub ends : IfSome (slice_get lexemes to) (λ lexeme. is_part dialect lexeme.kind ≡ false)
@@ -170,6 +214,7 @@ pub record IsReadFrom (lexemes : List Lexeme) (dialect : Dialect) (body : Altern
 pub record EndsBody (old new : Reader) (rule : Lexeme) (parts : List BodyPart) : Type 0 where
   pub lexemes : new.lexemes.now ≡ old.lexemes.now
   pub dialect : new.dialect ≡ old.dialect
+  pub at : new.at ≡ old.at
   pub body : Alternative
   pub rule_is : body.rule ≡ rule
   pub parts_are : body.parts.items ≡ parts
@@ -179,6 +224,8 @@ pub record EndsBody (old new : Reader) (rule : Lexeme) (parts : List BodyPart) :
 pub record AddsBody (old new : Reader) (rule : Lexeme) : Type 0 where
   pub lexemes : new.lexemes.now ≡ old.lexemes.now
   pub dialect : new.dialect ≡ old.dialect
+  pub on : old.at ≤ new.at
+  pub count : delimiters_read new ≡ delimiters_read old
   pub body : Alternative
   pub rule_is : body.rule ≡ rule
   pub read : IsReadFrom old.lexemes.now old.dialect body
@@ -196,8 +243,8 @@ pub record ReadsBodies (old new : Reader) : Type 0 where
   pub dialect : new.dialect ≡ old.dialect
   pub read : AreRead old → AreRead new
 
--- a body with these parts is one that was read of the lexemes
-abbrev pub MayBeRead : Reader → List BodyPart → Type 0
-MayBeRead reader parts =
-    (body : Alternative) → body.parts.items ≡ parts
+-- a body of a rule with these parts is one that was read of the lexemes
+abbrev pub MayBeRead : Reader → Lexeme → List BodyPart → Type 0
+MayBeRead reader rule parts =
+    (body : Alternative) → body.rule ≡ rule → body.parts.items ≡ parts
     → IsReadFrom reader.lexemes.now reader.dialect body

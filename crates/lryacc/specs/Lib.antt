@@ -16,6 +16,8 @@ pub mod KeptProductions
 pub mod Headers
 -- what the grammar of a file comes from
 pub mod FilesRead
+-- what stands around bodies
+pub mod Delimiters
 -- bodies among lexemes
 pub mod Bodies
 -- the lexemes of a text

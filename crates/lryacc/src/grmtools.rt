@@ -122,15 +122,21 @@ impl<'a> Reader<'a> {
     pub(crate) fn grmtools_rule(&mut self) -> Result<(), Halt>
         ensures { ReadsBodies self.old self.new }
     {
-        let Some(name) = self.here() else {
-            return Ok(());
-        };
-        self.pass();
+        let name = self.want(LexemeKind::RuleName, Wanted::Rule)?;
         let _ = self.skip(LexemeKind::RuleType);
         let colon = self.want(LexemeKind::Colon, Wanted::Colon)?;
         self.state(Statement::LeftSide(name))?;
         self.alternatives(name, colon)?;
         self.want_unless_broken(LexemeKind::Semicolon, Wanted::Semicolon)
+    }
+
+    /// Stops behind a name, and perhaps a type, behind which no colon stands.
+    pub(crate) fn name_without_colon(&mut self) -> Result<(), Halt>
+        ensures { IsSameFile self.old self.new }
+    {
+        self.pass();
+        let _ = self.skip(LexemeKind::RuleType);
+        Err(self.wants(Wanted::Colon))
     }
 
     /// Reads a symbol or an action of a body; false where the body ends before the lexeme. A name in quotes is a token.

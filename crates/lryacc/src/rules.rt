@@ -1,8 +1,8 @@
 //! Rules, and the file as a whole.
 
-ghost use Rattle.std.specs.Prelude.{◌≡◌, ◌<◌, true, [], ◌∷◌, ◌++◌, IfOk, IfSome, IsSome, MatchBool, OnErr, OnOk, slice_get, vec_len};
-ghost use Rattle.lryacc.specs.Bodies.{AddsBody, EndsBody, GoesOn, IsBehindMark, IsSameFile, Passes, ReadsBehind, MayBeRead};
-ghost use Rattle.lryacc.specs.Bodies.{ReadsBodies, ReadsBody, ReadsOn, Stays, TakesAnySymbol, is_action, is_symbol};
+ghost use Rattle.std.specs.Prelude.{◌≡◌, ◌<◌, true, [], ◌∷◌, ◌++◌, IfOk, IsSome, MatchBool, MatchOption, OnErr, OnOk, slice_get, vec_len};
+ghost use Rattle.lryacc.specs.Bodies.{AddsBody, BeginsBody, EndsBody, GoesOn, IsSameFile, MayBeRead, Passes, PassesNoDelimiter};
+ghost use Rattle.lryacc.specs.Bodies.{ReadsBehind, ReadsBodies, ReadsBody, ReadsOn, Stays, TakesAnySymbol, TakesBar, is_action, is_symbol};
 
 use crate::contents::{Alternative, BodyPart, Statement};
 use crate::dialects::Dialect;
@@ -260,7 +260,8 @@ impl<'a> Reader<'a> {
                 self.pass();
                 Ok(())
             }
-            (Dialect::Grmtools, LexemeKind::RuleName | LexemeKind::Name) => self.grmtools_rule(),
+            (Dialect::Grmtools, LexemeKind::RuleName) => self.grmtools_rule(),
+            (Dialect::Grmtools, LexemeKind::Name) => self.name_without_colon(),
             _ => {
                 let halt = self.wants(Wanted::Rule);
                 self.pass();
@@ -296,7 +297,7 @@ impl<'a> Reader<'a> {
 
     /// Reads the bodies of a rule, the first of which begins behind a colon.
     pub(crate) fn alternatives(&mut self, rule: Lexeme, colon: Lexeme) -> Result<(), Halt>
-        requires { IsBehindMark self.old.lexemes.now self.old.at }
+        requires { BeginsBody self.old rule }
         ensures { ReadsBodies self.old self.new }
     {
         let mut mark = colon;
@@ -310,21 +311,22 @@ impl<'a> Reader<'a> {
         Ok(())
     }
 
-    /// Takes the `|` behind a body. For Bison, `;` may stand before it.
+    /// Takes the `|` behind a body.
     fn bar(&mut self) -> Option<Lexeme>
-        ensures file { IsSameFile self.old self.new }
-        ensures behind { IfSome result (λ bar. IsBehindMark self.new.lexemes.now self.new.at) }
+        ensures { MatchOption result (PassesNoDelimiter self.old self.new)
+            (TakesBar self.old self.new) }
     {
-        if self.dialect == Dialect::Bison {
-            self.pass_semicolons();
-        }
+        self.pass_semicolons();
         self.take(LexemeKind::Bar)
     }
 
-    /// Passes over `;`.
+    /// Passes over `;`, which for Bison may stand before a `|`.
     fn pass_semicolons(&mut self)
-        ensures { IsSameFile self.old self.new }
+        ensures { PassesNoDelimiter self.old self.new }
     {
+        if self.dialect != Dialect::Bison {
+            return;
+        }
         for _ in 0..self.lexemes.len() {
             if !self.skip(LexemeKind::Semicolon) {
                 break;
@@ -334,7 +336,7 @@ impl<'a> Reader<'a> {
 
     /// Reads a body, which begins behind a mark.
     fn alternative(&mut self, rule: Lexeme, mark: Lexeme) -> Result<(), Halt>
-        requires { IsBehindMark self.old.lexemes.now self.old.at }
+        requires { BeginsBody self.old rule }
         ensures added { OnOk result (AddsBody self.old self.new rule) }
         ensures read { ReadsBodies self.old self.new }
     {
@@ -564,7 +566,7 @@ impl<'a> Reader<'a> {
     /// Adds the body to the contents.
     fn end_body(&mut self, rule: Lexeme, mark: Lexeme, body: Body) -> Result<(), AllocError>
         ensures ended { OnOk result (EndsBody self.old self.new rule body.parts.items) }
-        ensures read { MayBeRead self.old body.parts.items → ReadsBodies self.old self.new }
+        ensures read { MayBeRead self.old rule body.parts.items → ReadsBodies self.old self.new }
     {
         let misplaced = body.misplaced_empty();
         self.add_alternative(body.alternative(rule, mark))?;

@@ -1,8 +1,9 @@
-use Rattle.std.proofs.Common.{List, [], ◌∷◌, ◌++◌, refl, ap, ◌∙◌}
+use Rattle.std.proofs.Common.{List, [], ◌∷◌, ◌++◌, refl, ap, sym, subst, arith, ◌∙◌}
 use Rattle.lryacc.specs.declared.contents.Alternative.{Alternative}
-use Rattle.lryacc.specs.Bodies.{IsBody}
+use Rattle.lryacc.specs.declared.lexemes.Lexeme.{Lexeme}
+use Rattle.lryacc.specs.Bodies.{IsBody, IsRuleBefore}
 use Rattle.lryacc.specs.Bodies.IsBody.{begins}
-use Rattle.lryacc.proofs.BodiesRead.{IsBody-same, may_be_read, reads_again, reads_same}
+use Rattle.lryacc.proofs.BodiesRead.{IsBody-same, alternative-count, body_counts, may_be_read, reads_again, reads_same}
 use Rattle.lryacc.proofs.reader.Reader.alternative.Goals as goal
 
 pub returns-clause-added : goal.returns-clause-added
@@ -13,14 +14,18 @@ returns-clause-added c =
     let lexemes = old.lexemes.now in
     let first : IsBody lexemes old.at old.at c.new-body.result.parts.items =
     IsBody-same lexemes old.at old.at old.at [] c.new-body.result.parts.items refl c.new-body.ensures begins in
+    let counts = body_counts lexemes old.at c.parts.new.self.at c.parts.new.body.parts.items (read.parts old.at first) in
     record {
       lexemes = added.lexemes ∙ c.parts.ensures.file.lexemes;
+      on = omega (arith, counts.0, added.at);
+      count = alternative-count old c.parts.new.self c.end_body.new.self c.parts.ensures.file.lexemes added.lexemes added.at counts.1;
       dialect = added.dialect ∙ c.parts.ensures.file.dialect;
       body = added.body;
       rule_is = added.rule_is;
       read = record {
         from = old.at;
-        behind = c.requires;
+        behind = c.requires.behind;
+        rule = subst (λ (name : Lexeme). IsRuleBefore lexemes old.at name) (sym added.rule_is) c.requires.rule_is;
         to = c.parts.new.self.at;
         parts = IsBody-same lexemes old.at c.parts.new.self.at c.parts.new.self.at c.parts.new.body.parts.items added.body.parts.items refl added.parts_are (read.parts old.at first);
         ends = read.ends;
@@ -34,9 +39,9 @@ returns-clause-added c =
 pub returns-clause-read : goal.returns-clause-read
 returns-clause-read c =
     reads_again (reads_same c.parts.ensures.file)
-    (c.end_body.ensures.read (may_be_read _ _ c.parts.ensures.file c.in_ok-parts.ensures.read c.new-body.ensures c.requires))
+    (c.end_body.ensures.read (may_be_read _ _ c.args.rule c.parts.ensures.file c.in_ok-parts.ensures.read c.new-body.ensures c.requires))
 
 pub returns-in_err-end_body-clause-read : goal.returns-in_err-end_body-clause-read
 returns-in_err-end_body-clause-read c =
     reads_again (reads_same c.parts.ensures.file)
-    (c.end_body.ensures.read (may_be_read _ _ c.parts.ensures.file c.in_ok-parts.ensures.read c.new-body.ensures c.requires))
+    (c.end_body.ensures.read (may_be_read _ _ c.args.rule c.parts.ensures.file c.in_ok-parts.ensures.read c.new-body.ensures c.requires))

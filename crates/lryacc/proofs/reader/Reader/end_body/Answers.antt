@@ -7,6 +7,7 @@ returns-in_ok-tell-clause-ended c =
     record {
       lexemes = told.file.lexemes ∙ c.add_alternative.ensures.lexemes;
       dialect = told.file.dialect ∙ c.add_alternative.ensures.dialect;
+      at = told.at ∙ c.add_alternative.ensures.at;
       body = c.alternative.result;
       rule_is = c.alternative.ensures.rule;
       parts_are = c.alternative.ensures.parts;
