@@ -1,6 +1,6 @@
 -- a body goes on
 use Rattle.std.proofs.Common.{◌≡◌, ℕ, ◌+◌, ◌≤◌, arith, Bool, true, false, List, [], ◌∷◌, ◌++◌, Option, None, Some, Result, Ok, Err, IfOk, refl, ap, sym, ◌∙◌, subst}
-use Rattle.std.specs.Prelude.{IfSome, MatchBool, MatchOption, slice_get}
+use Rattle.std.specs.Prelude.{MatchBool, MatchOption, slice_get}
 use Rattle.std.specs.Option.{option_map}
 use Rattle.lryacc.specs.declared.contents.BodyPart.{BodyPart}
 use Rattle.lryacc.specs.declared.contents.BodyPart.TheVariants as part
@@ -12,7 +12,7 @@ use Rattle.lryacc.specs.declared.lexemes.LexemeKind.{LexemeKind}
 use Rattle.lryacc.specs.declared.lexemes.LexemeKind.TheVariants as kind
 use Rattle.lryacc.specs.declared.reader.Reader.{Reader}
 use Rattle.lryacc.specs.declared.rules.Body.{Body}
-use Rattle.lryacc.specs.Bodies.{AddsBody, BeginsBody, IsBody, IsReadFrom, IsRuleBefore, IsSameFile, MayBeRead, Passes, PassesNoDelimiter, ReadsBody, ReadsBodies, ReadsBehind, ReadsOn, SkipsKind, Stays, GoesOn, TakesAnySymbol, TakesBar, TakesKind, is_action, is_aside, is_mark, is_part, is_rule_name, is_symbol}
+use Rattle.lryacc.specs.Bodies.{AddsBody, BeginsBody, IsBody, IsRuleBefore, IsSameFile, Passes, PassesNoDelimiter, ReadsBehind, ReadsOn, SkipsKind, Stays, GoesOn, TakesAnySymbol, TakesBar, TakesKind, is_action, is_aside, is_mark, is_part, is_rule_name, is_symbol}
 use Rattle.lryacc.specs.Bodies.IsBody.{begins, symbol, action, aside, named}
 use Rattle.lryacc.specs.Delimiters.{delimiter_at, delimiter_of, delimiters_before}
 use Rattle.lryacc.proofs.DelimitersPassed.{count-next, rule_behind, rule_named, rule_over}
@@ -50,6 +50,7 @@ IsSameFile-again one other = record {
   lexemes = other.lexemes ∙ one.lexemes;
   dialect = other.dialect ∙ one.dialect;
   bodies = other.bodies ∙ one.bodies;
+  faults = omega (arith, one.faults, other.faults);
 }
 
 -- the body goes on, and the reader goes over one more lexeme, which is none of its parts
@@ -157,43 +158,10 @@ GoesOn-equals old new body lexeme (Ok false) bison here is stays = record {
 }
 GoesOn-equals old new body lexeme (Err halt) bison here is none = tt
 
--- no body is added
-pub reads_same : {old new : Reader} → IsSameFile old new → ReadsBodies old new
-reads_same {old} {new} same = record {
-  lexemes = same.lexemes;
-  dialect = same.dialect;
-  read = λ are_read.
-      rw (same.lexemes, same.dialect, same.bodies) are_read;
-}
-
--- bodies are added, and then others
-pub reads_again : {old now new : Reader} → ReadsBodies old now → ReadsBodies now new → ReadsBodies old new
-reads_again one other = record {
-  lexemes = other.lexemes ∙ one.lexemes;
-  dialect = other.dialect ∙ one.dialect;
-  read = λ are_read. other.read (one.read are_read);
-}
-
 -- what is passed over or not, the file is the same
 pub skips_same : {old new : Reader} (k : LexemeKind) (is : Bool) → MatchBool is (SkipsKind old new k) (Stays old new) → IsSameFile old new
 skips_same k true skips = skips.passes.file
 skips_same k false stays = stays.file
-
--- a body was read whose rule and parts are these
-pub may_be_read : {old now : Reader} (before after : Body) (rule : Lexeme) → IsSameFile old now → ReadsBody old now before after → before.parts.items ≡ [] → BeginsBody old rule → MayBeRead now rule after.parts.items
-may_be_read {old} {now} before after rule same read first begins_here = λ body of is.
-    let lexemes = old.lexemes.now in
-    let nothing : IsBody lexemes old.at old.at before.parts.items =
-    IsBody-same lexemes old.at old.at old.at [] before.parts.items refl first begins in
-    let here : IsReadFrom lexemes old.dialect body = record {
-      from = old.at;
-      behind = begins_here.behind;
-      rule = subst (λ (name : Lexeme). IsRuleBefore lexemes old.at name) (sym of) begins_here.rule_is;
-      to = now.at;
-      parts = IsBody-same lexemes old.at now.at now.at after.parts.items body.parts.items refl is (read.parts old.at nothing);
-      ends = read.ends;
-    } in
-    rw (same.lexemes, same.dialect) here
 
 -- a body has no delimiter
 no_delimiter_kind : (k : LexemeKind) → is_symbol k ≡ true → delimiter_of k ≡ 0

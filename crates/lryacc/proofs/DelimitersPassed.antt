@@ -1,14 +1,12 @@
 -- delimiters that a reader goes over
-use Rattle.std.proofs.Common.{◌≡◌, ℕ, zero, suc, ◌+◌, ◌-◌, ◌<◌, ◌≤◌, ◌⊎◌, inl, inr, arith, add-one, Bool, true, false, List, Option, None, Some, refl, ap, sym, ◌∙◌, subst}
-use Rattle.std.specs.Prelude.{IfSome, MatchOption, slice_get}
-use Rattle.std.specs.Option.{option_map}
+use Rattle.std.proofs.Common.{◌≡◌, ℕ, zero, suc, ◌+◌, ◌-◌, ◌<◌, ◌≤◌, inl, inr, arith, add-one, true, false, List, Option, None, Some, refl, subst}
+use Rattle.std.specs.Prelude.{IfSome, slice_get}
 use Rattle.std.proofs.lemmas.Bool.{cases_lt}
 use Rattle.lryacc.specs.declared.lexemes.Lexeme.{Lexeme}
 use Rattle.lryacc.specs.declared.lexemes.LexemeKind.{LexemeKind}
 use Rattle.lryacc.specs.declared.lexemes.LexemeKind.TheVariants as kind
-use Rattle.lryacc.specs.declared.reader.Reader.{Reader}
-use Rattle.lryacc.specs.Bodies.{IsRuleBefore, PassesNoDelimiter, Stays, TakesKind, is_action, is_aside, is_mark, is_rule_name, is_symbol}
-use Rattle.lryacc.specs.Delimiters.{delimiter_at, delimiter_of, delimiters_before, is_delimiter}
+use Rattle.lryacc.specs.Bodies.{IsRuleBefore, is_rule_name}
+use Rattle.lryacc.specs.Delimiters.{delimiter_at, delimiter_of, delimiters_before}
 
 -- with one more lexeme
 pub count-next : (lexemes : List Lexeme) (at : ℕ) → delimiters_before lexemes (at + 1) ≡ delimiters_before lexemes at + delimiter_at (slice_get lexemes at)
@@ -24,7 +22,7 @@ unfolding delimiters_before
 count-none lexemes = refl
 
 -- with more lexemes there are no fewer
-count-more : (lexemes : List Lexeme) (from more : ℕ) → delimiters_before lexemes from ≤ delimiters_before lexemes (from + more)
+pub count-more : (lexemes : List Lexeme) (from more : ℕ) → delimiters_before lexemes from ≤ delimiters_before lexemes (from + more)
 count-more lexemes from zero = let e : from + 0 ≡ from = omega arith in rw e (omega arith)
 count-more lexemes from (suc more) =
     let e : from + suc more ≡ from + more + 1 = omega arith in

@@ -1,6 +1,6 @@
--- productions that are added, faults by their places, lists out of which elements were taken, what stays of a grammar, bodies
--- that are read, names of rules among lexemes, lexemes that are found one after another, and
--- gaps that are read byte by byte
+-- productions that are added, faults by their places, lists out of which elements were taken, what stays of a grammar,
+-- delimiters that are passed, bodies that are read, and all of them, names of rules among lexemes, lexemes that are found one
+-- after another, and gaps that are read byte by byte
 pub mod AddedProductions
 pub mod MapsOfFaults
 pub mod Sublists
@@ -8,6 +8,7 @@ pub mod PlacedLemmas
 pub mod KeptLemmas
 pub mod DelimitersPassed
 pub mod BodiesRead
+pub mod AllBodiesRead
 pub mod RuleNames
 pub mod Scanning
 pub mod GapsByBytes

@@ -1,11 +1,13 @@
 -- the bodies of a file, as they stand among its lexemes
-use Rattle.std.specs.Prelude.{◌≡◌, ℕ, ◌+◌, ◌<◌, ◌≤◌, All, Bool, true, false, List, [], ◌∷◌, ◌++◌, Option, Some, IfSome, slice_get}
+use Rattle.std.specs.Prelude.{◌≡◌, ℕ, ◌+◌, ◌<◌, ◌≤◌, Bool, true, false, List, [], ◌∷◌, ◌++◌, Option, Some, IfSome, slice_get, vec_len}
 use Rattle.std.specs.Option.{option_map}
 use Rattle.lryacc.specs.declared.contents.Alternative.{Alternative}
 use Rattle.lryacc.specs.declared.contents.BodyPart.{BodyPart}
 use Rattle.lryacc.specs.declared.contents.BodyPart.TheVariants as part
 use Rattle.lryacc.specs.declared.dialects.Dialect.{Dialect}
 use Rattle.lryacc.specs.declared.dialects.Dialect.TheVariants.{Bison, Grmtools}
+use Rattle.lryacc.specs.declared.faults.Halt.{Halt}
+use Rattle.lryacc.specs.declared.faults.Halt.TheVariants as halt
 use Rattle.lryacc.specs.declared.lexemes.Lexeme.{Lexeme}
 use Rattle.lryacc.specs.declared.lexemes.LexemeKind.{LexemeKind}
 use Rattle.lryacc.specs.declared.lexemes.LexemeKind.TheVariants as kind
@@ -72,11 +74,21 @@ pub data IsBody (lexemes : List Lexeme) (from : ℕ) : ℕ → List BodyPart →
       → slice_get lexemes (at + 1) ≡ Some lexeme → is_symbol lexeme.kind ≡ true
       → IsBody lexemes from (at + 1 + 1) parts
 
--- the file is the same, and so are the bodies that were read of it
+-- the file is the same, and so are the bodies that were read of it; faults that were told stay so
 pub record IsSameFile (old new : Reader) : Type 0 where
   pub lexemes : new.lexemes.now ≡ old.lexemes.now
   pub dialect : new.dialect ≡ old.dialect
   pub bodies : new.contents.alternatives.items ≡ old.contents.alternatives.items
+  pub faults : vec_len old.contents.faults ≤ vec_len new.contents.faults
+
+-- where reading stops for a fault, one was told
+abbrev pub IsTold : Halt → Reader → Type 0
+IsTold halt.Fault reader = 0 < vec_len reader.contents.faults
+IsTold halt.Memory reader = Unit {0}
+
+-- no fault was told
+abbrev pub IsWhole : Reader → Type 0
+IsWhole reader = vec_len reader.contents.faults ≡ 0
 
 -- how many delimiters a reader has gone over
 abbrev pub delimiters_read : Reader → ℕ
@@ -198,13 +210,11 @@ pub record TakesBar (old new : Reader) (bar : Lexeme) : Type 0 where
   pub over : PassesNoDelimiter old before
   pub taken : TakesKind before new kind.Bar bar
 
--- a body that was read: its rule is the one whose name stands last before it, and its parts are the symbols and the actions among
--- lexemes that follow one another, from right behind a `:` or a `|` up to the end of the file, or up to one with which no body of
--- the dialect goes on
-pub record IsReadFrom (lexemes : List Lexeme) (dialect : Dialect) (body : Alternative)
+-- a body that was read from a place on: its rule is the one whose name stands last before that, and its parts are the symbols
+-- and the actions among the lexemes that follow one another up to the end of the file, or up to one with which no body of the
+-- dialect goes on
+pub record IsReadFrom (lexemes : List Lexeme) (dialect : Dialect) (from : ℕ) (body : Alternative)
     : Type 0 where
-  pub from : ℕ
-  pub behind : IsBehindMark lexemes from
   pub rule : IsRuleBefore lexemes from body.rule
   pub to : ℕ
   pub parts : IsBody lexemes from to body.parts.items
@@ -220,7 +230,7 @@ pub record EndsBody (old new : Reader) (rule : Lexeme) (parts : List BodyPart) :
   pub parts_are : body.parts.items ≡ parts
   pub bodies : new.contents.alternatives.items ≡ old.contents.alternatives.items ++ body ∷ []
 
--- a body of a rule is read here, and added to what was read
+-- a body of a rule is read here, and added to what was read; the reader goes over no delimiter
 pub record AddsBody (old new : Reader) (rule : Lexeme) : Type 0 where
   pub lexemes : new.lexemes.now ≡ old.lexemes.now
   pub dialect : new.dialect ≡ old.dialect
@@ -228,23 +238,5 @@ pub record AddsBody (old new : Reader) (rule : Lexeme) : Type 0 where
   pub count : delimiters_read new ≡ delimiters_read old
   pub body : Alternative
   pub rule_is : body.rule ≡ rule
-  pub read : IsReadFrom old.lexemes.now old.dialect body
-  pub here : read.from ≡ old.at
+  pub read : IsReadFrom old.lexemes.now old.dialect old.at body
   pub bodies : new.contents.alternatives.items ≡ old.contents.alternatives.items ++ body ∷ []
-
--- all bodies that the reader has were read of its lexemes
-abbrev pub AreRead : Reader → Type 0
-AreRead reader =
-    All (IsReadFrom reader.lexemes.now reader.dialect) reader.contents.alternatives.items
-
--- the file is the same, and bodies that are added were read of it
-pub record ReadsBodies (old new : Reader) : Type 0 where
-  pub lexemes : new.lexemes.now ≡ old.lexemes.now
-  pub dialect : new.dialect ≡ old.dialect
-  pub read : AreRead old → AreRead new
-
--- a body of a rule with these parts is one that was read of the lexemes
-abbrev pub MayBeRead : Reader → Lexeme → List BodyPart → Type 0
-MayBeRead reader rule parts =
-    (body : Alternative) → body.rule ≡ rule → body.parts.items ≡ parts
-    → IsReadFrom reader.lexemes.now reader.dialect body

@@ -1,5 +1,5 @@
 -- what the grammar of a file comes from
-use Rattle.std.specs.Prelude.{◌≡◌, ℕ, ◌<◌, ◌⊎◌, All, List, [], length}
+use Rattle.std.specs.Prelude.{◌≡◌, ℕ, ◌<◌, ◌⊎◌, List, [], length}
 use Rattle.lryacc.specs.declared.contents.Alternative.{Alternative}
 use Rattle.lryacc.specs.declared.dialects.Dialect.{Dialect}
 use Rattle.lryacc.specs.declared.dialects.Dialect.TheVariants.{Bison}
@@ -9,10 +9,10 @@ use Rattle.lryacc.specs.declared.file.FileRead.TheVariants.{Grammar, Faults}
 use Rattle.lryacc.specs.declared.lexemes.Lexeme.{Lexeme}
 use Rattle.lryacc.specs.declared.numbering.FileGrammar.{FileGrammar}
 use Rattle.lryacc.specs.declared.useful.Useless.{Useless}
-use Rattle.lryacc.specs.Bodies.{IsReadFrom}
+use Rattle.lryacc.specs.AllBodies.{AreAllBodies}
+use Rattle.lryacc.specs.AllLexemes.{AreAllLexemesOf}
 use Rattle.lryacc.specs.Headers.{HoldsHeader}
 use Rattle.lryacc.specs.KeptProductions.{IsWithout}
-use Rattle.lryacc.specs.Lexemes.{AreLexemesOf}
 use Rattle.lryacc.specs.ProductionPlaces.{file_places}
 
 -- a grammar has the bodies of a file, of which there is at least one: it is one with a production for each start rule and each
@@ -38,17 +38,22 @@ HasBodies dialect bodies (Grammar file expected warnings) =
     (starts : List Lexeme) × IsGrammarOf dialect starts bodies file warnings.items
 HasBodies dialect bodies (Faults faults) = Unit {0}
 
--- bodies that were all read of the lexemes of a text
+-- the bodies of a text: all that stand among all its lexemes
 pub record AreBodiesRead (text : List ℕ) (dialect : Dialect) (bodies : List Alternative)
     : Type 0 where
   pub lexemes : List Lexeme
-  pub of_text : AreLexemesOf text dialect lexemes
-  pub each : All (IsReadFrom lexemes dialect) bodies
+  pub of_text : AreAllLexemesOf text dialect lexemes
+  pub all : AreAllBodies lexemes dialect bodies
+
+-- if a text comes to a grammar, these are its bodies
+abbrev pub AreBodiesOf : List ℕ → Dialect → List Alternative → FileRead → Type 0
+AreBodiesOf text dialect bodies (Grammar file expected warnings) = AreBodiesRead text dialect bodies
+AreBodiesOf text dialect bodies (Faults faults) = Unit {0}
 
 -- what a text comes to that is taken for one of a dialect: it is read as one, or as one of grmtools where it says so
 pub record ComesTo (text : List ℕ) (taken : Dialect) (read : FileRead) : Type 0 where
   pub dialect : Dialect
   pub is : (dialect ≡ taken) ⊎ HoldsHeader text
   pub bodies : List Alternative
-  pub are_read : AreBodiesRead text dialect bodies
+  pub are_read : AreBodiesOf text dialect bodies read
   pub has : HasBodies dialect bodies read

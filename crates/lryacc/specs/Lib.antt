@@ -20,6 +20,8 @@ pub mod FilesRead
 pub mod Delimiters
 -- bodies among lexemes
 pub mod Bodies
+-- all bodies of a file
+pub mod AllBodies
 -- the lexemes of a text
 pub mod Lexemes
 -- bytes of one class

@@ -1,6 +1,7 @@
 //! Declarations.
 
-ghost use Rattle.lryacc.specs.Bodies.{IsSameFile};
+ghost use Rattle.std.specs.Prelude.{IfErr};
+ghost use Rattle.lryacc.specs.Bodies.{IsTold, PassesNoDelimiter};
 
 use crate::contents::{LevelKind, Statement};
 use crate::directives::{Form, form_of, is_name_in_any_case};
@@ -77,7 +78,8 @@ impl Listing {
 impl<'a> Reader<'a> {
     /// Reads a declaration of a file for Bison.
     pub(crate) fn bison_declaration(&mut self) -> Result<(), Halt>
-        ensures { IsSameFile self.old self.new }
+        ensures over { PassesNoDelimiter self.old self.new }
+        ensures told { IfErr result (λ halt. IsTold halt self.new) }
     {
         let Some(directive) = self.take(LexemeKind::Directive) else {
             return Err(self.wants(Wanted::Declaration));
@@ -111,7 +113,8 @@ impl<'a> Reader<'a> {
 
     /// Reads how many conflicts are expected.
     pub(crate) fn expected(&mut self, is_of_shifts: bool) -> Result<(), Halt>
-        ensures { IsSameFile self.old self.new }
+        ensures over { PassesNoDelimiter self.old self.new }
+        ensures told { IfErr result (λ halt. IsTold halt self.new) }
     {
         let number = self.want(LexemeKind::Number, Wanted::Number)?;
         self.state(if is_of_shifts {
@@ -124,7 +127,8 @@ impl<'a> Reader<'a> {
 
     /// Reads what stands behind a directive that says nothing of the grammar.
     fn passed_over(&mut self, form: Form, directive: Lexeme) -> Result<(), Halt>
-        ensures { IsSameFile self.old self.new }
+        ensures over { PassesNoDelimiter self.old self.new }
+        ensures told { IfErr result (λ halt. IsTold halt self.new) }
     {
         match form {
             Form::CodeForSymbols => self.code_for_symbols(),
@@ -153,7 +157,8 @@ impl<'a> Reader<'a> {
 
     /// Reads symbols, at least one, some of them perhaps behind tags.
     fn listing(&mut self, said: Said) -> Result<(), Halt>
-        ensures { IsSameFile self.old self.new }
+        ensures over { PassesNoDelimiter self.old self.new }
+        ensures told { IfErr result (λ halt. IsTold halt self.new) }
     {
         let mut listing = Listing::new();
         for _ in 0..self.lexemes.len() {
@@ -174,7 +179,7 @@ impl<'a> Reader<'a> {
 
     /// Takes a symbol of which that may be said: a text is not declared by itself.
     fn take_listed(&mut self, said: Said) -> Option<Lexeme>
-        ensures { IsSameFile self.old self.new }
+        ensures { PassesNoDelimiter self.old self.new }
     {
         match (said, self.kind()) {
             (Said::DeclaredToken | Said::DeclaredRule, Some(LexemeKind::Text)) => None,
@@ -184,7 +189,7 @@ impl<'a> Reader<'a> {
 
     /// Takes a tag, which is for the symbols behind it; false where none stands here, or another one stands right before it.
     fn take_tag(&mut self, listing: &mut Listing) -> bool
-        ensures { IsSameFile self.old self.new }
+        ensures { PassesNoDelimiter self.old self.new }
     {
         if listing.wants_symbol && listing.tag.is_some() {
             return false;
@@ -199,7 +204,7 @@ impl<'a> Reader<'a> {
 
     /// Takes in that a symbol stands in a listing.
     fn listed(&mut self, symbol: Lexeme, listing: &mut Listing) -> Result<(), AllocError>
-        ensures { IsSameFile self.old self.new }
+        ensures { PassesNoDelimiter self.old self.new }
     {
         listing.wants_symbol = false;
         match listing.tag {
@@ -210,7 +215,8 @@ impl<'a> Reader<'a> {
 
     /// Reads symbols, at least one.
     pub(crate) fn said(&mut self, said: Said) -> Result<(), Halt>
-        ensures { IsSameFile self.old self.new }
+        ensures over { PassesNoDelimiter self.old self.new }
+        ensures told { IfErr result (λ halt. IsTold halt self.new) }
     {
         let first = self.want_symbol()?;
         self.say(said, first)?;
@@ -225,7 +231,7 @@ impl<'a> Reader<'a> {
 
     /// Adds what is said of a symbol, and what stands behind it.
     fn say(&mut self, said: Said, symbol: Lexeme) -> Result<(), AllocError>
-        ensures { IsSameFile self.old self.new }
+        ensures { PassesNoDelimiter self.old self.new }
     {
         self.state(match said {
             Said::DeclaredToken | Said::Token | Said::PassedOver => Statement::Token(symbol),
@@ -244,7 +250,7 @@ impl<'a> Reader<'a> {
 
     /// Reads the number of a symbol, if one stands here.
     fn code(&mut self, symbol: Lexeme) -> Result<(), AllocError>
-        ensures { IsSameFile self.old self.new }
+        ensures { PassesNoDelimiter self.old self.new }
     {
         match self.take(LexemeKind::Number) {
             Some(number) => self.state(Statement::Code(symbol, number)),
@@ -254,7 +260,7 @@ impl<'a> Reader<'a> {
 
     /// Reads the number of a symbol and the text that is another name of it, where they stand here.
     fn code_and_alias(&mut self, symbol: Lexeme) -> Result<(), AllocError>
-        ensures { IsSameFile self.old self.new }
+        ensures { PassesNoDelimiter self.old self.new }
     {
         self.code(symbol)?;
         let alias = match self.take(LexemeKind::Text) {
@@ -269,7 +275,8 @@ impl<'a> Reader<'a> {
 
     /// Reads the tokens of a precedence line.
     fn level(&mut self, kind: LevelKind, directive: Lexeme) -> Result<(), Halt>
-        ensures { IsSameFile self.old self.new }
+        ensures over { PassesNoDelimiter self.old self.new }
+        ensures told { IfErr result (λ halt. IsTold halt self.new) }
     {
         self.state(Statement::Level(kind, directive))?;
         self.listing(Said::Operator)
@@ -277,7 +284,8 @@ impl<'a> Reader<'a> {
 
     /// Reads the code behind `%printer` or `%destructor`, and the symbols and tags behind that.
     fn code_for_symbols(&mut self) -> Result<(), Halt>
-        ensures { IsSameFile self.old self.new }
+        ensures over { PassesNoDelimiter self.old self.new }
+        ensures told { IfErr result (λ halt. IsTold halt self.new) }
     {
         self.pass_wanted(LexemeKind::Action, Wanted::Code)?;
         let mut is_first = true;
@@ -299,7 +307,8 @@ impl<'a> Reader<'a> {
 
     /// Reads one piece of code, and so many at the most.
     fn codes(&mut self, most: usize) -> Result<(), Halt>
-        ensures { IsSameFile self.old self.new }
+        ensures over { PassesNoDelimiter self.old self.new }
+        ensures told { IfErr result (λ halt. IsTold halt self.new) }
     {
         self.pass_wanted(LexemeKind::Action, Wanted::Code)?;
         for _ in 1..most {
@@ -312,12 +321,13 @@ impl<'a> Reader<'a> {
 
     /// Reads the name behind `%define`, and its value.
     fn defined(&mut self) -> Result<(), Halt>
-        ensures { IsSameFile self.old self.new }
+        ensures over { PassesNoDelimiter self.old self.new }
+        ensures told { IfErr result (λ halt. IsTold halt self.new) }
     {
         self.pass_wanted(LexemeKind::Name, Wanted::Name)?;
-        if let Some(LexemeKind::Name | LexemeKind::Text | LexemeKind::Action) = self.kind() {
-            self.pass();
-        }
+        let _ = self.skip(LexemeKind::Name)
+            || self.skip(LexemeKind::Text)
+            || self.skip(LexemeKind::Action);
         Ok(())
     }
 }

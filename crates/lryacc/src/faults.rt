@@ -1,5 +1,8 @@
 //! Why a file is no grammar.
 
+ghost use Rattle.std.specs.Prelude.{◌≡◌, MatchResult};
+ghost use Rattle.lryacc.specs.declared.faults.Halt.TheVariants.{Memory};
+
 use crate::places::Span;
 use std::alloc::AllocError;
 use std::fmt;
@@ -171,7 +174,9 @@ pub(crate) enum Halt {
 
 impl Halt {
     /// Why reading stops behind a fault that was to be told.
-    pub(crate) fn behind(told: Result<(), AllocError>) -> Halt {
+    pub(crate) fn behind(told: Result<(), AllocError>) -> Halt
+        ensures { MatchResult told (λ _. result ≡ Halt.Fault) (λ _. result ≡ Halt.Memory) }
+    {
         match told {
             Ok(()) => Halt::Fault,
             Err(_) => Halt::Memory,
@@ -180,6 +185,8 @@ impl Halt {
 }
 
 impl From<AllocError> for Halt {
+    ghost from_gives = { λ _ halt. halt ≡ Memory };
+
     fn from(_refused: AllocError) -> Halt {
         Halt::Memory
     }

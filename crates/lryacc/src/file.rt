@@ -30,8 +30,8 @@ pub enum FileRead {
 fn contents(alloc: Global, text: &[u8], dialect: Dialect) -> Result<Contents, AllocError>
     ensures some { IfOk result (λ contents. vec_len contents.faults ≡ 0
         → 0 < vec_len contents.alternatives) }
-    ensures read { IfOk result (λ contents.
-        AreBodiesRead text.now dialect contents.alternatives.items) }
+    ensures read { IfOk result (λ contents. vec_len contents.faults ≡ 0
+        → AreBodiesRead text.now dialect contents.alternatives.items) }
 {
     let Scanned { lexemes, faults } = scan(alloc, text, dialect)?;
     let mut reader = Reader::new(alloc, text, dialect, lexemes.as_slice(), faults);

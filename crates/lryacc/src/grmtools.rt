@@ -1,7 +1,9 @@
 //! Declarations and rules of a file of grmtools.
 
-ghost use Rattle.std.specs.Prelude.{◌≡◌, ◌<◌, true, IfOk, OnOk, slice_get};
-ghost use Rattle.lryacc.specs.Bodies.{GoesOn, IsSameFile, ReadsBodies, ReadsOn, is_action, is_symbol};
+ghost use Rattle.std.specs.Prelude.{◌≡◌, ◌<◌, ◌≤◌, true, IfErr, IfOk, OnOk, slice_get, vec_len};
+ghost use Rattle.lryacc.specs.AllBodies.{ReadsBodies};
+ghost use Rattle.lryacc.specs.Bodies.{GoesOn, IsSameFile, IsTold, PassesNoDelimiter, ReadsOn, is_action, is_symbol};
+ghost use Rattle.lryacc.specs.Delimiters.{delimiter_of};
 
 use crate::contents::{BodyPart, LevelKind, Statement};
 use crate::declarations::Said;
@@ -15,11 +17,12 @@ use crate::rules::Body;
 impl<'a> Reader<'a> {
     /// Passes over the section `%grmtools{ .. }`, which holds settings.
     pub(crate) fn header(&mut self) -> Result<(), Halt>
-        ensures { IsSameFile self.old self.new }
+        ensures over { PassesNoDelimiter self.old self.new }
+        ensures told { IfErr result (λ halt. IsTold halt self.new) }
     {
         if let Some(first) = self.here() {
-            if self.bytes(first) == b"%grmtools".as_slice() {
-                self.pass();
+            let is_header = self.bytes(first) == b"%grmtools".as_slice();
+            if is_header && self.skip(LexemeKind::Directive) {
                 return self.want_unless_broken(LexemeKind::Action, Wanted::Code);
             }
         }
@@ -29,7 +32,9 @@ impl<'a> Reader<'a> {
     /// Takes the next lexeme, which is to be of that kind, or to be missing at the end of a file that has faults already: one of
     /// them may be that code never ends.
     fn want_unless_broken(&mut self, kind: LexemeKind, wanted: Wanted) -> Result<(), Halt>
-        ensures { IsSameFile self.old self.new }
+        requires { delimiter_of kind ≡ 0 }
+        ensures over { PassesNoDelimiter self.old self.new }
+        ensures told { IfErr result (λ halt. IsTold halt self.new) }
     {
         if self.here().is_some() || self.is_whole() {
             self.pass_wanted(kind, wanted)
@@ -40,7 +45,9 @@ impl<'a> Reader<'a> {
 
     /// Reads a declaration.
     pub(crate) fn grmtools_declaration(&mut self) -> Result<(), Halt>
-        ensures { IsSameFile self.old self.new }
+        ensures file { IsSameFile self.old self.new }
+        ensures told { IfErr result (λ halt. IsTold halt self.new) }
+        ensures over { OnOk result (PassesNoDelimiter self.old self.new) }
     {
         let Some(directive) = self.take(LexemeKind::Directive) else {
             let halt = self.wants(Wanted::Declaration);
@@ -62,7 +69,8 @@ impl<'a> Reader<'a> {
 
     /// Reads the tokens of a precedence line.
     fn grmtools_level(&mut self, kind: LevelKind, directive: Lexeme) -> Result<(), Halt>
-        ensures { IsSameFile self.old self.new }
+        ensures over { PassesNoDelimiter self.old self.new }
+        ensures told { IfErr result (λ halt. IsTold halt self.new) }
     {
         self.state(Statement::Level(kind, directive))?;
         self.said(Said::InLevel)
@@ -70,15 +78,15 @@ impl<'a> Reader<'a> {
 
     /// Reads the token behind `%epp`, and the text by which messages tell it.
     fn shown_text(&mut self) -> Result<(), Halt>
-        ensures { IsSameFile self.old self.new }
+        ensures over { PassesNoDelimiter self.old self.new }
+        ensures told { IfErr result (λ halt. IsTold halt self.new) }
     {
         let token = self.want_symbol()?;
         self.state(Statement::Mention(token))?;
-        match self.kind() {
-            Some(LexemeKind::QuotedName | LexemeKind::QuotedText) => self.pass(),
-            _ => return Err(self.wants(Wanted::Quoted)),
+        if self.skip(LexemeKind::QuotedName) || self.skip(LexemeKind::QuotedText) {
+            return Ok(());
         }
-        Ok(())
+        Err(self.wants(Wanted::Quoted))
     }
 
     /// Whether the same directive stands before.
@@ -97,7 +105,8 @@ impl<'a> Reader<'a> {
 
     /// Reads what stands behind a directive that may stand in a file once.
     fn once(&mut self, directive: Lexeme, form: Form) -> Result<(), Halt>
-        ensures { IsSameFile self.old self.new }
+        ensures over { PassesNoDelimiter self.old self.new }
+        ensures told { IfErr result (λ halt. IsTold halt self.new) }
     {
         if self.is_second(directive) {
             return Err(self.fault(FaultKind::SecondDirective, directive.span));
@@ -111,7 +120,8 @@ impl<'a> Reader<'a> {
 
     /// Reads the start rule.
     fn start(&mut self) -> Result<(), Halt>
-        ensures { IsSameFile self.old self.new }
+        ensures over { PassesNoDelimiter self.old self.new }
+        ensures told { IfErr result (λ halt. IsTold halt self.new) }
     {
         let name = self.want(LexemeKind::Name, Wanted::Name)?;
         self.state(Statement::Start(name))?;
@@ -120,7 +130,9 @@ impl<'a> Reader<'a> {
 
     /// Reads a rule: its name, perhaps its type, and its bodies up to `;`.
     pub(crate) fn grmtools_rule(&mut self) -> Result<(), Halt>
-        ensures { ReadsBodies self.old self.new }
+        ensures faults { vec_len self.old.contents.faults ≤ vec_len self.new.contents.faults }
+        ensures told { IfErr result (λ halt. IsTold halt self.new) }
+        ensures read { OnOk result (ReadsBodies 1 self.old self.new) }
     {
         let name = self.want(LexemeKind::RuleName, Wanted::Rule)?;
         let _ = self.skip(LexemeKind::RuleType);
@@ -132,7 +144,9 @@ impl<'a> Reader<'a> {
 
     /// Stops behind a name, and perhaps a type, behind which no colon stands.
     pub(crate) fn name_without_colon(&mut self) -> Result<(), Halt>
-        ensures { IsSameFile self.old self.new }
+        ensures file { IsSameFile self.old self.new }
+        ensures told { IfErr result (λ halt. IsTold halt self.new) }
+        ensures stops { OnOk result ⊥ }
     {
         self.pass();
         let _ = self.skip(LexemeKind::RuleType);
@@ -145,6 +159,7 @@ impl<'a> Reader<'a> {
         requires small { self.old.at < usize.MAX }
         requires dialect { self.old.dialect ≡ Dialect.Grmtools }
         ensures file { IsSameFile self.old self.new }
+        ensures told { IfErr result (λ halt. IsTold halt self.new) }
         ensures read { IfOk result (GoesOn self.old self.new body.old body.new lexeme) }
     {
         match lexeme.kind {
@@ -171,6 +186,7 @@ impl<'a> Reader<'a> {
         requires small { self.old.at < usize.MAX }
         requires is { is_symbol lexeme.kind ≡ true }
         ensures file { IsSameFile self.old self.new }
+        ensures told { IfErr result (λ halt. IsTold halt self.new) }
         ensures read { OnOk result (ReadsOn self.old self.new body.old body.new) }
     {
         body.add(BodyPart::Symbol(lexeme), lexeme)?;
@@ -184,6 +200,7 @@ impl<'a> Reader<'a> {
         requires small { self.old.at < usize.MAX }
         requires is { is_action lexeme.kind ≡ true }
         ensures file { IsSameFile self.old self.new }
+        ensures told { IfErr result (λ halt. IsTold halt self.new) }
         ensures read { OnOk result (ReadsOn self.old self.new body.old body.new) }
     {
         body.add(BodyPart::Action(lexeme, None), lexeme)?;

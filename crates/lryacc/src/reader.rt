@@ -1,8 +1,8 @@
 //! A place among the lexemes of a file, and what was read so far.
 
-ghost use Rattle.std.specs.Prelude.{◌≡◌, ◌<◌, ◌==◌, [], IfOk, IfSome, MatchOption, MatchBool, OnOk, slice_get, vec_len};
+ghost use Rattle.std.specs.Prelude.{◌≡◌, ◌<◌, ◌==◌, [], IfErr, IfOk, IfSome, MatchOption, MatchBool, OnErr, OnOk, slice_get, vec_len};
 ghost use Rattle.std.specs.Option.{option_map};
-ghost use Rattle.lryacc.specs.Bodies.{IsSameFile, Passes, SkipsKind, Stays, TakesKind, TakesSymbol};
+ghost use Rattle.lryacc.specs.Bodies.{IsSameFile, IsTold, Passes, SkipsKind, Stays, TakesKind, TakesSymbol};
 
 use crate::contents::{Contents, Statement};
 use crate::dialects::Dialect;
@@ -32,7 +32,9 @@ impl<'a> Reader<'a> {
     ) -> Reader<'a>
         ensures lexemes { result.lexemes.now ≡ lexemes.now }
         ensures dialect { result.dialect ≡ dialect }
+        ensures begins { result.at ≡ 0 }
         ensures none { result.contents.alternatives.items ≡ [] }
+        ensures faults { result.contents.faults ≡ faults }
     {
         Reader {
             text,
@@ -117,7 +119,8 @@ impl<'a> Reader<'a> {
     /// Takes the next lexeme, which is to be of that kind.
     pub(crate) fn want(&mut self, kind: LexemeKind, wanted: Wanted) -> Result<Lexeme, Halt>
         ensures taken { IfOk result (TakesKind self.old self.new kind) }
-        ensures file { IsSameFile self.old self.new }
+        ensures stays { OnErr result (Stays self.old self.new) }
+        ensures told { IfErr result (λ halt. IsTold halt self.new) }
     {
         match self.take(kind) {
             Some(lexeme) => Ok(lexeme),
@@ -128,7 +131,8 @@ impl<'a> Reader<'a> {
     /// Passes over the next lexeme, which is to be of that kind.
     pub(crate) fn pass_wanted(&mut self, kind: LexemeKind, wanted: Wanted) -> Result<(), Halt>
         ensures taken { OnOk result (SkipsKind self.old self.new kind) }
-        ensures file { IsSameFile self.old self.new }
+        ensures stays { OnErr result (Stays self.old self.new) }
+        ensures told { IfErr result (λ halt. IsTold halt self.new) }
     {
         if self.skip(kind) {
             Ok(())
@@ -139,7 +143,8 @@ impl<'a> Reader<'a> {
 
     /// Tells that something else should stand here.
     pub(crate) fn tell_wanted(&mut self, wanted: Wanted) -> Result<(), AllocError>
-        ensures { Stays self.old self.new }
+        ensures told { OnOk result (0 < vec_len self.new.contents.faults) }
+        ensures stays { Stays self.old self.new }
     {
         let end = self.text.len();
         let span = match self.here() {
@@ -151,14 +156,16 @@ impl<'a> Reader<'a> {
 
     /// Stops, since something else should stand here, which is told.
     pub(crate) fn wants(&mut self, wanted: Wanted) -> Halt
-        ensures { Stays self.old self.new }
+        ensures told { IsTold result self.new }
+        ensures stays { Stays self.old self.new }
     {
         Halt::behind(self.tell_wanted(wanted))
     }
 
     /// Stops for a fault, which is told.
     pub(crate) fn fault(&mut self, kind: FaultKind, span: Span) -> Halt
-        ensures { Stays self.old self.new }
+        ensures told { IsTold result self.new }
+        ensures stays { Stays self.old self.new }
     {
         Halt::behind(self.tell(kind, span))
     }
@@ -186,7 +193,8 @@ impl<'a> Reader<'a> {
     /// Takes a symbol, which is to stand here.
     pub(crate) fn want_symbol(&mut self) -> Result<Lexeme, Halt>
         ensures taken { IfOk result (TakesSymbol self.old self.new) }
-        ensures file { IsSameFile self.old self.new }
+        ensures stays { OnErr result (Stays self.old self.new) }
+        ensures told { IfErr result (λ halt. IsTold halt self.new) }
     {
         match self.take_symbol() {
             Some(lexeme) => Ok(lexeme),

@@ -1,8 +1,10 @@
 //! Rules, and the file as a whole.
 
-ghost use Rattle.std.specs.Prelude.{◌≡◌, ◌<◌, true, [], ◌∷◌, ◌++◌, IfOk, IsSome, MatchBool, MatchOption, OnErr, OnOk, slice_get, vec_len};
-ghost use Rattle.lryacc.specs.Bodies.{AddsBody, BeginsBody, EndsBody, GoesOn, IsSameFile, MayBeRead, Passes, PassesNoDelimiter};
-ghost use Rattle.lryacc.specs.Bodies.{ReadsBehind, ReadsBodies, ReadsBody, ReadsOn, Stays, TakesAnySymbol, TakesBar, is_action, is_symbol};
+ghost use Rattle.std.specs.Prelude.{◌≡◌, ◌<◌, ◌≤◌, true, [], ◌∷◌, ◌++◌, IfErr, IfOk, IfSome, IsSome, MatchBool, MatchOption, OnOk, slice_get, vec_len};
+ghost use Rattle.lryacc.specs.AllBodies.{AreAllBodies, ReachesRules, ReadsAll, ReadsAlternatives, ReadsBodies, Settles, TakesSeparator};
+ghost use Rattle.lryacc.specs.AllLexemes.{is_separator};
+ghost use Rattle.lryacc.specs.Bodies.{AddsBody, BeginsBody, EndsBody, GoesOn, IsSameFile, IsTold, IsWhole, Passes, PassesNoDelimiter};
+ghost use Rattle.lryacc.specs.Bodies.{ReadsBehind, ReadsBody, ReadsOn, Stays, TakesAnySymbol, TakesBar, is_action, is_symbol};
 
 use crate::contents::{Alternative, BodyPart, Statement};
 use crate::dialects::Dialect;
@@ -120,9 +122,14 @@ impl Body {
 impl<'a> Reader<'a> {
     /// Reads the whole file. Where it has no body, that is a fault.
     pub(crate) fn file(&mut self) -> Result<(), AllocError>
+        requires begins { self.old.at ≡ 0 }
+        requires none { self.old.contents.alternatives.items ≡ [] }
         ensures some { OnOk result (vec_len self.new.contents.faults ≡ 0
             → 0 < vec_len self.new.contents.alternatives) }
-        ensures read { ReadsBodies self.old self.new }
+        ensures faults { vec_len self.old.contents.faults ≤ vec_len self.new.contents.faults }
+        ensures read { OnOk result (IsWhole self.new
+            → AreAllBodies self.old.lexemes.now self.old.dialect
+            self.new.contents.alternatives.items) }
     {
         self.pass_header()?;
         self.declarations()?;
@@ -132,13 +139,14 @@ impl<'a> Reader<'a> {
 
     /// Passes over the header that a file of grmtools may have.
     fn pass_header(&mut self) -> Result<(), AllocError>
-        ensures { IsSameFile self.old self.new }
+        ensures file { IsSameFile self.old self.new }
+        ensures over { OnOk result (IsWhole self.new → PassesNoDelimiter self.old self.new) }
     {
-        if self.dialect == Dialect::Grmtools {
-            let read = self.header();
-            self.settle(read)?;
+        if self.dialect != Dialect::Grmtools {
+            return Ok(());
         }
-        Ok(())
+        let read = self.header();
+        self.settle(read)
     }
 
     /// Tells that the file has no body, where nothing else is wrong with it.
@@ -156,28 +164,75 @@ impl<'a> Reader<'a> {
 
     /// Reads declarations up to the first `%%`.
     fn declarations(&mut self) -> Result<(), AllocError>
-        ensures { IsSameFile self.old self.new }
+        ensures file { IsSameFile self.old self.new }
+        ensures reached { OnOk result (IsWhole self.new → ReachesRules self.old self.new) }
+    {
+        self.each_declaration()?;
+        if self.separator()? {
+            return Ok(());
+        }
+        self.tell_unless_broken(Wanted::Declaration)
+    }
+
+    /// Reads declarations up to a `%%` or the end.
+    fn each_declaration(&mut self) -> Result<(), AllocError>
+        ensures file { IsSameFile self.old self.new }
+        ensures over { OnOk result (IsWhole self.new → PassesNoDelimiter self.old self.new) }
     {
         for _ in 0..self.lexemes.len() {
-            match self.kind() {
-                None | Some(LexemeKind::Separator) => break,
-                Some(LexemeKind::Prologue | LexemeKind::DirectiveLine) => self.pass(),
-                Some(LexemeKind::Semicolon) if self.dialect == Dialect::Bison => self.pass(),
-                Some(_) => {
-                    let read = self.declaration();
-                    self.settle(read)?;
-                }
+            if self.is_at_end() {
+                return Ok(());
             }
-        }
-        if !self.separator()? && self.is_whole() {
-            self.tell_wanted(Wanted::Declaration)?;
+            self.declaration_or_gap()?;
         }
         Ok(())
     }
 
+    /// Reads a declaration, or passes over what stands between two.
+    fn declaration_or_gap(&mut self) -> Result<(), AllocError>
+        ensures file { IsSameFile self.old self.new }
+        ensures over { OnOk result (IsWhole self.new → PassesNoDelimiter self.old self.new) }
+    {
+        if self.pass_between() {
+            return Ok(());
+        }
+        let read = self.declaration();
+        self.settle(read)
+    }
+
+    /// Tells that something else should stand here, unless something is wrong already.
+    fn tell_unless_broken(&mut self, wanted: Wanted) -> Result<(), AllocError>
+        ensures told { OnOk result (0 < vec_len self.new.contents.faults) }
+        ensures stays { Stays self.old self.new }
+    {
+        if !self.is_whole() {
+            return Ok(());
+        }
+        self.tell_wanted(wanted)
+    }
+
+    /// Whether a `%%` stands here, or nothing.
+    fn is_at_end(&self) -> bool
+        ensures { result ≡ true → IfSome (slice_get self.now.lexemes.now self.now.at) (λ lexeme.
+            is_separator lexeme.kind ≡ true) }
+    {
+        matches!(self.kind(), None | Some(LexemeKind::Separator))
+    }
+
+    /// Passes over what may stand between declarations; false where it doesn't stand here.
+    fn pass_between(&mut self) -> bool
+        ensures { MatchBool result (PassesNoDelimiter self.old self.new) (Stays self.old self.new) }
+    {
+        self.skip(LexemeKind::Prologue)
+            || self.skip(LexemeKind::DirectiveLine)
+            || (self.dialect == Dialect::Bison && self.skip(LexemeKind::Semicolon))
+    }
+
     /// Reads a declaration.
     fn declaration(&mut self) -> Result<(), Halt>
-        ensures { IsSameFile self.old self.new }
+        ensures file { IsSameFile self.old self.new }
+        ensures told { IfErr result (λ halt. IsTold halt self.new) }
+        ensures over { OnOk result (PassesNoDelimiter self.old self.new) }
     {
         match self.dialect {
             Dialect::Bison => self.bison_declaration(),
@@ -187,7 +242,9 @@ impl<'a> Reader<'a> {
 
     /// Takes `%%`, and tells of the old form of it; false where it doesn't stand here.
     fn separator(&mut self) -> Result<bool, AllocError>
-        ensures { IsSameFile self.old self.new }
+        ensures file { IsSameFile self.old self.new }
+        ensures taken { IfOk result (λ is. MatchBool is
+            (TakesSeparator self.old self.new) (Stays self.old self.new)) }
     {
         let Some(mark) = self.take(LexemeKind::Separator) else {
             return Ok(false);
@@ -200,7 +257,8 @@ impl<'a> Reader<'a> {
 
     /// Goes on behind a fault that stopped reading.
     fn settle(&mut self, read: Result<(), Halt>) -> Result<(), AllocError>
-        ensures { IsSameFile self.old self.new }
+        ensures file { IsSameFile self.old self.new }
+        ensures settled { OnOk result (Settles read self.old self.new) }
     {
         match read {
             Ok(()) => Ok(()),
@@ -229,50 +287,77 @@ impl<'a> Reader<'a> {
         }
     }
 
-    /// Reads rules, and for Bison declarations among them, up to the second `%%` or the end.
+    /// Reads rules up to behind the second `%%`, or up to the end.
     fn rules(&mut self) -> Result<(), AllocError>
-        ensures { ReadsBodies self.old self.new }
+        ensures faults { vec_len self.old.contents.faults ≤ vec_len self.new.contents.faults }
+        ensures read { OnOk result (IsWhole self.new → ReadsAll self.old self.new) }
     {
-        let mut is_first = true;
-        for _ in 0..self.lexemes.len() {
-            let read = match self.kind() {
-                None | Some(LexemeKind::Separator) => break,
-                Some(kind) => self.rule_from(kind),
-            };
-            self.settle(read)?;
-            is_first = false;
-        }
-        if is_first && self.is_whole() && self.dialect == Dialect::Bison {
-            self.tell_wanted(Wanted::Rule)?;
-        }
+        self.tell_missing_rule()?;
+        self.each_rule()?;
         let _ = self.separator()?;
         Ok(())
     }
 
-    /// Reads the rule that begins with a lexeme of that kind, or what else may stand among rules.
-    fn rule_from(&mut self, kind: LexemeKind) -> Result<(), Halt>
-        ensures { ReadsBodies self.old self.new }
+    /// Tells that a file for Bison has no rule, unless something is wrong already.
+    fn tell_missing_rule(&mut self) -> Result<(), AllocError>
+        ensures { Stays self.old self.new }
     {
-        match (self.dialect, kind) {
-            (Dialect::Bison, LexemeKind::RuleName) => self.rule(),
-            (Dialect::Bison, LexemeKind::Directive) => self.declaration_among_rules(),
-            (Dialect::Bison, LexemeKind::Semicolon) if !self.is_whole() => {
-                self.pass();
-                Ok(())
-            }
-            (Dialect::Grmtools, LexemeKind::RuleName) => self.grmtools_rule(),
-            (Dialect::Grmtools, LexemeKind::Name) => self.name_without_colon(),
-            _ => {
-                let halt = self.wants(Wanted::Rule);
-                self.pass();
-                Err(halt)
-            }
+        if self.is_at_end() && self.dialect == Dialect::Bison {
+            return self.tell_unless_broken(Wanted::Rule);
         }
+        Ok(())
+    }
+
+    /// Reads rules, and for Bison declarations among them, up to a `%%` or the end.
+    fn each_rule(&mut self) -> Result<(), AllocError>
+        ensures faults { vec_len self.old.contents.faults ≤ vec_len self.new.contents.faults }
+        ensures read { OnOk result (IsWhole self.new → ReadsAll self.old self.new) }
+    {
+        for _turn in 0..self.lexemes.len() {
+            if self.is_at_end() {
+                return Ok(());
+            }
+            let read = self.rule_here();
+            self.settle(read)?;
+        }
+        Ok(())
+    }
+
+    /// Reads the rule that begins here, or what else may stand among rules.
+    fn rule_here(&mut self) -> Result<(), Halt>
+        ensures faults { vec_len self.old.contents.faults ≤ vec_len self.new.contents.faults }
+        ensures told { IfErr result (λ halt. IsTold halt self.new) }
+        ensures read { OnOk result (ReadsBodies 1 self.old self.new) }
+    {
+        match (self.dialect, self.kind()) {
+            (Dialect::Bison, Some(LexemeKind::RuleName)) => self.rule(),
+            (Dialect::Bison, Some(LexemeKind::Directive)) => self.declaration_among_rules(),
+            (Dialect::Bison, Some(LexemeKind::Semicolon)) if !self.is_whole() => {
+                self.pass_wanted(LexemeKind::Semicolon, Wanted::Rule)
+            }
+            (Dialect::Grmtools, Some(LexemeKind::RuleName)) => self.grmtools_rule(),
+            (Dialect::Grmtools, Some(LexemeKind::Name)) => self.name_without_colon(),
+            _ => self.no_rule(),
+        }
+    }
+
+    /// Stops behind a lexeme with which no rule begins.
+    fn no_rule(&mut self) -> Result<(), Halt>
+        ensures faults { vec_len self.old.contents.faults ≤ vec_len self.new.contents.faults }
+        ensures told { IfErr result (λ halt. IsTold halt self.new) }
+        ensures stops { OnOk result ⊥ }
+    {
+        let halt = self.wants(Wanted::Rule);
+        self.pass();
+        Err(halt)
     }
 
     /// Reads a declaration, and the `;` that ends it among rules.
     fn declaration_among_rules(&mut self) -> Result<(), Halt>
-        ensures { IsSameFile self.old self.new }
+        ensures file { IsSameFile self.old self.new }
+        ensures told { IfErr result (λ halt. IsTold halt self.new) }
+        ensures over { OnOk result (PassesNoDelimiter self.old self.new) }
+        ensures on { OnOk result (self.old.at < self.new.at) }
     {
         if let Some(directive) = self.here() {
             if matches!(self.form(directive), Some(form) if is_before_rules(form)) {
@@ -286,7 +371,9 @@ impl<'a> Reader<'a> {
 
     /// Reads a rule.
     fn rule(&mut self) -> Result<(), Halt>
-        ensures { ReadsBodies self.old self.new }
+        ensures faults { vec_len self.old.contents.faults ≤ vec_len self.new.contents.faults }
+        ensures told { IfErr result (λ halt. IsTold halt self.new) }
+        ensures read { OnOk result (ReadsBodies 1 self.old self.new) }
     {
         let name = self.want(LexemeKind::RuleName, Wanted::Rule)?;
         self.state(Statement::LeftSide(name))?;
@@ -298,14 +385,16 @@ impl<'a> Reader<'a> {
     /// Reads the bodies of a rule, the first of which begins behind a colon.
     pub(crate) fn alternatives(&mut self, rule: Lexeme, colon: Lexeme) -> Result<(), Halt>
         requires { BeginsBody self.old rule }
-        ensures { ReadsBodies self.old self.new }
+        ensures faults { vec_len self.old.contents.faults ≤ vec_len self.new.contents.faults }
+        ensures told { IfErr result (λ halt. IsTold halt self.new) }
+        ensures read { OnOk result (ReadsAlternatives self.old self.new) }
     {
         let mut mark = colon;
-        for _ in 0..self.lexemes.len() {
+        for _turn in 0..self.lexemes.len() {
             self.alternative(rule, mark)?;
             match self.bar() {
                 Some(bar) => mark = bar,
-                None => break,
+                None => return Ok(()),
             }
         }
         Ok(())
@@ -337,8 +426,9 @@ impl<'a> Reader<'a> {
     /// Reads a body, which begins behind a mark.
     fn alternative(&mut self, rule: Lexeme, mark: Lexeme) -> Result<(), Halt>
         requires { BeginsBody self.old rule }
+        ensures faults { vec_len self.old.contents.faults ≤ vec_len self.new.contents.faults }
+        ensures told { IfErr result (λ halt. IsTold halt self.new) }
         ensures added { OnOk result (AddsBody self.old self.new rule) }
-        ensures read { ReadsBodies self.old self.new }
     {
         let mut body = Body::new(self.allocator());
         self.parts(&mut body)?;
@@ -349,6 +439,7 @@ impl<'a> Reader<'a> {
     /// Reads the parts and directives of a body.
     fn parts(&mut self, body: &mut Body) -> Result<(), Halt>
         ensures file { IsSameFile self.old self.new }
+        ensures told { IfErr result (λ halt. IsTold halt self.new) }
         ensures read { OnOk result (ReadsBody self.old self.new body.old body.new) }
     {
         while let Some(lexeme) = self.here() {
@@ -364,6 +455,7 @@ impl<'a> Reader<'a> {
         requires here { slice_get self.old.lexemes.now self.old.at ≡ Some lexeme }
         requires small { self.old.at < usize.MAX }
         ensures file { IsSameFile self.old self.new }
+        ensures told { IfErr result (λ halt. IsTold halt self.new) }
         ensures read { IfOk result (GoesOn self.old self.new body.old body.new lexeme) }
     {
         match self.form_in_body(lexeme) {
@@ -386,6 +478,7 @@ impl<'a> Reader<'a> {
         requires small { self.old.at < usize.MAX }
         requires is { directive.kind ≡ LexemeKind.Directive }
         ensures file { IsSameFile self.old self.new }
+        ensures told { IfErr result (λ halt. IsTold halt self.new) }
         ensures read { OnOk result (ReadsOn self.old self.new body.old body.new) }
     {
         self.pass();
@@ -412,6 +505,7 @@ impl<'a> Reader<'a> {
         requires here { slice_get self.old.lexemes.now self.old.at ≡ Some lexeme }
         requires small { self.old.at < usize.MAX }
         ensures file { IsSameFile self.old self.new }
+        ensures told { IfErr result (λ halt. IsTold halt self.new) }
         ensures read { IfOk result (GoesOn self.old self.new body.old body.new lexeme) }
     {
         match self.dialect {
@@ -426,6 +520,7 @@ impl<'a> Reader<'a> {
         requires small { self.old.at < usize.MAX }
         requires dialect { self.old.dialect ≡ Dialect.Bison }
         ensures file { IsSameFile self.old self.new }
+        ensures told { IfErr result (λ halt. IsTold halt self.new) }
         ensures read { IfOk result (GoesOn self.old self.new body.old body.new lexeme) }
     {
         match lexeme.kind {
@@ -452,6 +547,7 @@ impl<'a> Reader<'a> {
         requires small { self.old.at < usize.MAX }
         requires is { is_symbol lexeme.kind ≡ true }
         ensures file { IsSameFile self.old self.new }
+        ensures told { IfErr result (λ halt. IsTold halt self.new) }
         ensures read { OnOk result (ReadsOn self.old self.new body.old body.new) }
     {
         body.add(BodyPart::Symbol(lexeme), lexeme)?;
@@ -466,6 +562,7 @@ impl<'a> Reader<'a> {
         requires small { self.old.at < usize.MAX }
         requires is { is_action lexeme.kind ≡ true }
         ensures file { IsSameFile self.old self.new }
+        ensures told { IfErr result (λ halt. IsTold halt self.new) }
         ensures read { OnOk result (ReadsOn self.old self.new body.old body.new) }
     {
         self.pass();
@@ -478,6 +575,7 @@ impl<'a> Reader<'a> {
     fn tag_of_action(&mut self) -> Result<(), Halt>
         requires { self.old.at < usize.MAX }
         ensures file { IsSameFile self.old self.new }
+        ensures told { IfErr result (λ halt. IsTold halt self.new) }
         ensures passes { OnOk result (Passes self.old self.new) }
     {
         self.pass();
@@ -491,6 +589,7 @@ impl<'a> Reader<'a> {
     fn old_equals(&mut self, equals: Lexeme) -> Result<bool, Halt>
         requires { self.old.at < usize.MAX }
         ensures file { IsSameFile self.old self.new }
+        ensures told { IfErr result (λ halt. IsTold halt self.new) }
         ensures passes { IfOk result (λ goes_on. MatchBool goes_on
             (Passes self.old self.new) (Stays self.old self.new)) }
     {
@@ -506,6 +605,7 @@ impl<'a> Reader<'a> {
     /// Reads what stands behind a directive of a body.
     fn body_directive(&mut self, body: &mut Body, form: Form, directive: Lexeme) -> Result<(), Halt>
         ensures file { IsSameFile self.old self.new }
+        ensures told { IfErr result (λ halt. IsTold halt self.new) }
         ensures parts { OnOk result (body.new.parts.items ≡ body.old.parts.items) }
         ensures read { OnOk result (ReadsBehind self.old self.new) }
     {
@@ -541,6 +641,7 @@ impl<'a> Reader<'a> {
     /// Reads the token behind `%prec`.
     fn body_precedence(&mut self, body: &mut Body) -> Result<(), Halt>
         ensures file { IsSameFile self.old self.new }
+        ensures told { IfErr result (λ halt. IsTold halt self.new) }
         ensures parts { OnOk result (body.new.parts.items ≡ body.old.parts.items) }
         ensures taken { OnOk result (TakesAnySymbol self.old self.new) }
     {
@@ -554,7 +655,8 @@ impl<'a> Reader<'a> {
 
     /// Stops at a lexeme of which a body has one at most, unless it is the first one.
     fn only(&mut self, is_first: bool, lexeme: Lexeme) -> Result<(), Halt>
-        ensures { Stays self.old self.new }
+        ensures stays { Stays self.old self.new }
+        ensures told { IfErr result (λ halt. IsTold halt self.new) }
     {
         if is_first {
             Ok(())
@@ -565,8 +667,8 @@ impl<'a> Reader<'a> {
 
     /// Adds the body to the contents.
     fn end_body(&mut self, rule: Lexeme, mark: Lexeme, body: Body) -> Result<(), AllocError>
+        ensures faults { vec_len self.old.contents.faults ≤ vec_len self.new.contents.faults }
         ensures ended { OnOk result (EndsBody self.old self.new rule body.parts.items) }
-        ensures read { MayBeRead self.old rule body.parts.items → ReadsBodies self.old self.new }
     {
         let misplaced = body.misplaced_empty();
         self.add_alternative(body.alternative(rule, mark))?;
@@ -580,8 +682,7 @@ impl<'a> Reader<'a> {
     fn add_alternative(&mut self, alternative: Alternative) -> Result<(), AllocError>
         ensures added { OnOk result (self.new.contents.alternatives.items
             ≡ self.old.contents.alternatives.items ++ alternative ∷ []) }
-        ensures full { OnErr result (self.new.contents.alternatives.items
-            ≡ self.old.contents.alternatives.items) }
+        ensures faults { self.new.contents.faults ≡ self.old.contents.faults }
         ensures lexemes { self.new.lexemes.now ≡ self.old.lexemes.now }
         ensures dialect { self.new.dialect ≡ self.old.dialect }
         ensures at { self.new.at ≡ self.old.at }

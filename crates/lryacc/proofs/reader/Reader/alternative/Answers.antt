@@ -3,7 +3,7 @@ use Rattle.lryacc.specs.declared.contents.Alternative.{Alternative}
 use Rattle.lryacc.specs.declared.lexemes.Lexeme.{Lexeme}
 use Rattle.lryacc.specs.Bodies.{IsBody, IsRuleBefore}
 use Rattle.lryacc.specs.Bodies.IsBody.{begins}
-use Rattle.lryacc.proofs.BodiesRead.{IsBody-same, alternative-count, body_counts, may_be_read, reads_again, reads_same}
+use Rattle.lryacc.proofs.BodiesRead.{IsBody-same, alternative-count, body_counts}
 use Rattle.lryacc.proofs.reader.Reader.alternative.Goals as goal
 
 pub returns-clause-added : goal.returns-clause-added
@@ -23,25 +23,12 @@ returns-clause-added c =
       body = added.body;
       rule_is = added.rule_is;
       read = record {
-        from = old.at;
-        behind = c.requires.behind;
         rule = subst (λ (name : Lexeme). IsRuleBefore lexemes old.at name) (sym added.rule_is) c.requires.rule_is;
         to = c.parts.new.self.at;
         parts = IsBody-same lexemes old.at c.parts.new.self.at c.parts.new.self.at c.parts.new.body.parts.items added.body.parts.items refl added.parts_are (read.parts old.at first);
         ends = read.ends;
       };
-      here = refl;
       bodies =
           added.bodies
           ∙ ap (λ (xs : List Alternative). xs ++ added.body ∷ []) c.parts.ensures.file.bodies;
     }
-
-pub returns-clause-read : goal.returns-clause-read
-returns-clause-read c =
-    reads_again (reads_same c.parts.ensures.file)
-    (c.end_body.ensures.read (may_be_read _ _ c.args.rule c.parts.ensures.file c.in_ok-parts.ensures.read c.new-body.ensures c.requires))
-
-pub returns-in_err-end_body-clause-read : goal.returns-in_err-end_body-clause-read
-returns-in_err-end_body-clause-read c =
-    reads_again (reads_same c.parts.ensures.file)
-    (c.end_body.ensures.read (may_be_read _ _ c.args.rule c.parts.ensures.file c.in_ok-parts.ensures.read c.new-body.ensures c.requires))

@@ -1,12 +1,41 @@
-use Rattle.lryacc.proofs.BodiesRead.{bar_same, begins_next, reads_again, reads_same}
+use Rattle.std.proofs.Common.{length, ap, arith, ◌∙◌}
+use Rattle.lryacc.proofs.AllBodiesRead.{bar_file, bar_on, begins_inside, reads_bar, reads_body, reads_over}
+use Rattle.lryacc.proofs.BodiesRead.{begins_next}
 use Rattle.lryacc.proofs.reader.Reader.alternatives.Goals as goal
 
-pub loop-preserved : goal.loop-preserved
-loop-preserved c = record {
-  read = reads_again (reads_again c.loop.invariant.read c.alternative.ensures.read) (reads_same (bar_same c.bar.result c.bar.ensures));
-  begins = begins_next _ _ c.loop.invariant.begins c.in_ok-alternative.ensures.added c.in-Some.ensures;
-}
+pub loop-turn-preserved : goal.loop-turn-preserved
+loop-turn-preserved c =
+    let so_far = c.loop-turn.invariant in
+    let added = c.in_ok-alternative.ensures.added in
+    let taken = c.in-Some.ensures in
+    let file = bar_file c.alternative.new.self c.bar.new.self c.in-Some.bar taken in
+    record {
+      lexemes = file.lexemes ∙ (added.lexemes ∙ so_far.lexemes);
+      dialect = file.dialect ∙ (added.dialect ∙ so_far.dialect);
+      faults = omega (arith, so_far.faults, c.alternative.ensures.faults, file.faults);
+      on = omega (arith, so_far.on, added.on, bar_on c.alternative.new.self c.bar.new.self c.in-Some.bar taken);
+      begins = begins_next c.args.rule c.in-Some.bar so_far.begins added taken;
+      read = λ read.
+          reads_bar c.alternative.new.self c.bar.new.self c.in-Some.bar taken
+          (reads_body c.loop-turn.self c.alternative.new.self c.args.rule so_far.begins added (so_far.read read));
+    }
 
-pub returns-in-None : goal.returns-in-None
-returns-in-None c =
-    reads_again (reads_again c.loop.invariant.read c.alternative.ensures.read) (reads_same (bar_same c.bar.result c.bar.ensures))
+pub returns-in-None-clause-read : goal.returns-in-None-clause-read
+returns-in-None-clause-read c =
+    let so_far = c.loop-turn.invariant in
+    let added = c.in_ok-alternative.ensures.added in
+    let over = c.in-None.ensures in
+    record {
+      lexemes = over.file.lexemes ∙ (added.lexemes ∙ so_far.lexemes);
+      dialect = over.file.dialect ∙ (added.dialect ∙ so_far.dialect);
+      on = omega (arith, so_far.on, added.on, over.on);
+      read = λ read.
+          reads_over c.alternative.new.self c.bar.new.self over
+          (reads_body c.loop-turn.self c.alternative.new.self c.args.rule so_far.begins added (so_far.read read));
+    }
+
+pub returns-clause-read : goal.returns-clause-read
+returns-clause-read c =
+    let so_far = c.loop-turn.invariant in
+    absurd
+    (omega (arith, begins_inside c.loop-turn.self c.args.rule so_far.begins, so_far.on, c.loop-turn-test.false, c.requires.behind.next, ap (λ xs. length xs) so_far.lexemes))

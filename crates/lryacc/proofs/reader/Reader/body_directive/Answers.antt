@@ -4,22 +4,18 @@ use Rattle.lryacc.proofs.BodiesRead.{ReadsBehind-skips, ReadsBehind-stays, Reads
 use Rattle.lryacc.proofs.reader.Reader.body_directive.Goals as goal
 
 pub returns-in_ok-only-in-Empty-clause-read : goal.returns-in_ok-only-in-Empty-clause-read
-returns-in_ok-only-in-Empty-clause-read c = ReadsBehind-stays c.only.ensures
+returns-in_ok-only-in-Empty-clause-read c = ReadsBehind-stays c.only.ensures.stays
 
 pub returns-in_ok-body_precedence-in-Precedence-clause-read : goal.returns-in_ok-body_precedence-in-Precedence-clause-read
 returns-in_ok-body_precedence-in-Precedence-clause-read c = ReadsBehind-symbol c.in_ok-body_precedence-in-Precedence.ensures.taken
 
 pub returns-in_ok-only-in-BodyTag-clause-read : goal.returns-in_ok-only-in-BodyTag-clause-read
 returns-in_ok-only-in-BodyTag-clause-read c =
-    ReadsBehind-takes kind.Tag c.in_ok-tag-in-BodyTag.ensures.taken c.only-in-BodyTag.ensures refl
+    ReadsBehind-takes kind.Tag c.in_ok-tag-in-BodyTag.ensures.taken c.only-in-BodyTag.ensures.stays refl
 
 pub returns-in_ok-only-in-BodyNumber-clause-read : goal.returns-in_ok-only-in-BodyNumber-clause-read
 returns-in_ok-only-in-BodyNumber-clause-read c =
-    ReadsBehind-takes kind.Number c.in_ok-number-in-BodyNumber.ensures.taken c.only-in-BodyNumber.ensures refl
+    ReadsBehind-takes kind.Number c.in_ok-number-in-BodyNumber.ensures.taken c.only-in-BodyNumber.ensures.stays refl
 
-pub returns-in_ok-pass_wanted-in_default : goal.returns-in_ok-pass_wanted-in_default
-returns-in_ok-pass_wanted-in_default c = record {
-  file = c.pass_wanted.ensures.file;
-  parts = refl;
-  read = ReadsBehind-skips kind.Number c.in_ok-pass_wanted-in_default.ensures.taken refl;
-}
+pub returns-in_ok-pass_wanted-in_default-clause-read : goal.returns-in_ok-pass_wanted-in_default-clause-read
+returns-in_ok-pass_wanted-in_default-clause-read c = ReadsBehind-skips kind.Number c.in_ok-pass_wanted-in_default.ensures.taken refl

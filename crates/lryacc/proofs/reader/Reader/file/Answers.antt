@@ -1,12 +1,18 @@
-use Rattle.lryacc.proofs.BodiesRead.{IsSameFile-again, reads_again, reads_same}
+use Rattle.std.proofs.Common.{arith}
+use Rattle.lryacc.specs.AllBodies.{AreAllBodies}
+use Rattle.lryacc.specs.Bodies.{IsWhole}
+use Rattle.lryacc.proofs.AllBodiesRead.{file_all, on_ok}
 use Rattle.lryacc.proofs.reader.Reader.file.Goals as goal
-
-pub returns-in_err-rules-clause-read : goal.returns-in_err-rules-clause-read
-returns-in_err-rules-clause-read c =
-    reads_again (reads_same (IsSameFile-again c.pass_header.ensures c.declarations.ensures)) c.rules.ensures
 
 pub returns-clause-read : goal.returns-clause-read
 returns-clause-read c =
-    reads_again
-    (reads_again (reads_same (IsSameFile-again c.pass_header.ensures c.declarations.ensures)) c.rules.ensures)
-    (reads_same c.tell_no_rules.ensures.file)
+    let told = c.tell_no_rules.ensures.file.faults in
+    on_ok c.tell_no_rules.result
+    (IsWhole c.tell_no_rules.new.self
+    → AreAllBodies c.args.self.now.lexemes.now c.args.self.now.dialect c.tell_no_rules.new.self.contents.alternatives.items)
+    (λ whole.
+    file_all c.args.self.now c.pass_header.new.self c.declarations.new.self c.rules.new.self c.tell_no_rules.new.self
+    (c.in_ok-pass_header.ensures.over (omega (arith, whole, told, c.rules.ensures.faults, c.declarations.ensures.file.faults)))
+    (c.in_ok-declarations.ensures.reached (omega (arith, whole, told, c.rules.ensures.faults)))
+    (c.in_ok-rules.ensures.read (omega (arith, whole, told)))
+    c.tell_no_rules.ensures.file c.requires.begins c.requires.none)

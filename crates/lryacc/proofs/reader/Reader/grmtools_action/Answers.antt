@@ -22,6 +22,7 @@ returns-in_ok-tell-clause-read c =
         lexemes = told.file.lexemes ∙ passes.file.lexemes;
         dialect = told.file.dialect ∙ passes.file.dialect;
         bodies = told.file.bodies ∙ passes.file.bodies;
+        faults = omega (arith, passes.file.faults, told.file.faults);
       };
       on = omega (arith, at);
       parts = λ from so_far.

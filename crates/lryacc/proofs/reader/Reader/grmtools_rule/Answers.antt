@@ -1,22 +1,23 @@
 use Rattle.std.proofs.Common.{refl}
-use Rattle.lryacc.proofs.BodiesRead.{IsSameFile-again, begins_still, begins_taken, over_skips, reads_again, reads_same, rule_kept, rule_taken, skips_same}
+use Rattle.lryacc.specs.AllBodies.{ReadsBodies}
+use Rattle.lryacc.proofs.AllBodiesRead.{alternatives_still, bodies_over, on_ok, reads_rule}
+use Rattle.lryacc.proofs.BodiesRead.{begins_still, begins_taken, over_skips, rule_kept, rule_taken}
 use Rattle.lryacc.specs.declared.lexemes.LexemeKind.TheVariants as kind
 use Rattle.lryacc.proofs.reader.Reader.grmtools_rule.Goals as goal
-
-pub returns-in_err-alternatives : goal.returns-in_err-alternatives
-returns-in_err-alternatives c =
-    let passed = IsSameFile-again c.want.ensures.file (skips_same _ c.skip.result c.skip.ensures) in
-    let named = IsSameFile-again (IsSameFile-again passed c.want-2.ensures.file) c.state.ensures.file in
-    reads_again (reads_same named) c.alternatives.ensures
-
-pub returns : goal.returns
-returns c =
-    let passed = IsSameFile-again c.want.ensures.file (skips_same _ c.skip.result c.skip.ensures) in
-    let named = IsSameFile-again (IsSameFile-again passed c.want-2.ensures.file) c.state.ensures.file in
-    reads_again (reads_again (reads_same named) c.alternatives.ensures) (reads_same c.want_unless_broken.ensures)
 
 pub alternatives-requires : goal.alternatives-requires
 alternatives-requires c =
     begins_still _ c.state.ensures
     (begins_taken _ kind.Colon c.in_ok-colon.ensures.taken refl refl
     (rule_kept _ (over_skips kind.RuleType refl c.skip.result c.skip.ensures) (rule_taken c.in_ok-name.ensures.taken)))
+
+pub returns-clause-read : goal.returns-clause-read
+returns-clause-read c =
+    let passed = over_skips kind.RuleType refl c.skip.result c.skip.ensures in
+    let alternatives =
+    alternatives_still c.want-2.new.self c.state.new.self c.alternatives.new.self c.state.ensures c.in_ok-alternatives.ensures.read in
+    on_ok c.want_unless_broken.result (ReadsBodies 1 c.args.self.now c.want_unless_broken.new.self)
+    (bodies_over 1 c.args.self.now c.alternatives.new.self c.want_unless_broken.new.self
+    (reads_rule c.args.self.now c.want.new.self c.skip.new.self c.want-2.new.self c.alternatives.new.self c.in_ok-name.name c.in_ok-colon.colon
+    c.in_ok-name.ensures.taken passed c.in_ok-colon.ensures.taken alternatives)
+    c.want_unless_broken.ensures.over)

@@ -1,5 +1,5 @@
-use Rattle.lryacc.specs.Bodies.{IsSameFile}
+use Rattle.lryacc.specs.Bodies.{PassesNoDelimiter}
 use Rattle.lryacc.proofs.reader.Reader.listing.Given as goal
 
 abbrev pub invariant-loop : goal.invariant-loop
-invariant-loop l = IsSameFile l.initial.self l.self
+invariant-loop l = PassesNoDelimiter l.initial.self l.self

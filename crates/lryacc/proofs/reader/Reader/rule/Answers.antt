@@ -1,13 +1,19 @@
 use Rattle.std.proofs.Common.{refl}
-use Rattle.lryacc.proofs.BodiesRead.{IsSameFile-again, begins_taken, over_skips, over_stays, reads_again, reads_same, rule_kept, rule_taken, skips_same}
+use Rattle.lryacc.proofs.AllBodiesRead.{on_ok_map, reads_rule}
+use Rattle.lryacc.proofs.BodiesRead.{begins_taken, over_again, over_skips, over_stays, rule_kept, rule_taken}
+use Rattle.lryacc.specs.AllBodies.{ReadsAlternatives, ReadsBodies}
 use Rattle.lryacc.specs.declared.lexemes.LexemeKind.TheVariants as kind
 use Rattle.lryacc.proofs.reader.Reader.rule.Goals as goal
 
-pub returns : goal.returns
-returns c =
-    let named = IsSameFile-again c.want.ensures.file c.state.ensures.file in
-    let passed = IsSameFile-again named (skips_same _ c.skip.result c.skip.ensures) in
-    reads_again (reads_same (IsSameFile-again passed c.want-2.ensures.file)) c.alternatives.ensures
+pub returns-clause-read : goal.returns-clause-read
+returns-clause-read c =
+    let passed = over_again (over_stays c.state.ensures) (over_skips kind.BracketName refl c.skip.result c.skip.ensures) in
+    on_ok_map c.alternatives.result
+    (ReadsAlternatives c.want-2.new.self c.alternatives.new.self)
+    (ReadsBodies 1 c.args.self.now c.alternatives.new.self)
+    (reads_rule c.args.self.now c.want.new.self c.skip.new.self c.want-2.new.self c.alternatives.new.self c.in_ok-name.name c.in_ok-colon.colon
+    c.in_ok-name.ensures.taken passed c.in_ok-colon.ensures.taken)
+    c.alternatives.ensures.read
 
 pub alternatives-requires : goal.alternatives-requires
 alternatives-requires c =

@@ -1,8 +1,8 @@
-use Rattle.lryacc.proofs.BodiesRead.{reads_again, reads_same}
+use Rattle.std.proofs.Common.{arith}
+use Rattle.lryacc.proofs.AllBodiesRead.{all_still}
 use Rattle.lryacc.proofs.reader.Reader.rules.Goals as goal
 
-pub loop-preserved : goal.loop-preserved
-loop-preserved c = reads_again (reads_again c.loop.invariant c.rule_from-read.ensures) (reads_same c.settle.ensures)
-
-pub returns-in_err-settle : goal.returns-in_err-settle
-returns-in_err-settle c = reads_again (reads_again c.loop.invariant c.rule_from-read.ensures) (reads_same c.settle.ensures)
+pub returns-clause-read : goal.returns-clause-read
+returns-clause-read c = λ whole.
+    all_still c.args.self.now c.tell_missing_rule.new.self c.each_rule.new.self c.separator.new.self c.tell_missing_rule.ensures
+    (c.in_ok-each_rule.ensures.read (omega (arith, whole, c.separator.ensures.file.faults))) c.separator.ensures.file
