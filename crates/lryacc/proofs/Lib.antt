@@ -1,6 +1,7 @@
 -- productions that are added, faults by their places, lists out of which elements were taken, what stays of a grammar,
 -- delimiters that are passed, bodies that are read, and all of them, names of rules among lexemes, lexemes that are found one
--- after another, and gaps that are read byte by byte
+-- after another, gaps that are read byte by byte, rules and tokens that are numbered, productions of bodies, and names of one
+-- symbol
 pub mod AddedProductions
 pub mod MapsOfFaults
 pub mod Sublists
@@ -12,3 +13,6 @@ pub mod AllBodiesRead
 pub mod RuleNames
 pub mod Scanning
 pub mod GapsByBytes
+pub mod Numbered
+pub mod ProductionsAdded
+pub mod NamesOfOne

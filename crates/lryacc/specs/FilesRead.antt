@@ -1,6 +1,7 @@
 -- what the grammar of a file comes from
-use Rattle.std.specs.Prelude.{◌≡◌, ℕ, ◌<◌, ◌⊎◌, List, [], length}
+use Rattle.std.specs.Prelude.{◌≡◌, ℕ, ◌<◌, ◌⊎◌, List, [], Some, map, length, string_bytes}
 use Rattle.lryacc.specs.declared.contents.Alternative.{Alternative}
+use Rattle.lryacc.specs.declared.contents.Statement.{Statement}
 use Rattle.lryacc.specs.declared.dialects.Dialect.{Dialect}
 use Rattle.lryacc.specs.declared.dialects.Dialect.TheVariants.{Bison}
 use Rattle.lryacc.specs.declared.faults.Fault.{Fault}
@@ -11,17 +12,37 @@ use Rattle.lryacc.specs.declared.numbering.FileGrammar.{FileGrammar}
 use Rattle.lryacc.specs.declared.useful.Useless.{Useless}
 use Rattle.lryacc.specs.AllBodies.{AreAllBodies}
 use Rattle.lryacc.specs.AllLexemes.{AreAllLexemesOf}
+use Rattle.lryacc.specs.BodyProductions.{AreOfFile}
 use Rattle.lryacc.specs.Headers.{HoldsHeader}
 use Rattle.lryacc.specs.KeptProductions.{IsWithout}
-use Rattle.lryacc.specs.ProductionPlaces.{file_places}
+use Rattle.lryacc.specs.NamedSymbols.{NameOne, Names}
+use Rattle.lryacc.specs.ProductionPlaces.{file_places, start_rules_of}
+
+-- the names of a file of this text and dialect, with these declarations, and of the rules and tokens of a grammar of it: lexemes
+-- of one number name one symbol
+pub record AreNamesOf (text : List ℕ) (dialect : Dialect) (statements : List Statement)
+    (file : FileGrammar) (names : Names) : Type 0 where
+  pub text_is : names.text ≡ text
+  pub dialect_is : names.dialect ≡ dialect
+  pub rules : names.rules ≡ map (λ name. string_bytes name) file.parts.rules.items
+  pub tokens : names.tokens ≡ map (λ token. string_bytes token.name) file.parts.tokens.items
+  pub starts : names.starts ≡ map (λ place. place.start) file.rule_places.items
+  pub one : (lexeme other : Lexeme) (number : ℕ) → names.number lexeme ≡ Some number
+      → names.number other ≡ Some number → NameOne text dialect statements lexeme other
 
 -- a grammar has the bodies of a file, of which there is at least one: it is one with a production for each start rule and each
--- body, without those that are useless; where a file for Bison has no warning, none is
-pub record IsGrammarOf (dialect : Dialect) (starts : List Lexeme) (bodies : List Alternative)
-    (file : FileGrammar) (warnings : List Fault) : Type 0 where
+-- body, which have the rules and the symbols that the lexemes name, without those that are useless; where a file for Bison has no
+-- warning, none is
+pub record IsGrammarOf (text : List ℕ) (dialect : Dialect) (statements : List Statement)
+    (starts : List Lexeme) (bodies : List Alternative) (file : FileGrammar)
+    (warnings : List Fault) : Type 0 where
   pub some : 0 < length bodies
   pub whole : FileGrammar
   pub places : whole.production_places.items ≡ file_places starts bodies
+  pub names : Names
+  pub named : AreNamesOf text dialect statements whole names
+  pub productions :
+      AreOfFile names (start_rules_of starts bodies) bodies whole.parts.prods.items
   pub useless : Useless
   pub without : IsWithout useless whole file
   pub warned : dialect ≡ Bison → warnings ≡ [] → useless.rules.items ≡ []
@@ -33,10 +54,10 @@ HasNoGrammar (Grammar file expected warnings) = ⊥
 HasNoGrammar (Faults faults) = Unit {0}
 
 -- if a file comes to a grammar, it is that of its bodies
-abbrev pub HasBodies : Dialect → List Alternative → FileRead → Type 0
-HasBodies dialect bodies (Grammar file expected warnings) =
-    (starts : List Lexeme) × IsGrammarOf dialect starts bodies file warnings.items
-HasBodies dialect bodies (Faults faults) = Unit {0}
+abbrev pub HasBodies : List ℕ → Dialect → List Statement → List Alternative → FileRead → Type 0
+HasBodies text dialect statements bodies (Grammar file expected warnings) =
+    (starts : List Lexeme) × IsGrammarOf text dialect statements starts bodies file warnings.items
+HasBodies text dialect statements bodies (Faults faults) = Unit {0}
 
 -- the bodies of a text: all that stand among all its lexemes
 pub record AreBodiesRead (text : List ℕ) (dialect : Dialect) (bodies : List Alternative)
@@ -54,6 +75,7 @@ AreBodiesOf text dialect bodies (Faults faults) = Unit {0}
 pub record ComesTo (text : List ℕ) (taken : Dialect) (read : FileRead) : Type 0 where
   pub dialect : Dialect
   pub is : (dialect ≡ taken) ⊎ HoldsHeader text
+  pub statements : List Statement
   pub bodies : List Alternative
   pub are_read : AreBodiesOf text dialect bodies read
-  pub has : HasBodies dialect bodies read
+  pub has : HasBodies text dialect statements bodies read

@@ -7,21 +7,24 @@ use Rattle.lrgrammar.specs.declared.grammar.Precedence.{Precedence}
 use Rattle.lryacc.specs.declared.contents.LevelKind.{LevelKind}
 use Rattle.lryacc.specs.declared.contents.LevelKind.TheVariants as line
 use Rattle.lryacc.specs.declared.symbols.Symbol.{Symbol}
+use Rattle.lryacc.specs.declared.symbols.Symbols.{Symbols}
+use Rattle.lryacc.specs.NamedSymbols.{partner_in}
 
 -- the precedence line in which a symbol stands by this name, counted from 1
 abbrev pub own_line : Symbol → Option ℕ
 own_line symbol = option_map (λ level. level.0) symbol.level
 
 -- the same by the other name of a symbol, if it has one
-abbrev pub other_line : List Symbol → Symbol → Option ℕ
-other_line symbols symbol =
-    option_and_then (λ other. option_and_then own_line (slice_get symbols other)) symbol.partner
+abbrev pub other_line : Symbols → ℕ → Option ℕ
+other_line symbols number =
+    option_and_then (λ other. option_and_then own_line (slice_get symbols.list.items other))
+    (partner_in symbols number)
 
 -- the precedence line of a symbol, by either of its names
-abbrev pub line_of : List Symbol → ℕ → Option ℕ
+abbrev pub line_of : Symbols → ℕ → Option ℕ
 line_of symbols number =
-    option_and_then (λ symbol. option_or (own_line symbol) (other_line symbols symbol))
-    (slice_get symbols number)
+    option_and_then (λ symbol. option_or (own_line symbol) (other_line symbols number))
+    (slice_get symbols.list.items number)
 
 -- how the tokens of a line group: those of a `%precedence` line settle nothing among themselves
 abbrev pub group_of : LevelKind → AssocKind

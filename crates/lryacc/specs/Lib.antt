@@ -34,3 +34,9 @@ pub mod Gaps
 pub mod GapsRead
 -- all lexemes of a text
 pub mod AllLexemes
+-- which rule or token a lexeme names
+pub mod NamedSymbols
+-- the productions of bodies
+pub mod BodyProductions
+-- the numbers of rules and tokens
+pub mod Numbered

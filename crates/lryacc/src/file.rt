@@ -1,7 +1,10 @@
 //! Reads a grammar file.
 
 ghost use Rattle.std.specs.Prelude.{◌≡◌, ◌<◌, All, IfOk, length, vec_len};
+ghost use Rattle.lryacc.specs.BodyProductions.{AreOfFile};
 ghost use Rattle.lryacc.specs.FilesRead.{AreBodiesRead, ComesTo, HasBodies, HasNoGrammar};
+ghost use Rattle.lryacc.specs.NamedSymbols.{AreApart, ArePartnered, names_in};
+ghost use Rattle.lryacc.specs.ProductionPlaces.{IsPlaced, file_places, start_rules_of};
 ghost use Rattle.lryacc.specs.Spans.{IsInside};
 ghost use Rattle.lryacc.specs.Told.{HasFaults, HasPlaces, told};
 
@@ -9,7 +12,7 @@ use crate::contents::Contents;
 use crate::dialects::{Dialect, dialect_of};
 use crate::faults::{Fault, FaultKind};
 use crate::meaning::{Expected, Meaning};
-use crate::numbering::{FileGrammar, file_grammar};
+use crate::numbering::{FileGrammar, NoProductions, file_grammar};
 use crate::places::Span;
 use crate::reader::Reader;
 use crate::scanner::{Scanned, scan};
@@ -93,9 +96,10 @@ fn contents_read(
     ensures inside { IfOk result (λ read. All (λ fault. IsInside fault.span text.now) (told read)) }
     ensures faults { IfOk result HasFaults }
     ensures placed { IfOk result HasPlaces }
-    ensures bodies { IfOk result (HasBodies dialect contents.now.alternatives.items) }
+    ensures bodies { IfOk result (HasBodies text.now dialect contents.now.statements.items
+        contents.now.alternatives.items) }
 {
-    let mut meaning = Meaning::new(alloc, text, dialect);
+    let mut meaning = Meaning::new(alloc, text, dialect, contents)?;
     meaning.take(contents)?;
     if !meaning.faults.is_empty() {
         return faults_read(alloc, text, meaning.faults.as_slice());
@@ -111,13 +115,53 @@ fn grammar_read(
     meaning: &mut Meaning<'_>,
     contents: &Contents,
 ) -> Result<FileRead, AllocError>
-    requires { 0 < vec_len contents.now.alternatives }
+    requires some { 0 < vec_len contents.now.alternatives }
+    requires text { meaning.old.symbols.text.now ≡ text.now }
+    requires dialect { meaning.old.symbols.dialect ≡ dialect }
+    requires apart { AreApart meaning.old.symbols }
+    requires partnered { ArePartnered contents.now.statements.items meaning.old.symbols }
     ensures inside { IfOk result (λ read. All (λ fault. IsInside fault.span text.now) (told read)) }
     ensures faults { IfOk result HasFaults }
     ensures placed { IfOk result HasPlaces }
-    ensures bodies { IfOk result (HasBodies dialect contents.now.alternatives.items) }
+    ensures bodies { IfOk result (HasBodies text.now dialect contents.now.statements.items
+        contents.now.alternatives.items) }
 {
-    let whole = file_grammar(alloc, meaning, contents)?;
+    match file_grammar(alloc, meaning, contents) {
+        Ok(whole) => useful_read(alloc, text, dialect, meaning, contents, whole),
+        Err(NoProductions::Undefined(span)) => {
+            let kind = FaultKind::Undefined;
+            faults_read(alloc, text, &[Fault { kind, span }])
+        }
+        Err(NoProductions::Memory) => Err(AllocError),
+    }
+}
+
+/// What a file comes to whose whole grammar this is: that without what is useless.
+fn useful_read(
+    alloc: Global,
+    text: &[u8],
+    dialect: Dialect,
+    meaning: &mut Meaning<'_>,
+    contents: &Contents,
+    whole: FileGrammar,
+) -> Result<FileRead, AllocError>
+    requires some { 0 < vec_len contents.now.alternatives }
+    requires text { meaning.old.symbols.text.now ≡ text.now }
+    requires dialect { meaning.old.symbols.dialect ≡ dialect }
+    requires apart { AreApart meaning.old.symbols }
+    requires partnered { ArePartnered contents.now.statements.items meaning.old.symbols }
+    requires places { whole.production_places.items
+        ≡ file_places meaning.old.starts.items contents.now.alternatives.items }
+    requires placed { IsPlaced whole }
+    requires productions { AreOfFile (names_in meaning.old whole)
+        (start_rules_of meaning.old.starts.items contents.now.alternatives.items)
+        contents.now.alternatives.items whole.parts.prods.items }
+    ensures inside { IfOk result (λ read. All (λ fault. IsInside fault.span text.now) (told read)) }
+    ensures faults { IfOk result HasFaults }
+    ensures placed { IfOk result HasPlaces }
+    ensures bodies { IfOk result (HasBodies text.now dialect contents.now.statements.items
+        contents.now.alternatives.items) }
+{
     let (grammar, useless) = without_useless(alloc, whole)?;
     meaning.tell_useless(dialect, contents, &useless)?;
     if !meaning.faults.is_empty() {

@@ -1,6 +1,9 @@
 //! The names of a file of grmtools: each must be that of a rule, or of a token that is declared or stands in quotes. Without
 //! quotes, a body has a token only behind the place that makes it one.
 
+ghost use Rattle.std.specs.Prelude.{OnOk};
+ghost use Rattle.lryacc.specs.NamedSymbols.{KeepsSymbols};
+
 use crate::contents::{Alternative, BodyPart, Contents, Statement};
 use crate::faults::{Fault, FaultKind};
 use crate::lexemes::{Lexeme, LexemeKind};
@@ -12,7 +15,9 @@ use std::collections::BTreeSet;
 
 impl<'a> Meaning<'a> {
     /// Tells of names that stand for nothing, and of tokens behind `%prec` that have no precedence.
-    pub(crate) fn tell_unknown(&mut self, contents: &Contents) -> Result<(), AllocError> {
+    pub(crate) fn tell_unknown(&mut self, contents: &Contents) -> Result<(), AllocError>
+        ensures { OnOk result (KeepsSymbols self.old.symbols self.new.symbols) }
+    {
         for statement in &contents.statements {
             if let Statement::Start(name) | Statement::Mention(name) = statement {
                 self.tell_unless_known(*name, usize::MAX)?;
@@ -22,7 +27,9 @@ impl<'a> Meaning<'a> {
     }
 
     /// Tells of such names in bodies.
-    fn tell_unknown_in_bodies(&mut self, alternatives: &[Alternative]) -> Result<(), AllocError> {
+    fn tell_unknown_in_bodies(&mut self, alternatives: &[Alternative]) -> Result<(), AllocError>
+        ensures { OnOk result (KeepsSymbols self.old.symbols self.new.symbols) }
+    {
         for alternative in alternatives {
             self.tell_unknown_parts(alternative.parts.as_slice())?;
             if let Some(token) = alternative.precedence {
@@ -33,7 +40,9 @@ impl<'a> Meaning<'a> {
     }
 
     /// Tells of such names in a body.
-    fn tell_unknown_parts(&mut self, parts: &[BodyPart]) -> Result<(), AllocError> {
+    fn tell_unknown_parts(&mut self, parts: &[BodyPart]) -> Result<(), AllocError>
+        ensures { OnOk result (KeepsSymbols self.old.symbols self.new.symbols) }
+    {
         for part in parts {
             if let BodyPart::Symbol(name) = part {
                 self.tell_unless_known(*name, name.span.end)?;
@@ -89,7 +98,9 @@ impl<'a> Meaning<'a> {
     }
 
     /// Tells of a name that is neither that of a rule nor of a token before a place.
-    fn tell_unless_known(&mut self, name: Lexeme, end: usize) -> Result<(), AllocError> {
+    fn tell_unless_known(&mut self, name: Lexeme, end: usize) -> Result<(), AllocError>
+        ensures { OnOk result (KeepsSymbols self.old.symbols self.new.symbols) }
+    {
         if self.is_known_before(name, end) {
             return Ok(());
         }
@@ -97,7 +108,9 @@ impl<'a> Meaning<'a> {
     }
 
     /// Tells of what stands behind `%prec` and is no token, or has no precedence.
-    fn tell_unless_leveled(&mut self, name: Lexeme) -> Result<(), AllocError> {
+    fn tell_unless_leveled(&mut self, name: Lexeme) -> Result<(), AllocError>
+        ensures { OnOk result (KeepsSymbols self.old.symbols self.new.symbols) }
+    {
         self.tell_unless_known(name, usize::MAX)?;
         match self.symbol_of(name) {
             Some(symbol) if symbol.level.is_some() => Ok(()),

@@ -1,6 +1,10 @@
 //! What the names of a file mean: its symbols, and what is said of them.
 
-ghost use Rattle.std.specs.Prelude.{◌≡◌, ◌+◌, length, OnOk, vec_len};
+ghost use Rattle.std.specs.Prelude.{◌≡◌, ◌+◌, length, IfOk, OnOk, true, false, None, Some, vec_len};
+ghost use Rattle.std.specs.BTreeMap.{IsEmpty};
+ghost use Rattle.std.specs.Option.{option_map};
+ghost use Rattle.lryacc.specs.NamedSymbols.{AreApart, BecomeOne, KeepsSymbols, TakesOne, TakesSome, first_name, partner_in, symbol_number};
+ghost use Rattle.lryacc.specs.declared.contents.Statement.{Statement};
 
 use crate::contents::{Alternative, BodyPart, Contents, LevelKind, Statement};
 use crate::dialects::Dialect;
@@ -60,10 +64,21 @@ pub(crate) struct Meaning<'a> {
 }
 
 impl<'a> Meaning<'a> {
-    /// Nothing is known.
-    pub(crate) fn new(alloc: Global, text: &'a [u8], dialect: Dialect) -> Meaning<'a> {
-        Meaning {
-            symbols: Symbols::new(alloc, text, dialect),
+    /// Nothing is known of the symbols that a file names.
+    pub(crate) fn new(
+        alloc: Global,
+        text: &'a [u8],
+        dialect: Dialect,
+        contents: &Contents,
+    ) -> Result<Meaning<'a>, AllocError>
+        ensures text { IfOk result (λ meaning. meaning.symbols.text.now ≡ text.now) }
+        ensures dialect { IfOk result (λ meaning. meaning.symbols.dialect ≡ dialect) }
+        ensures apart { IfOk result (λ meaning. AreApart meaning.symbols) }
+        ensures single { IfOk result (λ meaning. IsEmpty meaning.symbols.partners) }
+    {
+        let symbols = Symbols::of(alloc, text, dialect, contents)?;
+        Ok(Meaning {
+            symbols,
             levels: Vec::new(alloc),
             level_start: 0,
             starts: Vec::new(alloc),
@@ -74,17 +89,21 @@ impl<'a> Meaning<'a> {
             is_glr: false,
             faults: Vec::new(alloc),
             warnings: Vec::new(alloc),
-        }
+        })
     }
 
     /// Tells a fault.
-    pub(crate) fn tell(&mut self, kind: FaultKind, span: Span) -> Result<(), AllocError> {
+    pub(crate) fn tell(&mut self, kind: FaultKind, span: Span) -> Result<(), AllocError>
+        ensures { OnOk result (KeepsSymbols self.old.symbols self.new.symbols) }
+    {
         self.faults.push(Fault { kind, span })?;
         Ok(())
     }
 
     /// Warns of something.
-    pub(crate) fn warn(&mut self, kind: FaultKind, span: Span) -> Result<(), AllocError> {
+    pub(crate) fn warn(&mut self, kind: FaultKind, span: Span) -> Result<(), AllocError>
+        ensures { OnOk result (KeepsSymbols self.old.symbols self.new.symbols) }
+    {
         self.warnings.push(Fault { kind, span })?;
         Ok(())
     }
@@ -136,14 +155,18 @@ impl<'a> Meaning<'a> {
         }
     }
 
-    /// The number of the symbol that a lexeme names, which is to be of that class.
-    fn classed(
+    /// Takes in that a symbol is of that class.
+    fn take_class(
         &mut self,
         lexeme: Lexeme,
         class: Class,
         otherwise: FaultKind,
-    ) -> Result<usize, AllocError> {
-        let number = self.symbols.named(lexeme)?;
+    ) -> Result<(), AllocError>
+        ensures { OnOk result (KeepsSymbols self.old.symbols self.new.symbols) }
+    {
+        let Some(number) = self.symbols.find(lexeme) else {
+            return Ok(());
+        };
         let mut is_other = false;
         if let Some(symbol) = self.symbols.list.get_mut(number) {
             is_other = symbol.class != class && symbol.class != Class::Unknown;
@@ -154,11 +177,13 @@ impl<'a> Meaning<'a> {
         if is_other {
             self.tell(otherwise, lexeme.span)?;
         }
-        Ok(number)
+        Ok(())
     }
 
     /// Takes in what the declarations say.
-    fn take_statements(&mut self, statements: &[Statement]) -> Result<(), AllocError> {
+    fn take_statements(&mut self, statements: &[Statement]) -> Result<(), AllocError>
+        ensures { OnOk result (TakesSome statements.now self.old.symbols self.new.symbols) }
+    {
         for statement in statements {
             self.take_statement(*statement)?;
         }
@@ -166,7 +191,9 @@ impl<'a> Meaning<'a> {
     }
 
     /// Leaves out what `%expect-rr` says where Bison does: it holds for generalized parsers alone.
-    fn leave_out_reductions(&mut self) -> Result<(), AllocError> {
+    fn leave_out_reductions(&mut self) -> Result<(), AllocError>
+        ensures { OnOk result (KeepsSymbols self.old.symbols self.new.symbols) }
+    {
         let is_read = self.is_glr || self.symbols.dialect == Dialect::Grmtools;
         if let (Some(number), false) = (self.expected_reductions, is_read) {
             self.warn(FaultKind::ExpectedWithoutGlr, number.span)?;
@@ -176,7 +203,9 @@ impl<'a> Meaning<'a> {
     }
 
     /// Takes in what a declaration says.
-    fn take_statement(&mut self, statement: Statement) -> Result<(), AllocError> {
+    fn take_statement(&mut self, statement: Statement) -> Result<(), AllocError>
+        ensures { OnOk result (TakesOne statement self.old.symbols self.new.symbols) }
+    {
         match statement {
             Statement::Token(symbol) => self.take_token(symbol),
             Statement::Rule(symbol) => self.take_rule_name(symbol),
@@ -184,8 +213,7 @@ impl<'a> Meaning<'a> {
             Statement::Alias(symbol, text) => self.take_alias(symbol, text),
             Statement::Level(kind, directive) => self.begin_level(kind, directive),
             Statement::InLevel(symbol) => self.take_in_level(symbol),
-            Statement::Mention(symbol) => self.take_mention(symbol),
-            Statement::NotInRules(_) => Ok(()),
+            Statement::Mention(_) | Statement::NotInRules(_) => Ok(()),
             Statement::Tagged(symbol, tag) => self.take_tag(symbol, tag),
             Statement::LeftSide(rule) => {
                 self.take_class(rule, Class::Rule, FaultKind::RuleOfToken)
@@ -214,32 +242,19 @@ impl<'a> Meaning<'a> {
         }
     }
 
-    /// Takes in that a symbol is named.
-    fn take_mention(&mut self, symbol: Lexeme) -> Result<(), AllocError> {
-        let _ = self.symbols.named(symbol)?;
-        Ok(())
-    }
-
-    /// Takes in that a symbol is of that class.
-    fn take_class(
-        &mut self,
-        symbol: Lexeme,
-        class: Class,
-        otherwise: FaultKind,
-    ) -> Result<(), AllocError> {
-        let _ = self.classed(symbol, class, otherwise)?;
-        Ok(())
-    }
-
     /// Takes in that a precedence line begins with a directive.
-    fn begin_level(&mut self, kind: LevelKind, directive: Lexeme) -> Result<(), AllocError> {
+    fn begin_level(&mut self, kind: LevelKind, directive: Lexeme) -> Result<(), AllocError>
+        ensures { OnOk result (KeepsSymbols self.old.symbols self.new.symbols) }
+    {
         self.levels.push(kind)?;
         self.level_start = directive.span.start;
         Ok(())
     }
 
     /// The number that a lexeme is; None where it is too large, which is told.
-    fn number(&mut self, number: Lexeme) -> Result<Option<u64>, AllocError> {
+    fn number(&mut self, number: Lexeme) -> Result<Option<u64>, AllocError>
+        ensures { OnOk result (KeepsSymbols self.old.symbols self.new.symbols) }
+    {
         let value = value_of(self.symbols.bytes(number.span));
         if value.is_none() {
             self.tell(FaultKind::LargeNumber, number.span)?;
@@ -248,14 +263,21 @@ impl<'a> Meaning<'a> {
     }
 
     /// Takes in that a symbol is declared a token.
-    fn take_token(&mut self, lexeme: Lexeme) -> Result<(), AllocError> {
-        let number = self.classed(lexeme, Class::Token, FaultKind::BothKinds)?;
-        self.declare(number, lexeme)
+    fn take_token(&mut self, lexeme: Lexeme) -> Result<(), AllocError>
+        ensures { OnOk result (KeepsSymbols self.old.symbols self.new.symbols) }
+    {
+        self.take_class(lexeme, Class::Token, FaultKind::BothKinds)?;
+        self.declare(lexeme)
     }
 
     /// Takes in that a symbol is declared here, and warns where it was declared before. For grmtools each use between quotes
     /// declares a token.
-    fn declare(&mut self, number: usize, lexeme: Lexeme) -> Result<(), AllocError> {
+    fn declare(&mut self, lexeme: Lexeme) -> Result<(), AllocError>
+        ensures { OnOk result (KeepsSymbols self.old.symbols self.new.symbols) }
+    {
+        let Some(number) = self.symbols.find(lexeme) else {
+            return Ok(());
+        };
         let mut is_declared = false;
         if let Some(symbol) = self.symbols.list.get_mut(number) {
             is_declared = symbol.declared.is_some();
@@ -268,8 +290,12 @@ impl<'a> Meaning<'a> {
     }
 
     /// Takes in that a symbol is a start rule, and warns where it was one before.
-    fn take_start(&mut self, lexeme: Lexeme) -> Result<(), AllocError> {
-        let number = self.symbols.named(lexeme)?;
+    fn take_start(&mut self, lexeme: Lexeme) -> Result<(), AllocError>
+        ensures { OnOk result (KeepsSymbols self.old.symbols self.new.symbols) }
+    {
+        let Some(number) = self.symbols.find(lexeme) else {
+            return Ok(());
+        };
         let mut is_start = false;
         if let Some(symbol) = self.symbols.list.get_mut(number) {
             is_start = symbol.is_start;
@@ -283,17 +309,23 @@ impl<'a> Meaning<'a> {
     }
 
     /// Takes in that a symbol is declared a rule.
-    fn take_rule_name(&mut self, lexeme: Lexeme) -> Result<(), AllocError> {
+    fn take_rule_name(&mut self, lexeme: Lexeme) -> Result<(), AllocError>
+        ensures { OnOk result (KeepsSymbols self.old.symbols self.new.symbols) }
+    {
         if lexeme.kind != LexemeKind::Name {
             return self.tell(FaultKind::CharacterAsRule, lexeme.span);
         }
-        let number = self.classed(lexeme, Class::Rule, FaultKind::BothKinds)?;
-        self.declare(number, lexeme)
+        self.take_class(lexeme, Class::Rule, FaultKind::BothKinds)?;
+        self.declare(lexeme)
     }
 
     /// Takes in the number of a token. It is less than the greatest one that is read.
-    fn take_code(&mut self, lexeme: Lexeme, number: Lexeme) -> Result<(), AllocError> {
-        let symbol = self.symbols.named(lexeme)?;
+    fn take_code(&mut self, lexeme: Lexeme, number: Lexeme) -> Result<(), AllocError>
+        ensures { OnOk result (KeepsSymbols self.old.symbols self.new.symbols) }
+    {
+        let Some(symbol) = self.symbols.find(lexeme) else {
+            return Ok(());
+        };
         let Some(code) = self.number(number)? else {
             return Ok(());
         };
@@ -318,11 +350,13 @@ impl<'a> Meaning<'a> {
     }
 
     /// Tells what is wrong with symbols: two levels, a code of another symbol, no meaning.
-    fn tell_symbols(&mut self) -> Result<(), AllocError> {
+    fn tell_symbols(&mut self) -> Result<(), AllocError>
+        ensures { OnOk result (KeepsSymbols self.old.symbols self.new.symbols) }
+    {
         let mut first = BTreeMap::new(*self.faults.allocator());
         for number in 0..self.symbols.list.len() {
             if let Some(symbol) = self.symbols.list.get(number).copied() {
-                self.tell_symbol(&mut first, symbol)?;
+                self.tell_symbol(&mut first, number, symbol)?;
             }
         }
         Ok(())
@@ -332,9 +366,12 @@ impl<'a> Meaning<'a> {
     fn tell_symbol(
         &mut self,
         first: &mut BTreeMap<u64, Span>,
+        number: usize,
         symbol: Symbol,
-    ) -> Result<(), AllocError> {
-        if let Some(span) = self.second_level(symbol) {
+    ) -> Result<(), AllocError>
+        ensures { OnOk result (KeepsSymbols self.old.symbols self.new.symbols) }
+    {
+        if let Some(span) = self.second_level(number) {
             self.tell(FaultKind::LevelTwice, span)?;
         }
         if let Some(code) = symbol.code {
@@ -349,7 +386,9 @@ impl<'a> Meaning<'a> {
         first: &mut BTreeMap<u64, Span>,
         code: u64,
         span: Span,
-    ) -> Result<(), AllocError> {
+    ) -> Result<(), AllocError>
+        ensures { OnOk result (KeepsSymbols self.old.symbols self.new.symbols) }
+    {
         if let Some(other) = first.get(&code).copied() {
             if other.start < span.start {
                 return self.tell(FaultKind::CodeOfOther, span);
@@ -361,8 +400,12 @@ impl<'a> Meaning<'a> {
     }
 
     /// Takes in the tag of a symbol, by either of its names.
-    fn take_tag(&mut self, lexeme: Lexeme, tag: Lexeme) -> Result<(), AllocError> {
-        let number = self.symbols.named(lexeme)?;
+    fn take_tag(&mut self, lexeme: Lexeme, tag: Lexeme) -> Result<(), AllocError>
+        ensures { OnOk result (KeepsSymbols self.old.symbols self.new.symbols) }
+    {
+        let Some(number) = self.symbols.find(lexeme) else {
+            return Ok(());
+        };
         if self.has_tag(number) {
             return self.tell(FaultKind::TagTwice, lexeme.span);
         }
@@ -379,14 +422,16 @@ impl<'a> Meaning<'a> {
 
     /// Whether a symbol has a tag, by this name or the other one.
     fn has_tag(&self, number: usize) -> bool {
-        match self.partner(number) {
+        match self.symbols.partner(number) {
             Some(other) => self.tag(number).is_some() || self.tag(other).is_some(),
             None => self.tag(number).is_some(),
         }
     }
 
     /// Tells where two names that become those of one symbol have two tags.
-    fn tell_tags(&mut self, one: usize, other: usize) -> Result<(), AllocError> {
+    fn tell_tags(&mut self, one: usize, other: usize) -> Result<(), AllocError>
+        ensures { OnOk result (KeepsSymbols self.old.symbols self.new.symbols) }
+    {
         let (Some((tag, here)), Some((other_tag, there))) = (self.tag(one), self.tag(other)) else {
             return Ok(());
         };
@@ -410,49 +455,62 @@ impl<'a> Meaning<'a> {
     }
 
     /// Makes a text another name of a symbol, unless one of them has another name already.
-    fn take_alias(&mut self, symbol: Lexeme, text: Lexeme) -> Result<(), AllocError> {
-        let one = self.symbols.named(symbol)?;
-        let other = self.symbols.named(text)?;
+    fn take_alias(&mut self, symbol: Lexeme, text: Lexeme) -> Result<(), AllocError>
+        ensures { OnOk result (TakesOne (Statement.Alias symbol text) self.old.symbols
+            self.new.symbols) }
+    {
+        let (Some(one), Some(other)) = (self.symbols.find(symbol), self.symbols.find(text)) else {
+            return Ok(());
+        };
         if self.class(one) == Class::Rule {
             return self.tell(FaultKind::NameOfRule, text.span);
         }
-        if !self.has_text(one) && self.partner(other).is_none() && one != other {
-            let class = self.class(one);
-            self.set_partner(one, other, class);
-            self.set_partner(other, one, class);
-            return self.tell_tags(one, other);
+        if !self.has_text(one) && self.symbols.partner(other).is_none() && one != other {
+            return self.pair(one, other);
         }
-        if self.partner(one) == Some(other) {
+        if self.symbols.partner(one) == Some(other) {
             return Ok(());
         }
         self.warn(FaultKind::SecondName, text.span)
     }
 
+    /// Makes two names those of one symbol, which has the class of the first one.
+    fn pair(&mut self, one: usize, other: usize) -> Result<(), AllocError>
+        ensures { OnOk result (BecomeOne self.old.symbols self.new.symbols one other) }
+    {
+        self.symbols.pair(one, other)?;
+        self.set_class(other, self.class(one));
+        self.tell_tags(one, other)
+    }
+
     /// Whether a symbol has another name already, as `error` and `YYUNDEF` have for Bison.
-    fn has_text(&self, number: usize) -> bool {
+    fn has_text(&self, number: usize) -> bool
+        ensures { result ≡ false → partner_in self.now.symbols number ≡ None }
+    {
         let is_error = self.symbols.find_name(b"error") == Some(number);
         let is_undefined = self.symbols.find_name(b"YYUNDEF") == Some(number);
-        is_error || is_undefined || self.partner(number).is_some()
+        is_error || is_undefined || self.symbols.partner(number).is_some()
     }
 
-    /// The symbol that is the other name of a symbol.
-    fn partner(&self, number: usize) -> Option<usize> {
-        self.symbols.list.get(number)?.partner
-    }
-
-    /// Gives a symbol another name, and the class that both have.
-    fn set_partner(&mut self, number: usize, partner: usize, class: Class) {
+    /// Gives a name the class of the symbol.
+    fn set_class(&mut self, number: usize, class: Class)
+        ensures { KeepsSymbols self.old.symbols self.new.symbols }
+    {
         if let Some(symbol) = self.symbols.list.get_mut(number) {
-            symbol.partner = Some(partner);
             symbol.class = class;
         }
     }
 
     /// Puts a symbol into the precedence line in hand.
-    fn take_in_level(&mut self, lexeme: Lexeme) -> Result<(), AllocError> {
+    fn take_in_level(&mut self, lexeme: Lexeme) -> Result<(), AllocError>
+        ensures { OnOk result (KeepsSymbols self.old.symbols self.new.symbols) }
+    {
         let level = self.levels.len();
         let span = Span::new(self.level_start, lexeme.span.end);
-        let number = self.classed(lexeme, Class::Token, FaultKind::BothKinds)?;
+        self.take_class(lexeme, Class::Token, FaultKind::BothKinds)?;
+        let Some(number) = self.symbols.find(lexeme) else {
+            return Ok(());
+        };
         let mut has_level = false;
         if let Some(symbol) = self.symbols.list.get_mut(number) {
             has_level = symbol.level.is_some();
@@ -467,9 +525,9 @@ impl<'a> Meaning<'a> {
     }
 
     /// Where a symbol stands in a precedence line behind one in which its other name stands.
-    fn second_level(&self, symbol: Symbol) -> Option<Span> {
-        let partner = self.symbols.list.get(symbol.partner?)?;
-        let (_, here) = symbol.level?;
+    fn second_level(&self, number: usize) -> Option<Span> {
+        let partner = self.symbols.list.get(self.symbols.partner(number)?)?;
+        let (_, here) = self.symbols.list.get(number)?.level?;
         let (_, there) = partner.level?;
         if there.end < here.end {
             Some(here)
@@ -479,34 +537,40 @@ impl<'a> Meaning<'a> {
     }
 
     /// Takes in the symbols of a body.
-    fn take_body(&mut self, alternative: &Alternative) -> Result<(), AllocError> {
+    fn take_body(&mut self, alternative: &Alternative)
+        ensures { KeepsSymbols self.old.symbols self.new.symbols }
+    {
         for part in &alternative.parts {
             if let BodyPart::Symbol(lexeme) = part {
-                self.take_use(*lexeme)?;
+                self.take_use(*lexeme);
             }
         }
-        Ok(())
     }
 
     /// Takes in that a body has a symbol.
-    fn take_use(&mut self, lexeme: Lexeme) -> Result<(), AllocError> {
-        let number = self.symbols.named(lexeme)?;
-        if let Some(symbol) = self.symbols.list.get_mut(number) {
-            symbol.is_used = true;
+    fn take_use(&mut self, lexeme: Lexeme)
+        ensures { KeepsSymbols self.old.symbols self.new.symbols }
+    {
+        if let Some(number) = self.symbols.find(lexeme) {
+            if let Some(symbol) = self.symbols.list.get_mut(number) {
+                symbol.is_used = true;
+            }
         }
-        Ok(())
     }
 
     /// Takes in the symbols of all bodies.
-    fn take_bodies(&mut self, alternatives: &[Alternative]) -> Result<(), AllocError> {
+    fn take_bodies(&mut self, alternatives: &[Alternative])
+        ensures { KeepsSymbols self.old.symbols self.new.symbols }
+    {
         for alternative in alternatives {
-            self.take_body(alternative)?;
+            self.take_body(alternative);
         }
-        Ok(())
     }
 
     /// Warns of tokens that stand behind `%prec` and nowhere else.
-    fn warn_of_precedences(&mut self, alternatives: &[Alternative]) -> Result<(), AllocError> {
+    fn warn_of_precedences(&mut self, alternatives: &[Alternative]) -> Result<(), AllocError>
+        ensures { OnOk result (KeepsSymbols self.old.symbols self.new.symbols) }
+    {
         for alternative in alternatives {
             if let Some(token) = alternative.precedence {
                 if !self.is_known(token) {
@@ -526,7 +590,7 @@ impl<'a> Meaning<'a> {
             Some(symbol) => {
                 symbol.declared.is_some()
                     || symbol.level.is_some()
-                    || symbol.partner.is_some()
+                    || self.symbols.partner(number).is_some()
                     || symbol.is_used
             }
             None => false,
@@ -534,7 +598,9 @@ impl<'a> Meaning<'a> {
     }
 
     /// Tells that a symbol is nothing, though a body has it, and warns of one that only declarations name.
-    fn tell_undefined(&mut self, symbol: Symbol) -> Result<(), AllocError> {
+    fn tell_undefined(&mut self, symbol: Symbol) -> Result<(), AllocError>
+        ensures { OnOk result (KeepsSymbols self.old.symbols self.new.symbols) }
+    {
         match symbol.class {
             Class::Unknown if symbol.is_used => {
                 self.tell(FaultKind::Undefined, symbol.mention.span)
@@ -545,7 +611,9 @@ impl<'a> Meaning<'a> {
     }
 
     /// Tells of start symbols that are no rules.
-    fn tell_starts(&mut self) -> Result<(), AllocError> {
+    fn tell_starts(&mut self) -> Result<(), AllocError>
+        ensures { OnOk result (KeepsSymbols self.old.symbols self.new.symbols) }
+    {
         for at in 0..self.starts.len() {
             if let Some(start) = self.starts.get(at).copied() {
                 self.tell_start(start)?;
@@ -556,7 +624,9 @@ impl<'a> Meaning<'a> {
 
     /// Tells of a start symbol that is no rule. It may be a token where it isn't the only one, and for Bison one that nothing
     /// else names is a rule without bodies.
-    fn tell_start(&mut self, start: Lexeme) -> Result<(), AllocError> {
+    fn tell_start(&mut self, start: Lexeme) -> Result<(), AllocError>
+        ensures { OnOk result (KeepsSymbols self.old.symbols self.new.symbols) }
+    {
         let Some(number) = self.symbols.find(start) else {
             return Ok(());
         };
@@ -595,10 +665,13 @@ impl<'a> Meaning<'a> {
     }
 
     /// Takes in all that the file says of its symbols.
-    pub(crate) fn take(&mut self, contents: &Contents) -> Result<(), AllocError> {
+    pub(crate) fn take(&mut self, contents: &Contents) -> Result<(), AllocError>
+        ensures { OnOk result (TakesSome contents.now.statements.items self.old.symbols
+            self.new.symbols) }
+    {
         self.take_statements(contents.statements.as_slice())?;
         self.leave_out_reductions()?;
-        self.take_bodies(contents.alternatives.as_slice())?;
+        self.take_bodies(contents.alternatives.as_slice());
         self.warn_of_precedences(contents.alternatives.as_slice())?;
         self.find_end();
         self.tell_symbols()?;
@@ -610,7 +683,9 @@ impl<'a> Meaning<'a> {
     }
 
     /// Takes `YYEOF` for the end token where no symbol has the code 0.
-    fn find_end(&mut self) {
+    fn find_end(&mut self)
+        ensures { KeepsSymbols self.old.symbols self.new.symbols }
+    {
         if self.end.is_some() {
             return;
         }
@@ -621,15 +696,19 @@ impl<'a> Meaning<'a> {
     }
 
     /// The name of a symbol by which bodies and precedences go: the earlier one of its two.
-    pub(crate) fn canonical(&self, number: usize) -> usize {
-        match self.partner(number) {
+    pub(crate) fn canonical(&self, number: usize) -> usize
+        ensures { result ≡ first_name self.now.symbols number }
+    {
+        match self.symbols.partner(number) {
             Some(partner) => partner.min(number),
             None => number,
         }
     }
 
     /// The symbol that a lexeme names, by the name by which bodies and precedences go.
-    pub(crate) fn find(&self, lexeme: Lexeme) -> Option<usize> {
+    pub(crate) fn find(&self, lexeme: Lexeme) -> Option<usize>
+        ensures { result ≡ symbol_number self.now.symbols lexeme }
+    {
         match self.symbols.find(lexeme) {
             Some(number) => Some(self.canonical(number)),
             None => None,
@@ -639,7 +718,7 @@ impl<'a> Meaning<'a> {
     /// The place by which a token is ordered: the earlier one of its two names.
     pub(crate) fn place(&self, number: usize) -> usize {
         let own = self.place_of_name(number);
-        match self.partner(number) {
+        match self.symbols.partner(number) {
             Some(partner) => own.min(self.place_of_name(partner)),
             None => own,
         }
@@ -653,10 +732,13 @@ impl<'a> Meaning<'a> {
         }
     }
 
-    /// Whether the symbol is the end token, by either of its names.
-    pub(crate) fn is_end(&self, number: usize) -> bool {
+    /// Whether the symbol of that number, by the name by which bodies go, is the end token.
+    pub(crate) fn is_end(&self, number: usize) -> bool
+        ensures { result ≡ true → option_map (first_name self.now.symbols) self.now.end
+            ≡ Some number }
+    {
         match self.end {
-            Some(end) => self.canonical(end) == self.canonical(number),
+            Some(end) => self.canonical(end) == number,
             None => false,
         }
     }

@@ -1,5 +1,9 @@
 //! The names of symbols in a grammar.
 
+ghost use Rattle.std.specs.Prelude.{◌≡◌, ◌&&◌, ◌++◌, not, nat_eq, nat_lt, IfOk, OnOk, string_bytes};
+ghost use Rattle.std.specs.List.{flat_map};
+ghost use Rattle.lryacc.specs.NamedSymbols.{IsCharacterText, IsTextOf, escaped_byte};
+
 use std::alloc::{AllocError, Global};
 use std::str;
 
@@ -8,7 +12,9 @@ const ESCAPE: &str = "\\x{";
 
 /// The text of a name. Where it is no UTF-8, each byte of it that is not ASCII, and each backslash, is written by its number, as
 /// in `\x{E9}`. So they are in a name that holds such a beginning itself: names of other bytes have other texts.
-pub(crate) fn name_text(alloc: Global, name: &[u8]) -> Result<String, AllocError> {
+pub(crate) fn name_text(alloc: Global, name: &[u8]) -> Result<String, AllocError>
+    ensures { IfOk result (λ text. IsTextOf name.now (string_bytes text)) }
+{
     match str::from_utf8(name) {
         Ok(text) if !text.contains(ESCAPE) => String::from_str(alloc, text),
         _ => escaped(alloc, name),
@@ -16,21 +22,38 @@ pub(crate) fn name_text(alloc: Global, name: &[u8]) -> Result<String, AllocError
 }
 
 /// A name with its backslashes, and its bytes that are not ASCII, written by their numbers.
-fn escaped(alloc: Global, name: &[u8]) -> Result<String, AllocError> {
+fn escaped(alloc: Global, name: &[u8]) -> Result<String, AllocError>
+    ensures { IfOk result (λ text. string_bytes text ≡ flat_map escaped_byte name.now) }
+{
     let mut text = String::new(alloc);
     for byte in name {
-        if byte.is_ascii() && *byte != b'\\' {
-            text.push(char::from(*byte))?;
-        } else {
-            let number = format!(in alloc; "{ESCAPE}{byte:02X}}}")?;
-            text.push_str(number.as_str())?;
-        }
+        add_escaped(&mut text, *byte)?;
     }
     Ok(text)
 }
 
+/// Whether a byte is written by itself.
+fn is_kept(byte: u8) -> bool
+    ensures { result ≡ (nat_lt byte 128 && not (nat_eq byte 92)) }
+{
+    byte.is_ascii() && byte != b'\\'
+}
+
+/// Adds a byte of a name.
+fn add_escaped(text: &mut String, byte: u8) -> Result<(), AllocError>
+    ensures { OnOk result (string_bytes text.new ≡ string_bytes text.old ++ escaped_byte byte) }
+{
+    if is_kept(byte) {
+        return text.push(char::from(byte));
+    }
+    let number = format!(in *text.allocator(); "{ESCAPE}{byte:02X}}}")?;
+    text.push_str(number.as_str())
+}
+
 /// The byte between quotes, as Bison tells it: by an escape where it does not print.
-pub(crate) fn character_text(alloc: Global, byte: u8) -> Result<String, AllocError> {
+pub(crate) fn character_text(alloc: Global, byte: u8) -> Result<String, AllocError>
+    ensures { IfOk result (λ text. IsCharacterText byte (string_bytes text)) }
+{
     let letter = match byte {
         7 => 'a',
         8 => 'b',

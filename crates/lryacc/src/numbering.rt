@@ -1,9 +1,15 @@
 //! The parts of the grammar of a file, with their places.
 
-ghost use Rattle.std.specs.Prelude.{◌≡◌, ◌-◌, [], ◌∷◌, ◌++◌, map, flat_map, slice_get, IfOk, OnOk, IfSome, IsSomeAnd};
+ghost use Rattle.std.specs.Prelude.{◌≡◌, ◌-◌, true, [], ◌∷◌, ◌++◌, map, flat_map, length, slice_get, string_bytes};
+ghost use Rattle.std.specs.Prelude.{IfOk, OnOk, IfSome, IsSomeAnd};
 ghost use Rattle.lryacc.specs.Levels.{IsOfLine, group_of, line_of};
-ghost use Rattle.lryacc.specs.ProductionPlaces.{Adds, ArePlaced, IsPlaced, action_places, body_places};
+ghost use Rattle.lryacc.specs.ProductionPlaces.{Adds, ArePlaced, IsPlaced, action_place, action_places, body_places};
 ghost use Rattle.lryacc.specs.ProductionPlaces.{file_places, parts_before_last, start_rules_of};
+ghost use Rattle.lryacc.specs.BodyProductions.{AddsProduction, AddsProductions, AreOfActions, AreOfBodies, AreOfBody};
+ghost use Rattle.lryacc.specs.BodyProductions.{AreOfFile, AreRelated, AreStartSymbols, IsEmptyProduction, IsOfPart, IsOfPartBefore, IsOfStart};
+ghost use Rattle.lryacc.specs.BodyProductions.{IsRuleOfAction, symbol_parts};
+ghost use Rattle.lryacc.specs.NamedSymbols.{IsNamed, IsTokenText, name_of, names_in};
+ghost use Rattle.lryacc.specs.Numbered.{AddsNumbers, IsNumbered, names_of};
 
 mod token_places;
 
@@ -41,7 +47,10 @@ pub struct FileGrammar {
 
 impl FileGrammar {
     /// No parts.
-    pub(crate) fn empty(alloc: Global) -> FileGrammar {
+    pub(crate) fn empty(alloc: Global) -> FileGrammar
+        ensures rules { result.parts.rules.items ≡ [] }
+        ensures places { result.rule_places.items ≡ [] }
+    {
         FileGrammar {
             parts: GrammarParts {
                 rules: Vec::new(alloc),
@@ -57,7 +66,14 @@ impl FileGrammar {
     }
 
     /// Adds a rule, and answers its number.
-    pub(crate) fn add_rule(&mut self, name: String, place: Span) -> Result<usize, AllocError> {
+    pub(crate) fn add_rule(&mut self, name: String, place: Span) -> Result<usize, AllocError>
+        ensures rules { OnOk result (self.new.parts.rules.items
+            ≡ self.old.parts.rules.items ++ name ∷ []) }
+        ensures places { OnOk result (self.new.rule_places.items
+            ≡ self.old.rule_places.items ++ place ∷ []) }
+        ensures tokens { self.new.parts.tokens ≡ self.old.parts.tokens }
+        ensures number { IfOk result (λ number. number ≡ length self.old.parts.rules.items) }
+    {
         let number = self.parts.rules.len();
         self.parts.rules.push(name)?;
         self.rule_places.push(place)?;
@@ -65,7 +81,14 @@ impl FileGrammar {
     }
 
     /// The same rules and tokens, with these productions.
-    pub(crate) fn with_productions(self, productions: Productions) -> FileGrammar
+    pub(crate) fn with_productions(
+        self,
+        token_places: TokenPlaces,
+        productions: Productions,
+    ) -> FileGrammar
+        ensures rules { result.parts.rules.items ≡ self.parts.rules.items }
+        ensures rule_places { result.rule_places.items ≡ self.rule_places.items }
+        ensures tokens { result.parts.tokens.items ≡ self.parts.tokens.items }
         ensures prods { result.parts.prods.items ≡ productions.prods.items }
         ensures places { result.production_places.items ≡ productions.places.items }
         ensures symbol_places { result.symbol_places.items ≡ productions.symbol_places.items }
@@ -73,7 +96,6 @@ impl FileGrammar {
         let FileGrammar {
             parts,
             rule_places,
-            token_places,
             ..
         } = self;
         FileGrammar {
@@ -86,6 +108,21 @@ impl FileGrammar {
             symbol_places: productions.symbol_places,
             token_places,
         }
+    }
+}
+
+/// Why a file has no productions.
+#[derive(Clone, Copy)]
+pub(crate) enum NoProductions {
+    /// What stands here is no symbol of the grammar, or no rule before a colon.
+    Undefined(Span),
+    /// Memory was refused.
+    Memory,
+}
+
+impl From<AllocError> for NoProductions {
+    fn from(_refused: AllocError) -> NoProductions {
+        NoProductions::Memory
     }
 }
 
@@ -123,7 +160,9 @@ struct PlacedSymbols {
 
 impl PlacedSymbols {
     /// No symbol.
-    fn new(alloc: Global) -> PlacedSymbols {
+    fn new(alloc: Global) -> PlacedSymbols
+        ensures { result.symbols.items ≡ [] }
+    {
         PlacedSymbols {
             symbols: Vec::new(alloc),
             places: Vec::new(alloc),
@@ -131,7 +170,9 @@ impl PlacedSymbols {
     }
 
     /// Adds a symbol that stands at a place.
-    fn add(&mut self, symbol: PartSymbol, place: Span) -> Result<(), AllocError> {
+    fn add(&mut self, symbol: PartSymbol, place: Span) -> Result<(), AllocError>
+        ensures { OnOk result (self.new.symbols.items ≡ self.old.symbols.items ++ symbol ∷ []) }
+    {
         self.symbols.push(symbol)?;
         self.places.push(place)?;
         Ok(())
@@ -147,11 +188,6 @@ fn kind_of(kind: LevelKind) -> AssocKind
         LevelKind::Right => AssocKind::Right,
         LevelKind::Nonassoc | LevelKind::Precedence => AssocKind::Nonassoc,
     }
-}
-
-/// Whether a part is the last one of its body.
-fn is_last(alternative: &Alternative, at: usize) -> bool {
-    at.saturating_add(1) == alternative.parts.len()
 }
 
 /// Whether a symbol is a rule even where no colon stands behind it.
@@ -173,6 +209,31 @@ fn before_last(alternative: &Alternative) -> &[BodyPart]
     }
 }
 
+/// The parts of a body that are symbols of its production: all but an action at its end.
+fn with_symbols(alternative: &Alternative) -> &[BodyPart]
+    ensures { result.now ≡ symbol_parts alternative.now }
+{
+    match alternative.parts.as_slice() {
+        [before @ .., BodyPart::Action(..)] => before,
+        parts => parts,
+    }
+}
+
+/// The symbols of the production of a start rule, behind a token of its own where there are several.
+fn start_symbols(
+    alloc: Global,
+    start: PartSymbol,
+    mark: Option<usize>,
+) -> Result<Vec<PartSymbol>, AllocError>
+    ensures { IfOk result (λ symbols. AreStartSymbols start symbols.items) }
+{
+    let end = PartSymbol::Token(0);
+    Ok(match mark {
+        Some(mark) => vec![in alloc; PartSymbol::Token(mark), start, end]?,
+        None => vec![in alloc; start, end]?,
+    })
+}
+
 /// Where nothing of the file stands.
 fn nowhere() -> Span {
     Span::new(0, 0)
@@ -180,7 +241,10 @@ fn nowhere() -> Span {
 
 impl<'m, 'a> Numbering<'m, 'a> {
     /// No parts.
-    fn new(alloc: Global, meaning: &'m Meaning<'a>) -> Numbering<'m, 'a> {
+    fn new(alloc: Global, meaning: &'m Meaning<'a>) -> Numbering<'m, 'a>
+        ensures meaning { result.meaning.now ≡ meaning.now }
+        ensures numbered { IsNumbered result }
+    {
         Numbering {
             meaning,
             rules: BTreeMap::new(alloc),
@@ -198,15 +262,21 @@ impl<'m, 'a> Numbering<'m, 'a> {
         *self.grammar.rule_places.allocator()
     }
 
-    /// Adds the tokens and the rules, and where declarations have them.
-    fn add_symbols(&mut self, starts: &[Lexeme], contents: &Contents) -> Result<(), AllocError> {
+    /// Adds the tokens and the rules.
+    #[tactic(auto, using(crate::proofs::Numbered::adds_again, crate::proofs::Numbered::adds_none))]
+    fn add_symbols(
+        &mut self,
+        starts: &[Lexeme],
+        alternatives: &[Alternative],
+    ) -> Result<(), AllocError>
+        ensures { OnOk result (AddsNumbers self.old self.new) }
+    {
         self.add_tokens()?;
         self.add_tokens_below()?;
         self.add_without_level()?;
         self.add_marks(starts)?;
-        self.add_rules(contents.alternatives.as_slice())?;
-        self.add_bare_rules()?;
-        self.add_token_places(contents)
+        self.add_rules(alternatives)?;
+        self.add_bare_rules()
     }
 
     /// A symbol of the file.
@@ -216,9 +286,13 @@ impl<'m, 'a> Numbering<'m, 'a> {
         self.meaning.symbols.list.get(number).copied()
     }
 
-    /// Adds the rule of a symbol, unless it is there.
-    fn add_rule_of(&mut self, number: usize, name: Lexeme) -> Result<(), AllocError> {
-        let symbol = self.meaning.canonical(number);
+    /// Adds the rule of the symbol that a lexeme names, unless it is there.
+    fn add_rule_of(&mut self, name: Lexeme) -> Result<(), AllocError>
+        ensures { OnOk result (AddsNumbers self.old self.new) }
+    {
+        let Some(symbol) = self.meaning.find(name) else {
+            return Ok(());
+        };
         if self.rules.get(&symbol).is_some() {
             return Ok(());
         }
@@ -228,21 +302,33 @@ impl<'m, 'a> Numbering<'m, 'a> {
         Ok(())
     }
 
-    /// Adds the rules that names before colons are, and those that actions before the ends of bodies are.
-    fn add_rules(&mut self, alternatives: &[Alternative]) -> Result<(), AllocError> {
+    /// Adds the rule `$accept`.
+    fn add_accept(&mut self) -> Result<(), AllocError>
+        ensures { OnOk result (AddsNumbers self.old self.new) }
+    {
         let accept = String::from_str(self.allocator(), "$accept")?;
         let _ = self.grammar.add_rule(accept, nowhere())?;
+        Ok(())
+    }
+
+    /// Adds the rules that names before colons are, and those that actions before the ends of bodies are.
+    #[tactic(auto, using(crate::proofs::Numbered::adds_again, crate::proofs::Numbered::adds_none))]
+    fn add_rules(&mut self, alternatives: &[Alternative]) -> Result<(), AllocError>
+        ensures { OnOk result (AddsNumbers self.old self.new) }
+    {
+        self.add_accept()?;
         for alternative in alternatives {
-            if let Some(number) = self.meaning.symbols.find(alternative.rule) {
-                self.add_rule_of(number, alternative.rule)?;
-            }
+            self.add_rule_of(alternative.rule)?;
             self.add_actions(alternative)?;
         }
         Ok(())
     }
 
     /// Adds the rules that the actions before the end of a body are.
-    fn add_actions(&mut self, alternative: &Alternative) -> Result<(), AllocError> {
+    #[tactic(auto, using(crate::proofs::Numbered::adds_again, crate::proofs::Numbered::adds_none))]
+    fn add_actions(&mut self, alternative: &Alternative) -> Result<(), AllocError>
+        ensures { OnOk result (AddsNumbers self.old self.new) }
+    {
         let used = used_values(
             self.allocator(),
             &self.meaning.symbols,
@@ -257,7 +343,9 @@ impl<'m, 'a> Numbering<'m, 'a> {
     }
 
     /// Adds the rule that an action is. Its name begins with `@` where its value is used, and else with `$@`.
-    fn add_action(&mut self, action: Lexeme, is_used: bool) -> Result<(), AllocError> {
+    fn add_action(&mut self, action: Lexeme, is_used: bool) -> Result<(), AllocError>
+        ensures { OnOk result (AddsNumbers self.old self.new) }
+    {
         let number = self.actions.len().saturating_add(1);
         let mark = if is_used { "@" } else { "$@" };
         let name = format!(in self.allocator(); "{mark}{number}")?;
@@ -267,11 +355,14 @@ impl<'m, 'a> Numbering<'m, 'a> {
     }
 
     /// Adds the rules that have no body, of symbols that are declared rules, or start symbols.
-    fn add_bare_rules(&mut self) -> Result<(), AllocError> {
+    #[tactic(auto, using(crate::proofs::Numbered::adds_again, crate::proofs::Numbered::adds_none))]
+    fn add_bare_rules(&mut self) -> Result<(), AllocError>
+        ensures { OnOk result (AddsNumbers self.old self.new) }
+    {
         for number in 0..self.meaning.symbols.list.len() {
             if let Some(symbol) = self.known(number) {
                 if is_bare_rule(&symbol) {
-                    self.add_rule_of(number, symbol.mention)?;
+                    self.add_rule_of(symbol.mention)?;
                 }
             }
         }
@@ -280,12 +371,12 @@ impl<'m, 'a> Numbering<'m, 'a> {
 
     /// The level of a token, by either of its names.
     fn level(&self, number: usize) -> Option<usize>
-        ensures { result ≡ line_of self.now.meaning.now.symbols.list.items number }
+        ensures { result ≡ line_of self.now.meaning.now.symbols number }
     {
         let symbol = self.known(number)?;
         let level = match symbol.level {
             Some(level) => Some(level),
-            None => self.known(symbol.partner?)?.level,
+            None => self.known(self.meaning.symbols.partner(number)?)?.level,
         };
         Some(level?.0)
     }
@@ -301,7 +392,7 @@ impl<'m, 'a> Numbering<'m, 'a> {
     /// The precedence of a token: levels are twice as many as in the file, so that there is one below each.
     fn precedence(&self, number: usize) -> Option<Precedence>
         ensures { IfSome result (λ precedence.
-            IsSomeAnd (line_of self.now.meaning.now.symbols.list.items number) (λ line.
+            IsSomeAnd (line_of self.now.meaning.now.symbols number) (λ line.
             IsOfLine self.now.meaning.now.levels.items line precedence)) }
     {
         let level = self.level(number)?;
@@ -313,8 +404,8 @@ impl<'m, 'a> Numbering<'m, 'a> {
     }
 
     /// The name of a symbol by which it is told: of a token with two names it is the text.
-    fn told_name(&self, symbol: Symbol) -> Lexeme {
-        let partner = match symbol.partner {
+    fn told_name(&self, number: usize, symbol: Symbol) -> Lexeme {
+        let partner = match self.meaning.symbols.partner(number) {
             Some(partner) => self.known(partner),
             None => None,
         };
@@ -325,17 +416,21 @@ impl<'m, 'a> Numbering<'m, 'a> {
     }
 
     /// Whether a symbol is the end token because of its name alone.
-    fn is_end_by_name(&self, number: usize, symbol: Symbol) -> bool {
-        self.meaning.end == Some(number) && symbol.code.is_none() && symbol.partner.is_none()
+    fn is_end_by_name(&self, number: usize, symbol: Symbol) -> bool
+        ensures { result ≡ true → slice_get self.now.meaning.now.symbols.list.items number
+            ≡ Some symbol → (names_of self.now).end ≡ Some number }
+    {
+        let has_partner = self.meaning.symbols.partner(number).is_some();
+        self.meaning.end == Some(number) && symbol.code.is_none() && !has_partner
     }
 
     /// The name that a token has in the grammar: as it stands in the file, a character as Bison tells it, and for grmtools always
     /// in quotes.
-    fn token_name(&self, number: usize, symbol: Symbol) -> Result<String, AllocError> {
-        if self.is_end_by_name(number, symbol) {
-            return String::from_str(self.allocator(), END);
-        }
-        let told = self.told_name(symbol);
+    fn token_name(&self, told: Lexeme) -> Result<String, AllocError>
+        ensures { IfOk result (λ name. IsTokenText (names_of self.now).dialect told.kind
+            (name_of (names_of self.now).text (names_of self.now).dialect told)
+            (string_bytes name)) }
+    {
         if let LexemeKind::Character(byte) = told.kind {
             return character_text(self.allocator(), byte);
         }
@@ -351,7 +446,11 @@ impl<'m, 'a> Numbering<'m, 'a> {
         &mut self,
         name: String,
         precedence: Option<Precedence>,
-    ) -> Result<usize, AllocError> {
+    ) -> Result<usize, AllocError>
+        ensures added { OnOk result (AddsNumbers self.old self.new) }
+        ensures number { IfOk result (λ number.
+            slice_get (names_of self.new).tokens number ≡ Some (string_bytes name)) }
+    {
         let number = self.grammar.parts.tokens.len();
         self.grammar
             .parts
@@ -361,19 +460,48 @@ impl<'m, 'a> Numbering<'m, 'a> {
     }
 
     /// Adds the token of a symbol.
-    fn add_token_of(&mut self, number: usize) -> Result<(), AllocError> {
+    fn add_token_of(&mut self, number: usize) -> Result<(), AllocError>
+        ensures { OnOk result (AddsNumbers self.old self.new) }
+    {
         let Some(symbol) = self.known(number) else {
             return Ok(());
         };
-        let name = self.token_name(number, symbol)?;
         let precedence = self.precedence(number);
+        if self.is_end_by_name(number, symbol) {
+            return self.add_end(number, precedence);
+        }
+        self.add_told(self.told_name(number, symbol), precedence)
+    }
+
+    /// Adds the end token where the file gives it no name.
+    fn add_end(&mut self, number: usize, precedence: Option<Precedence>) -> Result<(), AllocError>
+        requires { (names_of self.old).end ≡ Some number }
+        ensures { OnOk result (AddsNumbers self.old self.new) }
+    {
+        let name = String::from_str(self.allocator(), END)?;
+        let token = self.add_token(name, precedence)?;
+        self.tokens.insert(number, token)?;
+        Ok(())
+    }
+
+    /// Adds the token that a lexeme names, by that name.
+    fn add_told(&mut self, told: Lexeme, precedence: Option<Precedence>) -> Result<(), AllocError>
+        ensures { OnOk result (AddsNumbers self.old self.new) }
+    {
+        let Some(number) = self.meaning.find(told) else {
+            return Ok(());
+        };
+        let name = self.token_name(told)?;
         let token = self.add_token(name, precedence)?;
         self.tokens.insert(number, token)?;
         Ok(())
     }
 
     /// Adds the token of a symbol, or one of that name where there is no such symbol.
-    fn add_token_or(&mut self, number: Option<usize>, name: &str) -> Result<(), AllocError> {
+    #[tactic(auto, using(crate::proofs::Numbered::adds_again, crate::proofs::Numbered::adds_none))]
+    fn add_token_or(&mut self, number: Option<usize>, name: &str) -> Result<(), AllocError>
+        ensures { OnOk result (AddsNumbers self.old self.new) }
+    {
         if let Some(number) = number {
             return self.add_token_of(self.meaning.canonical(number));
         }
@@ -383,7 +511,10 @@ impl<'m, 'a> Numbering<'m, 'a> {
     }
 
     /// Adds the tokens that each grammar has: the end token, `error`, and one that stands in no body.
-    fn add_first_tokens(&mut self) -> Result<(), AllocError> {
+    #[tactic(auto, using(crate::proofs::Numbered::adds_again, crate::proofs::Numbered::adds_none))]
+    fn add_first_tokens(&mut self) -> Result<(), AllocError>
+        ensures { OnOk result (AddsNumbers self.old self.new) }
+    {
         self.add_token_or(self.meaning.end, END)?;
         self.add_token_or(self.meaning.symbols.find_name(b"error"), "error")?;
         self.add_token_or(self.meaning.symbols.find_name(b"YYUNDEF"), "$undefined")
@@ -405,7 +536,10 @@ impl<'m, 'a> Numbering<'m, 'a> {
     }
 
     /// Adds the tokens.
-    fn add_tokens(&mut self) -> Result<(), AllocError> {
+    #[tactic(auto, using(crate::proofs::Numbered::adds_again, crate::proofs::Numbered::adds_none))]
+    fn add_tokens(&mut self) -> Result<(), AllocError>
+        ensures { OnOk result (AddsNumbers self.old self.new) }
+    {
         self.add_first_tokens()?;
         let ordered = self.ordered_tokens()?;
         for number in ordered.values() {
@@ -415,7 +549,10 @@ impl<'m, 'a> Numbering<'m, 'a> {
     }
 
     /// Adds a token below the tokens of each `%precedence` line.
-    fn add_tokens_below(&mut self) -> Result<(), AllocError> {
+    #[tactic(auto, using(crate::proofs::Numbered::adds_again, crate::proofs::Numbered::adds_none))]
+    fn add_tokens_below(&mut self) -> Result<(), AllocError>
+        ensures { OnOk result (AddsNumbers self.old self.new) }
+    {
         for at in 0..self.meaning.levels.len() {
             if matches!(self.meaning.levels.get(at), Some(LevelKind::Precedence)) {
                 self.add_token_below(at.saturating_add(1))?;
@@ -425,7 +562,10 @@ impl<'m, 'a> Numbering<'m, 'a> {
     }
 
     /// Adds a token below those of a level.
-    fn add_token_below(&mut self, level: usize) -> Result<(), AllocError> {
+    #[tactic(auto, using(crate::proofs::Numbered::adds_again, crate::proofs::Numbered::adds_none))]
+    fn add_token_below(&mut self, level: usize) -> Result<(), AllocError>
+        ensures { OnOk result (AddsNumbers self.old self.new) }
+    {
         let name = format!(in self.allocator(); "%precedence {level}")?;
         let precedence = Precedence {
             level: (level as u64).saturating_mul(2).saturating_sub(1),
@@ -437,7 +577,10 @@ impl<'m, 'a> Numbering<'m, 'a> {
     }
 
     /// Adds a token without a level, where productions without `%prec` have no precedence, and the unknown token has a level.
-    fn add_without_level(&mut self) -> Result<(), AllocError> {
+    #[tactic(auto, using(crate::proofs::Numbered::adds_again, crate::proofs::Numbered::adds_none))]
+    fn add_without_level(&mut self) -> Result<(), AllocError>
+        ensures { OnOk result (AddsNumbers self.old self.new) }
+    {
         let has_level = match self.grammar.parts.tokens.get(UNDEFINED) {
             Some(token) => token.precedence.is_some(),
             None => false,
@@ -456,7 +599,10 @@ impl<'m, 'a> Numbering<'m, 'a> {
     }
 
     /// Adds the tokens before the start rules, where there are several. Where the file has a token of that name, it is that one.
-    fn add_marks(&mut self, starts: &[Lexeme]) -> Result<(), AllocError> {
+    #[tactic(auto, using(crate::proofs::Numbered::adds_again, crate::proofs::Numbered::adds_none))]
+    fn add_marks(&mut self, starts: &[Lexeme]) -> Result<(), AllocError>
+        ensures { OnOk result (AddsNumbers self.old self.new) }
+    {
         if starts.len() == 1 {
             return Ok(());
         }
@@ -478,7 +624,9 @@ impl<'m, 'a> Numbering<'m, 'a> {
     }
 
     /// The symbol of a body that a lexeme names, if it is one.
-    fn symbol(&self, lexeme: Lexeme) -> Option<PartSymbol> {
+    fn symbol(&self, lexeme: Lexeme) -> Option<PartSymbol>
+        ensures { IsNumbered self.now → IfSome result (IsNamed (names_of self.now) lexeme) }
+    {
         let number = self.meaning.find(lexeme)?;
         if let Some(rule) = self.rules.get(&number) {
             return Some(PartSymbol::Rule(*rule));
@@ -490,16 +638,25 @@ impl<'m, 'a> Numbering<'m, 'a> {
     }
 
     /// The rule before a colon.
-    fn rule_of(&self, name: Lexeme) -> usize {
+    fn rule_of(&self, name: Lexeme) -> Result<usize, NoProductions>
+        requires { IsNumbered self.now }
+        ensures { IfOk result (λ rule. IsNamed (names_of self.now) name (PartSymbol.Rule rule)) }
+    {
         match self.symbol(name) {
-            Some(PartSymbol::Rule(rule)) => rule,
-            _ => 0,
+            Some(PartSymbol::Rule(rule)) => Ok(rule),
+            _ => Err(NoProductions::Undefined(name.span)),
         }
     }
 
     /// The rule that an action before the end of a body is.
-    fn rule_of_action(&self, action: Lexeme) -> usize {
-        self.actions.get(&action.span.start).copied().unwrap_or(0)
+    fn rule_of_action(&self, action: Lexeme) -> Result<usize, NoProductions>
+        requires { IsNumbered self.now }
+        ensures { IfOk result (IsRuleOfAction (names_of self.now) action) }
+    {
+        match self.actions.get(&action.span.start).copied() {
+            Some(rule) => Ok(rule),
+            None => Err(NoProductions::Undefined(action.span)),
+        }
     }
 
     /// Adds the empty productions of the rules that the actions before the end of a body are.
@@ -507,41 +664,77 @@ impl<'m, 'a> Numbering<'m, 'a> {
         &self,
         productions: &mut Productions,
         alternative: &Alternative,
-    ) -> Result<(), AllocError>
-        ensures { OnOk result (Adds productions.old productions.new
+    ) -> Result<(), NoProductions>
+        requires { IsNumbered self.now }
+        ensures places { OnOk result (Adds productions.old productions.new
             (action_places (parts_before_last alternative.now))) }
+        ensures added { OnOk result (AddsProductions productions.old productions.new
+            (AreOfActions (names_of self.now) (parts_before_last alternative.now))) }
     {
-        let alloc = self.allocator();
         for part in before_last(alternative) {
-            if let BodyPart::Action(action, _) = part {
-                let prod = PartProd {
-                    rule: self.rule_of_action(*action),
-                    symbols: Vec::new(alloc),
-                    precedence: None,
-                };
-                productions.add(prod, action.span, Vec::new(alloc))?;
-            }
+            self.add_part(productions, *part)?;
         }
         Ok(())
     }
 
-    /// The symbol that a part of a body is; None for an action at its end.
-    fn symbol_of(&self, part: BodyPart, is_last: bool) -> Option<PartSymbol> {
+    /// Adds the empty production of a part before the end of a body, if that is an action.
+    #[tactic(auto, using(crate::proofs::ProductionsAdded::none_added, crate::proofs::ProductionsAdded::one_added))]
+    fn add_part(&self, productions: &mut Productions, part: BodyPart) -> Result<(), NoProductions>
+        requires { IsNumbered self.now }
+        ensures places { OnOk result (Adds productions.old productions.new (action_place part)) }
+        ensures added { OnOk result (AddsProductions productions.old productions.new
+            (IsOfPartBefore (names_of self.now) part)) }
+    {
         match part {
-            BodyPart::Symbol(name) => self.symbol(name),
-            BodyPart::Action(..) if is_last => None,
-            BodyPart::Action(action, _) => Some(PartSymbol::Rule(self.rule_of_action(action))),
+            BodyPart::Action(action, _) => self.add_empty_production(productions, action),
+            BodyPart::Symbol(_) => Ok(()),
+        }
+    }
+
+    /// Adds the empty production of the rule that an action before the end of a body is.
+    fn add_empty_production(
+        &self,
+        productions: &mut Productions,
+        action: Lexeme,
+    ) -> Result<(), NoProductions>
+        requires { IsNumbered self.now }
+        ensures places { OnOk result (Adds productions.old productions.new (action.span ∷ [])) }
+        ensures added { OnOk result (AddsProduction productions.old productions.new
+            (IsEmptyProduction (names_of self.now) action)) }
+    {
+        let alloc = self.allocator();
+        let prod = PartProd {
+            rule: self.rule_of_action(action)?,
+            symbols: Vec::new(alloc),
+            precedence: None,
+        };
+        productions.add(prod, action.span, Vec::new(alloc))?;
+        Ok(())
+    }
+
+    /// The symbol that a part of a body is.
+    fn symbol_of(&self, part: BodyPart) -> Result<PartSymbol, NoProductions>
+        requires { IsNumbered self.now }
+        ensures { IfOk result (IsOfPart (names_of self.now) part) }
+    {
+        match part {
+            BodyPart::Symbol(name) => match self.symbol(name) {
+                Some(symbol) => Ok(symbol),
+                None => Err(NoProductions::Undefined(name.span)),
+            },
+            BodyPart::Action(action, _) => Ok(PartSymbol::Rule(self.rule_of_action(action)?)),
         }
     }
 
     /// The symbols of a body, and their places.
-    fn body(&self, alternative: &Alternative) -> Result<PlacedSymbols, AllocError> {
+    fn body(&self, alternative: &Alternative) -> Result<PlacedSymbols, NoProductions>
+        requires { IsNumbered self.now }
+        ensures { IfOk result (λ body. AreRelated (IsOfPart (names_of self.now))
+            (symbol_parts alternative.now) body.symbols.items) }
+    {
         let mut body = PlacedSymbols::new(self.allocator());
-        for at in 0..alternative.parts.len() {
-            let part = alternative.parts[at];
-            if let Some(symbol) = self.symbol_of(part, is_last(alternative, at)) {
-                body.add(symbol, part.span())?;
-            }
+        for part in with_symbols(alternative) {
+            body.add(self.symbol_of(*part)?, part.span())?;
         }
         Ok(body)
     }
@@ -587,17 +780,22 @@ impl<'m, 'a> Numbering<'m, 'a> {
         &self,
         productions: &mut Productions,
         alternative: &Alternative,
-    ) -> Result<(), AllocError>
-        ensures { OnOk result (Adds productions.old productions.new (body_places alternative.now)) }
+    ) -> Result<(), NoProductions>
+        requires { IsNumbered self.now }
+        ensures places { OnOk result (Adds productions.old productions.new
+            (body_places alternative.now)) }
+        ensures added { OnOk result (AddsProductions productions.old productions.new
+            (AreOfBody (names_of self.now) alternative.now)) }
     {
         self.add_empty_productions(productions, alternative)?;
         let PlacedSymbols { symbols, places } = self.body(alternative)?;
         let prod = PartProd {
-            rule: self.rule_of(alternative.rule),
+            rule: self.rule_of(alternative.rule)?,
             symbols,
             precedence: self.named_precedence(alternative),
         };
-        productions.add(prod, alternative.span, places)
+        productions.add(prod, alternative.span, places)?;
+        Ok(())
     }
 
     /// Adds the productions of bodies.
@@ -605,9 +803,12 @@ impl<'m, 'a> Numbering<'m, 'a> {
         &self,
         productions: &mut Productions,
         alternatives: &[Alternative],
-    ) -> Result<(), AllocError>
-        ensures { OnOk result (Adds productions.old productions.new
+    ) -> Result<(), NoProductions>
+        requires { IsNumbered self.now }
+        ensures places { OnOk result (Adds productions.old productions.new
             (flat_map body_places alternatives.now)) }
+        ensures added { OnOk result (AddsProductions productions.old productions.new
+            (AreOfBodies (names_of self.now) alternatives.now)) }
     {
         for alternative in alternatives {
             self.add_alternative(productions, alternative)?;
@@ -621,29 +822,36 @@ impl<'m, 'a> Numbering<'m, 'a> {
         productions: &mut Productions,
         start: Lexeme,
         mark: Option<usize>,
-    ) -> Result<(), AllocError>
-        ensures { OnOk result (Adds productions.old productions.new (start.span ∷ [])) }
+    ) -> Result<(), NoProductions>
+        requires { IsNumbered self.now }
+        ensures places { OnOk result (Adds productions.old productions.new (start.span ∷ [])) }
+        ensures added { OnOk result (AddsProduction productions.old productions.new
+            (IsOfStart (names_of self.now) start)) }
     {
         let alloc = self.allocator();
-        let symbol = self.symbol(start).unwrap_or(PartSymbol::Rule(0));
-        let end = PartSymbol::Token(0);
-        let symbols = match mark {
-            Some(mark) => vec![in alloc; PartSymbol::Token(mark), symbol, end]?,
-            None => vec![in alloc; symbol, end]?,
-        };
+        let symbol = self.symbol_of(BodyPart::Symbol(start))?;
+        let symbols = start_symbols(alloc, symbol, mark)?;
         let places = vec![in alloc; start.span; symbols.len()]?;
         let prod = PartProd {
             rule: 0,
             symbols,
             precedence: None,
         };
-        productions.add(prod, start.span, places)
+        productions.add(prod, start.span, places)?;
+        Ok(())
     }
 
     /// Adds the productions of `$accept`.
-    fn add_starts(&self, productions: &mut Productions, starts: &[Lexeme]) -> Result<(), AllocError>
-        ensures { OnOk result (Adds productions.old productions.new
+    fn add_starts(
+        &self,
+        productions: &mut Productions,
+        starts: &[Lexeme],
+    ) -> Result<(), NoProductions>
+        requires { IsNumbered self.now }
+        ensures places { OnOk result (Adds productions.old productions.new
             (map (λ start. start.span) starts.now)) }
+        ensures added { OnOk result (AddsProductions productions.old productions.new
+            (AreRelated (IsOfStart (names_of self.now)) starts.now)) }
     {
         for (at, start) in starts.iter().enumerate() {
             self.add_start(productions, *start, self.marks.get(at).copied())?;
@@ -656,7 +864,10 @@ impl<'m, 'a> Numbering<'m, 'a> {
         &self,
         starts: &[Lexeme],
         alternatives: &[Alternative],
-    ) -> Result<Productions, AllocError>
+    ) -> Result<Productions, NoProductions>
+        requires { IsNumbered self.now }
+        ensures productions { IfOk result (λ all. AreOfFile (names_of self.now) starts.now
+            alternatives.now all.prods.items) }
         ensures places { IfOk result (λ all. all.places.items
             ≡ map (λ start. start.span) starts.now ++ flat_map body_places alternatives.now) }
         ensures placed { IfOk result ArePlaced }
@@ -688,15 +899,23 @@ pub(crate) fn file_grammar(
     alloc: Global,
     meaning: &Meaning<'_>,
     contents: &Contents,
-) -> Result<FileGrammar, AllocError>
+) -> Result<FileGrammar, NoProductions>
     ensures places { IfOk result (λ file. file.production_places.items
         ≡ file_places meaning.now.starts.items contents.now.alternatives.items) }
     ensures placed { IfOk result IsPlaced }
+    ensures productions { IfOk result (λ file. AreOfFile (names_in meaning.now file)
+        (start_rules_of meaning.now.starts.items contents.now.alternatives.items)
+        contents.now.alternatives.items file.parts.prods.items) }
 {
     let alternatives = contents.alternatives.as_slice();
     let starts = start_rules(alloc, meaning, alternatives)?;
     let mut numbering = Numbering::new(alloc, meaning);
-    numbering.add_symbols(starts.as_slice(), contents)?;
+    numbering.add_symbols(starts.as_slice(), alternatives)?;
+    let token_places = numbering.token_places(contents)?;
     let productions = numbering.productions(starts.as_slice(), alternatives)?;
-    Ok(numbering.grammar.with_productions(productions))
+    Ok(
+        numbering
+            .grammar
+            .with_productions(token_places, productions),
+    )
 }

@@ -23,6 +23,7 @@ impl Productions {
     /// No production.
     pub(crate) fn new(alloc: Global) -> Productions
         ensures empty { result.places.items ≡ [] }
+        ensures no_production { result.prods.items ≡ [] }
         ensures none { placed result ≡ [] }
         ensures placed { ArePlaced result }
     {
@@ -41,6 +42,7 @@ impl Productions {
         symbol_places: Vec<Span>,
     ) -> Result<(), AllocError>
         ensures places { OnOk result (Adds self.old self.new (place ∷ [])) }
+        ensures prods { OnOk result (self.new.prods.items ≡ self.old.prods.items ++ prod ∷ []) }
         ensures added { OnOk result (ArePlaced self.old → placed self.new
             ≡ placed self.old ++ placed_at prod place symbol_places.items ∷ []) }
     {

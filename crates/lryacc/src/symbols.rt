@@ -1,5 +1,12 @@
 //! The symbols of a file.
 
+ghost use Rattle.std.specs.Prelude.{◌≡◌, ◌&&◌, IfOk, OnOk};
+ghost use Rattle.std.specs.BTreeMap.{IsEmpty};
+ghost use Rattle.std.specs.Str.{bytes_eq};
+ghost use Rattle.lryacc.specs.NamedSymbols.{is_bison, name_of, number_of, partner_in, text_at};
+ghost use Rattle.lryacc.specs.NamedSymbols.{AddsName, AddsNames, AreApart, HaveNumbers, KeepsSymbols, Pairs};
+
+use crate::contents::{Alternative, BodyPart, Contents, Statement};
 use crate::dialects::Dialect;
 use crate::lexemes::{Lexeme, LexemeKind};
 use crate::places::Span;
@@ -31,8 +38,6 @@ pub(crate) struct Symbol {
     pub(crate) code: Option<u64>,
     /// The precedence line that it stands in, counted from 1, and the line up to where it is named there.
     pub(crate) level: Option<(usize, Span)>,
-    /// The symbol that is its other name.
-    pub(crate) partner: Option<usize>,
     /// Whether a body has it.
     pub(crate) is_used: bool,
     /// Whether `%start` names it.
@@ -52,7 +57,6 @@ impl Symbol {
                 _ => None,
             },
             level: None,
-            partner: None,
             is_used: false,
             is_start: false,
         }
@@ -76,23 +80,33 @@ pub(crate) struct Symbols<'a> {
     pub(crate) dialect: Dialect,
     names: BTreeMap<&'a [u8], usize>,
     characters: BTreeMap<u8, usize>,
+    /// The other name of a symbol that has two, by the number of either.
+    partners: BTreeMap<usize, usize>,
     pub(crate) list: Vec<Symbol>,
 }
 
 impl<'a> Symbols<'a> {
     /// No symbols.
-    pub(crate) fn new(alloc: Global, text: &'a [u8], dialect: Dialect) -> Symbols<'a> {
+    fn new(alloc: Global, text: &'a [u8], dialect: Dialect) -> Symbols<'a>
+        ensures text { result.text.now ≡ text.now }
+        ensures dialect { result.dialect ≡ dialect }
+        ensures apart { HaveNumbers result }
+        ensures single { IsEmpty result.partners }
+    {
         Symbols {
             text,
             dialect,
             names: BTreeMap::new(alloc),
             characters: BTreeMap::new(alloc),
+            partners: BTreeMap::new(alloc),
             list: Vec::new(alloc),
         }
     }
 
     /// The bytes at a place.
-    pub(crate) fn bytes(&self, place: Span) -> &'a [u8] {
+    pub(crate) fn bytes(&self, place: Span) -> &'a [u8]
+        ensures { result.now ≡ text_at self.now.text.now place }
+    {
         let text = self.text;
         text.get(place.start..place.end).unwrap_or(b"")
     }
@@ -106,13 +120,17 @@ impl<'a> Symbols<'a> {
     }
 
     /// Whether a name is one that has a meaning of its own for Bison.
-    fn is_of_bison(&self, name: &[u8], other: &[u8]) -> bool {
+    fn is_of_bison(&self, name: &[u8], other: &[u8]) -> bool
+        ensures { result ≡ (is_bison self.now.dialect && bytes_eq name.now other.now) }
+    {
         self.dialect == Dialect::Bison && name == other
     }
 
     /// The bytes that name a symbol: those of a text to be translated are those of the text, and `YYerror` is `error`. Quotes of
     /// grmtools are no part of a name.
-    pub(crate) fn name(&self, lexeme: Lexeme) -> &'a [u8] {
+    pub(crate) fn name(&self, lexeme: Lexeme) -> &'a [u8]
+        ensures { result.now ≡ name_of self.now.text.now self.now.dialect lexeme }
+    {
         let bytes = self.bytes(lexeme.span);
         match lexeme.kind {
             LexemeKind::TranslatedText => match bytes {
@@ -129,25 +147,36 @@ impl<'a> Symbols<'a> {
         }
     }
 
+    /// The number of the other name of a symbol.
+    pub(crate) fn partner(&self, number: usize) -> Option<usize>
+        ensures { result ≡ partner_in self.now number }
+    {
+        self.partners.get(&number).copied()
+    }
+
+    /// Makes two names those of one symbol.
+    pub(crate) fn pair(&mut self, one: usize, other: usize) -> Result<(), AllocError>
+        ensures { OnOk result (Pairs self.old self.new one other) }
+    {
+        self.partners.insert(one, other)?;
+        self.partners.insert(other, one)?;
+        Ok(())
+    }
+
     /// The number of the symbol that a lexeme names.
-    pub(crate) fn find(&self, lexeme: Lexeme) -> Option<usize> {
+    pub(crate) fn find(&self, lexeme: Lexeme) -> Option<usize>
+        ensures { result ≡ number_of self.now lexeme }
+    {
         match lexeme.kind {
             LexemeKind::Character(byte) => self.characters.get(&byte).copied(),
             _ => self.names.get(&self.name(lexeme)).copied(),
         }
     }
 
-    /// Notes that the symbol is named here, which may be before where it was come by until now.
-    fn mention(&mut self, number: usize, lexeme: Lexeme) {
-        if let Some(symbol) = self.list.get_mut(number) {
-            if lexeme.span.start < symbol.mention.span.start {
-                symbol.mention = lexeme;
-            }
-        }
-    }
-
     /// Takes a symbol for a token, if nothing says what it is.
-    pub(crate) fn take_for_token(&mut self, number: usize) {
+    pub(crate) fn take_for_token(&mut self, number: usize)
+        ensures { KeepsSymbols self.old self.new }
+    {
         if let Some(symbol) = self.list.get_mut(number) {
             if symbol.class == Class::Unknown {
                 symbol.class = Class::Token;
@@ -166,15 +195,118 @@ impl<'a> Symbols<'a> {
         }
     }
 
-    /// The number of the symbol that a lexeme names, which is new where it wasn't named before.
-    pub(crate) fn named(&mut self, lexeme: Lexeme) -> Result<usize, AllocError> {
+    /// All symbols that a file names.
+    pub(crate) fn of(
+        alloc: Global,
+        text: &'a [u8],
+        dialect: Dialect,
+        contents: &Contents,
+    ) -> Result<Symbols<'a>, AllocError>
+        ensures text { IfOk result (λ symbols. symbols.text.now ≡ text.now) }
+        ensures dialect { IfOk result (λ symbols. symbols.dialect ≡ dialect) }
+        ensures apart { IfOk result AreApart }
+        ensures single { IfOk result (λ symbols. IsEmpty symbols.partners) }
+    {
+        let mut symbols = Symbols::new(alloc, text, dialect);
+        symbols.add_statements(contents.statements.as_slice())?;
+        symbols.add_bodies(contents.alternatives.as_slice())?;
+        Ok(symbols)
+    }
+
+    /// Adds the symbols that declarations name.
+    fn add_statements(&mut self, statements: &[Statement]) -> Result<(), AllocError>
+        ensures { OnOk result (AddsNames self.old self.new) }
+    {
+        for statement in statements {
+            self.add_statement(*statement)?;
+        }
+        Ok(())
+    }
+
+    /// Adds the symbols that a declaration names.
+    fn add_statement(&mut self, statement: Statement) -> Result<(), AllocError>
+        ensures { OnOk result (AddsNames self.old self.new) }
+    {
+        match statement {
+            Statement::Rule(symbol) if symbol.kind != LexemeKind::Name => Ok(()),
+            Statement::Alias(symbol, text) => self.add_both(symbol, text),
+            Statement::Token(symbol)
+            | Statement::Rule(symbol)
+            | Statement::Code(symbol, _)
+            | Statement::InLevel(symbol)
+            | Statement::Mention(symbol)
+            | Statement::Tagged(symbol, _)
+            | Statement::LeftSide(symbol)
+            | Statement::NamedPrecedence(symbol)
+            | Statement::Start(symbol) => self.add(symbol),
+            Statement::Level(..)
+            | Statement::NotInRules(_)
+            | Statement::ExpectShiftReduce(_)
+            | Statement::ExpectReduceReduce(_)
+            | Statement::Glr
+            | Statement::DefaultPrecedence(_) => Ok(()),
+        }
+    }
+
+    /// Adds a symbol, and what is to be its other name.
+    fn add_both(&mut self, symbol: Lexeme, text: Lexeme) -> Result<(), AllocError>
+        ensures { OnOk result (AddsNames self.old self.new) }
+    {
+        self.add(symbol)?;
+        self.add(text)
+    }
+
+    /// Adds the symbols of bodies.
+    fn add_bodies(&mut self, alternatives: &[Alternative]) -> Result<(), AllocError>
+        ensures { OnOk result (AddsNames self.old self.new) }
+    {
+        for alternative in alternatives {
+            self.add_body(alternative)?;
+        }
+        Ok(())
+    }
+
+    /// Adds the symbols of a body.
+    fn add_body(&mut self, alternative: &Alternative) -> Result<(), AllocError>
+        ensures { OnOk result (AddsNames self.old self.new) }
+    {
+        for part in &alternative.parts {
+            if let BodyPart::Symbol(symbol) = part {
+                self.add(*symbol)?;
+            }
+        }
+        Ok(())
+    }
+
+    /// Adds the symbol that a lexeme names, or notes that it is named there too.
+    fn add(&mut self, lexeme: Lexeme) -> Result<(), AllocError>
+        ensures { OnOk result (AddsNames self.old self.new) }
+    {
         if let Some(number) = self.find(lexeme) {
             self.mention(number, lexeme);
-            return Ok(number);
+            return Ok(());
         }
         let number = self.list.len();
         let class = self.first_class(lexeme);
         self.list.push(Symbol::new(lexeme, class))?;
+        self.add_name(lexeme, number)
+    }
+
+    /// Notes that the symbol is named here, which may be before where it was come by until now.
+    fn mention(&mut self, number: usize, lexeme: Lexeme)
+        ensures { AddsNames self.old self.new }
+    {
+        if let Some(symbol) = self.list.get_mut(number) {
+            if lexeme.span.start < symbol.mention.span.start {
+                symbol.mention = lexeme;
+            }
+        }
+    }
+
+    /// Gives the name that a lexeme is a number.
+    fn add_name(&mut self, lexeme: Lexeme, number: usize) -> Result<(), AllocError>
+        ensures { OnOk result (AddsName self.old self.new lexeme number) }
+    {
         match lexeme.kind {
             LexemeKind::Character(byte) => {
                 self.characters.insert(byte, number)?;
@@ -184,6 +316,6 @@ impl<'a> Symbols<'a> {
                 self.names.insert(name, number)?;
             }
         }
-        Ok(number)
+        Ok(())
     }
 }

@@ -8,7 +8,7 @@ ghost use Rattle.lryacc.specs.ProductionPlaces.{Adds, ArePlaced, IsPlaced};
 ghost use Rattle.lryacc.specs.Sublists.{IsSublist};
 
 use crate::faults::{Fault, FaultKind};
-use crate::numbering::FileGrammar;
+use crate::numbering::{FileGrammar, TokenPlaces};
 use crate::places::Span;
 use crate::productions::Productions;
 use lrgrammar::grammar::{GrammarParts, PartProd, PartSymbol};
@@ -423,7 +423,6 @@ impl Selection {
         let alloc = self.allocator();
         let mut rules = FileGrammar::empty(alloc);
         mem::swap(&mut rules.parts.tokens, &mut whole.parts.tokens);
-        mem::swap(&mut rules.token_places, &mut whole.token_places);
         for (rule, number) in self.numbers.iter().enumerate() {
             let place = whole.rule_places.get(rule).copied();
             let place = place.unwrap_or(Span::new(0, 0));
@@ -485,7 +484,9 @@ pub(crate) fn without_useless(
     };
     let productions = selection.productions(&whole, &mut useless.productions)?;
     let tokens = selection.useless_tokens(&whole)?;
-    let mut rules = selection.rules(&mut whole, &mut useless.rules)?;
-    rules.token_places.useless = tokens;
-    Ok((rules.with_productions(productions), useless))
+    let rules = selection.rules(&mut whole, &mut useless.rules)?;
+    let mut token_places = TokenPlaces::new(alloc);
+    mem::swap(&mut token_places, &mut whole.token_places);
+    token_places.useless = tokens;
+    Ok((rules.with_productions(token_places, productions), useless))
 }

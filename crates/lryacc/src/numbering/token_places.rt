@@ -103,11 +103,13 @@ fn add_first(
 }
 
 impl<'m, 'a> Numbering<'m, 'a> {
-    /// Adds where declarations have tokens, and what stands behind `%prec`.
-    pub(super) fn add_token_places(&mut self, contents: &Contents) -> Result<(), AllocError> {
-        self.add_declared(contents.statements.as_slice())?;
-        self.leave_out(contents.statements.as_slice());
-        self.add_named(contents.alternatives.as_slice())
+    /// Where declarations have tokens, and what stands behind `%prec`.
+    pub(super) fn token_places(&self, contents: &Contents) -> Result<TokenPlaces, AllocError> {
+        let mut places = TokenPlaces::new(self.allocator());
+        self.add_declared(&mut places, contents.statements.as_slice())?;
+        self.leave_out(&mut places, contents.statements.as_slice());
+        self.add_named(&mut places, contents.alternatives.as_slice())?;
+        Ok(places)
     }
 
     /// The token that a lexeme names.
@@ -119,13 +121,17 @@ impl<'m, 'a> Numbering<'m, 'a> {
     }
 
     /// Adds where declarations have tokens. For grmtools, tokens of bodies are no declarations, and those stand before the rules.
-    fn add_declared(&mut self, statements: &[Statement]) -> Result<(), AllocError> {
+    fn add_declared(
+        &self,
+        places: &mut TokenPlaces,
+        statements: &[Statement],
+    ) -> Result<(), AllocError> {
         for statement in statements {
             match *statement {
-                Statement::Token(name) => self.add_token_place(name)?,
+                Statement::Token(name) => self.add_token_place(places, name)?,
                 Statement::InLevel(name) => {
-                    self.add_token_place(name)?;
-                    self.add_level_place(name)?;
+                    self.add_token_place(places, name)?;
+                    self.add_level_place(places, name)?;
                 }
                 Statement::LeftSide(_) if self.meaning.symbols.dialect == Dialect::Grmtools =>
                     break,
@@ -136,44 +142,51 @@ impl<'m, 'a> Numbering<'m, 'a> {
     }
 
     /// Adds where a declaration has a token.
-    fn add_token_place(&mut self, name: Lexeme) -> Result<(), AllocError> {
-        let token = self.token(name);
-        add_first(&mut self.grammar.token_places.tokens, token, name.span)
+    fn add_token_place(&self, places: &mut TokenPlaces, name: Lexeme) -> Result<(), AllocError> {
+        add_first(&mut places.tokens, self.token(name), name.span)
     }
 
     /// Adds where a precedence line has a token.
-    fn add_level_place(&mut self, name: Lexeme) -> Result<(), AllocError> {
-        let token = self.token(name);
-        add_first(&mut self.grammar.token_places.levels, token, name.span)
+    fn add_level_place(&self, places: &mut TokenPlaces, name: Lexeme) -> Result<(), AllocError> {
+        add_first(&mut places.levels, self.token(name), name.span)
     }
 
     /// Leaves out the tokens that need not be in a rule.
-    fn leave_out(&mut self, statements: &[Statement]) {
+    fn leave_out(&self, places: &mut TokenPlaces, statements: &[Statement]) {
         for statement in statements {
             if let Statement::NotInRules(name) = statement {
                 if let Some(token) = self.token(*name) {
-                    let _ = self.grammar.token_places.tokens.remove(&token);
+                    let _ = places.tokens.remove(&token);
                 }
             }
         }
     }
 
     /// Adds what stands behind `%prec`.
-    fn add_named(&mut self, alternatives: &[Alternative]) -> Result<(), AllocError> {
+    fn add_named(
+        &self,
+        places: &mut TokenPlaces,
+        alternatives: &[Alternative],
+    ) -> Result<(), AllocError> {
         for alternative in alternatives {
             if let Some(name) = alternative.precedence {
-                self.add_named_precedence(name, alternative.span.end)?;
+                self.add_named_precedence(places, name, alternative.span.end)?;
             }
         }
         Ok(())
     }
 
     /// Adds the token behind the `%prec` of a body that ends at a place.
-    fn add_named_precedence(&mut self, name: Lexeme, end: usize) -> Result<(), AllocError> {
+    fn add_named_precedence(
+        &self,
+        places: &mut TokenPlaces,
+        name: Lexeme,
+        end: usize,
+    ) -> Result<(), AllocError> {
         if let Some(token) = self.token(name) {
             let place = name.span;
             let named = NamedPrecedence { token, place };
-            self.grammar.token_places.precedences.insert(end, named)?;
+            places.precedences.insert(end, named)?;
         }
         Ok(())
     }

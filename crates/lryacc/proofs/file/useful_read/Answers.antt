@@ -1,5 +1,7 @@
 use Rattle.std.proofs.Common.{◌≡◌, ℕ, zero, suc, ◌<◌, List, [], ◌∷◌, length, vec_len, refl, ap, arith}
-use Rattle.lryacc.proofs.file.grammar_read.Goals as goal
+use Rattle.lryacc.specs.NamedSymbols.{names_in}
+use Rattle.lryacc.proofs.NamesOfOne.{named-in}
+use Rattle.lryacc.proofs.file.useful_read.Goals as goal
 
 empty : {A : Type 0} (xs : List A) → length xs ≡ 0 → xs ≡ []
 empty [] none = refl
@@ -21,9 +23,19 @@ returns-clause-bodies c =
     let told = c.as_slice-2.result.now in (
       c.args.meaning.now.starts.items,
       record {
-        some = omega (arith, c.requires, bodies.ok.0);
-        whole = c.in_ok-whole.whole;
-        places = c.in_ok-whole.ensures.places;
+        some = omega (arith, c.requires.some, bodies.ok.0);
+        whole = c.args.whole;
+        places = c.requires.places;
+        names = names_in c.args.meaning.now c.args.whole;
+        named = record {
+          text_is = c.requires.text;
+          dialect_is = c.requires.dialect;
+          rules = refl;
+          tokens = refl;
+          starts = refl;
+          one = λ lexeme other number e d. named-in c.args.text.now c.args.dialect c.args.contents.now.statements.items c.args.meaning.now.symbols c.requires.text c.requires.dialect c.requires.apart c.requires.partnered lexeme other number e d;
+        };
+        productions = c.requires.productions;
         useless = useless;
         without = c.in_ok-grammar.ensures.without;
         warned = λ is e.

@@ -1,0 +1,160 @@
+-- rules and tokens are numbered
+use Rattle.std.proofs.Common.{◌≡◌, ℕ, zero, suc, List, [], ◌∷◌, ◌++◌, length, map, Bool, true, false, cond, Option, None, Some, slice_get, refl, ap, sym, ◌∙◌, subst, inl, inr, codes, arith}
+use Rattle.std.specs.BTreeMap.{IsEmpty, get, is_at}
+use Rattle.std.specs.Map.{lookup}
+use Rattle.std.specs.BTreeMap.{BTreeMap}
+use Rattle.std.specs.declared.cmp.Ordering.{Ordering}
+use Rattle.std.specs.declared.cmp.Ordering.TheVariants.{Less, Equal, Greater}
+use Rattle.std.proofs.lemmas.Bool.{false≢true}
+use Rattle.std.proofs.lemmas.Map.Lookups.{exact_unsigned}
+use Rattle.std.proofs.lemmas.Option.{same_Some}
+use Rattle.std.specs.Ordering.{nat_cmp, is_eq}
+use Rattle.std.proofs.lemmas.List.{length-map, length_push, map-append}
+use Rattle.lryacc.specs.declared.numbering.Numbering.{Numbering}
+use Rattle.lryacc.specs.NamedSymbols.{Names, IsRuleOf, IsTokenOf}
+use Rattle.lryacc.specs.Numbered.{AddsNumbers, AreNumbered, IsNumbered}
+
+-- what a list has it has behind more
+pub has-more : {A : Type 0} (xs ys : List A) (n : ℕ) (x : A) → slice_get xs n ≡ Some x → slice_get (xs ++ ys) n ≡ Some x
+has-more [] ys n x e = cc
+has-more (y ∷ xs) ys zero x e = e
+has-more (y ∷ xs) ys (suc n) x e = has-more xs ys n x e
+
+-- the element that was added
+pub has-added : {A : Type 0} (xs : List A) (x : A) → slice_get (xs ++ x ∷ []) (length xs) ≡ Some x
+has-added [] x = refl
+has-added (y ∷ xs) x = has-added xs x
+
+-- the same of what is read of each element
+pub map-more : {A B : Type 0} (f : A → B) (old new : List A) (x : A) → new ≡ old ++ x ∷ [] → (n : ℕ) (y : B) → slice_get (map f old) n ≡ Some y → slice_get (map f new) n ≡ Some y
+map-more f old new x e n y h =
+    let all = ap (map f) e ∙ map-append f old (x ∷ []) in
+    ap (λ xs. slice_get xs n) all ∙ has-more (map f old) (f x ∷ []) n y h
+
+has-map : {A B : Type 0} (f : A → B) (xs : List A) (x : A) → slice_get (map f (xs ++ x ∷ [])) (length xs) ≡ Some (f x)
+has-map f [] x = refl
+has-map f (y ∷ xs) x = has-map f xs x
+
+pub map-added : {A B : Type 0} (f : A → B) (old new : List A) (x : A) → new ≡ old ++ x ∷ [] → slice_get (map f new) (length old) ≡ Some (f x)
+map-added f old new x e =
+    let all = ap (map f) e in
+    ap (λ xs. slice_get xs (length old)) all ∙ has-map f old x
+
+-- keys that are equal are the same
+equal_from_is_eq : (r : Ordering) → is_eq r ≡ true → r ≡ Equal
+equal_from_is_eq Less e = absurd (false≢true e)
+equal_from_is_eq Equal e = refl
+equal_from_is_eq Greater e = absurd (false≢true e)
+
+same_key : (key q : ℕ) → is_at (nat_cmp key) q ≡ true → key ≡ q
+same_key key q e = exact_unsigned key q (equal_from_is_eq (nat_cmp key q) e)
+
+put-at : (P : ℕ → ℕ → Type 0) (old new : ℕ → Option ℕ) (key value q v : ℕ) (at : Bool) → is_at (nat_cmp key) q ≡ at → new q ≡ cond at (Some value) (old q) → P key value → ((q v : ℕ) → old q ≡ Some v → P q v) → new q ≡ Some v → P q v
+put-at P old new key value q v true here is put there e =
+    let same : value ≡ v = same_Some value v (sym is ∙ e) in
+    subst (λ (n : ℕ). P n v) (same_key key q here) (subst (λ (w : ℕ). P key w) same put)
+put-at P old new key value q v false here is put there e = there q v (sym is ∙ e)
+
+-- two lists stay of the same length
+pub lengths-more : {A B C D : Type 0} (f : A → B) (g : C → D) (xs xs' : List A) (ys ys' : List C) (x : A) (y : C) → xs' ≡ xs ++ x ∷ [] → ys' ≡ ys ++ y ∷ [] → length (map f xs) ≡ length (map g ys) → length (map f xs') ≡ length (map g ys')
+lengths-more f g xs xs' ys ys' x y d e same =
+    omega (arith, length-map xs f, length-map xs' f, length-map ys g, length-map ys' g, ap length d, ap length e, length_push xs x, length_push ys y, same)
+
+-- a map has what it had, and what was put in
+pub all-put : (P : ℕ → ℕ → Type 0) (old new : ℕ → Option ℕ) (key value : ℕ) → ((q : ℕ) → new q ≡ cond (is_at (nat_cmp key) q) (Some value) (old q)) → P key value → ((q v : ℕ) → old q ≡ Some v → P q v) → (q v : ℕ) → new q ≡ Some v → P q v
+all-put P old new key value puts put there q v e =
+    put-at P old new key value q v (is_at (nat_cmp key) q) refl (puts q) put there e
+
+-- a list has what another has
+abbrev pub Keeps : {A : Type 0} → List A → List A → Type 0
+Keeps {A} xs ys = (n : ℕ) (x : A) → slice_get xs n ≡ Some x → slice_get ys n ≡ Some x
+
+-- names with more rules and tokens
+abbrev pub with_more : Names → List (List ℕ) → List (List ℕ) → List ℕ → Names
+with_more a rules tokens starts = record a { rules = rules; tokens = tokens; starts = starts }
+
+pub rule-more : (a : Names) (rules tokens : List (List ℕ)) (starts : List ℕ) (number rule : ℕ) → Keeps a.rules rules → IsRuleOf a number rule → IsRuleOf (with_more a rules tokens starts) number rule
+rule-more a rules tokens starts number rule keeps h = record {
+  name = h.name;
+  same = h.same;
+  text = h.text;
+  here = keeps rule h.text h.here;
+  is = h.is;
+}
+
+pub token-more : (a : Names) (rules tokens : List (List ℕ)) (starts : List ℕ) (number token : ℕ) → Keeps a.tokens tokens → IsTokenOf a number token → IsTokenOf (with_more a rules tokens starts) number token
+token-more a rules tokens starts number token keeps (inl h) = inl record {
+  name = h.name;
+  same = h.same;
+  text = h.text;
+  here = keeps token h.text h.here;
+  is = h.is;
+}
+token-more a rules tokens starts number token keeps (inr h) = inr record {
+  end = h.end;
+  is = elim h.is [ inl first ↦ inl first | inr named ↦ inr (keeps token (codes "$end") named) ];
+}
+
+-- rules and tokens that were numbered stay so where others are added
+pub numbered-more : (a : Names) (rules tokens : List (List ℕ)) (starts : List ℕ) (r t s : ℕ → Option ℕ) → Keeps a.rules rules → Keeps a.tokens tokens → Keeps a.starts starts → (length a.starts ≡ length a.rules → length starts ≡ length rules) → AreNumbered a r t s → AreNumbered (with_more a rules tokens starts) r t s
+numbered-more a rules tokens starts r t s keeps_rules keeps_tokens keeps_starts placed h = record {
+  of_rules = λ number rule e. rule-more a rules tokens starts number rule keeps_rules (h.of_rules number rule e);
+  of_tokens = λ number token e. token-more a rules tokens starts number token keeps_tokens (h.of_tokens number token e);
+  of_actions = λ start rule e. keeps_starts rule start (h.of_actions start rule e);
+  placed = placed h.placed;
+}
+
+-- a token has a number
+pub numbered-token : (a : Names) (r t t' s : ℕ → Option ℕ) (number token : ℕ) → ((q : ℕ) → t' q ≡ cond (is_at (nat_cmp number) q) (Some token) (t q)) → IsTokenOf a number token → AreNumbered a r t s → AreNumbered a r t' s
+numbered-token a r t t' s number token puts is h = record {
+  of_rules = h.of_rules;
+  of_tokens = all-put (IsTokenOf a) t t' number token puts is h.of_tokens;
+  of_actions = h.of_actions;
+  placed = h.placed;
+}
+
+-- a rule has a number
+pub numbered-rule : (a : Names) (r r' t s : ℕ → Option ℕ) (number rule : ℕ) → ((q : ℕ) → r' q ≡ cond (is_at (nat_cmp number) q) (Some rule) (r q)) → IsRuleOf a number rule → AreNumbered a r t s → AreNumbered a r' t s
+numbered-rule a r r' t s number rule puts is h = record {
+  of_rules = all-put (IsRuleOf a) r r' number rule puts is h.of_rules;
+  of_tokens = h.of_tokens;
+  of_actions = h.of_actions;
+  placed = h.placed;
+}
+
+-- a rule is that of an action
+pub numbered-action : (a : Names) (r t s s' : ℕ → Option ℕ) (start rule : ℕ) → ((q : ℕ) → s' q ≡ cond (is_at (nat_cmp start) q) (Some rule) (s q)) → slice_get a.starts rule ≡ Some start → AreNumbered a r t s → AreNumbered a r t s'
+numbered-action a r t s s' start rule puts is h = record {
+  of_rules = h.of_rules;
+  of_tokens = h.of_tokens;
+  of_actions = all-put (λ q v. slice_get a.starts v ≡ Some q) s s' start rule puts is h.of_actions;
+  placed = h.placed;
+}
+
+-- nothing is numbered
+none-at : (m : BTreeMap ℕ ℕ) (q v : ℕ) {X : Type 0} → IsEmpty m → get nat_cmp m q ≡ Some v → X
+none-at m q v empty e =
+    let nothing : None ≡ Some v = sym (ap (lookup (is_at (nat_cmp q))) empty) ∙ e in
+    cc
+
+pub numbered-none : (a : Names) (r t s : BTreeMap ℕ ℕ) → IsEmpty r → IsEmpty t → IsEmpty s → length a.starts ≡ length a.rules → AreNumbered a (get nat_cmp r) (get nat_cmp t) (get nat_cmp s)
+numbered-none a r t s no_rule no_token no_action placed = record {
+  of_rules = λ number rule e. none-at r number rule no_rule e;
+  of_tokens = λ number token e. none-at t number token no_token e;
+  of_actions = λ start rule e. none-at s start rule no_action e;
+  placed = placed;
+}
+
+-- nothing was added
+pub adds_none : {old new : Numbering} → new ≡ old → AddsNumbers old new
+adds_none same = record {
+  meaning = ap (λ (n : Numbering). n.meaning.now) same;
+  numbered = λ h. subst IsNumbered (sym same) h;
+}
+
+-- more is added, and then more
+pub adds_again : {old now new : Numbering} → AddsNumbers old now → AddsNumbers now new → AddsNumbers old new
+adds_again one other = record {
+  meaning = other.meaning ∙ one.meaning;
+  numbered = λ h. other.numbered (one.numbered h);
+}

@@ -1,0 +1,41 @@
+use Rattle.std.proofs.Common.{◌∙◌, ap, sym, refl, subst, map, List, ℕ, slice_get, string_bytes}
+use Rattle.std.specs.declared.alloc.Global.{Global}
+use Rattle.std.specs.declared.string.String.{String}
+use Rattle.std.specs.declared.vec.Vec.{Vec}
+use Rattle.lrgrammar.specs.declared.grammar.PartToken.{PartToken}
+use Rattle.lryacc.specs.declared.places.Span.{Span}
+use Rattle.lryacc.specs.NamedSymbols.{IsTextOf}
+use Rattle.lryacc.specs.Numbered.{names_of}
+use Rattle.lryacc.proofs.Numbered.{lengths-more, numbered-rule, numbered-more, map-added, map-more, with_more}
+use Rattle.lryacc.proofs.numbering.Numbering.add_rule_of.Goals as goal
+
+pub returns : goal.returns
+returns c =
+    let rule_name = λ (name : String Global). string_bytes name in
+    let token_name = λ (token : PartToken). string_bytes token.name in
+    let start = λ (place : Span). place.start in
+    let old = c.args.self.now.grammar in
+    let new = c.add_rule.new.self in
+    let added = c.in_ok-rule.ensures in
+    let names = names_of c.args.self.now in
+    let rules = map rule_name new.parts.rules.items in
+    let tokens = map token_name new.parts.tokens.items in
+    let starts = map start new.rule_places.items in
+    record {
+      meaning = refl;
+      numbered = λ h.
+          numbered-rule (with_more names rules tokens starts) _ _ _ _ c.in-Some.symbol c.in_ok-rule.rule (λ q. c.in_ok-insert.ensures.updates.0 q)
+          (record {
+            name = c.args.name;
+            same = sym c.find.ensures ∙ c.in-Some.is;
+            text = string_bytes c.in_ok-text.text;
+            here = ap (slice_get rules) added.number ∙ map-added rule_name old.parts.rules.items new.parts.rules.items c.in_ok-text.text added.rules;
+            is = subst (λ (bytes : List ℕ). IsTextOf bytes (string_bytes c.in_ok-text.text)) c.name.ensures c.in_ok-text.ensures;
+          })
+          (numbered-more names rules tokens starts _ _ _
+          (map-more rule_name old.parts.rules.items new.parts.rules.items c.in_ok-text.text added.rules)
+          (λ n x e. ap (λ (ts : Vec PartToken Global). slice_get (map token_name ts.items) n) added.tokens ∙ e)
+          (map-more start old.rule_places.items new.rule_places.items c.args.name.span added.places)
+          (lengths-more start rule_name old.rule_places.items new.rule_places.items old.parts.rules.items new.parts.rules.items c.args.name.span c.in_ok-text.text added.places added.rules)
+          h);
+    }

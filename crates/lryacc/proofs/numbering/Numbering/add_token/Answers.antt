@@ -1,0 +1,29 @@
+use Rattle.std.proofs.Common.{◌≡◌, refl, ◌∙◌, ap, arith, length, string_bytes}
+use Rattle.std.specs.Prelude.{slice_get, map}
+use Rattle.lrgrammar.specs.declared.grammar.PartToken.{PartToken}
+use Rattle.lryacc.specs.Numbered.{names_of}
+use Rattle.lryacc.proofs.Numbered.{map-added, map-more, numbered-more}
+use Rattle.lryacc.proofs.numbering.Numbering.add_token.Goals as goal
+
+pub returns-clause-added : goal.returns-clause-added
+returns-clause-added c =
+    let name_of_token = λ (token : PartToken). string_bytes token.name in
+    let tokens = c.push.new.self.items in
+    let old = c.args.self.now in
+    let names = names_of old in
+    record {
+      meaning = refl;
+      numbered =
+          numbered-more names names.rules (map name_of_token tokens) names.starts _ _ _ (λ _ _ h. h)
+          (map-more name_of_token old.grammar.parts.tokens.items tokens record { name = c.args.name; precedence = c.args.precedence } c.in_ok-push.ensures.items)
+          (λ _ _ h. h) (λ same. same);
+    }
+
+pub returns-clause-number : goal.returns-clause-number
+returns-clause-number c =
+    let name_of_token = λ (token : PartToken). string_bytes token.name in
+    let tokens = c.push.new.self.items in
+    let old = c.args.self.now.grammar.parts.tokens in
+    let number : c.len-number.result ≡ length old.items = omega (arith, c.len-number.ensures, old.ok.0) in
+    ap (slice_get (map name_of_token tokens)) number
+    ∙ map-added name_of_token c.args.self.now.grammar.parts.tokens.items tokens record { name = c.args.name; precedence = c.args.precedence } c.in_ok-push.ensures.items

@@ -1,0 +1,5 @@
+use Rattle.lryacc.specs.Numbered.{AddsNumbers}
+use Rattle.lryacc.proofs.numbering.Numbering.add_tokens_below.Given as goal
+
+abbrev pub invariant-loop-at : goal.invariant-loop-at
+invariant-loop-at l = AddsNumbers l.initial.self l.self
