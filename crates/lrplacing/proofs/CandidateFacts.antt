@@ -1,55 +1,45 @@
 -- lists of states by fingerprints: looking one up, and adding a state to one
-use Rattle.std.proofs.Common.{◌≡◌, ◌≢◌, ℕ, Bool, true, false, cond, ◌%◌, List, [], ◌∷◌, replicate, inl, inr, Option, None, Some, refl, sym, ap, ◌∙◌, arith}
-use Rattle.std.specs.Prelude.{◌==◌}
+use Rattle.std.proofs.Common.{◌≡◌, ◌≢◌, ℕ, false, List, [], ◌∷◌, ◌++◌, vec_len, Option, None, Some, refl, sym, ap, ◌∙◌, arith}
+use Rattle.std.specs.Prelude.{nat_eq}
 use Rattle.std.specs.declared.vec.Vec.{Vec}
 use Rattle.std.specs.declared.alloc.Global.{Global}
-use Rattle.std.specs.Ordering.{nat_cmp}
 use Rattle.std.specs.Map.{lookup}
-use Rattle.std.specs.BTreeMap.{is_at}
-use Rattle.std.proofs.lemmas.Bool.{cases_lt}
-use Rattle.std.proofs.lemmas.List.{get_or_past, get_or-replicate, length-replicate}
+use Rattle.std.specs.Option.{option_map, unwrap_or, UnwrapsOrElse}
 use Rattle.std.proofs.lemmas.Bool.Decides.{nat_tests}
-use Rattle.lrclosing.proofs.ItemKeys.{cmp_eq}
-use Rattle.lrplacing.specs.CandidatesOf.{StatesByFingerprint, states_by_fingerprint, listed_in, listed_at}
+use Rattle.std.proofs.lemmas.Map.Made.{lookup-map_values}
+use Rattle.lrplacing.specs.CandidatesOf.{candidate_lists, listed_at}
 
 -- a stored list, empty where there is none
 abbrev pub stored_or_empty : Option (Vec ℕ Global) → List ℕ
 stored_or_empty None = []
 stored_or_empty (Some v) = v.items
 
-stored_if : (b : Bool) (v : Vec ℕ Global) (o : Option (Vec ℕ Global)) → stored_or_empty (cond b (Some v) o) ≡ cond b v.items (stored_or_empty o)
-stored_if true v o = refl
-stored_if false v o = refl
+stored_is : (o : Option (Vec ℕ Global)) → stored_or_empty o ≡ unwrap_or (option_map (λ v. v.items) o) []
+stored_is None = refl
+stored_is (Some v) = refl
 
-listed_is : (es : List (ℕ × Vec ℕ Global)) (n : ℕ) → stored_or_empty (lookup (is_at (nat_cmp n)) es) ≡ listed_in (states_by_fingerprint es) n
-listed_is [] n = refl
-listed_is (e ∷ es) n =
-    stored_if (is_at (nat_cmp n) e.0) e.1 (lookup (is_at (nat_cmp n)) es)
-    ∙ rw (cmp_eq n e.0) (ap (cond (n == e.0) e.1.items) (listed_is es n))
-
--- what a look-up finds is what is listed there
-pub list_here :
-    (es : List (ℕ × Vec ℕ Global)) (n : ℕ) (o : Option (Vec ℕ Global)) → o ≡ lookup (is_at (nat_cmp n)) es → stored_or_empty o ≡ listed_in (states_by_fingerprint es) n
-list_here es n o e = ap stored_or_empty e ∙ listed_is es n
+-- what is stored at a fingerprint is what is listed there
+pub stored_listed : (es : List (ℕ × Vec ℕ Global)) (n : ℕ) → stored_or_empty (lookup (nat_eq n) es) ≡ listed_at (candidate_lists es) n
+stored_listed es n = stored_is (lookup (nat_eq n) es) ∙ ap (λ o. unwrap_or o []) (sym (lookup-map_values (λ (v : Vec ℕ Global). v.items) (nat_eq n) es))
 
 -- an update at a fingerprint keeps all other lists
-pub lists_there :
-    (es fs : List (ℕ × Vec ℕ Global)) (n : ℕ) (w : Option (Vec ℕ Global))
-    → ((m : ℕ) → lookup (is_at (nat_cmp m)) fs ≡ cond (is_at (nat_cmp n) m) w (lookup (is_at (nat_cmp m)) es)) → (m : ℕ) → m ≢ n
-    → listed_in (states_by_fingerprint fs) m ≡ listed_in (states_by_fingerprint es) m
-lists_there es fs n w u m f =
-    let other : is_at (nat_cmp n) m ≡ false = cmp_eq n m ∙ not_same n m (λ e. f (sym e)) in
-    let same : lookup (is_at (nat_cmp m)) fs ≡ lookup (is_at (nat_cmp m)) es = rw other at (u m) in
-    sym (listed_is fs m) ∙ ap stored_or_empty same ∙ listed_is es m
+pub listed_there :
+    (es fs : List (ℕ × Vec ℕ Global)) (n m : ℕ) → (nat_eq n m ≡ false → lookup (nat_eq m) fs ≡ lookup (nat_eq m) es) → m ≢ n
+    → listed_at (candidate_lists fs) m ≡ listed_at (candidate_lists es) m
+listed_there es fs n m keeps other =
+    sym (stored_listed fs m) ∙ ap stored_or_empty (keeps (not_same n m (λ e. other (sym e)))) ∙ stored_listed es m
   where
-    not_same : (a b : ℕ) → a ≢ b → (a == b) ≡ false
+    not_same : (a b : ℕ) → a ≢ b → nat_eq a b ≡ false
     not_same a b h = grind (arith, nat_tests)
 
--- maps without states list none
-pub none_in_empty_maps : (m n : ℕ) → listed_at (replicate m []) n ≡ []
-none_in_empty_maps m n = elim (cases_lt (n % 1024) m) [
-  | inl l ↦ let none : StatesByFingerprint = [] in ap (λ (part : StatesByFingerprint). listed_in part n) (get_or-replicate m (n % 1024) none none l)
-  | inr l ↦
-      let none : StatesByFingerprint = [] in
-      ap (λ (part : StatesByFingerprint). listed_in part n) (get_or_past (replicate m none) (n % 1024) none (omega (arith, length-replicate m none)))
-]
+-- a list with a state added, which was empty where there was none
+pub listed_here :
+    (es fs : List (ℕ × Vec ℕ Global)) (n s : ℕ) (o : Option (Vec ℕ Global)) (v w : Vec ℕ Global) → o ≡ lookup (nat_eq n) es
+    → UnwrapsOrElse o (λ x. (x.items ≡ []) × (vec_len x ≡ 0)) v → w.items ≡ v.items ++ s ∷ [] → lookup (nat_eq n) fs ≡ Some w
+    → listed_at (candidate_lists fs) n ≡ listed_at (candidate_lists es) n ++ s ∷ []
+listed_here es fs n s o v w is old pushed new =
+    sym (stored_listed fs n) ∙ ap stored_or_empty new ∙ pushed ∙ ap (λ l. l ++ s ∷ []) (unwrapped o old ∙ ap stored_or_empty is ∙ stored_listed es n)
+  where
+    unwrapped : (p : Option (Vec ℕ Global)) → UnwrapsOrElse p (λ x. (x.items ≡ []) × (vec_len x ≡ 0)) v → v.items ≡ stored_or_empty p
+    unwrapped None h = h.0
+    unwrapped (Some x) h = ap (λ (y : Vec ℕ Global). y.items) h

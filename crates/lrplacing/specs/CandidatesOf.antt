@@ -1,7 +1,9 @@
 -- lists of states by the fingerprints of their cores, as plain data
-use Rattle.std.specs.Prelude.{ℕ, ◌<◌, ◌==◌, List, [], ◌∷◌, map, length, if◌then◌else◌, ◌%◌, slice_index_or}
+use Rattle.std.specs.Prelude.{ℕ, ◌<◌, List, [], map, length, nat_eq}
 use Rattle.std.specs.List.{Contains}
 use Rattle.std.specs.List.Sorted.{IsStrictlyIncreasing}
+use Rattle.std.specs.Map.{lookup}
+use Rattle.std.specs.Option.{unwrap_or}
 use Rattle.std.specs.declared.vec.Vec.{Vec}
 use Rattle.std.specs.declared.alloc.Global.{Global}
 use Rattle.lrspec.specs.grammars.ItemSets.{Items, AreUpwards}
@@ -10,25 +12,16 @@ use Rattle.lrplacing.specs.Construction.{Draft, core_at}
 use Rattle.lritems.specs.Fingerprints.{fingerprint_of}
 
 -- numbers of states, by the fingerprints of their cores
-abbrev pub StatesByFingerprint : Type 0
-StatesByFingerprint = List (ℕ × List ℕ)
+abbrev pub CandidateLists : Type 0
+CandidateLists = List (ℕ × List ℕ)
 
 -- stored lists by numbers
-abbrev pub states_by_fingerprint : List (ℕ × Vec ℕ Global) → StatesByFingerprint
-states_by_fingerprint es = map (λ e. (e.0, e.1.items)) es
+abbrev pub candidate_lists : List (ℕ × Vec ℕ Global) → CandidateLists
+candidate_lists es = map (λ e. (e.0, e.1.items)) es
 
 -- the states listed at a fingerprint
-abbrev pub listed_in : StatesByFingerprint → ℕ → List ℕ
-listed_in [] n = []
-listed_in (e ∷ cs) n = if n == e.0 then e.1 else listed_in cs n
-
--- such lists, in as many parts as fingerprints have remainders
-abbrev pub CandidateLists : Type 0
-CandidateLists = List StatesByFingerprint
-
--- the states listed at a fingerprint, in the part of its remainder
 abbrev pub listed_at : CandidateLists → ℕ → List ℕ
-listed_at parts n = listed_in (slice_index_or parts (n % 1024) []) n
+listed_at cs n = unwrap_or (lookup (nat_eq n) cs) []
 
 -- the lists have each state, at the fingerprint of what has its core's items, and nothing but
 -- states, in order of making
