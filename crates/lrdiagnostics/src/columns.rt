@@ -1,11 +1,12 @@
 //! Columns of a line, and places of a file of which the column is known.
 
-ghost use Rattle.std.specs.Prelude.{◌≡◌, ◌+◌, ◌<◌, ◌≤◌, ◌++◌, length, slice_index, All, IfOk, IfSome, IfNone};
-ghost use Rattle.std.specs.List.{count_by, fold};
+ghost use Rattle.std.specs.Prelude.{◌≡◌, ◌<◌, ◌++◌, length, All, IfOk};
+ghost use Rattle.std.specs.List.{fold};
 ghost use Rattle.std.specs.Str.{IsUtf8, StartsWithNoChar, chars};
-ghost use Rattle.lrdiagnostics.specs.Positions.{is_feed, column_after, EndsBefore};
+ghost use Rattle.lrdiagnostics.specs.Positions.{column_after, EndsBefore};
 ghost use Rattle.lrdiagnostics.specs.KnownColumns.{IsKnown};
 
+use memchr::memrchr;
 use std::alloc::{AllocError, Global};
 use std::str;
 use unicode_width::UnicodeWidthChar;
@@ -69,21 +70,6 @@ pub(crate) fn column_of(bytes: &[u8], from: usize) -> usize
     }
 }
 
-/// The last line feed.
-fn last_feed(bytes: &[u8]) -> Option<usize>
-    ensures none { IfNone result (count_by is_feed bytes.now ≡ 0) }
-    ensures within { IfSome result (λ at. at < length bytes.now) }
-    ensures feed { IfSome result (λ at. slice_index bytes.now at ≡ 10) }
-{
-    let mut last = None;
-    for at in 0..bytes.len() {
-        if bytes[at] == b'\n' {
-            last = Some(at);
-        }
-    }
-    last
-}
-
 impl KnownColumn {
     /// The next one: behind the text that follows, or from its last line feed on, or behind one byte at which no character begins.
     fn next(self, bytes: &[u8]) -> KnownColumn
@@ -101,7 +87,7 @@ impl KnownColumn {
                 column: self.column.saturating_add(1),
             };
         }
-        match last_feed(text.as_bytes()) {
+        match memrchr(b'\n', text.as_bytes()) {
             Some(feed) => KnownColumn {
                 at: self.at + feed + 1,
                 column: 1,

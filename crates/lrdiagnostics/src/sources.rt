@@ -6,6 +6,7 @@ ghost use Rattle.lrdiagnostics.specs.Positions.{AreFeeds, is_feed, line_of, fron
 ghost use Rattle.lrdiagnostics.specs.KnownColumns.{IsKnown};
 
 use crate::columns::{KnownColumn, column_of, known_columns};
+use memchr::memchr_iter;
 use std::alloc::{AllocError, Global};
 
 /// A file: its name, its bytes, where its line feeds stand, and of which places the column is known.
@@ -32,13 +33,7 @@ pub struct Position {
 fn line_feeds(alloc: Global, bytes: &[u8]) -> Result<Vec<usize>, AllocError>
     ensures { IfOk result (λ feeds. AreFeeds bytes.now (length bytes.now) feeds.items) }
 {
-    let mut feeds = Vec::new(alloc);
-    for at in 0..bytes.len() {
-        if bytes[at] == b'\n' {
-            feeds.push(at)?;
-        }
-    }
-    Ok(feeds)
+    memchr_iter(b'\n', bytes).collect(alloc)
 }
 
 impl<'a> Source<'a> {
