@@ -61,11 +61,10 @@ impl Message {
 
 /// What is told of faults.
 pub fn messages_of(alloc: Global, faults: &[Fault]) -> Result<Vec<Message>, AllocError> {
-    let mut messages = Vec::new(alloc);
-    for fault in faults {
-        messages.push(Message::of(alloc, fault)?)?;
-    }
-    Ok(messages)
+    faults
+        .iter()
+        .map(|fault| Message::of(alloc, fault))
+        .try_collect(alloc)
 }
 
 /// A line that was added, with marks under it.
@@ -125,11 +124,8 @@ pub struct Teller<'a> {
 impl Teller<'_> {
     /// The most digits that a number of a line has among the places.
     fn width_of(self, marks: &[Mark]) -> usize {
-        let mut width: usize = 1;
-        for mark in marks {
-            width = width.max(digits(self.source.line(mark.span.start)));
-        }
-        width
+        let lines = marks.iter().map(|mark| self.source.line(mark.span.start));
+        lines.map(digits).max().unwrap_or(1)
     }
 
     /// Adds the line of a place, and answers it.

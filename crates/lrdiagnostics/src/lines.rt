@@ -106,22 +106,14 @@ impl Cells {
 
     /// The column of the first one that begins at a column or behind it.
     fn first_from(&self, column: usize) -> usize {
-        for cell in &self.list {
-            if column <= cell.from {
-                return cell.from;
-            }
-        }
-        self.column
+        let cell = self.list.iter().find(|cell| column <= cell.from);
+        cell.map_or(self.column, |cell| cell.from)
     }
 
     /// The column of what stands at a place, or behind the last one.
     fn column_at(&self, at: usize) -> usize {
-        for cell in &self.list {
-            if at <= cell.at {
-                return cell.from;
-            }
-        }
-        self.column
+        let cell = self.list.iter().find(|cell| at <= cell.at);
+        cell.map_or(self.column, |cell| cell.from)
     }
 }
 
