@@ -56,8 +56,8 @@ new_placed-take numbers prods places symbols i prod place own below p q at_prod 
     ∙ map-append (new_placed numbers) (with_places (take i prods) (take i places) (take i symbols)) (placed_at prod place own.items ∷ [])
 
 -- all productions were looked at
-pub new_placed-all : (numbers : List (Option ℕ)) (prods : List PartProd) (places : List Span) (symbols : List (Vec Span Global)) (i : ℕ) → length prods ≤ i → length places ≡ length prods → length symbols ≡ length prods → map (new_placed numbers) (with_places (take i prods) (take i places) (take i symbols)) ≡ map (new_placed numbers) (with_places prods places symbols)
-new_placed-all numbers prods places symbols i behind p q =
+pub with_places-all : (prods : List PartProd) (places : List Span) (symbols : List (Vec Span Global)) (i : ℕ) → length prods ≤ i → length places ≡ length prods → length symbols ≡ length prods → with_places (take i prods) (take i places) (take i symbols) ≡ with_places prods places symbols
+with_places-all prods places symbols i behind p q =
     let behind_places : length places ≤ i = omega arith in
     let behind_symbols : length symbols ≤ i = omega arith in
     rw (take_all i prods behind, take_all i places behind_places, take_all i symbols behind_symbols) refl

@@ -1,10 +1,9 @@
--- productions that are added, faults by their places, lists out of which elements were taken, what stays of a grammar,
--- delimiters that are passed, bodies that are read, and all of them, names of rules among lexemes, lexemes that are found one
--- after another, gaps that are read byte by byte, rules and tokens that are numbered, productions of bodies, and names of one
--- symbol
+-- productions that are added, faults by their places, sets of rules, what stays of a grammar, delimiters that are passed, bodies
+-- that are read, and all of them, names of rules among lexemes, lexemes that are found one after another, gaps that are read
+-- byte by byte, rules and tokens that are numbered, productions of bodies, and names of one symbol
 pub mod AddedProductions
 pub mod MapsOfFaults
-pub mod Sublists
+pub mod UsefulLemmas
 pub mod PlacedLemmas
 pub mod KeptLemmas
 pub mod DelimitersPassed

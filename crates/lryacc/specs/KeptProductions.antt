@@ -1,13 +1,13 @@
 -- what stays of a grammar out of which rules and productions are taken
-use Rattle.std.specs.Prelude.{◌≡◌, ℕ, List, [], map, length, Option, unwrap_or, slice_get}
-use Rattle.std.specs.List.{filter_map, range_with_len}
+use Rattle.std.specs.Prelude.{◌≡◌, ℕ, List, [], map, length, Bool, Option, is_some, unwrap_or, slice_get, vec_len}
+use Rattle.std.specs.List.{filter, filter_map, range_with_len}
 use Rattle.std.specs.Option.{option_flatten}
 use Rattle.lrspec.specs.grammars.Grammar.{Production, Symbol}
 use Rattle.lrspec.specs.grammars.Grammar.Symbol.{Rule, Token}
 use Rattle.lryacc.specs.declared.numbering.FileGrammar.{FileGrammar}
 use Rattle.lryacc.specs.declared.useful.Useless.{Useless}
 use Rattle.lryacc.specs.PlacedProductions.{PlacedProduction, placed_in}
-use Rattle.lryacc.specs.Sublists.{IsSublist}
+use Rattle.lryacc.specs.UsefulRules.{HasProductive, HasReached, is_useful, productions_in}
 
 -- the rules that stay have the new numbers 0, 1, 2 and so on, in their order
 abbrev pub AreInOrder : List (Option ℕ) → Type 0
@@ -37,11 +37,18 @@ new_production numbers production =
 abbrev pub new_placed : List (Option ℕ) → PlacedProduction → PlacedProduction
 new_placed numbers at = record at { production = new_production numbers at.production }
 
--- the second grammar is the first one out of which something was taken: each of its productions is one of the first, with its
--- symbols and its places, in their order; where nothing was useless, it has all of them
+-- the second grammar is the first one without what is useless: a rule stays, and has a number, where it is reached, and a
+-- production where it is useful, with its symbols and its places, in their order; where nothing is told as useless, all stay
 pub record IsWithout (useless : Useless) (whole kept : FileGrammar) : Type 0 where
   pub numbers : List (Option ℕ)
   pub in_order : AreInOrder numbers
-  pub sublist : IsSublist (placed_in kept) (map (new_placed numbers) (placed_in whole))
+  pub many : length numbers ≡ vec_len whole.parts.rules
+  pub productive : List Bool
+  pub has_productive : HasProductive productive (productions_in whole.parts)
+  pub reached : List Bool
+  pub has_reached : HasReached productive reached (productions_in whole.parts)
+  pub numbered : map is_some numbers ≡ reached
+  pub stay : placed_in kept ≡ map (new_placed numbers)
+      (filter (λ at. is_useful productive reached at.production) (placed_in whole))
   pub all : useless.rules.items ≡ [] → useless.productions.items ≡ []
       → placed_in kept ≡ map (new_placed numbers) (placed_in whole)

@@ -1,7 +1,7 @@
 -- places in a text
 pub mod Spans
--- a list out of which elements were taken
-pub mod Sublists
+-- sets of rules, and which productions are useful by them
+pub mod UsefulRules
 -- where the productions of a file stand
 pub mod ProductionPlaces
 -- what is told of a file

@@ -1,11 +1,14 @@
-//! What of a grammar is useful: the productions that derive a text and are reached from the start.
+//! What of a grammar is useful: the productions that derive a text and are reached from the start. The searches are those for
+//! generating and for reachable symbols (Hopcroft, Motwani and Ullman, "Introduction to Automata Theory", section 7.1): what
+//! they find is checked, and where it lacks a rule, all rules are taken.
 
-ghost use Rattle.std.specs.Prelude.{◌≡◌, [], ◌∷◌, ◌++◌, map, All, IsSome, IfOk, IfSome, OnOk, vec_len};
-ghost use Rattle.lrgrammar.specs.StoredParts.{part_symbol_of};
+ghost use Rattle.std.specs.Prelude.{◌≡◌, [], ◌∷◌, ◌++◌, true, map, All, IsSome, IsTrue, IfOk, IfSome, OnOk, is_some, replicate, vec_len};
+ghost use Rattle.std.specs.List.{filter};
+ghost use Rattle.lrgrammar.specs.StoredParts.{part_production_of, part_symbol_of};
 ghost use Rattle.lryacc.specs.KeptProductions.{AreInOrder, IsWithout, new_number, new_placed, new_symbol};
 ghost use Rattle.lryacc.specs.PlacedProductions.{placed, placed_at, placed_in};
 ghost use Rattle.lryacc.specs.ProductionPlaces.{Adds, ArePlaced, IsPlaced};
-ghost use Rattle.lryacc.specs.Sublists.{IsSublist};
+ghost use Rattle.lryacc.specs.UsefulRules.{HasProductive, HasReached, has, has_all, has_symbol, is_useful, productions_in};
 
 use crate::faults::{Fault, FaultKind};
 use crate::numbering::{FileGrammar, TokenPlaces};
@@ -33,6 +36,16 @@ impl Search {
         })
     }
 
+    /// All rules are found.
+    fn all(alloc: Global, rules: usize) -> Result<Search, AllocError>
+        ensures { IfOk result (λ search. search.found.items ≡ replicate rules true) }
+    {
+        Ok(Search {
+            found: vec![in alloc; true; rules]?,
+            todo: Vec::new(alloc),
+        })
+    }
+
     /// Finds a rule.
     fn find(&mut self, rule: usize) -> Result<(), AllocError> {
         let mut is_new = false;
@@ -46,17 +59,72 @@ impl Search {
         Ok(())
     }
 
-    /// Whether a rule is found.
-    fn has(&self, rule: usize) -> bool {
-        self.found.get(rule).copied().unwrap_or(false)
+    /// Whether a rule is found. A number of no rule is in each set.
+    fn has(&self, rule: usize) -> bool
+        ensures { result ≡ has self.now.found.items rule }
+    {
+        self.found.get(rule).copied().unwrap_or(true)
+    }
+
+    /// Whether a symbol is a token, or a rule that is found.
+    fn has_symbol(&self, symbol: PartSymbol) -> bool
+        ensures { result ≡ has_symbol self.now.found.items (part_symbol_of symbol) }
+    {
+        match symbol {
+            PartSymbol::Rule(rule) => self.has(rule),
+            PartSymbol::Token(_) => true,
+        }
     }
 
     /// Whether all rules among the symbols are found.
-    fn has_all(&self, symbols: &[PartSymbol]) -> bool {
-        symbols.iter().all(|symbol| match symbol {
-            PartSymbol::Rule(rule) => self.has(*rule),
-            PartSymbol::Token(_) => true,
-        })
+    fn has_all(&self, symbols: &[PartSymbol]) -> bool
+        ensures { result ≡ has_all self.now.found.items (map part_symbol_of symbols.now) }
+    {
+        for symbol in symbols {
+            if !self.has_symbol(*symbol) {
+                return false;
+            }
+        }
+        true
+    }
+
+    /// Whether a production is useful where the rules that are found are those that are reached: it is of one of them, and all
+    /// rules in its body are productive.
+    fn is_useful(&self, productive: &Search, prod: &PartProd) -> bool
+        ensures { result ≡ is_useful productive.now.found.items self.now.found.items
+            (part_production_of prod.now) }
+    {
+        self.has(prod.rule) && productive.has_all(prod.symbols.as_slice())
+    }
+
+    /// Whether no rule that derives a text is lacking: one is found where all rules in the body of a production of it are.
+    fn has_productive(&self, parts: &GrammarParts) -> bool
+        ensures { IsTrue result
+            → HasProductive self.now.found.items (productions_in parts.now) }
+    {
+        for prod in &parts.prods {
+            if self.has_all(prod.symbols.as_slice()) {
+                if !self.has(prod.rule) {
+                    return false;
+                }
+            }
+        }
+        true
+    }
+
+    /// Whether no rule that is reached is lacking: rule 0 is found, and the rules behind those that are.
+    fn has_reached(&self, parts: &GrammarParts, productive: &Search) -> bool
+        ensures { IsTrue result
+            → HasReached productive.now.found.items self.now.found.items (productions_in parts.now) }
+    {
+        for prod in &parts.prods {
+            if self.is_useful(productive, prod) {
+                if !self.has_all(prod.symbols.as_slice()) {
+                    return false;
+                }
+            }
+        }
+        self.has(0)
     }
 }
 
@@ -126,8 +194,8 @@ fn add_uses(
     Ok(count)
 }
 
-/// Which rules derive a text.
-fn productive(alloc: Global, parts: &GrammarParts) -> Result<Search, AllocError> {
+/// Searches for the rules that derive a text.
+fn search_productive(alloc: Global, parts: &GrammarParts) -> Result<Search, AllocError> {
     let mut search = Search::new(alloc, parts.rules.len())?;
     let mut uses = uses_of(alloc, parts, &mut search)?;
     find_productive(&mut search, &mut uses, parts)?;
@@ -173,6 +241,17 @@ fn count_down(
     Ok(())
 }
 
+/// Which rules derive a text.
+fn productive(alloc: Global, parts: &GrammarParts) -> Result<Search, AllocError>
+    ensures { IfOk result (λ search. HasProductive search.found.items (productions_in parts.now)) }
+{
+    let search = search_productive(alloc, parts)?;
+    if search.has_productive(parts) {
+        return Ok(search);
+    }
+    Search::all(alloc, parts.rules.len())
+}
+
 /// By rule, its productions.
 fn prods_of_rules(alloc: Global, parts: &GrammarParts) -> Result<Vec<Vec<usize>>, AllocError> {
     let mut by_rule = empty_lists(alloc, parts.rules.len())?;
@@ -182,8 +261,12 @@ fn prods_of_rules(alloc: Global, parts: &GrammarParts) -> Result<Vec<Vec<usize>>
     Ok(by_rule)
 }
 
-/// Which rules are reached from rule 0 over productions that derive a text.
-fn reached(alloc: Global, parts: &GrammarParts, productive: &Search) -> Result<Search, AllocError> {
+/// Searches for the rules that are reached from rule 0 over productions that derive a text.
+fn search_reached(
+    alloc: Global,
+    parts: &GrammarParts,
+    productive: &Search,
+) -> Result<Search, AllocError> {
     let by_rule = prods_of_rules(alloc, parts)?;
     let mut search = Search::new(alloc, parts.rules.len())?;
     find_reached(&mut search, by_rule.as_slice(), parts, productive)?;
@@ -236,9 +319,25 @@ fn find_rules(search: &mut Search, symbols: &[PartSymbol]) -> Result<(), AllocEr
     Ok(())
 }
 
+/// Which rules are reached from rule 0 over productions that derive a text.
+fn reached(alloc: Global, parts: &GrammarParts, productive: &Search) -> Result<Search, AllocError>
+    ensures many { IfOk result (λ search. vec_len search.found ≡ vec_len parts.now.rules) }
+    ensures reached { IfOk result (λ search.
+        HasReached productive.now.found.items search.found.items (productions_in parts.now)) }
+{
+    let search = search_reached(alloc, parts, productive)?;
+    if search.found.len() == parts.rules.len() {
+        if search.has_reached(parts, productive) {
+            return Ok(search);
+        }
+    }
+    Search::all(alloc, parts.rules.len())
+}
+
 /// The new number of each rule that stays.
 fn new_numbers(alloc: Global, kept: &Search) -> Result<Vec<Option<usize>>, AllocError>
-    ensures { IfOk result (λ numbers. AreInOrder numbers.items) }
+    ensures order { IfOk result (λ numbers. AreInOrder numbers.items) }
+    ensures rules { IfOk result (λ numbers. map is_some numbers.items ≡ kept.now.found.items) }
 {
     let mut numbers = Vec::new(alloc);
     let mut next: usize = 0;
@@ -293,7 +392,14 @@ struct Selection {
 impl Selection {
     /// Of the rules of a grammar those stay that derive a text and are reached.
     fn new(alloc: Global, parts: &GrammarParts) -> Result<Selection, AllocError>
-        ensures { IfOk result (λ selection. AreInOrder selection.numbers.items) }
+        ensures order { IfOk result (λ selection. AreInOrder selection.numbers.items) }
+        ensures many { IfOk result (λ selection.
+            vec_len selection.numbers ≡ vec_len parts.now.rules) }
+        ensures productive { IfOk result (λ selection.
+            HasProductive selection.productive.found.items (productions_in parts.now)) }
+        ensures reached { IfOk result (λ selection.
+            HasReached selection.productive.found.items (map is_some selection.numbers.items)
+            (productions_in parts.now)) }
     {
         let productive = productive(alloc, parts)?;
         let kept = reached(alloc, parts, &productive)?;
@@ -314,6 +420,7 @@ impl Selection {
         ensures stays { All (λ number. IsSome number) self.now.numbers.items → IsSome result }
         ensures number { IfSome result (λ number.
             number ≡ new_number self.now.numbers.items rule) }
+        ensures has { is_some result ≡ has (map is_some self.now.numbers.items) rule }
     {
         self.numbers.get(rule).copied().unwrap_or(Some(0))
     }
@@ -350,9 +457,11 @@ impl Selection {
         useless: &mut Vec<Span>,
     ) -> Result<Productions, AllocError>
         requires { IsPlaced whole.now }
-        ensures sublist { IfOk result (λ kept.
-            IsSublist (placed kept)
-            (map (new_placed self.now.numbers.items) (placed_in whole.now))) }
+        ensures stay { IfOk result (λ kept.
+            let stays = is_useful self.now.productive.found.items
+            (map is_some self.now.numbers.items) in
+            placed kept ≡ map (new_placed self.now.numbers.items)
+            (filter (λ at. stays at.production) (placed_in whole.now))) }
         ensures placed { IfOk result ArePlaced }
         ensures all { IfOk result (λ kept.
             All (λ number. IsSome number) self.now.numbers.items → useless.new.items ≡ []
