@@ -37,8 +37,9 @@ new_production numbers production =
 abbrev pub new_placed : List (Option ℕ) → PlacedProduction → PlacedProduction
 new_placed numbers at = record at { production = new_production numbers at.production }
 
--- the second grammar is the first one without what is useless: a rule stays, and has a number, where it is reached, and a
--- production where it is useful, with its symbols and its places, in their order; where nothing is told as useless, all stay
+-- the second grammar is the first one, out of which what is useless was taken. By a set with each productive rule and one with
+-- each rule that is reached, a rule stays, and has a new number, where it is reached, and a production where it is useful, with
+-- its symbols and its places, in their order. Where nothing is told as useless, all stay
 pub record IsWithout (useless : Useless) (whole kept : FileGrammar) : Type 0 where
   pub numbers : List (Option ℕ)
   pub in_order : AreInOrder numbers
