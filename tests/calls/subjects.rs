@@ -42,9 +42,9 @@ pub struct Subject<'a> {
     pub tokens: &'a [TIdx<u32>],
     /// The tree of the first line.
     pub tree: &'a Tree<u32>,
-    pub reasons: &'a Reasons<'a, u32>,
+    pub reasons: &'a Reasons<'a>,
     /// The reasons for all conflicts.
-    pub told: &'a [Reason<u32>],
+    pub told: &'a [Reason],
 }
 
 /// What is done with a subject.
@@ -132,9 +132,9 @@ pub fn tokens(grm: &YaccGrammar<u32>, line: &str) -> Result<Vec<TIdx<u32>>, Allo
 /// The reasons for all conflicts of the table.
 pub fn reasons_of(
     alloc: Global,
-    reasons: &Reasons<'_, u32>,
+    reasons: &Reasons<'_>,
     table: &StateTable<u32>,
-) -> Result<Vec<Reason<u32>>, AllocError> {
+) -> Result<Vec<Reason>, AllocError> {
     match table.conflicts() {
         Some(conflicts) => reasons.reasons(conflicts, STEPS, Examples::Everywhere),
         None => Ok(Vec::new(alloc)),

@@ -3,30 +3,31 @@
 use crate::fixtures::grammar_and_graph;
 use crate::forms::told::conflicts_of;
 use lrambiguity::{Move, Written, read_moves};
+use lrconflicts::Conflict;
 use lrcontests::Contests;
-use lrforms::{Conflict, Forms, Outlook};
+use lrforms::{Forms, Outlook};
 use lrgrammar::grammar::YaccGrammar;
-use lrgrammar::idx::{IndexStorage, PIdx, SIdx, Symbol, TIdx};
+use lrgrammar::idx::{PIdx, SIdx, Symbol, TIdx};
 use std::alloc::{AllocError, Global};
 use std::process::Abort;
 use std::test::Fail;
 
 /// A list of symbols, the token that comes next, and a move that is a candidate there.
 #[derive(Clone, Copy)]
-struct Spot<'a, T: IndexStorage> {
-    grm: &'a YaccGrammar<T>,
-    list: &'a [Symbol<T>],
-    token: TIdx<T>,
-    candidate: Move<T>,
+struct Spot<'a> {
+    grm: &'a YaccGrammar<u32>,
+    list: &'a [Symbol<u32>],
+    token: TIdx<u32>,
+    candidate: Move<u32>,
 }
 
-impl<T: IndexStorage> Spot<'_, T> {
+impl Spot<'_> {
     /// An outlook there has the stated form, and its rest goes with the text of the list.
     fn is_sound(
         &self,
         rt: &impl Abort,
-        input: Option<&Written<T>>,
-        outlook: &Outlook<T>,
+        input: Option<&Written<u32>>,
+        outlook: &Outlook,
     ) -> Result<(), Fail> {
         self.has_items(rt, outlook.items.as_slice())?;
         if let Some(rest) = &outlook.rest {
@@ -42,7 +43,7 @@ impl<T: IndexStorage> Spot<'_, T> {
 
     /// The first item is that of the start production, each further one is below the one before it, and the symbols before the
     /// dots are the list.
-    fn has_items(&self, rt: &impl Abort, items: &[(PIdx<T>, SIdx<T>)]) -> Result<(), Fail> {
+    fn has_items(&self, rt: &impl Abort, items: &[(PIdx<u32>, SIdx<u32>)]) -> Result<(), Fail> {
         let mut before = Vec::new(self.grm.allocator());
         let mut rule = self.grm.prod_to_rule(self.grm.start_prod());
         let last = items.len().checked_sub(1).ok_or("an item")?;
@@ -63,7 +64,7 @@ impl<T: IndexStorage> Spot<'_, T> {
     }
 
     /// The candidate is possible at an item of the production with this symbol behind the dot.
-    fn is_candidate(&self, rt: &impl Abort, production: PIdx<T>, next: Option<Symbol<T>>) {
+    fn is_candidate(&self, rt: &impl Abort, production: PIdx<u32>, next: Option<Symbol<u32>>) {
         match self.candidate {
             Move::Shift => assert!(rt; next == Some(Symbol::Token(self.token))),
             Move::Reduce(reduced) => assert!(rt; reduced == production && next.is_none()),
@@ -72,11 +73,11 @@ impl<T: IndexStorage> Spot<'_, T> {
 }
 
 /// The moves of both read both texts, one behind the other.
-fn is_read<T: IndexStorage>(
+fn is_read(
     rt: &impl Abort,
-    grm: &YaccGrammar<T>,
-    input: &Written<T>,
-    rest: &Written<T>,
+    grm: &YaccGrammar<u32>,
+    input: &Written<u32>,
+    rest: &Written<u32>,
 ) -> Result<(), Fail> {
     let mut tokens = input.tokens.clone()?;
     let mut moves = input.moves.clone()?;
@@ -91,10 +92,10 @@ fn is_read<T: IndexStorage>(
 }
 
 /// Adds the symbols, and a dot at the place.
-fn push_symbols<T: IndexStorage>(
+fn push_symbols(
     told: &mut String,
-    grm: &YaccGrammar<T>,
-    symbols: &[Symbol<T>],
+    grm: &YaccGrammar<u32>,
+    symbols: &[Symbol<u32>],
     dot: usize,
 ) -> Result<(), AllocError> {
     for (place, symbol) in symbols.iter().enumerate() {
@@ -111,10 +112,10 @@ fn push_symbols<T: IndexStorage>(
 }
 
 /// Adds the text; `none` where there is none.
-fn push_text<T: IndexStorage>(
+fn push_text(
     told: &mut String,
-    grm: &YaccGrammar<T>,
-    text: Option<&Written<T>>,
+    grm: &YaccGrammar<u32>,
+    text: Option<&Written<u32>>,
 ) -> Result<(), AllocError> {
     let Some(text) = text else {
         return told.push_str(" none");
@@ -127,10 +128,10 @@ fn push_text<T: IndexStorage>(
 }
 
 /// Adds the items, and then the rest.
-fn push_outlook<T: IndexStorage>(
+fn push_outlook(
     told: &mut String,
-    grm: &YaccGrammar<T>,
-    outlook: &Outlook<T>,
+    grm: &YaccGrammar<u32>,
+    outlook: &Outlook,
 ) -> Result<(), AllocError> {
     for (production, dot) in &outlook.items {
         told.push_str(grm.rule_name_str(grm.prod_to_rule(*production)))?;
@@ -143,10 +144,10 @@ fn push_outlook<T: IndexStorage>(
 }
 
 /// A shortest list after which the conflict is real, and the token that comes next there.
-fn list_of<T: IndexStorage>(
-    contests: &Contests<'_, T>,
-    conflict: &Conflict<T>,
-) -> Result<(Vec<Symbol<T>>, TIdx<T>), AllocError> {
+fn list_of(
+    contests: &Contests<'_, u32>,
+    conflict: &Conflict<u32>,
+) -> Result<(Vec<Symbol<u32>>, TIdx<u32>), AllocError> {
     let Conflict {
         state,
         token,
@@ -161,12 +162,12 @@ fn list_of<T: IndexStorage>(
 
 /// How parses go on at each conflict of the grammar: a least text of the list in a line, and each of the candidates in one
 /// more. All is held to what it must be.
-pub fn continued<T: IndexStorage>(
+pub fn continued(
     rt: &impl Abort,
     alloc: Global,
     text: &str,
 ) -> Result<String, Fail> {
-    let (grm, graph, table) = grammar_and_graph::<T>(alloc, text)?;
+    let (grm, graph, table) = grammar_and_graph::<u32>(alloc, text)?;
     let forms = Forms::new(alloc, &grm, &graph)?;
     let contests = Contests::new(&grm, &graph)?;
     let mut told = String::new(alloc);

@@ -34,7 +34,7 @@ fn forms_of_small_grammars(rt: HostRuntime) -> Result<(), Fail> {
         (EMPTY_AT_THE_END, " a . / a .\n"),
         (TOLD_APART_LATE, "emptied\n"),
     ] {
-        let lines = told::<u8>(&rt, rt.alloc(), text, 1000)?;
+        let lines = told(&rt, rt.alloc(), text, 1000)?;
         is_told(&rt, text, lines.as_str(), wanted);
     }
     Ok(())
@@ -51,7 +51,7 @@ fn forms_are_replayed(rt: HostRuntime) -> Result<(), Fail> {
         (ROUND_WITHOUT_TOKENS, 1),
         (BEHIND_A_NULLABLE, 2),
     ] {
-        let lines = told::<u16>(&rt, rt.alloc(), text, 1000)?;
+        let lines = told(&rt, rt.alloc(), text, 1000)?;
         let found = lines
             .as_str()
             .lines()

@@ -19,7 +19,7 @@ fn long_texts(alloc: Global, rules: usize) -> Result<String, AllocError> {
 
 #[test]
 fn steps_run_out(rt: HostRuntime) -> Result<(), Fail> {
-    let lines = told::<u32>(&rt, rt.alloc(), SUMS_AND_PRODUCTS, 1)?;
+    let lines = told(&rt, rt.alloc(), SUMS_AND_PRODUCTS, 1)?;
     let wanted = "out of steps\nout of steps\nout of steps\nout of steps\n";
     is_told(&rt, "sums", lines.as_str(), wanted);
     Ok(())
@@ -29,10 +29,10 @@ fn steps_run_out(rt: HostRuntime) -> Result<(), Fail> {
 #[test]
 fn long_texts_are_left_out(rt: HostRuntime) -> Result<(), Fail> {
     let text = long_texts(rt.alloc(), 10)?;
-    let lines = told::<u32>(&rt, rt.alloc(), text.as_str(), 1000)?;
+    let lines = told(&rt, rt.alloc(), text.as_str(), 1000)?;
     assert!(rt; lines.as_str().starts_with(" E + E . + E"));
     let text = long_texts(rt.alloc(), 100)?;
-    let lines = told::<u32>(&rt, rt.alloc(), text.as_str(), 1000)?;
+    let lines = told(&rt, rt.alloc(), text.as_str(), 1000)?;
     assert!(rt; !lines.as_str().contains('/'), "{lines}");
     Ok(())
 }
@@ -41,7 +41,7 @@ fn long_texts_are_left_out(rt: HostRuntime) -> Result<(), Fail> {
 #[test]
 fn long_rests_are_left_out(rt: HostRuntime) -> Result<(), Fail> {
     let text = long_texts(rt.alloc(), 100)?;
-    let told = continued::<u32>(&rt, rt.alloc(), text.as_str())?;
+    let told = continued(&rt, rt.alloc(), text.as_str())?;
     let wanted = "after none\n  \
         ^: . E, E: . E + E, E: E + E ., then none\n  \
         ^: . E, E: E + . E, E: E . + E, then none\n";

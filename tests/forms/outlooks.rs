@@ -49,7 +49,7 @@ const TRIES: &str =
 
 /// What is told of the grammar is what is wanted.
 fn goes_on(rt: &impl Abort, alloc: Global, text: &str, wanted: &str) -> Result<(), Fail> {
-    let told = continued::<u8>(rt, alloc, text)?;
+    let told = continued(rt, alloc, text)?;
     is_told(rt, text, told.as_str(), wanted);
     Ok(())
 }
@@ -191,7 +191,7 @@ fn expressions_after_headers(rt: HostRuntime) -> Result<(), Fail> {
 /// Where no text goes on, there is no outlook.
 #[test]
 fn no_way_to_go_on(rt: HostRuntime) -> Result<(), Fail> {
-    let (grm, graph, _table) = grammar_and_graph::<u8>(rt.alloc(), SUMS_AND_PRODUCTS)?;
+    let (grm, graph, _table) = grammar_and_graph::<u32>(rt.alloc(), SUMS_AND_PRODUCTS)?;
     let forms = Forms::new(rt.alloc(), &grm, &graph)?;
     let tokens = tokens(&grm, "+ id")?;
     let [plus, id] = *tokens.as_slice() else {
@@ -219,7 +219,7 @@ fn no_way_to_go_on(rt: HostRuntime) -> Result<(), Fail> {
 
 #[test]
 fn texts_of_symbols(rt: HostRuntime) -> Result<(), Fail> {
-    let (grm, graph, _table) = grammar_and_graph::<u16>(rt.alloc(), BEHIND_NULLABLES)?;
+    let (grm, graph, _table) = grammar_and_graph::<u32>(rt.alloc(), BEHIND_NULLABLES)?;
     let forms = Forms::new(rt.alloc(), &grm, &graph)?;
     // `N U`, of which `N` is the empty text, and `U` is `w`: its production and those of `N`
     let body = grm.prod(PIdx(0)).get(2..).ok_or("symbols")?;

@@ -1,21 +1,22 @@
 //! Moves on a stack, apart from the crate.
 
 use lrambiguity::Move;
-use lrforms::{Ambiguous, Conflict, Ways};
+use lrconflicts::Conflict;
+use lrforms::{Ambiguous, Ways};
 use lrgrammar::grammar::YaccGrammar;
-use lrgrammar::idx::{IndexStorage, StIdx, Symbol};
+use lrgrammar::idx::{StIdx, Symbol};
 use lrtable::StateGraph;
 use std::alloc::AllocError;
 use std::process::Abort;
 use std::test::Fail;
 
 /// Reads a string by moves. `stack` is what was read so far, and `place` how much of the string.
-fn replay<T: IndexStorage>(
-    grm: &YaccGrammar<T>,
-    stack: &mut Vec<Symbol<T>>,
+fn replay(
+    grm: &YaccGrammar<u32>,
+    stack: &mut Vec<Symbol<u32>>,
     place: &mut usize,
-    string: &[Symbol<T>],
-    moves: &[Move<T>],
+    string: &[Symbol<u32>],
+    moves: &[Move<u32>],
 ) -> Result<(), Fail> {
     for step in moves {
         match step {
@@ -38,14 +39,14 @@ fn replay<T: IndexStorage>(
 }
 
 /// Both ways read the string to the rule; what was read before the dot.
-fn read_both<T: IndexStorage>(
+fn read_both(
     rt: &impl Abort,
-    grm: &YaccGrammar<T>,
-    string: &[Symbol<T>],
+    grm: &YaccGrammar<u32>,
+    string: &[Symbol<u32>],
     dot: usize,
-    ways: &Ways<T>,
-    rule: Symbol<T>,
-) -> Result<Vec<Symbol<T>>, Fail> {
+    ways: &Ways,
+    rule: Symbol<u32>,
+) -> Result<Vec<Symbol<u32>>, Fail> {
     let mut before = Vec::new(grm.allocator());
     let mut place = 0;
     replay(grm, &mut before, &mut place, string, ways.before.as_slice())?;
@@ -61,10 +62,10 @@ fn read_both<T: IndexStorage>(
 }
 
 /// The state to which the symbols lead.
-fn state_behind<T: IndexStorage>(
-    graph: &StateGraph<T>,
-    symbols: &[Symbol<T>],
-) -> Result<StIdx<T>, Fail> {
+fn state_behind(
+    graph: &StateGraph<u32>,
+    symbols: &[Symbol<u32>],
+) -> Result<StIdx<u32>, Fail> {
     let mut state = graph.start_state();
     for symbol in symbols {
         state = graph.edge(state, *symbol).ok_or("an edge")?;
@@ -73,13 +74,13 @@ fn state_behind<T: IndexStorage>(
 }
 
 /// Whether both cores have the same items.
-fn are_alike<T: IndexStorage>(graph: &StateGraph<T>, a: StIdx<T>, b: StIdx<T>) -> bool {
+fn are_alike(graph: &StateGraph<u32>, a: StIdx<u32>, b: StIdx<u32>) -> bool {
     let (a, b) = (graph.core_state(a), graph.core_state(b));
     a.items.len() == b.items.len() && a.items.keys().all(|key| b.items.contains_key(key))
 }
 
 /// The tokens as symbols.
-fn symbols_of<T: IndexStorage>(found: &Ambiguous<T>) -> Result<Vec<Symbol<T>>, AllocError> {
+fn symbols_of(found: &Ambiguous) -> Result<Vec<Symbol<u32>>, AllocError> {
     let mut symbols = Vec::new(*found.sentence.tokens.allocator());
     for token in &found.sentence.tokens {
         symbols.push(Symbol::Token(*token))?;
@@ -88,12 +89,12 @@ fn symbols_of<T: IndexStorage>(found: &Ambiguous<T>) -> Result<Vec<Symbol<T>>, A
 }
 
 /// Form and sentence are read both ways, and part at the conflict.
-pub fn is_replayed<T: IndexStorage>(
+pub fn is_replayed(
     rt: &impl Abort,
-    grm: &YaccGrammar<T>,
-    graph: &StateGraph<T>,
-    conflict: &Conflict<T>,
-    found: &Ambiguous<T>,
+    grm: &YaccGrammar<u32>,
+    graph: &StateGraph<u32>,
+    conflict: &Conflict<u32>,
+    found: &Ambiguous,
 ) -> Result<(), Fail> {
     let (form, sentence) = (&found.form, &found.sentence);
     let rule = Symbol::Rule(form.rule);

@@ -2,19 +2,20 @@
 
 use crate::fixtures::grammar_and_graph;
 use crate::forms::replays::is_replayed;
-use lrforms::{Ambiguous, Conflict, Forms, Search};
+use lrconflicts::Conflict;
+use lrforms::{Ambiguous, Forms, Search};
 use lrgrammar::grammar::YaccGrammar;
-use lrgrammar::idx::{IndexStorage, Symbol};
+use lrgrammar::idx::Symbol;
 use lrtable::StateTable;
 use std::alloc::{AllocError, Global};
 use std::process::Abort;
 use std::test::Fail;
 
 /// The conflicts of a table: those with a shift, and then those of two reductions.
-pub fn conflicts_of<T: IndexStorage>(
+pub fn conflicts_of(
     alloc: Global,
-    table: &StateTable<T>,
-) -> Result<Vec<Conflict<T>>, AllocError> {
+    table: &StateTable<u32>,
+) -> Result<Vec<Conflict<u32>>, AllocError> {
     let mut conflicts = Vec::new(alloc);
     let Some(lists) = table.conflicts() else {
         return Ok(conflicts);
@@ -39,7 +40,7 @@ pub fn conflicts_of<T: IndexStorage>(
 }
 
 /// The name of the symbol.
-fn name<T: IndexStorage>(grm: &YaccGrammar<T>, symbol: Symbol<T>) -> &str {
+fn name(grm: &YaccGrammar<u32>, symbol: Symbol<u32>) -> &str {
     match symbol {
         Symbol::Rule(rule) => grm.rule_name_str(rule),
         Symbol::Token(token) => grm.token_name(token).unwrap_or(""),
@@ -47,10 +48,10 @@ fn name<T: IndexStorage>(grm: &YaccGrammar<T>, symbol: Symbol<T>) -> &str {
 }
 
 /// The names of the symbols, with the dot.
-fn push_symbols<T: IndexStorage>(
+fn push_symbols(
     text: &mut String,
-    grm: &YaccGrammar<T>,
-    symbols: impl Iterator<Item = Symbol<T>>,
+    grm: &YaccGrammar<u32>,
+    symbols: impl Iterator<Item = Symbol<u32>>,
     dot: usize,
 ) -> Result<(), AllocError> {
     let mut places = 0;
@@ -66,10 +67,10 @@ fn push_symbols<T: IndexStorage>(
 }
 
 /// The form and the sentence.
-fn push_found<T: IndexStorage>(
+fn push_found(
     text: &mut String,
-    grm: &YaccGrammar<T>,
-    found: &Ambiguous<T>,
+    grm: &YaccGrammar<u32>,
+    found: &Ambiguous,
 ) -> Result<(), AllocError> {
     let (form, sentence) = (&found.form, &found.sentence);
     push_symbols(text, grm, form.symbols.iter().copied(), form.dot)?;
@@ -79,13 +80,13 @@ fn push_found<T: IndexStorage>(
 }
 
 /// What is found at each conflict of the grammar, a line each. What is found is replayed.
-pub fn told<T: IndexStorage>(
+pub fn told(
     rt: &impl Abort,
     alloc: Global,
     text: &str,
     steps: usize,
 ) -> Result<String, Fail> {
-    let (grm, graph, table) = grammar_and_graph::<T>(alloc, text)?;
+    let (grm, graph, table) = grammar_and_graph::<u32>(alloc, text)?;
     let forms = Forms::new(alloc, &grm, &graph)?;
     let mut lines = String::new(alloc);
     for conflict in &conflicts_of(alloc, &table)? {

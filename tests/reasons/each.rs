@@ -266,7 +266,7 @@ fn each_by_itself(rt: HostRuntime) -> Result<(), Fail> {
         OWN_STATE_IS_NOT_ENOUGH,
         LONG_LISTS,
     ] {
-        let printed = each::<u32>(rt.alloc(), grammar, 10_000)?;
+        let printed = each(rt.alloc(), grammar, 10_000)?;
         is_told(&rt, grammar, printed.as_str(), wanted);
     }
     Ok(())

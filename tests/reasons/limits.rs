@@ -38,9 +38,9 @@ const FOUND: &str = r#"   State 4: Shift("+") / Reduce(E: "E" "+" "E")
 #[test]
 fn no_steps(rt: HostRuntime) -> Result<(), Fail> {
     for steps in [0, 1] {
-        let printed = together::<u8>(rt.alloc(), DANGLING_ELSE, steps)?;
+        let printed = together(rt.alloc(), DANGLING_ELSE, steps)?;
         is_told(&rt, DANGLING_ELSE, printed.as_str(), NOT_FOUND);
-        let printed = each::<u16>(rt.alloc(), DANGLING_ELSE, steps)?;
+        let printed = each(rt.alloc(), DANGLING_ELSE, steps)?;
         is_told(&rt, DANGLING_ELSE, printed.as_str(), NOT_FOUND);
     }
     Ok(())
@@ -48,16 +48,16 @@ fn no_steps(rt: HostRuntime) -> Result<(), Fail> {
 
 #[test]
 fn most_steps(rt: HostRuntime) -> Result<(), Fail> {
-    let printed = together::<u32>(rt.alloc(), SUMS, usize::MAX)?;
+    let printed = together(rt.alloc(), SUMS, usize::MAX)?;
     is_told(&rt, SUMS, printed.as_str(), FOUND);
     Ok(())
 }
 
 #[test]
 fn no_conflicts(rt: HostRuntime) -> Result<(), Fail> {
-    let printed = each::<u32>(rt.alloc(), MANY, 10)?;
+    let printed = each(rt.alloc(), MANY, 10)?;
     is_told(&rt, MANY, printed.as_str(), "");
-    let printed = together::<u32>(rt.alloc(), MANY, 10)?;
+    let printed = together(rt.alloc(), MANY, 10)?;
     is_told(&rt, MANY, printed.as_str(), "");
     Ok(())
 }

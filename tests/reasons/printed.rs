@@ -1,14 +1,13 @@
 //! What is printed of the conflicts of a grammar.
 
 use crate::fixtures::grammar_and_graph;
-use lrgrammar::idx::IndexStorage;
 use lrreasons::{Examples, Reasons, take_apart};
 use std::alloc::Global;
 use std::test::Fail;
 
 /// Each reason by itself, with after what its conflict is real, by searches of at most so many steps.
-pub fn each<T: IndexStorage>(alloc: Global, text: &str, steps: usize) -> Result<String, Fail> {
-    let (grm, graph, table) = grammar_and_graph::<T>(alloc, text)?;
+pub fn each(alloc: Global, text: &str, steps: usize) -> Result<String, Fail> {
+    let (grm, graph, table) = grammar_and_graph::<u32>(alloc, text)?;
     let mut printed = String::new(alloc);
     let Some(conflicts) = table.conflicts() else {
         return Ok(printed);
@@ -23,8 +22,8 @@ pub fn each<T: IndexStorage>(alloc: Global, text: &str, steps: usize) -> Result<
 }
 
 /// The reasons together: what is alike is told once, and after what a conflict is real where no ambiguity is found.
-pub fn together<T: IndexStorage>(alloc: Global, text: &str, steps: usize) -> Result<String, Fail> {
-    let (grm, graph, table) = grammar_and_graph::<T>(alloc, text)?;
+pub fn together(alloc: Global, text: &str, steps: usize) -> Result<String, Fail> {
+    let (grm, graph, table) = grammar_and_graph::<u32>(alloc, text)?;
     let Some(conflicts) = table.conflicts() else {
         return Ok(String::new(alloc));
     };

@@ -167,7 +167,7 @@ fn alike_together(rt: HostRuntime) -> Result<(), Fail> {
         SOME_TOKENS,
         SOME_TOKENS_OF_TWO_REDUCTIONS,
     ] {
-        let printed = together::<u32>(rt.alloc(), grammar, 10_000)?;
+        let printed = together(rt.alloc(), grammar, 10_000)?;
         is_told(&rt, grammar, printed.as_str(), wanted);
     }
     Ok(())

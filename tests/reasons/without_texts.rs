@@ -201,7 +201,7 @@ fn rules_without_texts(rt: HostRuntime) -> Result<(), Fail> {
         RULE_AROUND,
         RULE_BEFORE_ANOTHER_TOKEN,
     ] {
-        let printed = each::<u32>(rt.alloc(), grammar, 10_000)?;
+        let printed = each(rt.alloc(), grammar, 10_000)?;
         is_told(&rt, grammar, printed.as_str(), wanted);
     }
     Ok(())

@@ -8,7 +8,7 @@ use Rattle.lrspec.specs.grammars.ItemSets.{Items, HasItem}
 use Rattle.lrspec.specs.merging.Cores.{HasCoreAfter}
 use Rattle.lrspec.specs.merging.Graph.{Graph, core_of}
 use Rattle.lrspec.specs.tables.Machine.{next_token}
-use Rattle.lrambiguity.specs.Moves.{Move, candidate_of, IsTreeBy}
+use Rattle.lrconflicts.specs.Moves.{Move, candidate_of, IsTreeBy}
 use Rattle.lrambiguity.specs.Partings.{Contend, PartAt}
 use Rattle.lrambiguity.specs.Replays.{Reads}
 use Rattle.lrambiguity.proofs.NextMoves.{next_is_candidate}

@@ -8,7 +8,7 @@ use Rattle.lrspec.specs.grammars.Candidates.{IsCandidate}
 use Rattle.lrspec.specs.tables.Machine.{next_token}
 use Rattle.lrspec.proofs.grammars.BodyFacts.{symbol_at_dot}
 use Rattle.lrspec.proofs.grammars.CanonicalItemFacts.{stands_of_looks, stands_production, stands_split}
-use Rattle.lrambiguity.specs.Moves.{Move, Shift, Reduce, candidate_of, moves_of, IsTreeBy}
+use Rattle.lrconflicts.specs.Moves.{Move, Shift, Reduce, candidate_of, moves_of, IsTreeBy}
 use Rattle.lrambiguity.specs.Replays.{Reads}
 use Rattle.lrambiguity.proofs.ReadOnce.{read_once}
 use Rattle.lrambiguity.proofs.NextMoves.{next_is_candidate}

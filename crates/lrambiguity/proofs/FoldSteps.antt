@@ -8,13 +8,13 @@ use Rattle.lrgrammar.specs.declared.idx.RIdx.{RIdx}
 use Rattle.lrgrammar.specs.Symbols.{symbol_of}
 use Rattle.lrspec.specs.grammars.Grammar.{Symbol, Rule, Grammar, body_of, IsProductionOf}
 use Rattle.lrspec.proofs.grammars.BodyFacts.{rule_unique, below_of_production}
-use Rattle.lrmoves.specs.declared.moves.Move as stored-move
+use Rattle.lrconflicts.specs.declared.moves.Move as stored-move
 use Rattle.lrambiguity.specs.declared.derivations.Fold.{Fold}
-use Rattle.lrambiguity.specs.Moves.{Move, Shift, Reduce}
+use Rattle.lrconflicts.specs.Moves.{Move, Shift, Reduce}
 use Rattle.lrambiguity.specs.Derivations as fold
 use Rattle.lrambiguity.specs.Derivations.{Folds, IsDerivedBy}
 use Rattle.lrambiguity.specs.StoredFolds.{stack_of, left_of, HasFolded, Finishes, FoldsOn, CannotFold}
-use Rattle.lrambiguity.specs.StoredMoves.{move_of, moves_stored}
+use Rattle.lrconflicts.specs.StoredMoves.{move_of, moves_stored}
 
 -- moves that go on where others have come to finish it from the beginning on
 pub finishes_whole :

@@ -3,10 +3,10 @@ use Rattle.std.proofs.Common.{◌≡◌, ℕ, Bool, true, false, List, [], ◌�
 use Rattle.std.specs.Prelude.{IsTrue, ◌↔◌, slice_get}
 use Rattle.std.specs.Option.{option_eq}
 use Rattle.lrgrammar.specs.declared.idx.PIdx.{PIdx}
-use Rattle.lrmoves.specs.declared.moves.Move as stored
-use Rattle.lrmoves.specs.declared.moves.Move.TheVariants as code
-use Rattle.lrambiguity.specs.Moves.{Move, Reduce}
-use Rattle.lrambiguity.specs.StoredMoves.{move_of, moves_stored}
+use Rattle.lrconflicts.specs.declared.moves.Move as stored
+use Rattle.lrconflicts.specs.declared.moves.Move.TheVariants as code
+use Rattle.lrconflicts.specs.Moves.{Move, Reduce}
+use Rattle.lrconflicts.specs.StoredMoves.{move_of, moves_stored}
 
 -- moves are tested by kinds, and then by their numbers
 pub record Tests {T : Type 0} (test : T → T → Bool) (both : stored.Move T → stored.Move T → Bool) : Type 0 where

@@ -12,7 +12,7 @@ use Rattle.lrspec.specs.tables.Machine.{next_token}
 use Rattle.lrspec.proofs.grammars.BodyFacts.{rest_next, start_not_before}
 use Rattle.lrspec.proofs.grammars.CanonicalItemFacts.{stands_of_looks, looks_join}
 use Rattle.lrspec.proofs.tables.NextTokens.{child_looks}
-use Rattle.lrambiguity.specs.Moves.{Move, Shift, Reduce, candidate_of, moves_of, forest_moves, IsTreeOfStart}
+use Rattle.lrconflicts.specs.Moves.{Move, Shift, Reduce, candidate_of, moves_of, forest_moves, IsTreeOfStart}
 use Rattle.lrambiguity.specs.Replays.{Reads}
 use Rattle.lrambiguity.proofs.ReadOnce.{read_once}
 

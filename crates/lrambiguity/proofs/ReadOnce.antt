@@ -6,7 +6,7 @@ use Rattle.lrspec.specs.grammars.Trees.{Tree, Forest, Leaf, Node, Bare, And, lea
 use Rattle.lrspec.specs.tables.TreeMachine.{under}
 use Rattle.lrspec.proofs.grammars.BodyFacts.{rule_unique}
 use Rattle.lrspec.proofs.grammars.TreeFacts.{forest_size}
-use Rattle.lrambiguity.specs.Moves.{Move, Shift, Reduce, moves_of, forest_moves}
+use Rattle.lrconflicts.specs.Moves.{Move, Shift, Reduce, moves_of, forest_moves}
 use Rattle.lrambiguity.specs.Replays.{Reads}
 
 -- the trees that moves make of a text behind others: a shift of a text that is used up ends it

@@ -3,7 +3,7 @@ use Rattle.std.proofs.Common.{◌≡◌, ℕ, List, [], ◌∷◌, ◌++◌, len
 use Rattle.lrspec.specs.grammars.Grammar.{Symbol, Rule, Token, Grammar, body_of, IsProductionOf}
 use Rattle.lrspec.specs.grammars.Trees.{Tree, Forest, Leaf, Node, Bare, And, leaves, forest_leaves, joined, size, token, production, bare, and}
 use Rattle.lrspec.proofs.grammars.TreeFacts.{leaves_pushed, node_leaves, forest_joined, forest_parts, forest_alone}
-use Rattle.lrambiguity.specs.Moves.{Move, Shift, Reduce, moves_of, forest_moves, IsTreeBy}
+use Rattle.lrconflicts.specs.Moves.{Move, Shift, Reduce, moves_of, forest_moves, IsTreeBy}
 use Rattle.lrambiguity.specs.Replays.{Reads}
 
 -- the moves of trees in a row, one list after the other

@@ -18,10 +18,10 @@ use Rattle.lrspec.proofs.tables.MachineStacks.{start_body}
 use Rattle.lrtable.specs.RunAnswers.{text_of}
 use Rattle.lrtree.specs.declared.trees.Tree.{Tree}
 use Rattle.lrtree.specs.StoredTrees.{tree_of, forest_of}
-use Rattle.lrmoves.specs.declared.moves.Move as stored
+use Rattle.lrconflicts.specs.declared.moves.Move as stored
 use Rattle.lrambiguity.specs.declared.replays.Replay.{Replay}
-use Rattle.lrambiguity.specs.Moves.{Move, Shift, Reduce, IsTreeBy, HasNoTree}
-use Rattle.lrambiguity.specs.StoredMoves.{move_of, moves_stored}
+use Rattle.lrconflicts.specs.Moves.{Move, Shift, Reduce, IsTreeBy, HasNoTree}
+use Rattle.lrconflicts.specs.StoredMoves.{move_of, moves_stored}
 use Rattle.lrambiguity.specs.StoredReplays.{roots_of, HasMade, HasMadeSome, Makes}
 use Rattle.lrambiguity.specs.Replays.{Reads}
 use Rattle.lrambiguity.specs.Inputs.{IsReadAs}

@@ -11,10 +11,10 @@ use Rattle.lrspec.specs.tables.LrTables.{HasNoPrecedences, ListsNothing}
 use Rattle.lrspec.proofs.tables.ExactWithoutPrecedences.{recognises_without_precedences}
 use Rattle.lrtree.specs.declared.trees.Tree.{Tree}
 use Rattle.lrtree.specs.StoredTrees.{tree_of}
-use Rattle.lrmoves.specs.declared.moves.Move as stored
-use Rattle.lrmoves.specs.declared.moves.Move.TheVariants as code
-use Rattle.lrambiguity.specs.Moves.{Move, moves_of, IsTreeBy, IsTreeOfText}
-use Rattle.lrambiguity.specs.StoredMoves.{move_of, moves_stored}
+use Rattle.lrconflicts.specs.declared.moves.Move as stored
+use Rattle.lrconflicts.specs.declared.moves.Move.TheVariants as code
+use Rattle.lrconflicts.specs.Moves.{Move, moves_of, IsTreeBy, IsTreeOfText}
+use Rattle.lrconflicts.specs.StoredMoves.{move_of, moves_stored}
 use Rattle.lrambiguity.specs.StoredAmbiguities.{AreTreesBy}
 
 -- a tree that moves put together is one of a sentence

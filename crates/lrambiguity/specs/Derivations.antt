@@ -1,7 +1,7 @@
 -- derivations of symbols, by moves
 use Rattle.std.specs.Prelude.{ℕ, List, [], ◌∷◌, ◌++◌}
 use Rattle.lrspec.specs.grammars.Grammar.{Symbol, Rule, Grammar, body_of, IsProductionOf}
-use Rattle.lrambiguity.specs.Moves.{Move, Shift, Reduce}
+use Rattle.lrconflicts.specs.Moves.{Move, Shift, Reduce}
 
 -- the moves read symbols and fold them onto a stack: a shift puts the next symbol on it, and a reduction puts the rule of a
 -- production in the place of its body

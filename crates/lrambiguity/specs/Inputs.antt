@@ -3,7 +3,7 @@ use Rattle.std.specs.Prelude.{◌≡◌, ℕ, List, ◌∷◌, ◌++◌}
 use Rattle.lrspec.specs.grammars.Grammar.{Symbol, Grammar}
 use Rattle.lrspec.specs.grammars.Trees.{Tree, Forest}
 use Rattle.lrspec.specs.tables.Machine.{next_token}
-use Rattle.lrambiguity.specs.Moves.{Move, IsTreeBy}
+use Rattle.lrconflicts.specs.Moves.{Move, IsTreeBy}
 use Rattle.lrambiguity.specs.Replays.{Reads}
 
 -- the list derives the text by these moves

@@ -1,5 +1,4 @@
--- moves, and what they read
-pub mod Moves
+-- what moves read
 pub mod Replays
 pub mod Inputs
 pub mod Derivations
@@ -8,7 +7,6 @@ pub mod Nesting
 -- where trees part
 pub mod Partings
 -- how the code stores them
-pub mod StoredMoves
 pub mod StoredReplays
 pub mod StoredAmbiguities
 pub mod StoredFolds

@@ -6,7 +6,7 @@ use Rattle.lrspec.specs.merging.Cores.{HasCoreAfter}
 use Rattle.lrspec.specs.grammars.Trees.{Forest}
 use Rattle.lrspec.specs.merging.Graph.{Graph, core_of}
 use Rattle.lrspec.specs.tables.Machine.{next_token}
-use Rattle.lrambiguity.specs.Moves.{Move, candidate_of}
+use Rattle.lrconflicts.specs.Moves.{Move, candidate_of}
 use Rattle.lrambiguity.specs.Replays.{Reads}
 
 -- after a list with the core of the state `s` both moves can be made on the token `t`

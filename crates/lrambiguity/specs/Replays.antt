@@ -2,7 +2,7 @@
 use Rattle.std.specs.Prelude.{◌≡◌, ℕ, List}
 use Rattle.lrspec.specs.grammars.Grammar.{Symbol, Grammar}
 use Rattle.lrspec.specs.grammars.Trees.{Forest, forest_leaves, IsForest}
-use Rattle.lrambiguity.specs.Moves.{Move, forest_moves}
+use Rattle.lrconflicts.specs.Moves.{Move, forest_moves}
 
 -- these moves read the text as the trees in a row, whose roots are the symbols
 pub record Reads (g : Grammar) (ms : List Move) (text : List ℕ) (w : List Symbol) (ts : Forest)

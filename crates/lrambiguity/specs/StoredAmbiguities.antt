@@ -8,13 +8,13 @@ use Rattle.lrspec.specs.grammars.Trees as math
 use Rattle.lrtable.specs.RunAnswers.{text_of}
 use Rattle.lrtree.specs.declared.trees.Tree.{Tree}
 use Rattle.lrtree.specs.StoredTrees.{tree_of}
-use Rattle.lrmoves.specs.declared.moves.Move as stored
+use Rattle.lrconflicts.specs.declared.moves.Move as stored
 use Rattle.lrambiguity.specs.declared.ambiguities.Ambiguity.{Ambiguity}
-use Rattle.lrambiguity.specs.Moves.{IsTreeBy}
+use Rattle.lrconflicts.specs.Moves.{IsTreeBy}
 use Rattle.lrspec.specs.merging.Graph.{Graph}
 use Rattle.lrambiguity.specs.declared.partings.Contest.{Contest}
 use Rattle.lrambiguity.specs.Partings.{PartAt}
-use Rattle.lrambiguity.specs.StoredMoves.{move_of, moves_stored}
+use Rattle.lrconflicts.specs.StoredMoves.{move_of, moves_stored}
 
 -- both trees are of the text, by the moves before and one of the two lists behind them, the first moves of which differ
 pub record AreTreesBy {T : Type 0} (number : T → ℕ) (g : Grammar) (text : List (TIdx T))

@@ -4,7 +4,7 @@ use Rattle.lrgrammar.specs.declared.idx.Symbol as stored
 use Rattle.lrgrammar.specs.Symbols.{symbol_of}
 use Rattle.lrspec.specs.grammars.Grammar.{Symbol, Rule, Grammar, body_of, IsProductionOf}
 use Rattle.lrambiguity.specs.declared.derivations.Fold.{Fold}
-use Rattle.lrambiguity.specs.Moves.{Move, Shift, Reduce}
+use Rattle.lrconflicts.specs.Moves.{Move, Shift, Reduce}
 use Rattle.lrambiguity.specs.Derivations.{Folds}
 
 -- the stack

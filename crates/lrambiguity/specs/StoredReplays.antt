@@ -5,7 +5,7 @@ use Rattle.lrspec.specs.grammars.Trees.{IsForest}
 use Rattle.lrgrammar.specs.Symbols.{symbol_of}
 use Rattle.lrtree.specs.StoredTrees.{forest_of}
 use Rattle.lrambiguity.specs.declared.replays.Replay.{Replay}
-use Rattle.lrambiguity.specs.Moves.{Move, HasNoTree}
+use Rattle.lrconflicts.specs.Moves.{Move, HasNoTree}
 use Rattle.lrambiguity.specs.Replays.{Reads}
 
 -- the roots of the trees

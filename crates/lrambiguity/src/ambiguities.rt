@@ -6,14 +6,14 @@ ghost use Rattle.lrspec.specs.tables.Table.{Table, IsTableFor};
 ghost use Rattle.lrspec.specs.tables.LrTables.{HasNoPrecedences, ListsNothing};
 ghost use Rattle.lrtable.specs.RunAnswers.{text_of};
 ghost use Rattle.lrtree.specs.StoredTrees.{tree_of};
-ghost use Rattle.lrambiguity.specs.Moves.{HasNoTree, IsTreeBy, IsTreeOfText};
-ghost use Rattle.lrambiguity.specs.StoredMoves.{moves_stored};
+ghost use Rattle.lrconflicts.specs.Moves.{HasNoTree, IsTreeBy, IsTreeOfText};
+ghost use Rattle.lrconflicts.specs.StoredMoves.{moves_stored};
 ghost use Rattle.lrambiguity.specs.StoredAmbiguities.{AreTreesBy, BeginAlike, IsAmbiguity, IsGiven};
 
 use crate::reading::read_moves;
+use lrconflicts::{Move, differ_at_once};
 use lrgrammar::grammar::YaccGrammar;
 use lrgrammar::idx::{IndexStorage, TIdx};
-use lrmoves::{Move, differ_at_once};
 use lrtree::Tree;
 use std::alloc::{AllocError, Global};
 

@@ -6,13 +6,13 @@ ghost use Rattle.lrspec.specs.grammars.Grammar.{Grammar};
 ghost use Rattle.lrgrammar.specs.declared.idx.Symbol as stored;
 ghost use Rattle.lrgrammar.specs.Symbols.{symbol_of};
 ghost use Rattle.lrambiguity.specs.Derivations.{IsDerivedBy};
-ghost use Rattle.lrambiguity.specs.Moves as plain;
+ghost use Rattle.lrconflicts.specs.Moves as plain;
 ghost use Rattle.lrambiguity.specs.StoredFolds.{stack_of, HasFolded, FoldsOn, CannotFold};
-ghost use Rattle.lrambiguity.specs.StoredMoves.{move_of, moves_stored};
+ghost use Rattle.lrconflicts.specs.StoredMoves.{move_of, moves_stored};
 
+use lrconflicts::Move;
 use lrgrammar::grammar::YaccGrammar;
 use lrgrammar::idx::{IndexStorage, PIdx, RIdx, Symbol};
-use lrmoves::Move;
 use std::alloc::{AllocError, Global};
 
 /// Whether the rule is the only symbol of the list.

@@ -5,16 +5,16 @@ ghost use Rattle.lrspec.specs.tables.Machine.{next_token};
 ghost use Rattle.lrgrammar.specs.Symbols.{symbol_of};
 ghost use Rattle.lrtable.specs.RunAnswers.{text_of};
 ghost use Rattle.lrtree.specs.StoredTrees.{tree_of};
-ghost use Rattle.lrambiguity.specs.Moves.{IsTreeBy};
+ghost use Rattle.lrconflicts.specs.Moves.{IsTreeBy};
 ghost use Rattle.lrambiguity.specs.Inputs.{IsReadAs, GoesOn};
-ghost use Rattle.lrambiguity.specs.StoredMoves.{move_of, moves_stored};
+ghost use Rattle.lrconflicts.specs.StoredMoves.{move_of, moves_stored};
 
 use crate::ambiguities::read_joined;
 use crate::partings::begins_with;
 use crate::replays::Replay;
+use lrconflicts::{Move, Written};
 use lrgrammar::grammar::YaccGrammar;
 use lrgrammar::idx::{IndexStorage, Symbol, TIdx};
-use lrmoves::{Move, Written};
 use lrtree::Tree;
 use std::alloc::{AllocError, Global};
 

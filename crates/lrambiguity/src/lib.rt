@@ -15,4 +15,4 @@ pub use crate::inputs::{goes_on, reads_as};
 pub use crate::nesting::nests;
 pub use crate::partings::{Contest, parts_at};
 pub use crate::reading::read_moves;
-pub use lrmoves::{Move, Written};
+pub use lrconflicts::{Move, Written};

@@ -4,13 +4,13 @@ ghost use Rattle.std.specs.Prelude.{◌≡◌, IfOk, IfSome, IfNone};
 ghost use Rattle.lrspec.specs.grammars.Trees.{leaves};
 ghost use Rattle.lrtable.specs.RunAnswers.{text_of};
 ghost use Rattle.lrtree.specs.StoredTrees.{tree_of};
-ghost use Rattle.lrambiguity.specs.Moves.{moves_of, IsTreeOfStart, HasNoTree};
-ghost use Rattle.lrambiguity.specs.StoredMoves.{moves_stored};
+ghost use Rattle.lrconflicts.specs.Moves.{moves_of, IsTreeOfStart, HasNoTree};
+ghost use Rattle.lrconflicts.specs.StoredMoves.{moves_stored};
 
 use crate::replays::Replay;
+use lrconflicts::Move;
 use lrgrammar::grammar::YaccGrammar;
 use lrgrammar::idx::{IndexStorage, TIdx};
-use lrmoves::Move;
 use lrtree::Tree;
 use std::alloc::{AllocError, Global};
 

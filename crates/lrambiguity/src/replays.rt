@@ -7,14 +7,14 @@ ghost use Rattle.lrspec.specs.merging.Graph.{Leads};
 ghost use Rattle.lrspec.specs.tables.Machine.{next_token};
 ghost use Rattle.lrtable.specs.RunAnswers.{text_of};
 ghost use Rattle.lrtree.specs.StoredTrees.{tree_of};
-ghost use Rattle.lrambiguity.specs.Moves as plain;
-ghost use Rattle.lrambiguity.specs.Moves.{IsTreeBy, HasNoTree};
-ghost use Rattle.lrambiguity.specs.StoredMoves.{move_of, moves_stored};
+ghost use Rattle.lrconflicts.specs.Moves as plain;
+ghost use Rattle.lrconflicts.specs.Moves.{IsTreeBy, HasNoTree};
+ghost use Rattle.lrconflicts.specs.StoredMoves.{move_of, moves_stored};
 ghost use Rattle.lrambiguity.specs.StoredReplays.{roots_of, AreRoots, HasMade, HasMadeSome, Makes, LeadsNowhere};
 
+use lrconflicts::Move;
 use lrgrammar::grammar::YaccGrammar;
 use lrgrammar::idx::{IndexStorage, PIdx, StIdx, Symbol, TIdx};
-use lrmoves::Move;
 use lrtable::StateGraph;
 use lrtree::Tree;
 use std::alloc::{AllocError, Global};

@@ -8,7 +8,7 @@ use Rattle.lrspec.specs.merging.Graph.{Graph}
 use Rattle.lrspec.specs.tables.Table.{shift_reduce_of, reduce_reduce_of}
 use Rattle.lrverdicts.specs.declared.conflicts.Entry.{Entry}
 use Rattle.lrverdicts.specs.Listed.{Listing, told, listed, shift_listing, reduction_listing}
-use Rattle.lrentries.specs.Entries.{lists_in, entry_by, IsListed}
+use Rattle.lrconflicts.specs.Entries.{lists_in, entry_by, IsListed}
 use Rattle.lrevidence.specs.Entries.{AreListedIn}
 
 -- an image is among the images

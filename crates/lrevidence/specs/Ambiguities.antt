@@ -2,7 +2,7 @@
 use Rattle.std.specs.Prelude.{◌≢◌, ℕ, IfSome}
 use Rattle.lrspec.specs.grammars.Grammar.{Grammar}
 use Rattle.lrspec.specs.merging.Graph.{Graph}
-use Rattle.lrmoves.specs.Moves.{Move}
+use Rattle.lrconflicts.specs.Moves.{Move}
 use Rattle.lrambiguity.specs.Partings.{PartAt}
 use Rattle.lrshown.specs.declared.ambiguities.Ambiguity.{Ambiguity}
 use Rattle.lrshown.specs.declared.evidence.Evidence.{Evidence}

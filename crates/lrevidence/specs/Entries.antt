@@ -5,7 +5,7 @@ use Rattle.lrspec.specs.grammars.Grammar.{Grammar}
 use Rattle.lrspec.specs.merging.Graph.{Graph}
 use Rattle.lrverdicts.specs.declared.conflicts.Entry.{Entry}
 use Rattle.lrverdicts.specs.Listed.{told, listed}
-use Rattle.lrentries.specs.Entries.{lists_in}
+use Rattle.lrconflicts.specs.Entries.{lists_in}
 
 -- these are the entries of both lists of the graph's table
 abbrev pub AreListedIn : Grammar → Graph → List Entry → Type 0

@@ -2,23 +2,21 @@
 
 ghost use Rattle.std.specs.Prelude.{◌≡◌, map, IfOk, IfSome};
 ghost use Rattle.lrtable.specs.RunAnswers.{text_of};
-ghost use Rattle.lrmoves.specs.StoredMoves.{moves_stored};
+ghost use Rattle.lrconflicts.specs.StoredMoves.{moves_stored};
 ghost use Rattle.lrambiguity.specs.StoredAmbiguities.{IsAmbiguity};
 ghost use Rattle.lrshown.specs.Steps.{moves_by};
 ghost use Rattle.lrshown.specs.Ambiguities.{HasTwoTrees};
+ghost use Rattle.lrreasons.specs.Numbers.{number_of};
 ghost use Rattle.lrevidence.specs.Ambiguities.{PartsAt};
 
-use lrgrammar::idx::{IndexStorage, TIdx};
+use lrgrammar::idx::TIdx;
 use lrreasons::{Conflict, Form, ProvedAmbiguity, Reasons};
 use lrshown::{Ambiguity, TwoTrees, steps_of};
 use std::alloc::{AllocError, Global};
 
 /// The numbers of tokens.
-pub(crate) fn numbers_of<T: IndexStorage>(
-    alloc: Global,
-    tokens: &[TIdx<T>],
-) -> Result<Vec<usize>, AllocError>
-    ensures { IfOk result (λ v. v.items ≡ text_of T.number tokens.now) }
+pub(crate) fn numbers_of(alloc: Global, tokens: &[TIdx<u32>]) -> Result<Vec<usize>, AllocError>
+    ensures { IfOk result (λ v. v.items ≡ text_of number_of tokens.now) }
 {
     let mut numbers = Vec::new(alloc);
     for token in tokens {
@@ -28,13 +26,13 @@ pub(crate) fn numbers_of<T: IndexStorage>(
 }
 
 /// Both trees of a form.
-fn trees_of_form<T: IndexStorage>(alloc: Global, form: &Form<T>) -> Result<TwoTrees, AllocError>
+fn trees_of_form(alloc: Global, form: &Form) -> Result<TwoTrees, AllocError>
     ensures before { IfOk result (λ t.
-        moves_by t.before.items ≡ moves_stored T.number form.now.ways.before.items) }
+        moves_by t.before.items ≡ moves_stored number_of form.now.ways.before.items) }
     ensures one { IfOk result (λ t.
-        moves_by t.one.items ≡ moves_stored T.number form.now.ways.first.items) }
+        moves_by t.one.items ≡ moves_stored number_of form.now.ways.first.items) }
     ensures other { IfOk result (λ t.
-        moves_by t.other.items ≡ moves_stored T.number form.now.ways.second.items) }
+        moves_by t.other.items ≡ moves_stored number_of form.now.ways.second.items) }
 {
     Ok(TwoTrees {
         before: steps_of(alloc, form.ways.before.as_slice())?,
@@ -44,16 +42,16 @@ fn trees_of_form<T: IndexStorage>(alloc: Global, form: &Form<T>) -> Result<TwoTr
 }
 
 /// Both trees of a text.
-fn trees_of_sentence<T: IndexStorage>(
+fn trees_of_sentence(
     alloc: Global,
-    ambiguity: &lrambiguity::Ambiguity<T>,
+    ambiguity: &lrambiguity::Ambiguity<u32>,
 ) -> Result<TwoTrees, AllocError>
     ensures before { IfOk result (λ t.
-        moves_by t.before.items ≡ moves_stored T.number ambiguity.now.before.items) }
+        moves_by t.before.items ≡ moves_stored number_of ambiguity.now.before.items) }
     ensures one { IfOk result (λ t.
-        moves_by t.one.items ≡ moves_stored T.number ambiguity.now.one.items) }
+        moves_by t.one.items ≡ moves_stored number_of ambiguity.now.one.items) }
     ensures other { IfOk result (λ t.
-        moves_by t.other.items ≡ moves_stored T.number ambiguity.now.other.items) }
+        moves_by t.other.items ≡ moves_stored number_of ambiguity.now.other.items) }
 {
     Ok(TwoTrees {
         before: steps_of(alloc, ambiguity.before.as_slice())?,
@@ -63,24 +61,21 @@ fn trees_of_sentence<T: IndexStorage>(
 }
 
 /// An ambiguity by the numbers of the file.
-fn numbered<T: IndexStorage>(
-    alloc: Global,
-    proved: &ProvedAmbiguity<T>,
-) -> Result<Ambiguity, AllocError>
+fn numbered(alloc: Global, proved: &ProvedAmbiguity) -> Result<Ambiguity, AllocError>
     ensures tokens { IfOk result (λ a.
-        a.tokens.items ≡ text_of T.number proved.now.ambiguity.text.items) }
+        a.tokens.items ≡ text_of number_of proved.now.ambiguity.text.items) }
     ensures before { IfOk result (λ a.
-        moves_by a.trees.before.items ≡ moves_stored T.number proved.now.ambiguity.before.items) }
+        moves_by a.trees.before.items ≡ moves_stored number_of proved.now.ambiguity.before.items) }
     ensures one { IfOk result (λ a.
-        moves_by a.trees.one.items ≡ moves_stored T.number proved.now.ambiguity.one.items) }
+        moves_by a.trees.one.items ≡ moves_stored number_of proved.now.ambiguity.one.items) }
     ensures other { IfOk result (λ a.
-        moves_by a.trees.other.items ≡ moves_stored T.number proved.now.ambiguity.other.items) }
+        moves_by a.trees.other.items ≡ moves_stored number_of proved.now.ambiguity.other.items) }
     ensures form_before { IfOk result (λ a.
-        moves_by a.form.before.items ≡ moves_stored T.number proved.now.form.ways.before.items) }
+        moves_by a.form.before.items ≡ moves_stored number_of proved.now.form.ways.before.items) }
     ensures form_one { IfOk result (λ a.
-        moves_by a.form.one.items ≡ moves_stored T.number proved.now.form.ways.first.items) }
+        moves_by a.form.one.items ≡ moves_stored number_of proved.now.form.ways.first.items) }
     ensures form_other { IfOk result (λ a.
-        moves_by a.form.other.items ≡ moves_stored T.number proved.now.form.ways.second.items) }
+        moves_by a.form.other.items ≡ moves_stored number_of proved.now.form.ways.second.items) }
 {
     Ok(Ambiguity {
         tokens: numbers_of(alloc, proved.ambiguity.text.as_slice())?,
@@ -90,15 +85,15 @@ fn numbered<T: IndexStorage>(
 }
 
 /// A sentence with two trees, which part at the conflict, where one is found in so many steps.
-pub(crate) fn ambiguity_at<T: IndexStorage>(
+pub(crate) fn ambiguity_at(
     alloc: Global,
-    reasons: &Reasons<'_, T>,
-    conflict: Conflict<T>,
+    reasons: &Reasons<'_>,
+    conflict: Conflict<u32>,
     steps: usize,
 ) -> Result<Option<Ambiguity>, AllocError>
     ensures trees { IfOk result (λ o. IfSome o (HasTwoTrees reasons.now.grammar)) }
     ensures parts { IfOk result (λ o. IfSome o (PartsAt reasons.now.grammar reasons.now.graph
-        (T.number conflict.state.0) (T.number conflict.token.0))) }
+        conflict.state.0 conflict.token.0)) }
 {
     match reasons.ambiguity(conflict, steps)? {
         Some(proved) => {

@@ -3,7 +3,8 @@
 ghost use Rattle.std.specs.Prelude.{◌≡◌, ◌∷◌, [], ◌++◌, map, All, IfOk, IfSome, OnOk, MatchOption};
 ghost use Rattle.lrspec.specs.merging.Graph.{IsGraphOf};
 ghost use Rattle.lrspec.specs.tables.Conflicts.{AreReductionsContested};
-ghost use Rattle.lrentries.specs.Entries.{entry_of, IsListed};
+ghost use Rattle.lrconflicts.specs.Entries.{entry_of, IsListed};
+ghost use Rattle.lrreasons.specs.Numbers.{number_of};
 ghost use Rattle.lrevidence.specs.Entries.{AreListedIn};
 ghost use Rattle.lrevidence.specs.Ambiguities.{HasTwoTrees, IsProved, PartsAtEntry};
 
@@ -11,7 +12,6 @@ use crate::ambiguities::ambiguity_at;
 use crate::conflicts::conflict_of;
 use crate::examples::Numbering;
 use lrfindings::{Entry, Findings, is_among};
-use lrgrammar::idx::IndexStorage;
 use lrreasons::{Conflict, Reasons};
 pub use lrshown::Evidence;
 use lrshown::{Ambiguity, Example};
@@ -19,13 +19,13 @@ use lryacc::FileGrammar;
 use std::alloc::{AllocError, Global};
 
 /// After what a conflict that the table lists is real.
-fn example_of<T: IndexStorage>(
+fn example_of(
     alloc: Global,
-    reasons: &Reasons<'_, T>,
-    numbering: Numbering<'_, T>,
-    conflict: Conflict<T>,
+    reasons: &Reasons<'_>,
+    numbering: Numbering<'_>,
+    conflict: Conflict<u32>,
 ) -> Result<Example, AllocError>
-    requires listed { IsListed reasons.now.grammar reasons.now.graph (entry_of T.number conflict) }
+    requires listed { IsListed reasons.now.grammar reasons.now.graph (entry_of number_of conflict) }
     requires contested { AreReductionsContested reasons.now.grammar reasons.now.graph }
 {
     let example = reasons.example(conflict)?;
@@ -57,10 +57,10 @@ impl Effort {
 }
 
 /// What is known of an entry, where a search for a sentence with two trees takes so many steps, with an example or without.
-fn evidence_of<T: IndexStorage>(
+fn evidence_of(
     alloc: Global,
-    reasons: &Reasons<'_, T>,
-    numbering: Numbering<'_, T>,
+    reasons: &Reasons<'_>,
+    numbering: Numbering<'_>,
     listed: &[Entry],
     entry: Entry,
     steps: usize,
@@ -95,10 +95,10 @@ fn evidence_of<T: IndexStorage>(
 }
 
 /// Adds what is known of entries.
-fn push_evidence<T: IndexStorage>(
+fn push_evidence(
     list: &mut Vec<Evidence>,
-    reasons: &Reasons<'_, T>,
-    numbering: Numbering<'_, T>,
+    reasons: &Reasons<'_>,
+    numbering: Numbering<'_>,
     listed: &[Entry],
     entries: &[Entry],
     effort: Effort,
@@ -126,10 +126,10 @@ fn push_evidence<T: IndexStorage>(
 }
 
 /// What is known of entries of the findings in a file's grammar, in their order. The error says that memory was refused.
-pub fn evidence_for<T: IndexStorage>(
+pub fn evidence_for(
     alloc: Global,
     file: &FileGrammar,
-    found: &Findings<T>,
+    found: &Findings<u32>,
     entries: &[Entry],
     effort: Effort,
 ) -> Result<Vec<Evidence>, AllocError>
@@ -155,9 +155,9 @@ pub fn evidence_for<T: IndexStorage>(
 }
 
 /// A sentence with two trees, which part at one of the entries: that of the first entry for which one is found.
-fn first_ambiguity<T: IndexStorage>(
+fn first_ambiguity(
     alloc: Global,
-    reasons: &Reasons<'_, T>,
+    reasons: &Reasons<'_>,
     entries: &[Entry],
     steps: usize,
 ) -> Result<Option<Ambiguity>, AllocError>
@@ -176,9 +176,9 @@ fn first_ambiguity<T: IndexStorage>(
 
 /// A sentence with two trees, which part at one of the entries, where one is found: that of the first entry that has one. For each the
 /// search takes so many steps at the most, and all together do so much work. The error says that memory was refused.
-pub fn find_ambiguity<T: IndexStorage>(
+pub fn find_ambiguity(
     alloc: Global,
-    found: &Findings<T>,
+    found: &Findings<u32>,
     entries: &[Entry],
     steps: usize,
     work: usize,

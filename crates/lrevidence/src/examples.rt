@@ -2,21 +2,21 @@
 
 use crate::ambiguities::numbers_of;
 use lrgrammar::grammar::{PartSymbol, YaccGrammar};
-use lrgrammar::idx::{IndexStorage, RIdx, Symbol};
+use lrgrammar::idx::{RIdx, Symbol};
 use lrshown::{Example, Outlook};
 use lryacc::FileGrammar;
 use std::alloc::{AllocError, Global};
 
 /// A grammar, and the file whose grammar it is.
 #[derive(Clone, Copy)]
-pub(crate) struct Numbering<'a, T: IndexStorage> {
-    pub(crate) grm: &'a YaccGrammar<T>,
+pub(crate) struct Numbering<'a> {
+    pub(crate) grm: &'a YaccGrammar<u32>,
     pub(crate) file: &'a FileGrammar,
 }
 
-impl<T: IndexStorage> Numbering<'_, T> {
+impl Numbering<'_> {
     /// The number of a rule in the file. Productions have one number in both.
-    fn rule(self, rule: RIdx<T>) -> usize {
+    fn rule(self, rule: RIdx<u32>) -> usize {
         if usize::from(rule) >= usize::from(self.grm.rules_len()) {
             return 0;
         }
@@ -30,7 +30,11 @@ impl<T: IndexStorage> Numbering<'_, T> {
     }
 
     /// Symbols by their numbers in the file.
-    fn symbols(self, alloc: Global, symbols: &[Symbol<T>]) -> Result<Vec<PartSymbol>, AllocError> {
+    fn symbols(
+        self,
+        alloc: Global,
+        symbols: &[Symbol<u32>],
+    ) -> Result<Vec<PartSymbol>, AllocError> {
         let mut list = Vec::new(alloc);
         for symbol in symbols {
             list.push(match *symbol {
@@ -45,7 +49,7 @@ impl<T: IndexStorage> Numbering<'_, T> {
     fn outlook(
         self,
         alloc: Global,
-        outlook: Option<&lrreasons::Outlook<T>>,
+        outlook: Option<&lrreasons::Outlook>,
     ) -> Result<Option<Outlook>, AllocError> {
         let Some(outlook) = outlook else {
             return Ok(None);
@@ -68,7 +72,7 @@ impl<T: IndexStorage> Numbering<'_, T> {
     pub(crate) fn example(
         self,
         alloc: Global,
-        example: &lrreasons::Example<T>,
+        example: &lrreasons::Example,
     ) -> Result<Example, AllocError> {
         Ok(Example {
             list: self.symbols(alloc, example.list.as_slice())?,

@@ -4,7 +4,6 @@ ghost use Rattle.std.specs.Prelude.{Contains, IsSome, IsTrue, IfOk};
 ghost use Rattle.lrspec.specs.tables.Recognition.{IsUnambiguous};
 
 use lrgrammar::grammar::YaccGrammar;
-use lrgrammar::idx::IndexStorage;
 use lrreasons::{Examples, Reason, Reasons, take_apart};
 use lrtable::{BuildError, Minimiser, from_yacc};
 use std::alloc::Global;
@@ -13,8 +12,8 @@ use std::alloc::Global;
 const STEPS: usize = 10_000;
 
 /// Whether one of the reasons is a text with two trees.
-fn is_any_ambiguous<T: IndexStorage>(reasons: &[Reason<T>]) -> bool
-    ensures { IsTrue result → (r : Reason T) × Contains reasons.now r × IsSome r.ambiguity }
+fn is_any_ambiguous(reasons: &[Reason]) -> bool
+    ensures { IsTrue result → (r : Reason) × Contains reasons.now r × IsSome r.ambiguity }
 {
     for reason in reasons {
         if reason.ambiguity.is_some() {
@@ -25,10 +24,10 @@ fn is_any_ambiguous<T: IndexStorage>(reasons: &[Reason<T>]) -> bool
 }
 
 /// Why the grammar has conflicts, as text; and whether a text with two trees was found, so that it is ambiguous.
-pub fn explain<T: IndexStorage>(
+pub fn explain(
     alloc: Global,
-    grm: &YaccGrammar<T>,
-) -> Result<(String, bool), BuildError<T>>
+    grm: &YaccGrammar<u32>,
+) -> Result<(String, bool), BuildError<u32>>
     ensures ambiguous { IfOk result (λ e. IsTrue e.1 → ¬ (IsUnambiguous grm.now)) }
 {
     let (graph, table) = from_yacc(alloc, grm, Minimiser::Pager)?;

@@ -7,7 +7,7 @@ use crate::items::Item;
 use crate::rules::Rules;
 use crate::texts::MOST_MOVES;
 use lrgrammar::grammar::YaccGrammar;
-use lrgrammar::idx::{IndexStorage, PIdx, RIdx, Symbol, TIdx};
+use lrgrammar::idx::{PIdx, RIdx, Symbol, TIdx};
 use lrgrammar::vob::Vob;
 use std::alloc::{AllocError, Global};
 use std::cmp::Reverse;
@@ -22,18 +22,13 @@ pub(crate) struct Firsts {
 
 impl Firsts {
     /// Those of a grammar.
-    pub(crate) fn new<T: IndexStorage>(
-        alloc: Global,
-        grm: &YaccGrammar<T>,
-    ) -> Result<Firsts, AllocError> {
+    pub(crate) fn new(alloc: Global, grm: &YaccGrammar<u32>) -> Result<Firsts, AllocError> {
         let firsts = grm.firsts()?;
         let mut rows = Vec::new(alloc);
         let mut nullable = Vec::new(alloc);
-        for number in 0..usize::from(grm.rules_len()) {
-            if let Some(number) = T::from_usize(number) {
-                rows.push(firsts.firsts(RIdx(number)).clone()?)?;
-                nullable.push(firsts.is_epsilon_set(RIdx(number)))?;
-            }
+        for number in 0..grm.rules_len().0 {
+            rows.push(firsts.firsts(RIdx(number)).clone()?)?;
+            nullable.push(firsts.is_epsilon_set(RIdx(number)))?;
         }
         Ok(Firsts { rows, nullable })
     }

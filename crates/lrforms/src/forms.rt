@@ -1,33 +1,31 @@
-//! Searches by a caller's index type.
+//! Searches in the table of a grammar.
 
-use crate::ambiguous::{Conflict, Search};
+use crate::ambiguous::Search;
 use crate::items::Item;
 use crate::outlooks::{Outlook, outlook_of, text_of};
-use crate::rules::{number_of, plain_move, plain_symbol};
 use crate::scratch::Scratch;
 use crate::searching::Searching;
 use crate::shared::Shared;
 use crate::states::{START, Way};
-use crate::typed::{typed, typed_outlook, typed_written};
+use lrconflicts::{Conflict, Move, Written};
 use lrgrammar::grammar::YaccGrammar;
-use lrgrammar::idx::{IndexStorage, PIdx, StIdx, Symbol, TIdx};
+use lrgrammar::idx::{StIdx, Symbol, TIdx};
 use lrgraphs::StateGraph;
-use lrmoves::{Move, Written};
 use std::alloc::{AllocError, Global};
 use std::cell::Cell;
 
 /// A way along a list, and the state to which it leads.
 #[derive(Drop)]
-struct Along<T: IndexStorage> {
+struct Along {
     way: Way,
-    end: StIdx<T>,
+    end: StIdx<u32>,
 }
 
 /// What all searches in the table of a grammar share.
 #[derive(Drop)]
-pub struct Forms<'a, T: IndexStorage> {
-    grm: &'a YaccGrammar<T>,
-    graph: &'a StateGraph<T>,
+pub struct Forms<'a> {
+    grm: &'a YaccGrammar<u32>,
+    graph: &'a StateGraph<u32>,
     shared: Shared,
     /// What a search leaves for the next one.
     scratch: Cell<Option<Scratch>>,
@@ -35,13 +33,13 @@ pub struct Forms<'a, T: IndexStorage> {
     work: Cell<usize>,
 }
 
-impl<'a, T: IndexStorage> Forms<'a, T> {
+impl<'a> Forms<'a> {
     /// What all searches in the graph of the grammar share. The error says that memory was refused.
     pub fn new(
         alloc: Global,
-        grm: &'a YaccGrammar<T>,
-        graph: &'a StateGraph<T>,
-    ) -> Result<Forms<'a, T>, AllocError> {
+        grm: &'a YaccGrammar<u32>,
+        graph: &'a StateGraph<u32>,
+    ) -> Result<Forms<'a>, AllocError> {
         let shared = Shared::new(alloc, grm, graph)?;
         Ok(Forms {
             grm,
@@ -70,27 +68,13 @@ impl<'a, T: IndexStorage> Forms<'a, T> {
 
     /// Searches for a form at a conflict, and for a whole text around it, and makes at most so many nodes. What is found is to
     /// be checked; that nothing is found says nothing. The error says that memory was refused.
-    pub fn search(&self, conflict: Conflict<T>, steps: usize) -> Result<Search<T>, AllocError> {
+    pub fn search(&self, conflict: Conflict<u32>, steps: usize) -> Result<Search, AllocError> {
         if steps == 0 || self.is_used_up() {
             return Ok(Search::OutOfSteps);
         }
         let alloc = self.grm.allocator();
-        let token = TIdx(number_of(conflict.token.0));
-        let items = self.candidates(alloc, conflict.state, token, Move::Shift)?;
-        let plain = Conflict {
-            state: StIdx(number_of(conflict.state.0)),
-            token,
-            production: PIdx(number_of(conflict.production.0)),
-            other: conflict.other.map(|other| PIdx(number_of(other.0))),
-        };
-        match self.run(alloc, plain, items.as_slice(), steps)? {
-            Search::Found(found) => match typed(alloc, &found)? {
-                Some(found) => Ok(Search::Found(found)),
-                None => Ok(Search::OutOfSteps),
-            },
-            Search::OutOfSteps => Ok(Search::OutOfSteps),
-            Search::Emptied => Ok(Search::Emptied),
-        }
+        let items = self.candidates(alloc, conflict.state, conflict.token, Move::Shift)?;
+        self.run(alloc, conflict, items.as_slice(), steps)
     }
 
     /// Searches, with what earlier searches left. These are the items of the conflict's state before the token.
@@ -100,7 +84,7 @@ impl<'a, T: IndexStorage> Forms<'a, T> {
         conflict: Conflict<u32>,
         shifting: &[Item],
         steps: usize,
-    ) -> Result<Search<u32>, AllocError> {
+    ) -> Result<Search, AllocError> {
         let mut scratch = match self.scratch.take() {
             Some(scratch) => scratch,
             None => Scratch::new(alloc),
@@ -118,42 +102,29 @@ impl<'a, T: IndexStorage> Forms<'a, T> {
 
     /// A least text of the symbols, one after another, as moves read it; None where one of them has no text or it gets too
     /// long. The error says that memory was refused.
-    pub fn text_of(&self, symbols: &[Symbol<T>]) -> Result<Option<Written<T>>, AllocError> {
-        let alloc = self.grm.allocator();
-        let mut plain = Vec::new(alloc);
-        for symbol in symbols {
-            plain.push(plain_symbol(*symbol))?;
-        }
-        match text_of(alloc, &self.shared, plain.as_slice())? {
-            Some(written) => typed_written(alloc, &written),
-            None => Ok(None),
-        }
+    pub fn text_of(&self, symbols: &[Symbol<u32>]) -> Result<Option<Written<u32>>, AllocError> {
+        text_of(self.grm.allocator(), &self.shared, symbols)
     }
 
     /// How a parse goes on by the candidate after the list, where the token comes next: of all ways one with a shortest rest,
     /// ties by the number of items. None where there is none. The error says that memory was refused.
     pub fn outlook(
         &self,
-        list: &[Symbol<T>],
-        token: TIdx<T>,
-        candidate: Move<T>,
-    ) -> Result<Option<Outlook<T>>, AllocError> {
+        list: &[Symbol<u32>],
+        token: TIdx<u32>,
+        candidate: Move<u32>,
+    ) -> Result<Option<Outlook>, AllocError> {
         let alloc = self.grm.allocator();
         let Some(along) = self.along(alloc, list)? else {
             return Ok(None);
         };
-        let token = TIdx(number_of(token.0));
-        let candidate = plain_move(candidate);
         let items = self.candidates(alloc, along.end, token, candidate)?;
         let items = items.as_slice();
-        match outlook_of(alloc, &self.shared, &along.way, token, candidate, items)? {
-            Some(outlook) => typed_outlook(alloc, &outlook),
-            None => Ok(None),
-        }
+        outlook_of(alloc, &self.shared, &along.way, token, candidate, items)
     }
 
     /// The way along the list; None where there is none.
-    fn along(&self, alloc: Global, list: &[Symbol<T>]) -> Result<Option<Along<T>>, AllocError> {
+    fn along(&self, alloc: Global, list: &[Symbol<u32>]) -> Result<Option<Along>, AllocError> {
         let mut end = self.graph.start_state();
         let mut states = vec![in alloc; START]?;
         let mut symbols = Vec::new(alloc);
@@ -162,8 +133,8 @@ impl<'a, T: IndexStorage> Forms<'a, T> {
                 return Ok(None);
             };
             end = next;
-            states.push(StIdx(number_of(next.0)))?;
-            symbols.push(plain_symbol(*symbol))?;
+            states.push(next)?;
+            symbols.push(*symbol)?;
         }
         let way = Way { states, symbols };
         Ok(Some(Along { way, end }))
@@ -173,7 +144,7 @@ impl<'a, T: IndexStorage> Forms<'a, T> {
     fn candidates(
         &self,
         alloc: Global,
-        state: StIdx<T>,
+        state: StIdx<u32>,
         token: TIdx<u32>,
         candidate: Move<u32>,
     ) -> Result<Vec<Item>, AllocError> {
@@ -184,7 +155,7 @@ impl<'a, T: IndexStorage> Forms<'a, T> {
         let closed = self.graph.closed_state(state);
         self.charge(closed.items.len());
         for key in closed.items.keys() {
-            let item = Item::of(key.0, key.1);
+            let item = Item::of(*key);
             if self.shared.rules.allows(item, token, candidate) {
                 items.push(item)?;
             }

@@ -1,8 +1,8 @@
-//! A state graph by plain numbers.
+//! The states of a graph, as far as searches ask for them.
 
 use crate::items::Item;
-use crate::rules::{Rules, number_of, plain_symbol};
-use lrgrammar::idx::{IndexStorage, StIdx, Symbol};
+use crate::rules::Rules;
+use lrgrammar::idx::{StIdx, Symbol};
 use lrgraphs::StateGraph;
 use lritems::itemset::Itemset;
 use std::alloc::{AllocError, Global};
@@ -25,23 +25,23 @@ pub(crate) struct State {
 }
 
 /// The items of a set, upwards.
-fn items_of<T: IndexStorage>(alloc: Global, set: &Itemset<T>) -> Result<Vec<Item>, AllocError> {
+fn items_of(alloc: Global, set: &Itemset<u32>) -> Result<Vec<Item>, AllocError> {
     let mut items = Vec::new(alloc);
     for key in set.items.keys() {
-        items.push(Item::of(key.0, key.1))?;
+        items.push(Item::of(*key))?;
     }
     Ok(items)
 }
 
 /// The items of a set that stand before rules, upwards.
-fn items_before_rules<T: IndexStorage>(
+fn items_before_rules(
     alloc: Global,
     rules: &Rules,
-    set: &Itemset<T>,
+    set: &Itemset<u32>,
 ) -> Result<Vec<Item>, AllocError> {
     let mut items = Vec::new(alloc);
     for key in set.items.keys() {
-        let item = Item::of(key.0, key.1);
+        let item = Item::of(*key);
         if let Some(Symbol::Rule(_)) = rules.symbol(item) {
             items.push(item)?;
         }
@@ -50,17 +50,17 @@ fn items_before_rules<T: IndexStorage>(
 }
 
 /// The edges of a state.
-fn edges_of<T: IndexStorage>(
+fn edges_of(
     alloc: Global,
-    graph: &StateGraph<T>,
-    state: StIdx<T>,
+    graph: &StateGraph<u32>,
+    state: StIdx<u32>,
 ) -> Result<Vec<Edge>, AllocError> {
     let mut edges = Vec::new(alloc);
     if usize::from(state) < usize::from(graph.all_states_len()) {
         for (symbol, to) in graph.edges(state) {
             edges.push(Edge {
-                symbol: plain_symbol(*symbol),
-                to: StIdx(number_of(to.0)),
+                symbol: *symbol,
+                to: *to,
             })?;
         }
     }
@@ -68,10 +68,10 @@ fn edges_of<T: IndexStorage>(
 }
 
 /// The states of a graph.
-pub(crate) fn states_of<T: IndexStorage>(
+pub(crate) fn states_of(
     alloc: Global,
     rules: &Rules,
-    graph: &StateGraph<T>,
+    graph: &StateGraph<u32>,
 ) -> Result<Vec<State>, AllocError> {
     let mut states = Vec::new(alloc);
     for state in graph.iter_stidxs() {

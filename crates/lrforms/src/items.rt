@@ -1,8 +1,7 @@
 //! Items without lookaheads.
 
 use crate::numbers::Hash;
-use crate::rules::number_of;
-use lrgrammar::idx::{IndexStorage, PIdx, SIdx};
+use lrgrammar::idx::{PIdx, SIdx};
 
 /// A production with a dot in its body.
 #[derive(Clone, Copy, PartialEq, Eq, PartialOrd, Ord)]
@@ -12,12 +11,10 @@ pub(crate) struct Item {
 }
 
 impl Item {
-    /// The item by its plain numbers.
-    pub(crate) fn of<T: IndexStorage>(production: PIdx<T>, dot: SIdx<T>) -> Item {
-        Item {
-            production: PIdx(number_of(production.0)),
-            dot: SIdx(number_of(dot.0)),
-        }
+    /// The item that an item set has as a key.
+    pub(crate) fn of(key: (PIdx<u32>, SIdx<u32>)) -> Item {
+        let (production, dot) = key;
+        Item { production, dot }
     }
 
     /// How many symbols stand before the dot.

@@ -25,9 +25,8 @@ mod shared;
 mod states;
 mod statesets;
 mod texts;
-mod typed;
 mod writing;
 
-pub use crate::ambiguous::{Ambiguous, Conflict, Form, Search, Sentence, Ways};
+pub use crate::ambiguous::{Ambiguous, Form, Search, Sentence, Ways};
 pub use crate::forms::Forms;
 pub use crate::outlooks::Outlook;

@@ -6,20 +6,20 @@ use crate::layers::{Layer, write_behind};
 use crate::shared::Shared;
 use crate::states::Way;
 use crate::writing::Writer;
-use lrgrammar::idx::{IndexStorage, PIdx, SIdx, Symbol, TIdx};
-use lrmoves::{Move, Written};
+use lrconflicts::{Move, Written};
+use lrgrammar::idx::{PIdx, SIdx, Symbol, TIdx};
 use std::alloc::{AllocError, Global};
 
 /// How a parse goes on from a conflict by one of its candidates.
 #[derive(Debug, Drop)]
-pub struct Outlook<T: IndexStorage> {
+pub struct Outlook {
     /// The items in which the candidate stands, the start production's first: each further one is of a production of the rule
     /// that stands behind the dot of the one before it. The symbols before their dots, one item after another, are the list.
     /// The last one is the candidate's: complete for a reduction, with the token behind its dot for a shift.
-    pub items: Vec<(PIdx<T>, SIdx<T>)>,
+    pub items: Vec<(PIdx<u32>, SIdx<u32>)>,
     /// A shortest rest of the text, from the token on, with the moves from the candidate's on to the start rule; None where a
     /// rule on the way has no text, or where it gets too long.
-    pub rest: Option<Written<T>>,
+    pub rest: Option<Written<u32>>,
 }
 
 /// A least text of the symbols, one after another. None where one of them has no text or it gets too long.
@@ -67,7 +67,7 @@ pub(crate) fn outlook_of(
     token: TIdx<u32>,
     candidate: Move<u32>,
     items: &[Item],
-) -> Result<Option<Outlook<u32>>, AllocError> {
+) -> Result<Option<Outlook>, AllocError> {
     let mut around = Around::new(alloc, shared, way, token)?;
     for item in items {
         around.add_item(*item, candidate == Move::Shift)?;

@@ -5,8 +5,8 @@ use crate::nodes::{Node, Side, Step};
 use crate::rules::Rules;
 use crate::shared::Shared;
 use crate::writing::Writer;
+use lrconflicts::Move;
 use lrgrammar::idx::{PIdx, RIdx, Symbol};
-use lrmoves::Move;
 use std::alloc::{AllocError, Global};
 use std::collections::VecDeque;
 
@@ -149,7 +149,7 @@ impl Trees {
     }
 
     /// The form of the rule.
-    fn form(self, alloc: Global, rule: RIdx<u32>) -> Result<Form<u32>, AllocError> {
+    fn form(self, alloc: Global, rule: RIdx<u32>) -> Result<Form, AllocError> {
         let Trees {
             first,
             second,
@@ -199,7 +199,7 @@ pub(crate) fn form_of(
     nodes: &[Node],
     rule: RIdx<u32>,
     number: u32,
-) -> Result<Form<u32>, AllocError> {
+) -> Result<Form, AllocError> {
     let mut trees = Trees {
         first: Reading::new(alloc),
         second: Reading::new(alloc),

@@ -1,9 +1,11 @@
-//! The rules of a grammar by plain numbers.
+//! The rules of a grammar, and where their symbols stand.
+
+ghost use Rattle.std.specs.Prelude.{◌<◌, length};
 
 use crate::items::Item;
+use lrconflicts::Move;
 use lrgrammar::grammar::YaccGrammar;
-use lrgrammar::idx::{IndexStorage, PIdx, RIdx, SIdx, Symbol, TIdx};
-use lrmoves::Move;
+use lrgrammar::idx::{PIdx, RIdx, SIdx, Symbol, TIdx};
 use std::alloc::{AllocError, Global};
 
 /// A production.
@@ -29,27 +31,6 @@ pub(crate) struct Rules {
     pub(crate) end: TIdx<u32>,
 }
 
-/// The number of a value, which is at most `u32::MAX`.
-pub(crate) fn number_of<T: IndexStorage>(value: T) -> u32 {
-    value.to_usize() as u32
-}
-
-/// The symbol by its plain number.
-pub(crate) fn plain_symbol<T: IndexStorage>(symbol: Symbol<T>) -> Symbol<u32> {
-    match symbol {
-        Symbol::Rule(rule) => Symbol::Rule(RIdx(number_of(rule.0))),
-        Symbol::Token(token) => Symbol::Token(TIdx(number_of(token.0))),
-    }
-}
-
-/// The move by its plain numbers.
-pub(crate) fn plain_move<T: IndexStorage>(step: Move<T>) -> Move<u32> {
-    match step {
-        Move::Shift => Move::Shift,
-        Move::Reduce(production) => Move::Reduce(PIdx(number_of(production.0))),
-    }
-}
-
 /// Adds an item to the list at a place, if there is one.
 fn push_at(lists: &mut Vec<Vec<Item>>, place: usize, item: Item) -> Result<(), AllocError> {
     if let Some(items) = lists.get_mut(place) {
@@ -60,51 +41,42 @@ fn push_at(lists: &mut Vec<Vec<Item>>, place: usize, item: Item) -> Result<(), A
 
 impl Rules {
     /// Those of a grammar.
-    pub(crate) fn new<T: IndexStorage>(
-        alloc: Global,
-        grm: &YaccGrammar<T>,
-    ) -> Result<Rules, AllocError> {
+    pub(crate) fn new(alloc: Global, grm: &YaccGrammar<u32>) -> Result<Rules, AllocError> {
         let mut rules = Rules {
             productions: Vec::new(alloc),
             of_rules: Vec::new(alloc),
             before_rules: Vec::new(alloc),
             before_tokens: Vec::new(alloc),
             symbols: 0,
-            start: PIdx(number_of(grm.start_prod().0)),
-            end: TIdx(number_of(grm.eof_token_idx().0)),
+            start: grm.start_prod(),
+            end: grm.eof_token_idx(),
         };
         let count = usize::from(grm.rules_len());
         rules.of_rules.resize_with(count, || Vec::new(alloc))?;
         rules.before_rules.resize_with(count, || Vec::new(alloc))?;
         let count = usize::from(grm.tokens_len());
         rules.before_tokens.resize_with(count, || Vec::new(alloc))?;
-        for number in 0..usize::from(grm.prods_len()) {
-            if let Some(number) = T::from_usize(number) {
-                rules.add_production(alloc, grm, PIdx(number))?;
-            }
+        for number in 0..grm.prods_len().0 {
+            rules.add_production(alloc, grm, PIdx(number))?;
         }
         Ok(rules)
     }
 
     /// Adds a production of the grammar.
-    fn add_production<T: IndexStorage>(
+    fn add_production(
         &mut self,
         alloc: Global,
-        grm: &YaccGrammar<T>,
-        production: PIdx<T>,
-    ) -> Result<(), AllocError> {
-        if usize::from(production) >= usize::from(grm.prods_len()) {
-            return Ok(());
-        }
-        let mut body = Vec::new(alloc);
-        for symbol in grm.prod(production) {
-            body.push(plain_symbol(*symbol))?;
-        }
-        let rule = RIdx(number_of(grm.prod_to_rule(production).0));
+        grm: &YaccGrammar<u32>,
+        production: PIdx<u32>,
+    ) -> Result<(), AllocError>
+        requires { production.0 < length grm.now.productions }
+    {
+        let body = Vec::from_slice(alloc, grm.prod(production))?;
+        let rule = grm.prod_to_rule(production);
         if let Some(productions) = self.of_rules.get_mut(usize::from(rule)) {
-            productions.push(PIdx(number_of(production.0)))?;
+            productions.push(production)?;
         }
-        self.add_uses(PIdx(number_of(production.0)), body.as_slice())?;
+        self.add_uses(production, body.as_slice())?;
         self.productions.push(Production { rule, body })?;
         Ok(())
     }

@@ -6,7 +6,7 @@
 //! the dot alone and not at a shortest path to the conflict: to the left it goes over sets of states at once; it uses no
 //! lookaheads, since what is found is checked; and a queue of buckets gives the node that costs least.
 
-use crate::ambiguous::{Ambiguous, Conflict, Search};
+use crate::ambiguous::{Ambiguous, Search};
 use crate::items::Item;
 use crate::nodes::{Branch, Node, Place, Side, Step};
 use crate::numbers::Hash;
@@ -17,6 +17,7 @@ use crate::sentences::sentence_of;
 use crate::shared::Shared;
 use crate::states::START;
 use crate::statesets::{Closing, StateSet};
+use lrconflicts::Conflict;
 use lrgrammar::idx::{PIdx, RIdx, SIdx, Symbol, TIdx};
 use std::alloc::{AllocError, Global};
 
@@ -70,11 +71,7 @@ impl<'a> Searching<'a> {
     }
 
     /// Searches. These are the items of the conflict's state before the token.
-    pub(crate) fn run(
-        &mut self,
-        alloc: Global,
-        shifting: &[Item],
-    ) -> Result<Search<u32>, AllocError> {
+    pub(crate) fn run(&mut self, alloc: Global, shifting: &[Item]) -> Result<Search, AllocError> {
         self.start(alloc, shifting)?;
         for _ in 0..=self.steps {
             if let Some((number, rule)) = self.goal.take() {
@@ -99,7 +96,7 @@ impl<'a> Searching<'a> {
         alloc: Global,
         number: u32,
         rule: RIdx<u32>,
-    ) -> Result<Option<Ambiguous<u32>>, AllocError> {
+    ) -> Result<Option<Ambiguous>, AllocError> {
         let (shared, token, mut work) = (self.shared, self.conflict.token, self.work);
         let scratch = &*self.scratch;
         let Some(node) = scratch.nodes.get(number as usize) else {

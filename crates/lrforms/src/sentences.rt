@@ -6,8 +6,8 @@ use crate::layers::{Layer, write_behind};
 use crate::shared::Shared;
 use crate::states::Way;
 use crate::writing::Writer;
+use lrconflicts::Move;
 use lrgrammar::idx::{RIdx, StIdx, Symbol, TIdx};
-use lrmoves::Move;
 use std::alloc::{AllocError, Global};
 
 /// The state to which the shortest way leads.
@@ -22,7 +22,7 @@ fn nearest(shared: &Shared, states: &[StIdx<u32>]) -> Option<StIdx<u32>> {
 }
 
 /// Writes what stands before the dot, behind the way.
-fn write_before(writer: &mut Writer<'_>, way: &Way, form: &Form<u32>) -> Result<(), AllocError> {
+fn write_before(writer: &mut Writer<'_>, way: &Way, form: &Form) -> Result<(), AllocError> {
     writer.push_all(way.symbols.as_slice())?;
     match form.symbols.as_slice().get(..form.dot) {
         Some(symbols) => writer.push_all(symbols),
@@ -31,11 +31,7 @@ fn write_before(writer: &mut Writer<'_>, way: &Way, form: &Form<u32>) -> Result<
 }
 
 /// Writes the form from the dot on, as these moves read it.
-fn write_form(
-    writer: &mut Writer<'_>,
-    form: &Form<u32>,
-    moves: &[Move<u32>],
-) -> Result<(), AllocError> {
+fn write_form(writer: &mut Writer<'_>, form: &Form, moves: &[Move<u32>]) -> Result<(), AllocError> {
     let mut place = form.dot;
     for step in moves {
         match step {
@@ -70,11 +66,11 @@ fn write_text(
     alloc: Global,
     shared: &Shared,
     token: TIdx<u32>,
-    form: &Form<u32>,
+    form: &Form,
     way: &Way,
     layers: &[Layer],
     work: &mut usize,
-) -> Result<Option<Sentence<u32>>, AllocError> {
+) -> Result<Option<Sentence>, AllocError> {
     let beginnings = shared.beginnings(token)?;
     let mut before = Writer::new(alloc, shared, beginnings);
     let mut first = Writer::new(alloc, shared, beginnings);
@@ -124,9 +120,9 @@ pub(crate) fn sentence_of(
     shared: &Shared,
     token: TIdx<u32>,
     states: &[StIdx<u32>],
-    form: Form<u32>,
+    form: Form,
     work: &mut usize,
-) -> Result<Option<Ambiguous<u32>>, AllocError> {
+) -> Result<Option<Ambiguous>, AllocError> {
     let Some(state) = nearest(shared, states) else {
         return Ok(None);
     };

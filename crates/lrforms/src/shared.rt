@@ -1,4 +1,4 @@
-//! What all searches in a table share, by plain numbers.
+//! What all searches in a table share.
 
 use crate::beginnings::{Beginnings, Firsts};
 use crate::behind::BodyCosts;
@@ -7,7 +7,7 @@ use crate::rules::Rules;
 use crate::states::States;
 use crate::texts::Texts;
 use lrgrammar::grammar::YaccGrammar;
-use lrgrammar::idx::{IndexStorage, TIdx};
+use lrgrammar::idx::TIdx;
 use lrgraphs::StateGraph;
 use std::alloc::{AllocError, Global};
 use std::cell::OnceCell;
@@ -26,10 +26,10 @@ pub(crate) struct Shared {
 
 impl Shared {
     /// Of a grammar and its graph.
-    pub(crate) fn new<T: IndexStorage>(
+    pub(crate) fn new(
         alloc: Global,
-        grm: &YaccGrammar<T>,
-        graph: &StateGraph<T>,
+        grm: &YaccGrammar<u32>,
+        graph: &StateGraph<u32>,
     ) -> Result<Shared, AllocError> {
         let rules = Rules::new(alloc, grm)?;
         let firsts = Firsts::new(alloc, grm)?;

@@ -3,8 +3,8 @@
 use crate::beginnings::Beginnings;
 use crate::shared::Shared;
 use crate::texts::MOST_MOVES;
+use lrconflicts::{Move, Written};
 use lrgrammar::idx::{PIdx, RIdx, Symbol, TIdx};
-use lrmoves::{Move, Written};
 use std::alloc::{AllocError, Global};
 
 /// What is still to be written.

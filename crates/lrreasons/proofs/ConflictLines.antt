@@ -4,7 +4,7 @@ use Rattle.std.specs.Prelude.{IfOk, codes}
 use Rattle.std.specs.Fmt.{decimal}
 use Rattle.lrspec.specs.grammars.Grammar.{Grammar}
 use Rattle.lrspec.specs.texts.PrintedTexts.{token_name, production_text}
-use Rattle.lrentries.specs.Entries.{entry_by}
+use Rattle.lrconflicts.specs.Entries.{entry_by}
 use Rattle.lrreasons.specs.Texts.{conflict_line}
 
 -- pieces from the left, or from the right

@@ -2,6 +2,7 @@
 pub mod PlainTokens
 pub mod ProvedOnes
 pub mod ReasonsInTurn
+pub mod SameNumbers
 pub mod NamesRead
 pub mod Pieces
 pub mod Shown

@@ -1,13 +1,14 @@
 -- what follows of an ambiguity that is proved
-use Rattle.std.proofs.Common.{◌≡◌, ℕ}
+use Rattle.std.proofs.Common.{ℕ}
 use Rattle.std.specs.Prelude.{Option, None, Some, IfSome, IsSome}
 use Rattle.lrspec.specs.grammars.Grammar.{Grammar}
 use Rattle.lrspec.specs.merging.Graph.{Graph}
 use Rattle.lrspec.specs.tables.Recognition.{IsUnambiguous}
 use Rattle.lrambiguity.proofs.TwoTrees.{tree_of_text, ambiguous, trees_differ}
-use Rattle.lrforms.specs.declared.ambiguous.Conflict.{Conflict}
+use Rattle.lrconflicts.specs.declared.conflicts.Conflict.{Conflict}
 use Rattle.lrreasons.specs.declared.ambiguities.ProvedAmbiguity.{ProvedAmbiguity}
 use Rattle.lrreasons.specs.Ambiguities.{IsProofOf}
+use Rattle.lrreasons.specs.Numbers.{number_of}
 
 -- what is so of what there is
 pub some_follows : {X : Type 0} {P Q : X → Type 0} (o : Option X) → ((x : X) → P x → Q x) → IfSome o P → IfSome o Q
@@ -19,10 +20,10 @@ pub follows_of_some : {X : Type 0} {P : X → Type 0} {R : Type 0} (o : Option X
 follows_of_some None f p is = absurd (cc)
 follows_of_some (Some x) f p is = f x p
 
-module _ {T : Type 0} (number : T → ℕ) (injective : (x y : T) → number x ≡ number y → x ≡ y) (g : Grammar) (h : Graph) (c : Conflict T) where
+module _ (g : Grammar) (h : Graph) (c : Conflict ℕ) where
   -- the grammar is ambiguous
-  pub is_ambiguous : (a : ProvedAmbiguity T) → IsProofOf number g h c a → ¬ (IsUnambiguous g)
+  pub is_ambiguous : (a : ProvedAmbiguity) → IsProofOf g h c a → ¬ (IsUnambiguous g)
   is_ambiguous a p =
       let x = a.ambiguity in
       ambiguous (tree_of_text p.trees.first) (tree_of_text p.trees.second)
-      (trees_differ number injective g x.text.items x.before.items x.one.items x.other.items x.one_tree x.other_tree p.trees)
+      (trees_differ number_of (λ m n same. same) g x.text.items x.before.items x.one.items x.other.items x.one_tree x.other_tree p.trees)

@@ -5,7 +5,7 @@ use Rattle.std.proofs.lemmas.Bool.Decides.{nat_tests}
 use Rattle.std.proofs.lemmas.List.{map-append, length-take, length_push, take_more, drop_more, drop_all, drop-map, same_from_push}
 use Rattle.std.proofs.lemmas.List.Sums.{fold_push, fold-append}
 use Rattle.lrspec.specs.grammars.Grammar.{Grammar}
-use Rattle.lrambiguity.specs.Moves.{Move}
+use Rattle.lrconflicts.specs.Moves.{Move}
 use Rattle.lrreasons.specs.Brackets.{Row, no_row, next_row, joined, opened, closed, bracketed_words}
 use Rattle.lrreasons.proofs.Pieces.{one_more}
 

@@ -43,13 +43,13 @@ module _ (g : Grammar) (old : List ℕ) (ws : List (List ℕ)) where
   some_others [] e some = absurd (some e)
   some_others (x ∷ xs) e some = rw e refl
 
-module _ {T : Type 0} (number : T → ℕ) (g : Grammar) (rs : List (Reason T)) (i : ℕ) (r : Reason T) where
+module _ (g : Grammar) (rs : List Reason) (i : ℕ) (r : Reason) where
   -- one reason, and those behind it
   told_more :
       i < length rs → r ≡ get_or rs i r
-      → reasons_text number g (take i rs) (drop i rs)
-      ≡ (if list_any (are_alike number r) (take i rs) then [] else reason_text number g r ++ likewise_text number g r (drop (i + 1) rs))
-      ++ reasons_text number g (take (i + 1) rs) (drop (i + 1) rs)
+      → reasons_text g (take i rs) (drop i rs)
+      ≡ (if list_any (are_alike r) (take i rs) then [] else reason_text g r ++ likewise_text g r (drop (i + 1) rs))
+      ++ reasons_text g (take (i + 1) rs) (drop (i + 1) rs)
   told_more l at =
       let taken : take (i + 1) rs ≡ take i rs ++ r ∷ [] = take_more rs i r l ∙ ap (λ y. take i rs ++ y ∷ []) (sym at) in
       let left : drop i rs ≡ r ∷ drop (i + 1) rs = drop_more rs i r l ∙ ap (λ y. y ∷ drop (i + 1) rs) (sym at) in
@@ -57,14 +57,14 @@ module _ {T : Type 0} (number : T → ℕ) (g : Grammar) (rs : List (Reason T)) 
 
   -- a reason is left out
   pub left_out :
-      (old whole : List ℕ) → i < length rs → r ≡ get_or rs i r → list_any (are_alike number r) (take i rs) ≡ true
-      → old ++ reasons_text number g (take i rs) (drop i rs) ≡ whole → old ++ reasons_text number g (take (i + 1) rs) (drop (i + 1) rs) ≡ whole
+      (old whole : List ℕ) → i < length rs → r ≡ get_or rs i r → list_any (are_alike r) (take i rs) ≡ true
+      → old ++ reasons_text g (take i rs) (drop i rs) ≡ whole → old ++ reasons_text g (take (i + 1) rs) (drop (i + 1) rs) ≡ whole
   left_out old whole l at alike h = rw (told_more l at, alike) at h
 
   -- a reason is told
   pub told_next :
-      (old mid new whole : List ℕ) → i < length rs → r ≡ get_or rs i r → list_any (are_alike number r) (take i rs) ≡ false
-      → old ++ reasons_text number g (take i rs) (drop i rs) ≡ whole → mid ≡ old ++ reason_text number g r
-      → new ≡ mid ++ likewise_text number g r (drop (i + 1) rs) → new ++ reasons_text number g (take (i + 1) rs) (drop (i + 1) rs) ≡ whole
+      (old mid new whole : List ℕ) → i < length rs → r ≡ get_or rs i r → list_any (are_alike r) (take i rs) ≡ false
+      → old ++ reasons_text g (take i rs) (drop i rs) ≡ whole → mid ≡ old ++ reason_text g r
+      → new ≡ mid ++ likewise_text g r (drop (i + 1) rs) → new ++ reasons_text g (take (i + 1) rs) (drop (i + 1) rs) ≡ whole
   told_next old mid new whole l at alike h m n =
       rw (n, m) (simp append_assoc (simp append_assoc at (rw (told_more l at, alike) at h)))

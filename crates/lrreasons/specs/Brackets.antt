@@ -3,7 +3,7 @@ use Rattle.std.specs.Prelude.{ℕ, ◌+◌, ◌-◌, ◌==◌, min, List, [], �
 use Rattle.std.specs.List.{flat_map}
 use Rattle.lrspec.specs.grammars.Grammar.{Grammar, body_of, rule_of}
 use Rattle.lrspec.specs.texts.PrintedTexts.{rule_name}
-use Rattle.lrambiguity.specs.Moves.{Move, Shift, Reduce}
+use Rattle.lrconflicts.specs.Moves.{Move, Shift, Reduce}
 
 -- ---- brackets
 

@@ -1,4 +1,5 @@
 -- the files of definitions
+pub mod Numbers
 pub mod Examples
 pub mod Ambiguities
 pub mod Reasons

@@ -6,12 +6,13 @@ use Rattle.lrspec.specs.grammars.Grammar.{Grammar}
 use Rattle.lrgrammar.specs.Symbols.{symbol_of}
 use Rattle.lrforms.specs.declared.ambiguous.Form.{Form}
 use Rattle.lrreasons.specs.declared.brackets.Row as stored
+use Rattle.lrreasons.specs.Numbers.{number_of}
 use Rattle.lrreasons.specs.Words.{words_of}
 use Rattle.lrreasons.specs.Brackets.{Row}
 
 -- the words of a form
-abbrev pub form_words : {T : Type 0} → (T → ℕ) → Grammar → Form T → List (List ℕ)
-form_words number g f = words_of g (map (symbol_of number) f.symbols.items)
+abbrev pub form_words : Grammar → Form → List (List ℕ)
+form_words g f = words_of g (map (symbol_of number_of) f.symbols.items)
 
 -- trees, each by its words
 abbrev pub trees_of : List (Vec (String Global) Global) → List (List (List ℕ))

@@ -2,8 +2,8 @@
 use Rattle.std.specs.Prelude.{ℕ, ◌==◌, ◌&&◌, Bool, true, false, List, [], ◌∷◌, ◌++◌, codes, count_by, length, if◌then◌else◌}
 use Rattle.lrspec.specs.grammars.Grammar.{Symbol, Rule, Token, Grammar, body_of, rule_of}
 use Rattle.lrspec.specs.texts.PrintedTexts.{rule_name, token_text, shift_reduce_line, reduce_reduce_line}
-use Rattle.lrambiguity.specs.Moves.{Move, Shift, Reduce}
-use Rattle.lrentries.specs.Entries.{Entry, ShiftReduce, ReduceReduce}
+use Rattle.lrconflicts.specs.Moves.{Move, Shift, Reduce}
+use Rattle.lrconflicts.specs.Entries.{Entry, ShiftReduce, ReduceReduce}
 use Rattle.lrreasons.specs.Words.{words_of, with_dot}
 use Rattle.lrreasons.specs.Lines.{line_text}
 

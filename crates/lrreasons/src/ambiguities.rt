@@ -4,12 +4,13 @@ ghost use Rattle.std.specs.Prelude.{◌≡◌, ◌<◌, ◌++◌, length, IsTrue
 ghost use Rattle.lrspec.specs.merging.Graph.{IsGraphOf};
 ghost use Rattle.lrambiguity.specs.StoredAmbiguities.{IsAmbiguity, AmbiguityPartsAt};
 ghost use Rattle.lrreasons.specs.Ambiguities.{IsWayOf, IsAmbiguousForm, IsProofOf};
+ghost use Rattle.lrreasons.specs.Numbers.{number_of};
 
 use crate::candidates::{Pair, pairs};
 use lrambiguity::{Ambiguity, Contest, Move, check_ambiguity, derives, parts_at};
-use lrforms::{Ambiguous, Conflict, Form, Forms, Search, Sentence};
+use lrconflicts::Conflict;
+use lrforms::{Ambiguous, Form, Forms, Search, Sentence};
 use lrgrammar::grammar::YaccGrammar;
-use lrgrammar::idx::IndexStorage;
 use lrtable::StateGraph;
 use std::alloc::{AllocError, Global};
 
@@ -17,16 +18,16 @@ use std::alloc::{AllocError, Global};
 ///
 /// What is derived, letting go of it too, calls itself as deep as the trees are; `take_apart` lets go of any.
 #[derive(Debug, Drop)]
-pub struct ProvedAmbiguity<T: IndexStorage> {
+pub struct ProvedAmbiguity {
     /// Where both trees part: the conflict's own candidates, or, in a cell with more, two others.
-    pub contest: Contest<T>,
+    pub contest: Contest<u32>,
     /// The rule that derives a form in two ways, and both of them.
-    pub form: Form<T>,
+    pub form: Form,
     /// A text in which it stands, with its two trees.
-    pub ambiguity: Ambiguity<T>,
+    pub ambiguity: Ambiguity<u32>,
 }
 
-impl<T: IndexStorage> ProvedAmbiguity<T> {
+impl ProvedAmbiguity {
     /// Takes both trees apart, however deep they are, by a loop that takes no memory.
     pub fn take_apart(self) {
         self.ambiguity.take_apart();
@@ -34,14 +35,14 @@ impl<T: IndexStorage> ProvedAmbiguity<T> {
 }
 
 /// Whether the form is derived by the moves before and those behind them.
-fn derives_by<T: IndexStorage>(
+fn derives_by(
     alloc: Global,
-    grm: &YaccGrammar<T>,
-    form: &Form<T>,
-    after: &[Move<T>],
+    grm: &YaccGrammar<u32>,
+    form: &Form,
+    after: &[Move<u32>],
 ) -> Result<bool, AllocError>
     ensures { IfOk result (λ derives. IsTrue derives
-        → IsWayOf T.number grm.now form.now after.now) }
+        → IsWayOf grm.now form.now after.now) }
 {
     let mut moves = Vec::from_slice(alloc, form.ways.before.as_slice())?;
     moves.extend_from_slice(after)?;
@@ -55,12 +56,8 @@ fn derives_by<T: IndexStorage>(
 }
 
 /// Whether the form is derived in both ways, and these part at the dot.
-fn derives_twice<T: IndexStorage>(
-    alloc: Global,
-    grm: &YaccGrammar<T>,
-    form: &Form<T>,
-) -> Result<bool, AllocError>
-    ensures { IfOk result (λ derives. IsTrue derives → IsAmbiguousForm T.number grm.now form.now) }
+fn derives_twice(alloc: Global, grm: &YaccGrammar<u32>, form: &Form) -> Result<bool, AllocError>
+    ensures { IfOk result (λ derives. IsTrue derives → IsAmbiguousForm grm.now form.now) }
 {
     let (first, second) = (form.ways.first.as_slice(), form.ways.second.as_slice());
     Ok(
@@ -71,19 +68,19 @@ fn derives_twice<T: IndexStorage>(
 }
 
 /// The ambiguity, where its trees part at the contest; else they are taken apart.
-fn parting<T: IndexStorage>(
+fn parting(
     alloc: Global,
-    grm: &YaccGrammar<T>,
-    graph: &StateGraph<T>,
-    contest: Contest<T>,
-    ambiguity: Ambiguity<T>,
-) -> Result<Option<Ambiguity<T>>, AllocError>
+    grm: &YaccGrammar<u32>,
+    graph: &StateGraph<u32>,
+    contest: Contest<u32>,
+    ambiguity: Ambiguity<u32>,
+) -> Result<Option<Ambiguity<u32>>, AllocError>
     requires graph { IsGraphOf grm.now graph.now }
-    requires state { T.number contest.state.0 < length graph.now }
-    requires ambiguity { IsAmbiguity T.number grm.now ambiguity }
+    requires state { contest.state.0 < length graph.now }
+    requires ambiguity { IsAmbiguity number_of grm.now ambiguity }
     ensures given { IfOk result (λ o. IfSome o (λ a. a ≡ ambiguity)) }
     ensures parts { IfOk result (λ o. IfSome o (λ a.
-        AmbiguityPartsAt T.number grm.now graph.now a contest)) }
+        AmbiguityPartsAt number_of grm.now graph.now a contest)) }
 {
     match parts_at(alloc, grm, graph, &ambiguity, contest) {
         Ok(true) => Ok(Some(ambiguity)),
@@ -99,20 +96,20 @@ fn parting<T: IndexStorage>(
 }
 
 /// What was found, where it is so.
-fn checked<T: IndexStorage>(
+fn checked(
     alloc: Global,
-    grm: &YaccGrammar<T>,
-    graph: &StateGraph<T>,
-    contest: Contest<T>,
-    found: Ambiguous<T>,
-) -> Result<Option<ProvedAmbiguity<T>>, AllocError>
+    grm: &YaccGrammar<u32>,
+    graph: &StateGraph<u32>,
+    contest: Contest<u32>,
+    found: Ambiguous,
+) -> Result<Option<ProvedAmbiguity>, AllocError>
     requires graph { IsGraphOf grm.now graph.now }
-    requires state { T.number contest.state.0 < length graph.now }
+    requires state { contest.state.0 < length graph.now }
     ensures contest { IfOk result (λ o. IfSome o (λ a. a.contest ≡ contest)) }
-    ensures form { IfOk result (λ o. IfSome o (λ a. IsAmbiguousForm T.number grm.now a.form)) }
-    ensures trees { IfOk result (λ o. IfSome o (λ a. IsAmbiguity T.number grm.now a.ambiguity)) }
+    ensures form { IfOk result (λ o. IfSome o (λ a. IsAmbiguousForm grm.now a.form)) }
+    ensures trees { IfOk result (λ o. IfSome o (λ a. IsAmbiguity number_of grm.now a.ambiguity)) }
     ensures parts { IfOk result (λ o. IfSome o (λ a.
-        AmbiguityPartsAt T.number grm.now graph.now a.ambiguity contest)) }
+        AmbiguityPartsAt number_of grm.now graph.now a.ambiguity contest)) }
 {
     let Ambiguous { form, sentence } = found;
     if !derives_twice(alloc, grm, &form)? {
@@ -134,17 +131,17 @@ fn checked<T: IndexStorage>(
 }
 
 /// Searches where these two candidates of the conflict's cell contend.
-fn prove_pair<T: IndexStorage>(
-    forms: &Forms<'_, T>,
-    grm: &YaccGrammar<T>,
-    graph: &StateGraph<T>,
-    conflict: &Conflict<T>,
-    pair: Pair<T>,
+fn prove_pair(
+    forms: &Forms<'_>,
+    grm: &YaccGrammar<u32>,
+    graph: &StateGraph<u32>,
+    conflict: &Conflict<u32>,
+    pair: Pair,
     steps: usize,
-) -> Result<Option<ProvedAmbiguity<T>>, AllocError>
+) -> Result<Option<ProvedAmbiguity>, AllocError>
     requires graph { IsGraphOf grm.now graph.now }
-    requires state { T.number conflict.now.state.0 < length graph.now }
-    ensures { IfOk result (λ o. IfSome o (IsProofOf T.number grm.now graph.now conflict.now)) }
+    requires state { conflict.now.state.0 < length graph.now }
+    ensures { IfOk result (λ o. IfSome o (IsProofOf grm.now graph.now conflict.now)) }
 {
     let (production, other) = pair;
     let searched = Conflict {
@@ -170,16 +167,16 @@ fn prove_pair<T: IndexStorage>(
 
 /// Searches where any two candidates of the conflict's cell contend, as long as work is allowed: with so many steps for its own,
 /// and as many for all others together.
-pub(crate) fn prove<T: IndexStorage>(
-    forms: &Forms<'_, T>,
-    grm: &YaccGrammar<T>,
-    graph: &StateGraph<T>,
-    conflict: &Conflict<T>,
+pub(crate) fn prove(
+    forms: &Forms<'_>,
+    grm: &YaccGrammar<u32>,
+    graph: &StateGraph<u32>,
+    conflict: &Conflict<u32>,
     steps: usize,
-) -> Result<Option<ProvedAmbiguity<T>>, AllocError>
+) -> Result<Option<ProvedAmbiguity>, AllocError>
     requires graph { IsGraphOf grm.now graph.now }
-    requires state { T.number conflict.now.state.0 < length graph.now }
-    ensures { IfOk result (λ o. IfSome o (IsProofOf T.number grm.now graph.now conflict.now)) }
+    requires state { conflict.now.state.0 < length graph.now }
+    ensures { IfOk result (λ o. IfSome o (IsProofOf grm.now graph.now conflict.now)) }
 {
     if forms.is_used_up() {
         return Ok(None);

@@ -2,17 +2,18 @@
 
 ghost use Rattle.std.specs.Prelude.{◌≡◌, ℕ, ◌-◌, List, ◌++◌, fold, length, map, take, drop, IfOk, OnOk};
 ghost use Rattle.std.specs.String.{string_bytes};
-ghost use Rattle.lrambiguity.specs.Moves as plain;
-ghost use Rattle.lrambiguity.specs.StoredMoves.{moves_stored};
+ghost use Rattle.lrconflicts.specs.Moves as plain;
+ghost use Rattle.lrconflicts.specs.StoredMoves.{moves_stored};
 ghost use Rattle.lrreasons.specs.Brackets.{joined, opened, closed, leaf, next_row, bracketed_words};
 ghost use Rattle.lrreasons.specs.StoredForms.{trees_of, row_of, form_words};
+ghost use Rattle.lrreasons.specs.Numbers.{number_of};
 
 use crate::names::{body, name_of_rule};
 use crate::words::{push_word, symbol_word};
 use lrambiguity::Move;
 use lrforms::Form;
 use lrgrammar::grammar::YaccGrammar;
-use lrgrammar::idx::{IndexStorage, PIdx};
+use lrgrammar::idx::PIdx;
 use std::alloc::{AllocError, Global};
 
 /// Trees in a row, in the making.
@@ -73,13 +74,13 @@ fn close(words: &mut Vec<String>) -> Result<(), AllocError>
 }
 
 /// The words of a leaf: a symbol, behind the dot where that stands before it.
-fn words_of_leaf<T: IndexStorage>(
-    grm: &YaccGrammar<T>,
-    form: &Form<T>,
+fn words_of_leaf(
+    grm: &YaccGrammar<u32>,
+    form: &Form,
     place: usize,
 ) -> Result<Vec<String>, AllocError>
     ensures { IfOk result (λ ws. map string_bytes ws.items
-        ≡ leaf form.now.dot (form_words T.number grm.now form.now) place) }
+        ≡ leaf form.now.dot (form_words grm.now form.now) place) }
 {
     let mut words = Vec::new(grm.allocator());
     if place == form.dot {
@@ -93,13 +94,9 @@ fn words_of_leaf<T: IndexStorage>(
 
 impl Row {
     /// Adds a leaf of the form's next symbol.
-    fn shift<T: IndexStorage>(
-        &mut self,
-        grm: &YaccGrammar<T>,
-        form: &Form<T>,
-    ) -> Result<(), AllocError>
+    fn shift(&mut self, grm: &YaccGrammar<u32>, form: &Form) -> Result<(), AllocError>
         ensures { OnOk result (row_of self.new ≡ next_row grm.now form.now.dot
-            (form_words T.number grm.now form.now) (row_of self.old) plain.Shift) }
+            (form_words grm.now form.now) (row_of self.old) plain.Shift) }
     {
         self.trees.push(words_of_leaf(grm, form, self.used)?)?;
         self.used = self.used.saturating_add(1).min(form.symbols.len());
@@ -107,13 +104,9 @@ impl Row {
     }
 
     /// Puts a node of the production over the last trees.
-    fn reduce<T: IndexStorage>(
-        &mut self,
-        grm: &YaccGrammar<T>,
-        production: PIdx<T>,
-    ) -> Result<(), AllocError>
+    fn reduce(&mut self, grm: &YaccGrammar<u32>, production: PIdx<u32>) -> Result<(), AllocError>
         ensures { OnOk result ((d : ℕ) (ws : List (List ℕ)) → row_of self.new
-            ≡ next_row grm.now d ws (row_of self.old) (plain.Reduce (T.number production.0))) }
+            ≡ next_row grm.now d ws (row_of self.old) (plain.Reduce production.0)) }
     {
         let count = body(grm, production).len();
         let mut words = take_last(grm.allocator(), &mut self.trees, count)?;
@@ -124,15 +117,15 @@ impl Row {
     }
 
     /// Makes moves.
-    fn make<T: IndexStorage>(
+    fn make(
         &mut self,
-        grm: &YaccGrammar<T>,
-        form: &Form<T>,
-        moves: &[Move<T>],
+        grm: &YaccGrammar<u32>,
+        form: &Form,
+        moves: &[Move<u32>],
     ) -> Result<(), AllocError>
         ensures { OnOk result (row_of self.new
-            ≡ fold (next_row grm.now form.now.dot (form_words T.number grm.now form.now))
-            (row_of self.old) (moves_stored T.number moves.now)) }
+            ≡ fold (next_row grm.now form.now.dot (form_words grm.now form.now))
+            (row_of self.old) (moves_stored number_of moves.now)) }
     {
         for action in moves {
             match action {
@@ -145,14 +138,14 @@ impl Row {
 }
 
 /// The tree that one of a form's ways makes of it, as `E(E(E '+' E) . '+' E)`: these are its moves from the dot on.
-pub(crate) fn bracketed<T: IndexStorage>(
-    grm: &YaccGrammar<T>,
-    form: &Form<T>,
-    moves: &[Move<T>],
+pub(crate) fn bracketed(
+    grm: &YaccGrammar<u32>,
+    form: &Form,
+    moves: &[Move<u32>],
 ) -> Result<Vec<String>, AllocError>
     ensures { IfOk result (λ ws. map string_bytes ws.items
-        ≡ bracketed_words grm.now form.now.dot (form_words T.number grm.now form.now)
-        (moves_stored T.number form.now.ways.before.items ++ moves_stored T.number moves.now)) }
+        ≡ bracketed_words grm.now form.now.dot (form_words grm.now form.now)
+        (moves_stored number_of form.now.ways.before.items ++ moves_stored number_of moves.now)) }
 {
     let mut row = Row {
         trees: Vec::new(grm.allocator()),

@@ -2,9 +2,9 @@
 
 ghost use Rattle.std.specs.Prelude.{◌<◌, length};
 
-use lrforms::Conflict;
+use lrconflicts::Conflict;
 use lrgrammar::grammar::YaccGrammar;
-use lrgrammar::idx::{IndexStorage, PIdx, SIdx, Symbol, TIdx};
+use lrgrammar::idx::{PIdx, SIdx, Symbol, TIdx};
 use lrtable::StateGraph;
 use lrtable::itemset::{Ctx, Itemset};
 use std::alloc::{AllocError, Global};
@@ -13,21 +13,17 @@ use std::alloc::{AllocError, Global};
 const MOST_PAIRS: usize = 15;
 
 /// Two candidates of a cell: a reduction, and another one, or to shift.
-pub(crate) type Pair<T> = (PIdx<T>, Option<PIdx<T>>);
+pub(crate) type Pair = (PIdx<u32>, Option<PIdx<u32>>);
 
 /// Whether the item stands before the token.
-fn is_before<T: IndexStorage>(
-    grm: &YaccGrammar<T>,
-    item: (PIdx<T>, SIdx<T>),
-    token: TIdx<T>,
-) -> bool {
+fn is_before(grm: &YaccGrammar<u32>, item: (PIdx<u32>, SIdx<u32>), token: TIdx<u32>) -> bool {
     let (production, dot) = item;
     usize::from(production) < usize::from(grm.prods_len())
         && grm.prod(production).get(usize::from(dot)).copied() == Some(Symbol::Token(token))
 }
 
 /// Whether one of the items stands before the token.
-fn can_shift<T: IndexStorage>(grm: &YaccGrammar<T>, closed: &Itemset<T>, token: TIdx<T>) -> bool {
+fn can_shift(grm: &YaccGrammar<u32>, closed: &Itemset<u32>, token: TIdx<u32>) -> bool {
     for key in closed.items.keys() {
         if is_before(grm, *key, token) {
             return true;
@@ -37,11 +33,11 @@ fn can_shift<T: IndexStorage>(grm: &YaccGrammar<T>, closed: &Itemset<T>, token: 
 }
 
 /// Whether the item is complete, of another production than the start production, and looks at the token.
-fn reduces<T: IndexStorage>(
-    grm: &YaccGrammar<T>,
-    item: (PIdx<T>, SIdx<T>),
+fn reduces(
+    grm: &YaccGrammar<u32>,
+    item: (PIdx<u32>, SIdx<u32>),
     ctx: &Ctx,
-    token: TIdx<T>,
+    token: TIdx<u32>,
 ) -> bool {
     let (production, dot) = item;
     usize::from(production) < usize::from(grm.prods_len())
@@ -52,11 +48,11 @@ fn reduces<T: IndexStorage>(
 }
 
 /// The productions by which a closed state can reduce on the token.
-fn reductions<T: IndexStorage>(
-    grm: &YaccGrammar<T>,
-    closed: &Itemset<T>,
-    token: TIdx<T>,
-) -> Result<Vec<PIdx<T>>, AllocError> {
+fn reductions(
+    grm: &YaccGrammar<u32>,
+    closed: &Itemset<u32>,
+    token: TIdx<u32>,
+) -> Result<Vec<PIdx<u32>>, AllocError> {
     let mut reductions = Vec::new(grm.allocator());
     for (key, ctx) in &closed.items {
         if reduces(grm, *key, ctx, token) {
@@ -67,11 +63,11 @@ fn reductions<T: IndexStorage>(
 }
 
 /// Adds the pairs of a reduction with those behind it, and with the shift where there is one, as long as there are few.
-fn add_pairs<T: IndexStorage>(
-    pairs: &mut Vec<Pair<T>>,
-    own: Pair<T>,
-    reduction: PIdx<T>,
-    behind: &[PIdx<T>],
+fn add_pairs(
+    pairs: &mut Vec<Pair>,
+    own: Pair,
+    reduction: PIdx<u32>,
+    behind: &[PIdx<u32>],
     shifts: bool,
 ) -> Result<(), AllocError> {
     if shifts && pairs.len() < MOST_PAIRS && own != (reduction, None) {
@@ -87,13 +83,13 @@ fn add_pairs<T: IndexStorage>(
 }
 
 /// The pairs of candidates of the conflict's cell, its own first: all of them, where there are few. The state is one of the graph.
-pub(crate) fn pairs<T: IndexStorage>(
+pub(crate) fn pairs(
     alloc: Global,
-    grm: &YaccGrammar<T>,
-    graph: &StateGraph<T>,
-    conflict: &Conflict<T>,
-) -> Result<Vec<Pair<T>>, AllocError>
-    requires { T.number conflict.now.state.0 < length graph.now }
+    grm: &YaccGrammar<u32>,
+    graph: &StateGraph<u32>,
+    conflict: &Conflict<u32>,
+) -> Result<Vec<Pair>, AllocError>
+    requires { conflict.now.state.0 < length graph.now }
 {
     let own = (conflict.production, conflict.other);
     let mut pairs = Vec::new(alloc);

@@ -5,38 +5,39 @@ ghost use Rattle.lrspec.specs.grammars.Grammar as math;
 ghost use Rattle.lrgrammar.specs.Symbols.{symbol_of};
 ghost use Rattle.lrambiguity.specs.Nesting.{Nests};
 ghost use Rattle.lrambiguity.specs.StoredItems.{items_of};
-ghost use Rattle.lrambiguity.specs.StoredMoves.{move_of};
+ghost use Rattle.lrconflicts.specs.StoredMoves.{move_of};
 ghost use Rattle.lrreasons.specs.Examples.{IsTextOf, IsItemOf, IsLastItemOf, IsRestBehind, IsOutlook};
+ghost use Rattle.lrreasons.specs.Numbers.{number_of};
 
 use lrambiguity::{Move, Written, goes_on, nests, reads_as};
 use lrforms::{Forms, Outlook};
 use lrgrammar::grammar::YaccGrammar;
-use lrgrammar::idx::{IndexStorage, PIdx, SIdx, Symbol, TIdx};
+use lrgrammar::idx::{PIdx, SIdx, Symbol, TIdx};
 use std::alloc::AllocError;
 
 /// After what a conflict is real.
 #[derive(Debug, Drop)]
-pub struct Example<T: IndexStorage> {
+pub struct Example {
     /// A shortest list of symbols after which both candidates are real.
-    pub list: Vec<Symbol<T>>,
+    pub list: Vec<Symbol<u32>>,
     /// The token on which they are: the conflict's own, but where two reductions share only others; then the least of these.
-    pub token: TIdx<T>,
+    pub token: TIdx<u32>,
     /// A text that the list derives; None where a rule of it has none.
-    pub input: Option<Written<T>>,
+    pub input: Option<Written<u32>>,
     /// How the text goes on by the reduction of the conflict's production.
-    pub one: Option<Outlook<T>>,
+    pub one: Option<Outlook>,
     /// How it goes on by the shift, or by the reduction of the other production.
-    pub other: Option<Outlook<T>>,
+    pub other: Option<Outlook>,
 }
 
 /// A text that the list derives, where one is found.
-pub(crate) fn input<T: IndexStorage>(
-    forms: &Forms<'_, T>,
-    grm: &YaccGrammar<T>,
-    list: &[Symbol<T>],
-) -> Result<Option<Written<T>>, AllocError>
+pub(crate) fn input(
+    forms: &Forms<'_>,
+    grm: &YaccGrammar<u32>,
+    list: &[Symbol<u32>],
+) -> Result<Option<Written<u32>>, AllocError>
     ensures { IfOk result (λ o.
-        IfSome o (IsTextOf T.number grm.now (map (symbol_of T.number) list.now))) }
+        IfSome o (IsTextOf grm.now (map (symbol_of number_of) list.now))) }
 {
     let Some(text) = forms.text_of(list)? else {
         return Ok(None);
@@ -49,9 +50,9 @@ pub(crate) fn input<T: IndexStorage>(
 }
 
 /// Whether the token comes first behind the dot.
-fn is_before<T: IndexStorage>(body: &[Symbol<T>], dot: usize, token: TIdx<T>) -> bool
+fn is_before(body: &[Symbol<u32>], dot: usize, token: TIdx<u32>) -> bool
     ensures { IsTrue result → (y : List math.Symbol)
-        × (drop dot (map (symbol_of T.number) body.now) ≡ math.Token (T.number token.0) ∷ y) }
+        × (drop dot (map (symbol_of number_of) body.now) ≡ math.Token token.0 ∷ y) }
 {
     match body.get(dot) {
         Some(Symbol::Token(found)) => *found == token,
@@ -60,14 +61,14 @@ fn is_before<T: IndexStorage>(body: &[Symbol<T>], dot: usize, token: TIdx<T>) ->
 }
 
 /// Whether the item is that of the move on the token: complete for a reduction, before the token for a shift.
-fn is_item_of<T: IndexStorage>(
-    grm: &YaccGrammar<T>,
-    token: TIdx<T>,
-    action: Move<T>,
-    item: (PIdx<T>, SIdx<T>),
+fn is_item_of(
+    grm: &YaccGrammar<u32>,
+    token: TIdx<u32>,
+    action: Move<u32>,
+    item: (PIdx<u32>, SIdx<u32>),
 ) -> bool
-    ensures { IsTrue result → IsItemOf grm.now (T.number token.0) (move_of T.number action)
-        (T.number item.0.0) (T.number item.1.0) }
+    ensures { IsTrue result → IsItemOf grm.now token.0 (move_of number_of action)
+        item.0.0 item.1.0 }
 {
     let (production, dot) = item;
     if usize::from(production) >= usize::from(grm.prods_len()) {
@@ -80,17 +81,17 @@ fn is_item_of<T: IndexStorage>(
 }
 
 /// Whether the items stand in one another after the list, and the last one is that of the move.
-fn is_derivation<T: IndexStorage>(
-    grm: &YaccGrammar<T>,
-    list: &[Symbol<T>],
-    token: TIdx<T>,
-    action: Move<T>,
-    items: &[(PIdx<T>, SIdx<T>)],
+fn is_derivation(
+    grm: &YaccGrammar<u32>,
+    list: &[Symbol<u32>],
+    token: TIdx<u32>,
+    action: Move<u32>,
+    items: &[(PIdx<u32>, SIdx<u32>)],
 ) -> bool
     ensures nests { IsTrue result
-        → Nests grm.now (items_of T.number items.now) (map (symbol_of T.number) list.now) }
-    ensures last { IsTrue result → IsLastItemOf grm.now (T.number token.0)
-        (move_of T.number action) (items_of T.number items.now) }
+        → Nests grm.now (items_of number_of items.now) (map (symbol_of number_of) list.now) }
+    ensures last { IsTrue result → IsLastItemOf grm.now token.0
+        (move_of number_of action) (items_of number_of items.now) }
 {
     match items.last() {
         Some(last) => is_item_of(grm, token, action, *last) && nests(grm, list, items),
@@ -99,15 +100,15 @@ fn is_derivation<T: IndexStorage>(
 }
 
 /// The rest, where it goes on behind the input by the move.
-fn checked_rest<T: IndexStorage>(
-    grm: &YaccGrammar<T>,
-    token: TIdx<T>,
-    action: Move<T>,
-    input: Option<&Written<T>>,
-    rest: Option<Written<T>>,
-) -> Result<Option<Written<T>>, AllocError>
-    ensures { IfOk result (IsRestBehind T.number grm.now (T.number token.0)
-        (move_of T.number action) (option_map (λ x. x.now) input.entry)) }
+fn checked_rest(
+    grm: &YaccGrammar<u32>,
+    token: TIdx<u32>,
+    action: Move<u32>,
+    input: Option<&Written<u32>>,
+    rest: Option<Written<u32>>,
+) -> Result<Option<Written<u32>>, AllocError>
+    ensures { IfOk result (IsRestBehind grm.now token.0
+        (move_of number_of action) (option_map (λ x. x.now) input.entry)) }
 {
     let (Some(input), Some(rest)) = (input, rest) else {
         return Ok(None);
@@ -120,16 +121,16 @@ fn checked_rest<T: IndexStorage>(
 }
 
 /// How the text goes on by the move, where it is found.
-pub(crate) fn outlook<T: IndexStorage>(
-    forms: &Forms<'_, T>,
-    grm: &YaccGrammar<T>,
-    list: &[Symbol<T>],
-    token: TIdx<T>,
-    action: Move<T>,
-    input: Option<&Written<T>>,
-) -> Result<Option<Outlook<T>>, AllocError>
-    ensures { IfOk result (λ o. IfSome o (IsOutlook T.number grm.now
-        (map (symbol_of T.number) list.now) (T.number token.0) (move_of T.number action)
+pub(crate) fn outlook(
+    forms: &Forms<'_>,
+    grm: &YaccGrammar<u32>,
+    list: &[Symbol<u32>],
+    token: TIdx<u32>,
+    action: Move<u32>,
+    input: Option<&Written<u32>>,
+) -> Result<Option<Outlook>, AllocError>
+    ensures { IfOk result (λ o. IfSome o (IsOutlook grm.now
+        (map (symbol_of number_of) list.now) token.0 (move_of number_of action)
         (option_map (λ x. x.now) input.entry))) }
 {
     let Some(Outlook { items, rest }) = forms.outlook(list, token, action)? else {

@@ -10,14 +10,14 @@ use crate::lines::push_line;
 use crate::reasons::Reason;
 use crate::texts::{INDENT, is_same_move, push_reason};
 use crate::words::symbol_word;
-use lrentries::other_move;
+use lrconflicts::other_move;
 use lrgrammar::grammar::YaccGrammar;
-use lrgrammar::idx::{IndexStorage, Symbol};
+use lrgrammar::idx::Symbol;
 use std::alloc::AllocError;
 
 /// Whether reasons are told together: they are of one state and the same candidates, ambiguous or not.
-fn are_alike<T: IndexStorage>(one: &Reason<T>, other: &Reason<T>) -> bool
-    ensures { result ≡ stored.are_alike T.number one.now other.now }
+fn are_alike(one: &Reason, other: &Reason) -> bool
+    ensures { result ≡ stored.are_alike one.now other.now }
 {
     usize::from(one.conflict.state) == usize::from(other.conflict.state)
         && usize::from(one.conflict.production) == usize::from(other.conflict.production)
@@ -26,8 +26,8 @@ fn are_alike<T: IndexStorage>(one: &Reason<T>, other: &Reason<T>) -> bool
 }
 
 /// Whether one of the reasons is told together with this one.
-fn is_told<T: IndexStorage>(reasons: &[Reason<T>], reason: &Reason<T>) -> bool
-    ensures { result ≡ list_any (stored.are_alike T.number reason.now) reasons.now }
+fn is_told(reasons: &[Reason], reason: &Reason) -> bool
+    ensures { result ≡ list_any (stored.are_alike reason.now) reasons.now }
 {
     for other in reasons {
         if are_alike(reason, other) {
@@ -38,14 +38,14 @@ fn is_told<T: IndexStorage>(reasons: &[Reason<T>], reason: &Reason<T>) -> bool
 }
 
 /// Adds the tokens of those reasons that are told together with this one.
-fn push_likewise<T: IndexStorage>(
+fn push_likewise(
     text: &mut String,
-    grm: &YaccGrammar<T>,
-    reason: &Reason<T>,
-    reasons: &[Reason<T>],
+    grm: &YaccGrammar<u32>,
+    reason: &Reason,
+    reasons: &[Reason],
 ) -> Result<(), AllocError>
     ensures { OnOk result (string_bytes text.new ≡ string_bytes text.old
-        ++ stored.likewise_text T.number grm.now reason.now reasons.now) }
+        ++ stored.likewise_text grm.now reason.now reasons.now) }
 {
     let mut words = Vec::new(grm.allocator());
     for other in reasons {
@@ -60,13 +60,13 @@ fn push_likewise<T: IndexStorage>(
 }
 
 /// Adds the texts of the reasons; each that is alike one before it is told there.
-pub(crate) fn push_reasons<T: IndexStorage>(
+pub(crate) fn push_reasons(
     text: &mut String,
-    grm: &YaccGrammar<T>,
-    reasons: &[Reason<T>],
+    grm: &YaccGrammar<u32>,
+    reasons: &[Reason],
 ) -> Result<(), AllocError>
     ensures { OnOk result (string_bytes text.new ≡ string_bytes text.old
-        ++ stored.reasons_text T.number grm.now [] reasons.now) }
+        ++ stored.reasons_text grm.now [] reasons.now) }
 {
     for (place, reason) in reasons.iter().enumerate() {
         let (before, _) = reasons.split_at(place);

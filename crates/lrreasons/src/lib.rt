@@ -19,5 +19,5 @@ pub use crate::examples::Example;
 pub use crate::precedences::drop_precedences;
 pub use crate::reasons::{Examples, Reason, Reasons, take_apart};
 pub use lrambiguity::{Ambiguity, Contest, Move, Written};
-pub use lrentries::Verdict;
-pub use lrforms::{Conflict, Form, Outlook, Ways};
+pub use lrconflicts::{Conflict, Knowledge};
+pub use lrforms::{Form, Outlook, Ways};

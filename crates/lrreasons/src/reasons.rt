@@ -10,24 +10,25 @@ ghost use Rattle.lrspec.specs.tables.Recognition.{IsUnambiguous};
 ghost use Rattle.lrgrammar.specs.Symbols.{symbol_of};
 ghost use Rattle.lrtable.specs.RunAnswers.{text_of as tokens_of};
 ghost use Rattle.lrtree.specs.StoredTrees.{tree_of};
-ghost use Rattle.lrambiguity.specs.Moves.{IsTreeOfText};
-ghost use Rattle.lrentries.specs.declared.verdicts.Verdict.TheVariants.{Ambiguous};
-ghost use Rattle.lrentries.specs.Entries.{entry_of, entries_of, one_of, other_of, token_of, lists_in, IsListed, IsRealAfter, IsNowhereReal};
+ghost use Rattle.lrconflicts.specs.Moves.{IsTreeOfText};
+ghost use Rattle.lrconflicts.specs.declared.knowledge.Knowledge.TheVariants.{Ambiguous};
+ghost use Rattle.lrconflicts.specs.Entries.{entry_of, entries_of, one_of, other_of, token_of, lists_in, IsListed, IsRealAfter, IsNowhereReal};
 ghost use Rattle.lrreasons.specs.Examples.{list_of, IsTextOf, IsOutlook, IsExampleOf};
 ghost use Rattle.lrreasons.specs.Ambiguities.{IsProofOf};
 ghost use Rattle.lrreasons.specs.Reasons.{IsReason};
 ghost use Rattle.lrreasons.specs.StoredTexts.{reason_text, reasons_text};
+ghost use Rattle.lrreasons.specs.Numbers.{number_of};
 
 use crate::ambiguities::{ProvedAmbiguity, prove};
 use crate::examples::{Example, input, outlook};
 use crate::groups::push_reasons;
 use crate::texts::push_reason;
 use lrambiguity::Move;
+use lrconflicts::{Conflict, Knowledge, entries, other_move};
 use lrcontests::Contests;
-use lrentries::{Verdict, entries, other_move};
-use lrforms::{Conflict, Forms};
+use lrforms::Forms;
 use lrgrammar::grammar::YaccGrammar;
-use lrgrammar::idx::{IndexStorage, Symbol, TIdx};
+use lrgrammar::idx::{Symbol, TIdx};
 use lrtable::StateGraph;
 use lrtable::statetable::Conflicts;
 use std::alloc::AllocError;
@@ -44,28 +45,28 @@ pub enum Examples {
 
 /// Why there is a conflict.
 #[derive(Debug, Drop)]
-pub struct Reason<T: IndexStorage> {
+pub struct Reason {
     /// The conflict.
-    pub conflict: Conflict<T>,
+    pub conflict: Conflict<u32>,
     /// That the grammar is ambiguous there, where a text is found that shows it.
-    pub ambiguity: Option<ProvedAmbiguity<T>>,
+    pub ambiguity: Option<ProvedAmbiguity>,
     /// After what the conflict is real; there at least where no such text is found.
-    pub example: Option<Example<T>>,
+    pub example: Option<Example>,
 }
 
-impl<T: IndexStorage> Reason<T> {
-    /// What is known of the conflict.
-    pub fn verdict(&self) -> Verdict
+impl Reason {
+    /// Whether it is known that the grammar is ambiguous at the conflict.
+    pub fn knowledge(&self) -> Knowledge
         ensures { (result ≡ Ambiguous) ↔ IsSome self.now.ambiguity }
     {
-        Verdict::of(self.ambiguity.is_some())
+        Knowledge::of(self.ambiguity.is_some())
     }
 
     /// Its text, under the line of its conflict as the texts of a table's conflicts have it. The grammar is the table's. The
     /// error says that memory was refused.
-    pub fn pp(&self, grm: &YaccGrammar<T>) -> Result<String, AllocError>
+    pub fn pp(&self, grm: &YaccGrammar<u32>) -> Result<String, AllocError>
         ensures text { IfOk result
-            (λ s. string_bytes s ≡ reason_text T.number grm.now self.now) }
+            (λ s. string_bytes s ≡ reason_text grm.now self.now) }
     {
         let mut text = String::new(grm.allocator());
         push_reason(&mut text, grm, self)?;
@@ -82,7 +83,7 @@ impl<T: IndexStorage> Reason<T> {
 }
 
 /// Lets go of reasons, by a loop that takes no memory, however deep their trees are.
-pub fn take_apart<T: IndexStorage>(reasons: Vec<Reason<T>>) {
+pub fn take_apart(reasons: Vec<Reason>) {
     for reason in reasons {
         reason.take_apart();
     }
@@ -90,14 +91,14 @@ pub fn take_apart<T: IndexStorage>(reasons: Vec<Reason<T>>) {
 
 /// What gives the reasons for the conflicts of a grammar's table: what all its searches share is made once.
 #[derive(Drop)]
-pub struct Reasons<'a, T: IndexStorage> {
-    grm: &'a YaccGrammar<T>,
-    graph: &'a StateGraph<T>,
-    contests: Contests<'a, T>,
-    forms: Forms<'a, T>,
+pub struct Reasons<'a> {
+    grm: &'a YaccGrammar<u32>,
+    graph: &'a StateGraph<u32>,
+    contests: Contests<'a, u32>,
+    forms: Forms<'a>,
 }
 
-impl<'a, T: IndexStorage> Model for Reasons<'a, T> {
+impl<'a> Model for Reasons<'a> {
     ghost use Rattle.std.specs.Prelude.{◌≡◌};
     ghost use Rattle.lrspec.specs.merging.Graph.{IsGraphOf};
     ghost use Rattle.lrcontests.specs.Contests.{Contested};
@@ -110,12 +111,12 @@ impl<'a, T: IndexStorage> Model for Reasons<'a, T> {
         × (r.contests.grammar ≡ r.grm.now) × (r.contests.graph ≡ r.graph.now) };
 }
 
-impl<'a, T: IndexStorage> Reasons<'a, T> {
+impl<'a> Reasons<'a> {
     /// Those of the grammar and its graph. The error says that memory was refused.
     pub fn new(
-        grm: &'a YaccGrammar<T>,
-        graph: &'a StateGraph<T>,
-    ) -> Result<Reasons<'a, T>, AllocError>
+        grm: &'a YaccGrammar<u32>,
+        graph: &'a StateGraph<u32>,
+    ) -> Result<Reasons<'a>, AllocError>
         requires { IsGraphOf grm.now graph.now }
         ensures grammar { IfOk result (λ r. r.grammar ≡ grm.entry.now) }
         ensures graph { IfOk result (λ r. r.graph ≡ graph.entry.now) }
@@ -147,18 +148,18 @@ impl<'a, T: IndexStorage> Reasons<'a, T> {
     /// precedences settled. The error says that memory was refused.
     pub fn ambiguity(
         &self,
-        conflict: Conflict<T>,
+        conflict: Conflict<u32>,
         steps: usize,
-    ) -> Result<Option<ProvedAmbiguity<T>>, AllocError>
+    ) -> Result<Option<ProvedAmbiguity>, AllocError>
         ensures proof { IfOk result (λ o. IfSome o
-            (IsProofOf T.number self.now.grammar self.now.graph conflict)) }
+            (IsProofOf self.now.grammar self.now.graph conflict)) }
         ensures one { IfOk result (λ o. IfSome o (λ a. IsTreeOfText self.now.grammar
-            (tokens_of T.number a.ambiguity.text.items) (tree_of T.number a.ambiguity.one_tree))) }
+            (tokens_of number_of a.ambiguity.text.items) (tree_of number_of a.ambiguity.one_tree))) }
         ensures other { IfOk result (λ o. IfSome o (λ a. IsTreeOfText self.now.grammar
-            (tokens_of T.number a.ambiguity.text.items)
-            (tree_of T.number a.ambiguity.other_tree))) }
+            (tokens_of number_of a.ambiguity.text.items)
+            (tree_of number_of a.ambiguity.other_tree))) }
         ensures differ { IfOk result (λ o. IfSome o (λ a.
-            tree_of T.number a.ambiguity.one_tree ≢ tree_of T.number a.ambiguity.other_tree)) }
+            tree_of number_of a.ambiguity.one_tree ≢ tree_of number_of a.ambiguity.other_tree)) }
         ensures ambiguous { IfOk result (λ o. IsSome o → ¬ (IsUnambiguous self.now.grammar)) }
         ensures conflicts { IfOk result (λ o. IsSome o → HasNoPrecedences self.now.grammar
             → (b : Table) → IsTableFor self.now.grammar b → ¬ (ListsNothing b)) }
@@ -172,17 +173,17 @@ impl<'a, T: IndexStorage> Reasons<'a, T> {
     }
 
     /// A shortest list of symbols after which the conflict is real, and the token on which it is.
-    fn list(&self, conflict: Conflict<T>) -> Result<(Vec<Symbol<T>>, TIdx<T>), AllocError>
-        requires listed { IsListed self.now.grammar self.now.graph (entry_of T.number conflict) }
+    fn list(&self, conflict: Conflict<u32>) -> Result<(Vec<Symbol<u32>>, TIdx<u32>), AllocError>
+        requires listed { IsListed self.now.grammar self.now.graph (entry_of number_of conflict) }
         requires contested { AreReductionsContested self.now.grammar self.now.graph }
         ensures real { IfOk result (λ x. IsRealAfter self.now.grammar self.now.graph
-            (T.number x.1.0) (entry_of T.number conflict) (map (symbol_of T.number) x.0.items)) }
-        ensures own { IfOk result (λ x. (T.number x.1.0 ≡ T.number conflict.token.0)
+            x.1.0 (entry_of number_of conflict) (map (symbol_of number_of) x.0.items)) }
+        ensures own { IfOk result (λ x. (x.1.0 ≡ conflict.token.0)
             ⊎ IsNowhereReal self.now.grammar self.now.graph
-            (T.number conflict.token.0) (entry_of T.number conflict)) }
-        ensures least { IfOk result (λ x. (T.number x.1.0 ≡ T.number conflict.token.0)
-            ⊎ ((t : ℕ) → t < T.number x.1.0
-            → IsNowhereReal self.now.grammar self.now.graph t (entry_of T.number conflict))) }
+            conflict.token.0 (entry_of number_of conflict)) }
+        ensures least { IfOk result (λ x. (x.1.0 ≡ conflict.token.0)
+            ⊎ ((t : ℕ) → t < x.1.0
+            → IsNowhereReal self.now.grammar self.now.graph t (entry_of number_of conflict))) }
     {
         let Conflict {
             state,
@@ -201,25 +202,25 @@ impl<'a, T: IndexStorage> Reasons<'a, T> {
     }
 
     /// After what the conflict, which the table lists, is real. The error says that memory was refused.
-    pub fn example(&self, conflict: Conflict<T>) -> Result<Example<T>, AllocError>
-        requires listed { IsListed self.now.grammar self.now.graph (entry_of T.number conflict) }
+    pub fn example(&self, conflict: Conflict<u32>) -> Result<Example, AllocError>
+        requires listed { IsListed self.now.grammar self.now.graph (entry_of number_of conflict) }
         requires contested { AreReductionsContested self.now.grammar self.now.graph }
         ensures real { IfOk result (λ x. IsRealAfter self.now.grammar self.now.graph
-            (T.number x.token.0) (entry_of T.number conflict) (list_of T.number x)) }
-        ensures own { IfOk result (λ x. (T.number x.token.0 ≡ T.number conflict.token.0)
+            x.token.0 (entry_of number_of conflict) (list_of x)) }
+        ensures own { IfOk result (λ x. (x.token.0 ≡ conflict.token.0)
             ⊎ IsNowhereReal self.now.grammar self.now.graph
-            (T.number conflict.token.0) (entry_of T.number conflict)) }
-        ensures least { IfOk result (λ x. (T.number x.token.0 ≡ T.number conflict.token.0)
-            ⊎ ((t : ℕ) → t < T.number x.token.0
-            → IsNowhereReal self.now.grammar self.now.graph t (entry_of T.number conflict))) }
+            conflict.token.0 (entry_of number_of conflict)) }
+        ensures least { IfOk result (λ x. (x.token.0 ≡ conflict.token.0)
+            ⊎ ((t : ℕ) → t < x.token.0
+            → IsNowhereReal self.now.grammar self.now.graph t (entry_of number_of conflict))) }
         ensures input { IfOk result (λ x. IfSome x.input
-            (IsTextOf T.number self.now.grammar (list_of T.number x))) }
+            (IsTextOf self.now.grammar (list_of x))) }
         ensures one { IfOk result (λ x. IfSome x.one
-            (IsOutlook T.number self.now.grammar (list_of T.number x) (T.number x.token.0)
-            (one_of (entry_of T.number conflict)) x.input)) }
+            (IsOutlook self.now.grammar (list_of x) x.token.0
+            (one_of (entry_of number_of conflict)) x.input)) }
         ensures other { IfOk result (λ x. IfSome x.other
-            (IsOutlook T.number self.now.grammar (list_of T.number x) (T.number x.token.0)
-            (other_of (entry_of T.number conflict)) x.input)) }
+            (IsOutlook self.now.grammar (list_of x) x.token.0
+            (other_of (entry_of number_of conflict)) x.input)) }
     {
         let (list, token) = self.list(conflict)?;
         let (forms, grm) = (&self.forms, self.grm);
@@ -242,14 +243,14 @@ impl<'a, T: IndexStorage> Reasons<'a, T> {
     /// them; and after what it is real, as the last argument says. The error says that memory was refused.
     pub fn reason(
         &self,
-        conflict: Conflict<T>,
+        conflict: Conflict<u32>,
         steps: usize,
         examples: Examples,
-    ) -> Result<Reason<T>, AllocError>
-        requires listed { IsListed self.now.grammar self.now.graph (entry_of T.number conflict) }
+    ) -> Result<Reason, AllocError>
+        requires listed { IsListed self.now.grammar self.now.graph (entry_of number_of conflict) }
         requires contested { AreReductionsContested self.now.grammar self.now.graph }
         ensures conflict { IfOk result (λ r. r.conflict ≡ conflict) }
-        ensures reason { IfOk result (IsReason T.number self.now.grammar self.now.graph) }
+        ensures reason { IfOk result (IsReason self.now.grammar self.now.graph) }
         ensures ambiguous { IfOk result (λ r. IsSome r.ambiguity
             → ¬ (IsUnambiguous self.now.grammar)) }
     {
@@ -280,16 +281,16 @@ impl<'a, T: IndexStorage> Reasons<'a, T> {
     /// memory was refused.
     pub fn reasons(
         &self,
-        conflicts: &Conflicts<T>,
+        conflicts: &Conflicts<u32>,
         steps: usize,
         examples: Examples,
-    ) -> Result<Vec<Reason<T>>, AllocError>
+    ) -> Result<Vec<Reason>, AllocError>
         requires lists { conflicts.now ≡ lists_in self.now.grammar self.now.graph }
         requires contested { AreReductionsContested self.now.grammar self.now.graph }
         ensures entries { IfOk result (λ v.
-            map (λ r. entry_of T.number r.conflict) v.items ≡ entries_of conflicts.now) }
+            map (λ r. entry_of number_of r.conflict) v.items ≡ entries_of conflicts.now) }
         ensures reasons { IfOk result (λ v.
-            All (IsReason T.number self.now.grammar self.now.graph) v.items) }
+            All (IsReason self.now.grammar self.now.graph) v.items) }
         ensures ambiguous { IfOk result (λ v.
             All (λ r. IsSome r.ambiguity → ¬ (IsUnambiguous self.now.grammar)) v.items) }
     {
@@ -308,15 +309,15 @@ impl<'a, T: IndexStorage> Reasons<'a, T> {
     /// Adds the reason for the conflict.
     fn push_reason(
         &self,
-        reasons: &mut Vec<Reason<T>>,
-        conflict: Conflict<T>,
+        reasons: &mut Vec<Reason>,
+        conflict: Conflict<u32>,
         steps: usize,
         examples: Examples,
     ) -> Result<(), AllocError>
-        requires listed { IsListed self.now.grammar self.now.graph (entry_of T.number conflict) }
+        requires listed { IsListed self.now.grammar self.now.graph (entry_of number_of conflict) }
         requires contested { AreReductionsContested self.now.grammar self.now.graph }
-        ensures { OnOk result ((r : Reason T) × (reasons.new.items ≡ reasons.old.items ++ r ∷ [])
-            × (r.conflict ≡ conflict) × IsReason T.number self.now.grammar self.now.graph r) }
+        ensures { OnOk result ((r : Reason) × (reasons.new.items ≡ reasons.old.items ++ r ∷ [])
+            × (r.conflict ≡ conflict) × IsReason self.now.grammar self.now.graph r) }
     {
         let reason = self.reason(conflict, steps, examples)?;
         match reasons.push(reason) {
@@ -330,9 +331,9 @@ impl<'a, T: IndexStorage> Reasons<'a, T> {
 
     /// The texts of the reasons; what those of one state and the same candidates share is told once, with their tokens. The
     /// error says that memory was refused.
-    pub fn pp(&self, reasons: &[Reason<T>]) -> Result<String, AllocError>
+    pub fn pp(&self, reasons: &[Reason]) -> Result<String, AllocError>
         ensures text { IfOk result
-            (λ s. string_bytes s ≡ reasons_text T.number self.now.grammar [] reasons.now) }
+            (λ s. string_bytes s ≡ reasons_text self.now.grammar [] reasons.now) }
     {
         let mut text = String::new(self.grm.allocator());
         push_reasons(&mut text, self.grm, reasons)?;

@@ -3,13 +3,14 @@
 ghost use Rattle.std.specs.Prelude.{◌≡◌, ◌++◌, map, option_copied, IfOk, OnOk};
 ghost use Rattle.std.specs.List.{flat_map, list_any};
 ghost use Rattle.std.specs.String.{string_bytes};
-ghost use Rattle.lrambiguity.specs.StoredMoves.{move_of, moves_stored};
+ghost use Rattle.lrconflicts.specs.StoredMoves.{move_of, moves_stored};
 ghost use Rattle.lrambiguity.specs.StoredItems.{items_of};
 ghost use Rattle.lrgrammar.specs.Symbols.{symbol_of};
 ghost use Rattle.lrreasons.specs.Texts as told;
 ghost use Rattle.lrreasons.specs.StoredTexts as stored;
-ghost use Rattle.lrentries.specs.Entries.{entry_of, other_of};
+ghost use Rattle.lrconflicts.specs.Entries.{entry_of, other_of};
 ghost use Rattle.lrreasons.specs.Words.{words_of};
+ghost use Rattle.lrreasons.specs.Numbers.{number_of};
 
 use crate::ambiguities::ProvedAmbiguity;
 use crate::brackets::bracketed;
@@ -19,10 +20,10 @@ use crate::names::{body, name_of_rule, production_text, rule_name, token_name};
 use crate::reasons::Reason;
 use crate::words::{push_first, push_symbols, push_word, symbol_word, symbols_of, words_with_dot};
 use lrambiguity::{Ambiguity, Contest, Move, Written};
-use lrentries::other_move;
-use lrforms::{Conflict, Form, Outlook};
+use lrconflicts::{Conflict, other_move};
+use lrforms::{Form, Outlook};
 use lrgrammar::grammar::YaccGrammar;
-use lrgrammar::idx::{IndexStorage, PIdx, SIdx, Symbol, TIdx};
+use lrgrammar::idx::{PIdx, SIdx, Symbol, TIdx};
 use std::alloc::AllocError;
 
 /// Behind how many spaces the lines of a reason stand.
@@ -32,12 +33,9 @@ pub(crate) const INDENT: usize = 6;
 const BELOW: usize = 9;
 
 /// The line of the conflict, as the texts of a table's conflicts have it.
-fn conflict_line<T: IndexStorage>(
-    grm: &YaccGrammar<T>,
-    conflict: &Conflict<T>,
-) -> Result<String, AllocError>
+fn conflict_line(grm: &YaccGrammar<u32>, conflict: &Conflict<u32>) -> Result<String, AllocError>
     ensures { IfOk result (λ s.
-        string_bytes s ≡ told.conflict_line grm.now (entry_of T.number conflict.now)) }
+        string_bytes s ≡ told.conflict_line grm.now (entry_of number_of conflict.now)) }
 {
     let state = usize::from(conflict.state);
     let token = token_name(grm, conflict.token);
@@ -56,13 +54,13 @@ fn conflict_line<T: IndexStorage>(
 }
 
 /// What stands before what a candidate does: for a reduction its rule too, where the other one reduces as well.
-fn move_label<T: IndexStorage>(
-    grm: &YaccGrammar<T>,
-    action: Move<T>,
-    other: Move<T>,
+fn move_label(
+    grm: &YaccGrammar<u32>,
+    action: Move<u32>,
+    other: Move<u32>,
 ) -> Result<String, AllocError>
     ensures { IfOk result (λ s. string_bytes s
-        ≡ told.move_label grm.now (move_of T.number action) (move_of T.number other)) }
+        ≡ told.move_label grm.now (move_of number_of action) (move_of number_of other)) }
 {
     let alloc = grm.allocator();
     match (action, other) {
@@ -76,8 +74,8 @@ fn move_label<T: IndexStorage>(
 }
 
 /// Whether both moves are the same.
-pub(crate) fn is_same_move<T: IndexStorage>(one: Move<T>, other: Move<T>) -> bool
-    ensures { result ≡ told.is_same_move (move_of T.number one) (move_of T.number other) }
+pub(crate) fn is_same_move(one: Move<u32>, other: Move<u32>) -> bool
+    ensures { result ≡ told.is_same_move (move_of number_of one) (move_of number_of other) }
 {
     match (one, other) {
         (Move::Shift, Move::Shift) => true,
@@ -87,13 +85,13 @@ pub(crate) fn is_same_move<T: IndexStorage>(one: Move<T>, other: Move<T>) -> boo
 }
 
 /// Adds what a candidate is: `shift`, or a production.
-fn push_candidate<T: IndexStorage>(
+fn push_candidate(
     words: &mut Vec<String>,
-    grm: &YaccGrammar<T>,
-    action: Move<T>,
+    grm: &YaccGrammar<u32>,
+    action: Move<u32>,
 ) -> Result<(), AllocError>
     ensures { OnOk result (map string_bytes words.new.items ≡ map string_bytes words.old.items
-        ++ told.candidate_words grm.now (move_of T.number action)) }
+        ++ told.candidate_words grm.now (move_of number_of action)) }
 {
     match action {
         Move::Shift => push_word(words, "shift"),
@@ -106,16 +104,16 @@ fn push_candidate<T: IndexStorage>(
 }
 
 /// Adds which candidates contend, where they aren't those of the conflict's line.
-fn push_contest<T: IndexStorage>(
+fn push_contest(
     text: &mut String,
-    grm: &YaccGrammar<T>,
-    conflict: &Conflict<T>,
-    contest: &Contest<T>,
+    grm: &YaccGrammar<u32>,
+    conflict: &Conflict<u32>,
+    contest: &Contest<u32>,
 ) -> Result<(), AllocError>
     ensures { OnOk result (string_bytes text.new ≡ string_bytes text.old
-        ++ told.contest_text grm.now (T.number conflict.now.production.0)
-        (other_of (entry_of T.number conflict.now)) (move_of T.number contest.now.one)
-        (move_of T.number contest.now.other)) }
+        ++ told.contest_text grm.now conflict.now.production.0
+        (other_of (entry_of number_of conflict.now)) (move_of number_of contest.now.one)
+        (move_of number_of contest.now.other)) }
 {
     if is_same_move(contest.one, Move::Reduce(conflict.production))
         && is_same_move(contest.other, other_move(conflict))
@@ -130,13 +128,9 @@ fn push_contest<T: IndexStorage>(
 }
 
 /// Adds the line of a form.
-fn push_form<T: IndexStorage>(
-    text: &mut String,
-    grm: &YaccGrammar<T>,
-    form: &Form<T>,
-) -> Result<(), AllocError>
+fn push_form(text: &mut String, grm: &YaccGrammar<u32>, form: &Form) -> Result<(), AllocError>
     ensures { OnOk result (string_bytes text.new
-        ≡ string_bytes text.old ++ stored.form_text T.number grm.now form.now) }
+        ≡ string_bytes text.old ++ stored.form_text grm.now form.now) }
 {
     let rule = rule_name(grm, form.rule);
     let label = format!(in grm.allocator(); "AMBIGUOUS {rule}:")?;
@@ -145,17 +139,17 @@ fn push_form<T: IndexStorage>(
 }
 
 /// Adds what a candidate makes of a form, against another one: these are its moves from the dot on.
-fn push_way<T: IndexStorage>(
+fn push_way(
     text: &mut String,
-    grm: &YaccGrammar<T>,
-    form: &Form<T>,
-    action: Move<T>,
-    other: Move<T>,
-    moves: &[Move<T>],
+    grm: &YaccGrammar<u32>,
+    form: &Form,
+    action: Move<u32>,
+    other: Move<u32>,
+    moves: &[Move<u32>],
 ) -> Result<(), AllocError>
     ensures { OnOk result (string_bytes text.new ≡ string_bytes text.old
-        ++ stored.way_text T.number grm.now form.now (move_of T.number action)
-        (move_of T.number other) (moves_stored T.number moves.now)) }
+        ++ stored.way_text grm.now form.now (move_of number_of action)
+        (move_of number_of other) (moves_stored number_of moves.now)) }
 {
     let label = move_label(grm, action, other)?;
     let tree = bracketed(grm, form, moves)?;
@@ -163,8 +157,8 @@ fn push_way<T: IndexStorage>(
 }
 
 /// How many of the moves are shifts.
-fn shifts<T: IndexStorage>(moves: &[Move<T>]) -> usize
-    ensures { result ≡ told.shifts (moves_stored T.number moves.now) }
+fn shifts(moves: &[Move<u32>]) -> usize
+    ensures { result ≡ told.shifts (moves_stored number_of moves.now) }
 {
     let mut shifts: usize = 0;
     for action in moves {
@@ -176,13 +170,13 @@ fn shifts<T: IndexStorage>(moves: &[Move<T>]) -> usize
 }
 
 /// Adds the text that has two trees.
-fn push_sentence<T: IndexStorage>(
+fn push_sentence(
     text: &mut String,
-    grm: &YaccGrammar<T>,
-    ambiguity: &Ambiguity<T>,
+    grm: &YaccGrammar<u32>,
+    ambiguity: &Ambiguity<u32>,
 ) -> Result<(), AllocError>
     ensures { OnOk result (string_bytes text.new ≡ string_bytes text.old
-        ++ stored.sentence_text T.number grm.now ambiguity.now) }
+        ++ stored.sentence_text grm.now ambiguity.now) }
 {
     let symbols = symbols_of(grm.allocator(), &ambiguity.text)?;
     let words = words_with_dot(grm, &symbols, shifts(&ambiguity.before))?;
@@ -190,14 +184,14 @@ fn push_sentence<T: IndexStorage>(
 }
 
 /// Adds the lines of an ambiguity.
-fn push_ambiguity<T: IndexStorage>(
+fn push_ambiguity(
     text: &mut String,
-    grm: &YaccGrammar<T>,
-    conflict: &Conflict<T>,
-    proved: &ProvedAmbiguity<T>,
+    grm: &YaccGrammar<u32>,
+    conflict: &Conflict<u32>,
+    proved: &ProvedAmbiguity,
 ) -> Result<(), AllocError>
     ensures { OnOk result (string_bytes text.new ≡ string_bytes text.old
-        ++ stored.ambiguity_text T.number grm.now conflict.now proved.now) }
+        ++ stored.ambiguity_text grm.now conflict.now proved.now) }
 {
     let (form, contest) = (&proved.form, &proved.contest);
     push_form(text, grm, form)?;
@@ -222,13 +216,13 @@ fn push_ambiguity<T: IndexStorage>(
 }
 
 /// Adds the line of an item.
-fn push_item<T: IndexStorage>(
+fn push_item(
     text: &mut String,
-    grm: &YaccGrammar<T>,
-    item: (PIdx<T>, SIdx<T>),
+    grm: &YaccGrammar<u32>,
+    item: (PIdx<u32>, SIdx<u32>),
 ) -> Result<(), AllocError>
     ensures { OnOk result (string_bytes text.new ≡ string_bytes text.old
-        ++ told.item_line grm.now (T.number item.0.0, T.number item.1.0)) }
+        ++ told.item_line grm.now (item.0.0, item.1.0)) }
 {
     let (production, dot) = item;
     let rule = name_of_rule(grm, production);
@@ -238,13 +232,13 @@ fn push_item<T: IndexStorage>(
 }
 
 /// Adds the lines of items.
-fn push_items<T: IndexStorage>(
+fn push_items(
     text: &mut String,
-    grm: &YaccGrammar<T>,
-    items: &[(PIdx<T>, SIdx<T>)],
+    grm: &YaccGrammar<u32>,
+    items: &[(PIdx<u32>, SIdx<u32>)],
 ) -> Result<(), AllocError>
     ensures { OnOk result (string_bytes text.new ≡ string_bytes text.old
-        ++ flat_map (told.item_line grm.now) (items_of T.number items.now)) }
+        ++ flat_map (told.item_line grm.now) (items_of number_of items.now)) }
 {
     for item in items {
         push_item(text, grm, *item)?;
@@ -253,13 +247,13 @@ fn push_items<T: IndexStorage>(
 }
 
 /// Adds how a text goes on, where that is known.
-fn push_rest<T: IndexStorage>(
+fn push_rest(
     text: &mut String,
-    grm: &YaccGrammar<T>,
-    rest: Option<&Written<T>>,
+    grm: &YaccGrammar<u32>,
+    rest: Option<&Written<u32>>,
 ) -> Result<(), AllocError>
     ensures { OnOk result (string_bytes text.new ≡ string_bytes text.old
-        ++ stored.rest_text T.number grm.now (option_copied rest.entry)) }
+        ++ stored.rest_text grm.now (option_copied rest.entry)) }
 {
     let Some(rest) = rest else {
         return Ok(());
@@ -271,16 +265,16 @@ fn push_rest<T: IndexStorage>(
 }
 
 /// Adds how a text goes on by a candidate against another one, where that is known.
-fn push_outlook<T: IndexStorage>(
+fn push_outlook(
     text: &mut String,
-    grm: &YaccGrammar<T>,
-    action: Move<T>,
-    other: Move<T>,
-    outlook: Option<&Outlook<T>>,
+    grm: &YaccGrammar<u32>,
+    action: Move<u32>,
+    other: Move<u32>,
+    outlook: Option<&Outlook>,
 ) -> Result<(), AllocError>
     ensures { OnOk result (string_bytes text.new ≡ string_bytes text.old
-        ++ stored.outlook_text T.number grm.now (move_of T.number action)
-        (move_of T.number other) (option_copied outlook.entry)) }
+        ++ stored.outlook_text grm.now (move_of number_of action)
+        (move_of number_of other) (option_copied outlook.entry)) }
 {
     let Some(outlook) = outlook else {
         return Ok(());
@@ -292,16 +286,16 @@ fn push_outlook<T: IndexStorage>(
 }
 
 /// Adds symbols with the dot behind them, and the token that comes next.
-fn push_before<T: IndexStorage>(
+fn push_before(
     text: &mut String,
-    grm: &YaccGrammar<T>,
+    grm: &YaccGrammar<u32>,
     label: &str,
-    symbols: &[Symbol<T>],
-    token: TIdx<T>,
+    symbols: &[Symbol<u32>],
+    token: TIdx<u32>,
 ) -> Result<(), AllocError>
     ensures { OnOk result (string_bytes text.new ≡ string_bytes text.old
-        ++ told.before_line grm.now label.now (map (symbol_of T.number) symbols.now)
-        (T.number token.0)) }
+        ++ told.before_line grm.now label.now (map (symbol_of number_of) symbols.now)
+        token.0) }
 {
     let mut words = words_with_dot(grm, symbols, symbols.len())?;
     words.push(symbol_word(grm, Symbol::Token(token))?)?;
@@ -309,8 +303,8 @@ fn push_before<T: IndexStorage>(
 }
 
 /// Whether one of the symbols is a rule.
-fn has_rule<T: IndexStorage>(symbols: &[Symbol<T>]) -> bool
-    ensures { result ≡ list_any told.is_rule (map (symbol_of T.number) symbols.now) }
+fn has_rule(symbols: &[Symbol<u32>]) -> bool
+    ensures { result ≡ list_any told.is_rule (map (symbol_of number_of) symbols.now) }
 {
     for symbol in symbols {
         if let Symbol::Rule(_) = symbol {
@@ -321,16 +315,16 @@ fn has_rule<T: IndexStorage>(symbols: &[Symbol<T>]) -> bool
 }
 
 /// Adds a text that the list derives, and the token on which a conflict is real behind it; nothing where the list is that text.
-fn push_input<T: IndexStorage>(
+fn push_input(
     text: &mut String,
-    grm: &YaccGrammar<T>,
-    list: &[Symbol<T>],
-    input: Option<&Written<T>>,
-    token: TIdx<T>,
+    grm: &YaccGrammar<u32>,
+    list: &[Symbol<u32>],
+    input: Option<&Written<u32>>,
+    token: TIdx<u32>,
 ) -> Result<(), AllocError>
     ensures { OnOk result (string_bytes text.new ≡ string_bytes text.old
-        ++ stored.input_text T.number grm.now (map (symbol_of T.number) list.now)
-        (option_copied input.entry) (T.number token.0)) }
+        ++ stored.input_text grm.now (map (symbol_of number_of) list.now)
+        (option_copied input.entry) token.0) }
 {
     if !has_rule(list) {
         return Ok(());
@@ -343,14 +337,14 @@ fn push_input<T: IndexStorage>(
 }
 
 /// Adds that a conflict isn't real on its own token, where it is on another one.
-fn push_other_token<T: IndexStorage>(
+fn push_other_token(
     text: &mut String,
-    grm: &YaccGrammar<T>,
-    own: TIdx<T>,
-    token: TIdx<T>,
+    grm: &YaccGrammar<u32>,
+    own: TIdx<u32>,
+    token: TIdx<u32>,
 ) -> Result<(), AllocError>
     ensures { OnOk result (string_bytes text.new ≡ string_bytes text.old
-        ++ told.other_token_text grm.now (T.number own.0) (T.number token.0)) }
+        ++ told.other_token_text grm.now own.0 token.0) }
 {
     if usize::from(own) == usize::from(token) {
         return Ok(());
@@ -361,14 +355,14 @@ fn push_other_token<T: IndexStorage>(
 }
 
 /// Adds the lines of an example.
-fn push_example<T: IndexStorage>(
+fn push_example(
     text: &mut String,
-    grm: &YaccGrammar<T>,
-    conflict: &Conflict<T>,
-    example: &Example<T>,
+    grm: &YaccGrammar<u32>,
+    conflict: &Conflict<u32>,
+    example: &Example,
 ) -> Result<(), AllocError>
     ensures { OnOk result (string_bytes text.new ≡ string_bytes text.old
-        ++ stored.example_text T.number grm.now conflict.now example.now) }
+        ++ stored.example_text grm.now conflict.now example.now) }
 {
     let (reduce, other) = (Move::Reduce(conflict.production), other_move(conflict));
     push_other_token(text, grm, conflict.token, example.token)?;
@@ -380,13 +374,13 @@ fn push_example<T: IndexStorage>(
 }
 
 /// Adds the text of a reason, under the line of its conflict.
-pub(crate) fn push_reason<T: IndexStorage>(
+pub(crate) fn push_reason(
     text: &mut String,
-    grm: &YaccGrammar<T>,
-    reason: &Reason<T>,
+    grm: &YaccGrammar<u32>,
+    reason: &Reason,
 ) -> Result<(), AllocError>
     ensures { OnOk result (string_bytes text.new ≡ string_bytes text.old
-        ++ stored.reason_text T.number grm.now reason.now) }
+        ++ stored.reason_text grm.now reason.now) }
 {
     text.push_str(conflict_line(grm, &reason.conflict)?.as_str())?;
     match &reason.ambiguity {

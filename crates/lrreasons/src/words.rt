@@ -6,22 +6,20 @@ ghost use Rattle.lrspec.specs.grammars.Grammar as math;
 ghost use Rattle.lrspec.specs.texts.PrintedTexts as printed;
 ghost use Rattle.lrgrammar.specs.Symbols.{symbol_of};
 ghost use Rattle.lrreasons.specs.Words.{words_of, first_words, last_words, with_dot};
+ghost use Rattle.lrreasons.specs.Numbers.{number_of};
 
 use crate::names::{rule_name, token_name};
 use lrgrammar::grammar::YaccGrammar;
-use lrgrammar::idx::{IndexStorage, Symbol, TIdx};
+use lrgrammar::idx::{Symbol, TIdx};
 use std::alloc::{AllocError, Global};
 
 /// On either side of a dot so many words are shown at the most.
 const MOST: usize = 24;
 
 /// A rule's name, or a token's between quotes.
-pub(crate) fn symbol_word<T: IndexStorage>(
-    grm: &YaccGrammar<T>,
-    symbol: Symbol<T>,
-) -> Result<String, AllocError>
+pub(crate) fn symbol_word(grm: &YaccGrammar<u32>, symbol: Symbol<u32>) -> Result<String, AllocError>
     ensures { IfOk result
-        (λ s. string_bytes s ≡ printed.symbol_text grm.now (symbol_of T.number symbol)) }
+        (λ s. string_bytes s ≡ printed.symbol_text grm.now (symbol_of number_of symbol)) }
 {
     match symbol {
         Symbol::Rule(rule) => String::from_str(grm.allocator(), rule_name(grm, rule)),
@@ -43,13 +41,13 @@ pub(crate) fn push_word(words: &mut Vec<String>, word: &str) -> Result<(), Alloc
 }
 
 /// Adds the words of symbols.
-pub(crate) fn push_symbols<T: IndexStorage>(
+pub(crate) fn push_symbols(
     words: &mut Vec<String>,
-    grm: &YaccGrammar<T>,
-    symbols: &[Symbol<T>],
+    grm: &YaccGrammar<u32>,
+    symbols: &[Symbol<u32>],
 ) -> Result<(), AllocError>
     ensures { OnOk result (map string_bytes words.new.items ≡ map string_bytes words.old.items
-        ++ words_of grm.now (map (symbol_of T.number) symbols.now)) }
+        ++ words_of grm.now (map (symbol_of number_of) symbols.now)) }
 {
     for symbol in symbols {
         let word = symbol_word(grm, *symbol)?;
@@ -59,13 +57,13 @@ pub(crate) fn push_symbols<T: IndexStorage>(
 }
 
 /// Adds the last words of symbols, behind three points where there are more.
-fn push_last<T: IndexStorage>(
+fn push_last(
     words: &mut Vec<String>,
-    grm: &YaccGrammar<T>,
-    symbols: &[Symbol<T>],
+    grm: &YaccGrammar<u32>,
+    symbols: &[Symbol<u32>],
 ) -> Result<(), AllocError>
     ensures { OnOk result (map string_bytes words.new.items ≡ map string_bytes words.old.items
-        ++ last_words (words_of grm.now (map (symbol_of T.number) symbols.now))) }
+        ++ last_words (words_of grm.now (map (symbol_of number_of) symbols.now))) }
 {
     if symbols.len() <= MOST {
         return push_symbols(words, grm, symbols);
@@ -76,13 +74,13 @@ fn push_last<T: IndexStorage>(
 }
 
 /// Adds the first words of symbols, before three points where there are more.
-pub(crate) fn push_first<T: IndexStorage>(
+pub(crate) fn push_first(
     words: &mut Vec<String>,
-    grm: &YaccGrammar<T>,
-    symbols: &[Symbol<T>],
+    grm: &YaccGrammar<u32>,
+    symbols: &[Symbol<u32>],
 ) -> Result<(), AllocError>
     ensures { OnOk result (map string_bytes words.new.items ≡ map string_bytes words.old.items
-        ++ first_words (words_of grm.now (map (symbol_of T.number) symbols.now))) }
+        ++ first_words (words_of grm.now (map (symbol_of number_of) symbols.now))) }
 {
     if symbols.len() <= MOST {
         return push_symbols(words, grm, symbols);
@@ -93,13 +91,13 @@ pub(crate) fn push_first<T: IndexStorage>(
 }
 
 /// The words of symbols with a dot behind so many of them.
-pub(crate) fn words_with_dot<T: IndexStorage>(
-    grm: &YaccGrammar<T>,
-    symbols: &[Symbol<T>],
+pub(crate) fn words_with_dot(
+    grm: &YaccGrammar<u32>,
+    symbols: &[Symbol<u32>],
     dot: usize,
 ) -> Result<Vec<String>, AllocError>
     ensures { IfOk result (λ ws. map string_bytes ws.items
-        ≡ with_dot dot (words_of grm.now (map (symbol_of T.number) symbols.now))) }
+        ≡ with_dot dot (words_of grm.now (map (symbol_of number_of) symbols.now))) }
 {
     let (before, behind) = symbols.split_at(dot.min(symbols.len()));
     let mut words = Vec::new(grm.allocator());
@@ -110,12 +108,12 @@ pub(crate) fn words_with_dot<T: IndexStorage>(
 }
 
 /// Tokens as symbols.
-pub(crate) fn symbols_of<T: IndexStorage>(
+pub(crate) fn symbols_of(
     alloc: Global,
-    tokens: &[TIdx<T>],
-) -> Result<Vec<Symbol<T>>, AllocError>
-    ensures { IfOk result (λ v. map (symbol_of T.number) v.items
-        ≡ map (λ t. math.Token (T.number t.0)) tokens.now) }
+    tokens: &[TIdx<u32>],
+) -> Result<Vec<Symbol<u32>>, AllocError>
+    ensures { IfOk result (λ v. map (symbol_of number_of) v.items
+        ≡ map (λ t. math.Token t.0) tokens.now) }
 {
     let mut symbols = Vec::new(alloc);
     for token in tokens {

@@ -1,6 +1,6 @@
 //! The report on a file.
 
-ghost use Rattle.std.specs.Prelude.{◌≡◌, ◌≢◌, ◌⊎◌, ◌++◌, [], not, All, map, IfOk, IfSome, IfNone, MatchOption, codes, is_some, length, nat_lt};
+ghost use Rattle.std.specs.Prelude.{◌≡◌, ◌≢◌, ◌⊎◌, ◌-◌, ◌^◌, ◌++◌, [], not, All, map, IfOk, IfSome, IfNone, MatchOption, codes, is_some, length, nat_lt};
 ghost use Rattle.std.specs.List.{list_any};
 ghost use Rattle.std.specs.String.{string_bytes};
 ghost use Rattle.lrspec.specs.merging.Graph.{IsGraphOf};
@@ -204,10 +204,10 @@ fn resolved_entries(alloc: Global, resolved: &[Resolved]) -> Result<Vec<Entry>, 
 }
 
 /// What is known of a grammar beside what was found in it.
-fn known_of<T: IndexStorage>(
+fn known_of(
     alloc: Global,
     file: &FileGrammar,
-    found: &Findings<T>,
+    found: &Findings<u32>,
     options: Options,
 ) -> Result<Known, AllocError>
     requires graph { MatchOption found.now.graph (FindNothing found.now) (IsGraphOf found.now.grm) }
@@ -456,15 +456,15 @@ impl Outcome {
 }
 
 /// What is told of what was found in the grammar of a file.
-fn outcome_on_findings<T: IndexStorage>(
+fn outcome_on_findings(
     alloc: Global,
     read: Read<'_>,
-    found: Findings<T>,
+    found: Findings<u32>,
     options: Options,
 ) -> Result<Outcome, AllocError>
-    requires found { AreFindings T.MAX read.file.now found }
+    requires found { AreFindings (2 ^ 32 - 1) read.file.now found }
     requires kept { (found.has_precedences ≡ not options.ignores_precedences)
-        ⊎ HasNoConflicts T.MAX read.file.now }
+        ⊎ HasNoConflicts (2 ^ 32 - 1) read.file.now }
     ensures proved { IfOk result (λ o.
         IsConcluded options.ignores_precedences (conclusion_of read.entry.file.now o)) }
     ensures told { IfOk result (λ o. TellsConclusion options read.entry.source.now.name.now
@@ -493,12 +493,8 @@ fn outcome_on_findings<T: IndexStorage>(
     })
 }
 
-/// What is told of a file that was read as a grammar, by an index type.
-fn outcome_by<T: IndexStorage>(
-    alloc: Global,
-    read: Read<'_>,
-    options: Options,
-) -> Result<Outcome, FindError>
+/// What is told of a file that was read as a grammar.
+fn outcome_of(alloc: Global, read: Read<'_>, options: Options) -> Result<Outcome, FindError>
     ensures proved { IfOk result (λ o.
         IsConcluded options.ignores_precedences (conclusion_of read.entry.file.now o)) }
     ensures told { IfOk result (λ o. TellsConclusion options read.entry.source.now.name.now
@@ -507,32 +503,8 @@ fn outcome_by<T: IndexStorage>(
 {
     let wants_graph = options.makes_page || options.output == Output::States;
     let has_precedences = !options.ignores_precedences;
-    let found = find::<T>(alloc, read.file, has_precedences, wants_graph)?;
+    let found = find::<u32>(alloc, read.file, has_precedences, wants_graph)?;
     Ok(outcome_on_findings(alloc, read, found, options)?)
-}
-
-/// Whether the numbers of a grammar's parts may fit into 16 bits.
-fn is_small(file: &FileGrammar) -> bool {
-    let parts = &file.parts;
-    let most = parts.tokens.len().max(parts.prods.len());
-    most.max(parts.rules.len()) < usize::from(u16::MAX)
-}
-
-/// What is told of a file that was read as a grammar, by the least index type that serves.
-fn outcome_of(alloc: Global, read: Read<'_>, options: Options) -> Result<Outcome, FindError>
-    ensures proved { IfOk result (λ o.
-        IsConcluded options.ignores_precedences (conclusion_of read.entry.file.now o)) }
-    ensures told { IfOk result (λ o. TellsConclusion options read.entry.source.now.name.now
-        (conclusion_of read.entry.file.now o) (string_bytes o.text)) }
-    ensures expected { IfOk result (λ o. o.expected ≡ expected_beside options read.entry.expected) }
-{
-    if is_small(read.file) {
-        match outcome_by::<u16>(alloc, read, options) {
-            Err(FindError::TooLarge) => {}
-            outcome => return outcome,
-        }
-    }
-    outcome_by::<u32>(alloc, read, options)
 }
 
 /// The report that tells the grammar of a file alone.

@@ -4,7 +4,7 @@ use Rattle.std.specs.Option.{ForSome, option_map_or}
 use Rattle.lrspec.specs.grammars.Grammar.{Symbol, Grammar}
 use Rattle.lrspec.specs.grammars.Trees.{Tree}
 use Rattle.lryacc.specs.declared.numbering.FileGrammar.{FileGrammar}
-use Rattle.lrmoves.specs.Moves.{IsTreeBy}
+use Rattle.lrconflicts.specs.Moves.{IsTreeBy}
 use Rattle.lrambiguity.specs.Derivations.{IsDerivedBy}
 use Rattle.lrshown.specs.declared.ambiguities.Ambiguity.{Ambiguity}
 use Rattle.lrshown.specs.declared.evidence.Evidence.{Evidence}

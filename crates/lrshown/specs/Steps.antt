@@ -1,6 +1,6 @@
 -- steps by which trees are put together
 use Rattle.std.specs.Prelude.{ℕ, ◌==◌, List, [], ◌∷◌, Bool, true, false, map, count_by}
-use Rattle.lrmoves.specs.Moves.{Move, Shift, Reduce}
+use Rattle.lrconflicts.specs.Moves.{Move, Shift, Reduce}
 use Rattle.lrshown.specs.declared.steps.Step.{Step}
 use Rattle.lrshown.specs.declared.steps.Step.TheVariants as code
 

@@ -1,11 +1,11 @@
 //! Trees, by the steps that put them together.
 
 ghost use Rattle.std.specs.Prelude.{◌≡◌, map, IfOk};
-ghost use Rattle.lrmoves.specs.StoredMoves.{move_of, moves_stored};
+ghost use Rattle.lrconflicts.specs.StoredMoves.{move_of, moves_stored};
 ghost use Rattle.lrshown.specs.Steps.{move_by, moves_by, first_of, is_same_step, shifts};
 
+use lrconflicts::Move;
 use lrgrammar::idx::IndexStorage;
-use lrmoves::Move;
 use std::alloc::{AllocError, Global};
 
 /// A step by which trees are put together, from the leaves on.

@@ -1,7 +1,7 @@
 use Rattle.std.proofs.Common.{[], map}
 use Rattle.lrgrammar.specs.Symbols.{symbol_of}
 use Rattle.lrtable.specs.RunAnswers.{text_of}
-use Rattle.lrambiguity.specs.StoredMoves.{moves_stored}
+use Rattle.lrconflicts.specs.StoredMoves.{moves_stored}
 use Rattle.lrambiguity.proofs.ReplaySteps.{list_read}
 use Rattle.lrambiguity.proofs.inputs.reads_as.Goals as goal
 

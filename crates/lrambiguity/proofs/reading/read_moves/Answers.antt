@@ -1,7 +1,7 @@
 use Rattle.std.proofs.Common.{[], append-nil}
 use Rattle.std.proofs.lemmas.Option.{IfSome_then}
 use Rattle.lrtable.specs.RunAnswers.{text_of}
-use Rattle.lrambiguity.specs.StoredMoves.{moves_stored}
+use Rattle.lrconflicts.specs.StoredMoves.{moves_stored}
 use Rattle.lrambiguity.specs.StoredReplays.{HasMade}
 use Rattle.lrambiguity.proofs.ReplaySteps.{no_tree_made}
 use Rattle.lrambiguity.proofs.reading.read_moves.Given as given

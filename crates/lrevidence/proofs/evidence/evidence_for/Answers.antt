@@ -1,11 +1,11 @@
 use Rattle.lrevidence.proofs.evidence.evidence_for.Goals as goal
 
 pub push_evidence-requires-clause-listed : goal.push_evidence-requires-clause-listed
-push_evidence-requires-clause-listed g c =
+push_evidence-requires-clause-listed c =
     rw (c.in_ok-reasons.ensures.grammar, c.in_ok-reasons.ensures.graph, c.as_slice-listed.ensures.value) (rw c.in-Some-false.is-0 at c.requires.listed)
 
 pub push_evidence-requires-clause-contested : goal.push_evidence-requires-clause-contested
-push_evidence-requires-clause-contested g c = rw (c.in_ok-reasons.ensures.grammar, c.in_ok-reasons.ensures.graph) (rw c.in-Some-false.is-0 at c.requires.contested)
+push_evidence-requires-clause-contested c = rw (c.in_ok-reasons.ensures.grammar, c.in_ok-reasons.ensures.graph) (rw c.in-Some-false.is-0 at c.requires.contested)
 
 pub returns-clause-proved : goal.returns-clause-proved
-returns-clause-proved g c = rw c.in_ok-reasons.ensures.grammar at c.in_ok-push_evidence.ensures.proved
+returns-clause-proved c = rw c.in_ok-reasons.ensures.grammar at c.in_ok-push_evidence.ensures.proved

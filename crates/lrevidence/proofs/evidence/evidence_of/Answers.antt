@@ -2,6 +2,6 @@ use Rattle.lrevidence.proofs.ListedEntries.{is_listed}
 use Rattle.lrevidence.proofs.evidence.evidence_of.Goals as goal
 
 pub example_of-requires-clause-listed : goal.example_of-requires-clause-listed
-example_of-requires-clause-listed g c =
+example_of-requires-clause-listed c =
     rw c.in-Some.ensures.entry
     (is_listed c.args.reasons.now.grammar c.args.reasons.now.graph c.args.listed.now c.args.entry c.requires.listed (c.is_among.ensures c.if-is_among.true))

@@ -1,4 +1,4 @@
 use Rattle.lrevidence.proofs.evidence.find_ambiguity.Goals as goal
 
 pub returns : goal.returns
-returns g c = rw c.in_ok-reasons.ensures.grammar at c.first_ambiguity.ensures
+returns c = rw c.in_ok-reasons.ensures.grammar at c.first_ambiguity.ensures

@@ -5,7 +5,7 @@ use Rattle.lrevidence.proofs.EvidenceInTurn.{one_more}
 use Rattle.lrevidence.proofs.evidence.push_evidence.Goals as goal
 
 pub loop-entry-preserved : goal.loop-entry-preserved
-loop-entry-preserved g c =
+loop-entry-preserved c =
     let known = c.in_ok-evidence_of.field-0 in
     let old = c.loop-entry.list.items in
     let new = c.push.new.self.items in (

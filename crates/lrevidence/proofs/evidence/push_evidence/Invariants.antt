@@ -5,7 +5,7 @@ use Rattle.lrevidence.specs.Ambiguities.{IsProved, PartsAtEntry}
 use Rattle.lrevidence.proofs.evidence.push_evidence.Given as goal
 
 abbrev pub invariant-loop-entry : goal.invariant-loop-entry
-invariant-loop-entry g l =
+invariant-loop-entry l =
     (map (λ e. e.entry) l.list.items ≡ map (λ e. e.entry) l.initial.list.items ++ take l.entry-index l.entries)
     × All (IsProved l.reasons.grammar) l.list.items
     × All (PartsAtEntry l.reasons.grammar l.reasons.graph) l.list.items

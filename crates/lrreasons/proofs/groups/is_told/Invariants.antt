@@ -4,4 +4,4 @@ use Rattle.lrreasons.specs.StoredTexts.{are_alike}
 use Rattle.lrreasons.proofs.groups.is_told.Given as goal
 
 abbrev pub invariant-loop-other : goal.invariant-loop-other
-invariant-loop-other g l = list_any (are_alike g.T.IndexStorage.number l.reason) (take l.other-index l.reasons) ≡ false
+invariant-loop-other l = list_any (are_alike l.reason) (take l.other-index l.reasons) ≡ false

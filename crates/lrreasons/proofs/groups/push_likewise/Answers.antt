@@ -10,10 +10,9 @@ use Rattle.lrreasons.proofs.groups.push_likewise.Goals.{then-are_alike+in_ok-sym
 use Rattle.lrreasons.proofs.groups.push_likewise.Goals as goal
 
 pub loop-other-preserved : goal.loop-other-preserved
-loop-other-preserved g c =
-    let number = g.T.IndexStorage.number in
-    let test = are_alike number c.args.reason.now in
-    let token = conflict_token number in
+loop-other-preserved c =
+    let test = are_alike c.args.reason.now in
+    let token = conflict_token in
     let h = symbol_text c.args.grm.now in
     let rs = c.args.reasons.now in
     let i = c.loop-other.other-index in
@@ -29,23 +28,21 @@ loop-other-preserved g c =
     ]
 
 pub returns-then-is_empty : goal.returns-then-is_empty
-returns-then-is_empty g c =
-    let number = g.T.IndexStorage.number in
+returns-then-is_empty c =
     let rs = c.args.reasons.now in
     let words = c.loop-other.words in
     let empty = is_zero (vec_len words) c.is_empty.result c.is_empty.ensures c.if-is_empty.true in
     let none : map string_bytes words.items ≡ [] = ap (map string_bytes) (nil_from_length words.items (omega (arith, empty, words.ok.0))) in
     let all = rw (take_all c.loop-other.other-index rs (omega arith)) at c.loop-other.invariant in
-    no_others c.args.grm.now (string_bytes c.args.text.now) (map string_bytes words.items) (conflict_tokens number (filter (are_alike number c.args.reason.now) rs)) all none
+    no_others c.args.grm.now (string_bytes c.args.text.now) (map string_bytes words.items) (conflict_tokens (filter (are_alike c.args.reason.now) rs)) all none
 
 pub returns : goal.returns
-returns g c =
-    let number = g.T.IndexStorage.number in
+returns c =
     let rs = c.args.reasons.now in
     let words = c.loop-other.words in
     let some : ¬ (map string_bytes words.items ≡ []) = λ e.
     let empty : vec_len words ≡ 0 = omega (arith, sym (length-map words.items string_bytes) ∙ ap length e, words.ok.0) in
     is_positive (vec_len words) c.is_empty.result c.is_empty.ensures c.if-is_empty.false empty in
     let all = rw (take_all c.loop-other.other-index rs (omega arith)) at c.loop-other.invariant in
-    rw (some_others c.args.grm.now (string_bytes c.args.text.now) (map string_bytes words.items) (conflict_tokens number (filter (are_alike number c.args.reason.now) rs)) all some, ← c.deref.ensures.value)
+    rw (some_others c.args.grm.now (string_bytes c.args.text.now) (map string_bytes words.items) (conflict_tokens (filter (are_alike c.args.reason.now) rs)) all some, ← c.deref.ensures.value)
     c.push_line.ensures

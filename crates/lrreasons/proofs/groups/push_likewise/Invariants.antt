@@ -6,6 +6,5 @@ use Rattle.lrreasons.specs.Words.{words_of}
 use Rattle.lrreasons.proofs.groups.push_likewise.Given as goal
 
 abbrev pub invariant-loop-other : goal.invariant-loop-other
-invariant-loop-other g l =
-    let number = g.T.IndexStorage.number in
-    map string_bytes l.words.items ≡ words_of l.grm (conflict_tokens number (filter (are_alike number l.reason) (take l.other-index l.reasons)))
+invariant-loop-other l =
+    map string_bytes l.words.items ≡ words_of l.grm (conflict_tokens (filter (are_alike l.reason) (take l.other-index l.reasons)))

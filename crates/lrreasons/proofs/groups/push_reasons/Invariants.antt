@@ -4,7 +4,6 @@ use Rattle.lrreasons.specs.StoredTexts.{reasons_text}
 use Rattle.lrreasons.proofs.groups.push_reasons.Given as goal
 
 abbrev pub invariant-loop-place : goal.invariant-loop-place
-invariant-loop-place g l =
-    let number = g.T.IndexStorage.number in
-    string_bytes l.text ++ reasons_text number l.grm (take l.place l.reasons) (drop l.place l.reasons)
-    ≡ string_bytes l.fn.text ++ reasons_text number l.grm [] l.reasons
+invariant-loop-place l =
+    string_bytes l.text ++ reasons_text l.grm (take l.place l.reasons) (drop l.place l.reasons)
+    ≡ string_bytes l.fn.text ++ reasons_text l.grm [] l.reasons

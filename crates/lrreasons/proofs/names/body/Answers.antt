@@ -3,4 +3,4 @@ use Rattle.lrreasons.proofs.NamesRead.{no_body}
 use Rattle.lrreasons.proofs.names.body.Goals as goal
 
 pub returns-else-from : goal.returns-else-from
-returns-else-from g c = no_body c.args.grm.now (g.T.IndexStorage.number c.args.production.0) (omega (arith, c.if-from.false, c.from.ensures, c.from-2.ensures, c.prods_len.ensures.value))
+returns-else-from c = no_body c.args.grm.now c.args.production.0 (omega (arith, c.if-from.false, c.from.ensures, c.from-2.ensures, c.prods_len.ensures.value))

@@ -3,17 +3,18 @@ use Rattle.std.specs.Prelude.{codes}
 use Rattle.std.specs.String.{string_bytes}
 use Rattle.lrgrammar.specs.Symbols.{symbol_of}
 use Rattle.lrreasons.specs.Words.{words_of}
+use Rattle.lrreasons.specs.Numbers.{number_of}
 use Rattle.lrreasons.proofs.Pieces.{last_of_two}
 use Rattle.lrreasons.proofs.Shown.{all_last, some_last}
 use Rattle.lrreasons.proofs.words.push_last.Goals as goal
 
 pub returns-then-symbols-le-MOST : goal.returns-then-symbols-le-MOST
-returns-then-symbols-le-MOST g c =
-    rw (all_last c.args.grm.now (symbol_of g.T.IndexStorage.number) c.args.symbols.now (omega arith)) c.push_symbols.ensures
+returns-then-symbols-le-MOST c =
+    rw (all_last c.args.grm.now (symbol_of number_of) c.args.symbols.now (omega arith)) c.push_symbols.ensures
 
 pub returns : goal.returns
-returns g c =
-    let f = symbol_of g.T.IndexStorage.number in
+returns c =
+    let f = symbol_of number_of in
     let m = c.args.grm.now in
     let xs = c.args.symbols.now in
     let shown = c.split_at.result.1.now in

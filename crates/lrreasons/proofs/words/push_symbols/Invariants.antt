@@ -2,9 +2,10 @@ use Rattle.std.proofs.Common.{◌≡◌, ◌++◌, map, take}
 use Rattle.std.specs.String.{string_bytes}
 use Rattle.lrgrammar.specs.Symbols.{symbol_of}
 use Rattle.lrreasons.specs.Words.{words_of}
+use Rattle.lrreasons.specs.Numbers.{number_of}
 use Rattle.lrreasons.proofs.words.push_symbols.Given as goal
 
 abbrev pub invariant-loop-symbol : goal.invariant-loop-symbol
-invariant-loop-symbol g l =
+invariant-loop-symbol l =
     map string_bytes l.words.items
-    ≡ map string_bytes l.fn.words.items ++ words_of l.grm (map (symbol_of g.T.IndexStorage.number) (take l.symbol-index l.symbols))
+    ≡ map string_bytes l.fn.words.items ++ words_of l.grm (map (symbol_of number_of) (take l.symbol-index l.symbols))

@@ -3,12 +3,13 @@ use Rattle.std.specs.Prelude.{codes}
 use Rattle.std.specs.String.{string_bytes}
 use Rattle.lrgrammar.specs.Symbols.{symbol_of}
 use Rattle.lrreasons.specs.Words.{words_of, first_words, last_words}
+use Rattle.lrreasons.specs.Numbers.{number_of}
 use Rattle.lrreasons.proofs.Shown.{dotted}
 use Rattle.lrreasons.proofs.words.words_with_dot.Goals as goal
 
 pub returns : goal.returns
-returns g c =
-    let f = symbol_of g.T.IndexStorage.number in
+returns c =
+    let f = symbol_of number_of in
     let m = c.args.grm.now in
     let before = c.split_at.result.0.now in
     let behind = c.split_at.result.1.now in

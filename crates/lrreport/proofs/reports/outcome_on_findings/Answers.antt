@@ -1,4 +1,4 @@
-use Rattle.std.proofs.Common.{◌≡◌, ◌∙◌, ℕ, Bool, arith, length, subst, sym}
+use Rattle.std.proofs.Common.{◌≡◌, ◌∙◌, ℕ, ◌-◌, ◌^◌, Bool, arith, length, subst, sym}
 use Rattle.std.specs.Prelude.{IsTrue}
 use Rattle.lrspec.specs.merging.Graph.{IsGraphOf}
 use Rattle.lrspec.specs.tables.Conflicts.{AreReductionsContested}
@@ -17,21 +17,21 @@ use Rattle.lrreport.proofs.KeptFindings.{are_left, so_many_resolved, known_witho
 use Rattle.lrreport.proofs.reports.outcome_on_findings.Goals as goal
 
 -- the entries are those of the graph's table
-listed : {T : Type 0} (max : ℕ) (file : FileGrammar) (f : Findings T) (a : AreFindings max file f) → AreListedIn f.grm a.graph f.conflicts.items
+listed : (max : ℕ) (file : FileGrammar) (f : Findings ℕ) (a : AreFindings max file f) → AreListedIn f.grm a.graph f.conflicts.items
 listed max file f a = rw (← a.table.reduce_reduce, ← a.table.shift_reduce) a.conflicts
 
 pub known_of-requires-clause-graph : goal.known_of-requires-clause-graph
-known_of-requires-clause-graph g c =
+known_of-requires-clause-graph c =
     let found = c.args.found in
     kept_or c.requires.found.graph (IsGraphOf found.grm) found.graph _ c.requires.found.kept c.requires.found.of_grammar c.requires.found.without
 
 pub known_of-requires-clause-listed : goal.known_of-requires-clause-listed
-known_of-requires-clause-listed g c =
+known_of-requires-clause-listed c =
     let found = c.args.found in
     of_kept c.requires.found.graph (λ h. AreListedIn found.grm h found.conflicts.items) found.graph c.requires.found.kept (listed _ _ found c.requires.found)
 
 pub known_of-requires-clause-contested : goal.known_of-requires-clause-contested
-known_of-requires-clause-contested g c =
+known_of-requires-clause-contested c =
     let found = c.args.found in
     of_kept c.requires.found.graph (AreReductionsContested found.grm) found.graph c.requires.found.kept c.requires.found.contested
 
@@ -40,14 +40,14 @@ shown : (b : Bool) (left : Counts) (e : Expected) (v : Verdict) → IsVerdict b 
 shown b left e v is told = (subst (λ v. IsVerdict b left e v) told is).0
 
 pub text_on_findings-requires-clause-unambiguous : goal.text_on_findings-requires-clause-unambiguous
-text_on_findings-requires-clause-unambiguous g c = λ told. c.requires.found.unambiguous (shown c.args.found.is_unambiguous c.in_ok-known.known.left c.beside-expected.result c.of-verdict.result c.of-verdict.ensures told)
+text_on_findings-requires-clause-unambiguous c = λ told. c.requires.found.unambiguous (shown c.args.found.is_unambiguous c.in_ok-known.known.left c.beside-expected.result c.of-verdict.result c.of-verdict.ensures told)
 
 pub page_on_findings-requires-clause-unambiguous : goal.page_on_findings-requires-clause-unambiguous
-page_on_findings-requires-clause-unambiguous g c = λ told. c.requires.found.unambiguous (shown c.args.found.is_unambiguous c.in_ok-known.known.left c.beside-expected.result c.of-verdict.result c.of-verdict.ensures told)
+page_on_findings-requires-clause-unambiguous c = λ told. c.requires.found.unambiguous (shown c.args.found.is_unambiguous c.in_ok-known.known.left c.beside-expected.result c.of-verdict.result c.of-verdict.ensures told)
 
 pub returns-clause-proved : goal.returns-clause-proved
-returns-clause-proved g c = record {
-  max = g.T.IndexStorage.MAX;
+returns-clause-proved c = record {
+  max = 2 ^ 32 - 1;
   grammar = c.args.found.grm;
   graph = c.requires.found.graph;
   shown = c.args.found.is_unambiguous;
@@ -66,6 +66,6 @@ returns-clause-proved g c = record {
 }
 
 pub returns-clause-told : goal.returns-clause-told
-returns-clause-told g c =
+returns-clause-told c =
     let resolved : c.len.result ≡ length c.args.found.resolved.items = omega (arith, c.len.ensures, c.args.found.resolved.ok.0) in
     rw resolved c.in_ok-text.ensures.told

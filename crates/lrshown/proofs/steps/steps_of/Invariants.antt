@@ -1,6 +1,6 @@
 -- those so far
 use Rattle.std.proofs.Common.{◌≡◌, take}
-use Rattle.lrmoves.specs.StoredMoves.{moves_stored}
+use Rattle.lrconflicts.specs.StoredMoves.{moves_stored}
 use Rattle.lrshown.specs.Steps.{moves_by}
 use Rattle.lrshown.proofs.steps.steps_of.Given as goal
 

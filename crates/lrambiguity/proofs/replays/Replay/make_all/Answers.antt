@@ -1,7 +1,7 @@
 use Rattle.std.proofs.Common.{◌≡◌, ◌+◌, ◌++◌, take, drop, arith}
 use Rattle.std.proofs.lemmas.List.{take_all}
 use Rattle.lrtable.specs.RunAnswers.{text_of}
-use Rattle.lrambiguity.specs.StoredMoves.{moves_stored}
+use Rattle.lrconflicts.specs.StoredMoves.{moves_stored}
 use Rattle.lrambiguity.proofs.ReplaySteps.{makes_more, some_more, moves_split}
 use Rattle.lrambiguity.proofs.replays.Replay.make_all.Goals as goal
 

@@ -1,6 +1,6 @@
 use Rattle.std.proofs.Common.{take}
 use Rattle.lrtable.specs.RunAnswers.{text_of}
-use Rattle.lrambiguity.specs.StoredMoves.{moves_stored}
+use Rattle.lrconflicts.specs.StoredMoves.{moves_stored}
 use Rattle.lrambiguity.specs.StoredReplays.{Makes}
 use Rattle.lrambiguity.proofs.replays.Replay.make_all.Given as goal
 

@@ -1,32 +1,33 @@
 use Rattle.lrambiguity.proofs.TwoTrees.{tree_of_text, trees_differ, lists_conflicts}
+use Rattle.lrreasons.specs.Numbers.{number_of}
 use Rattle.lrreasons.proofs.ProvedOnes.{some_follows, follows_of_some, is_ambiguous}
 use Rattle.lrreasons.proofs.reasons.Reasons.ambiguity.Goals as goal
 
 pub returns-clause-one : goal.returns-clause-one
-returns-clause-one g c = rw (← c.self.view_is) (some_follows c.in_ok-proved.proved (λ a p. tree_of_text p.trees.first) c.in_ok-proved.ensures)
+returns-clause-one c = rw (← c.self.view_is) (some_follows c.in_ok-proved.proved (λ a p. tree_of_text p.trees.first) c.in_ok-proved.ensures)
 
 pub returns-clause-other : goal.returns-clause-other
-returns-clause-other g c = rw (← c.self.view_is) (some_follows c.in_ok-proved.proved (λ a p. tree_of_text p.trees.second) c.in_ok-proved.ensures)
+returns-clause-other c = rw (← c.self.view_is) (some_follows c.in_ok-proved.proved (λ a p. tree_of_text p.trees.second) c.in_ok-proved.ensures)
 
 pub returns-clause-differ : goal.returns-clause-differ
-returns-clause-differ g c =
+returns-clause-differ c =
     some_follows c.in_ok-proved.proved
-    (λ a p. trees_differ g.T.IndexStorage.number g.met.T.IndexStorage.injective c.self.inside.grm.now
+    (λ a p. trees_differ number_of (λ m n same. same) c.self.inside.grm.now
     a.ambiguity.text.items a.ambiguity.before.items a.ambiguity.one.items a.ambiguity.other.items
     a.ambiguity.one_tree a.ambiguity.other_tree p.trees)
     c.in_ok-proved.ensures
 
 pub returns-clause-ambiguous : goal.returns-clause-ambiguous
-returns-clause-ambiguous g c =
+returns-clause-ambiguous c =
     rw (← c.self.view_is)
     (follows_of_some c.in_ok-proved.proved
-    (is_ambiguous g.T.IndexStorage.number g.met.T.IndexStorage.injective c.self.inside.grm.now c.self.inside.graph.now c.args.conflict)
+    (is_ambiguous c.self.inside.grm.now c.self.inside.graph.now c.args.conflict)
     c.in_ok-proved.ensures)
 
 pub returns-clause-conflicts : goal.returns-clause-conflicts
-returns-clause-conflicts g c =
+returns-clause-conflicts c =
     rw (← c.self.view_is)
     (follows_of_some c.in_ok-proved.proved
     (λ a p. lists_conflicts c.in_order.ensures.shape
-    (is_ambiguous g.T.IndexStorage.number g.met.T.IndexStorage.injective c.self.inside.grm.now c.self.inside.graph.now c.args.conflict a p))
+    (is_ambiguous c.self.inside.grm.now c.self.inside.graph.now c.args.conflict a p))
     c.in_ok-proved.ensures)

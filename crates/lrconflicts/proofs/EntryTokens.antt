@@ -1,8 +1,8 @@
 -- the token and the production of an entry
 use Rattle.std.proofs.Common.{◌≡◌, ℕ, refl}
 use Rattle.std.specs.Prelude.{Option, None, Some}
-use Rattle.lrmoves.specs.Moves.{Reduce}
-use Rattle.lrentries.specs.Entries.{entry_by, token_of, one_of}
+use Rattle.lrconflicts.specs.Moves.{Reduce}
+use Rattle.lrconflicts.specs.Entries.{entry_by, token_of, one_of}
 
 -- whichever list it is in, these are what was given
 pub token_is : (t p s : ℕ) (o : Option ℕ) → token_of (entry_by t p s o) ≡ t

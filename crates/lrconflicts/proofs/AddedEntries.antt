@@ -6,7 +6,7 @@ use Rattle.lrgrammar.specs.declared.idx.StIdx.{StIdx}
 use Rattle.lrgrammar.specs.declared.idx.TIdx.{TIdx}
 use Rattle.lrspec.specs.tables.Table.{Lists}
 use Rattle.lrrows.specs.StoredLists.{stored_shift_reduce, stored_shift_reduces, stored_reduce_reduce, stored_reduce_reduces}
-use Rattle.lrentries.specs.Entries.{Entry, ShiftReduce, ReduceReduce, entries_of}
+use Rattle.lrconflicts.specs.Entries.{Entry, ShiftReduce, ReduceReduce, entries_of}
 
 -- those of the first list, and then those of the second, are those of both
 pub both_added :

@@ -1,26 +1,26 @@
-//! What is known of conflicts.
+//! Whether it is known that a grammar is ambiguous.
 
 ghost use Rattle.std.specs.Prelude.{◌≡◌, IsTrue, ◌↔◌};
-ghost use Rattle.lrentries.specs.declared.verdicts.Verdict.TheVariants.{Ambiguous};
+ghost use Rattle.lrconflicts.specs.declared.knowledge.Knowledge.TheVariants.{Ambiguous};
 
-/// What is known of a conflict.
+/// Whether it is known that the grammar is ambiguous at a conflict.
 #[derive(Clone, Copy, Debug, PartialEq, Eq)]
-pub enum Verdict {
-    /// The grammar is ambiguous there: a text has two trees, which part at the conflict.
+pub enum Knowledge {
+    /// It is: a text has two trees, which part at the conflict.
     Ambiguous,
     /// No such text was found in the steps allowed. That doesn't say that there is none.
     NotKnown,
 }
 
-impl Verdict {
+impl Knowledge {
     /// That of a conflict for which such a text is found, or is not.
-    pub fn of(is_found: bool) -> Verdict
+    pub fn of(is_found: bool) -> Knowledge
         ensures { (result ≡ Ambiguous) ↔ IsTrue is_found }
     {
         if is_found {
-            Verdict::Ambiguous
+            Knowledge::Ambiguous
         } else {
-            Verdict::NotKnown
+            Knowledge::NotKnown
         }
     }
 }

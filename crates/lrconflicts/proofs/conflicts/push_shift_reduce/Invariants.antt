@@ -1,8 +1,8 @@
 -- those so far
 use Rattle.std.proofs.Common.{◌≡◌, ◌++◌, map, take}
 use Rattle.lrrows.specs.StoredLists.{stored_shift_reduce}
-use Rattle.lrentries.specs.Entries.{ShiftReduce, entry_of}
-use Rattle.lrentries.proofs.conflicts.push_shift_reduce.Given as goal
+use Rattle.lrconflicts.specs.Entries.{ShiftReduce, entry_of}
+use Rattle.lrconflicts.proofs.conflicts.push_shift_reduce.Given as goal
 
 abbrev pub invariant-loop-conflict : goal.invariant-loop-conflict
 invariant-loop-conflict g l =

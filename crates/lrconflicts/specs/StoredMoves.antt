@@ -1,8 +1,8 @@
 -- moves, as the code stores them
 use Rattle.std.specs.Prelude.{ℕ, List, map}
-use Rattle.lrmoves.specs.declared.moves.Move as stored
-use Rattle.lrmoves.specs.declared.moves.Move.TheVariants as code
-use Rattle.lrmoves.specs.Moves.{Move, Shift, Reduce}
+use Rattle.lrconflicts.specs.declared.moves.Move as stored
+use Rattle.lrconflicts.specs.declared.moves.Move.TheVariants as code
+use Rattle.lrconflicts.specs.Moves.{Move, Shift, Reduce}
 
 -- a move by the number of its production
 abbrev pub move_of : {T : Type 0} → (T → ℕ) → stored.Move T → Move

@@ -1,9 +1,9 @@
 use Rattle.std.proofs.Common.{◌≡◌, ◌∙◌, ap}
 use Rattle.std.specs.Prelude.{map}
 use Rattle.lrrows.specs.StoredLists.{stored_shift_reduces, stored_reduce_reduces}
-use Rattle.lrentries.specs.Entries.{entry_of}
-use Rattle.lrentries.proofs.AddedEntries.{both_added}
-use Rattle.lrentries.proofs.conflicts.entries.Goals as goal
+use Rattle.lrconflicts.specs.Entries.{entry_of}
+use Rattle.lrconflicts.proofs.AddedEntries.{both_added}
+use Rattle.lrconflicts.proofs.conflicts.entries.Goals as goal
 
 pub returns : goal.returns
 returns g c =

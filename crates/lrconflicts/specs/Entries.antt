@@ -4,9 +4,9 @@ use Rattle.std.specs.Option.{option_map}
 use Rattle.lrspec.specs.grammars.Grammar.{Symbol, Grammar}
 use Rattle.lrspec.specs.merging.Graph.{Graph}
 use Rattle.lrspec.specs.tables.Table.{Lists, shift_reduce_of, reduce_reduce_of}
-use Rattle.lrforms.specs.declared.ambiguous.Conflict.{Conflict}
+use Rattle.lrconflicts.specs.declared.conflicts.Conflict.{Conflict}
 use Rattle.lrcontests.specs.Contests.{IsShiftContest, IsReductionContest}
-use Rattle.lrmoves.specs.Moves.{Move, Shift, Reduce}
+use Rattle.lrconflicts.specs.Moves.{Move, Shift, Reduce}
 
 -- an entry: its token, production and state, and in the list of reduce/reduce conflicts the other
 -- production before the state

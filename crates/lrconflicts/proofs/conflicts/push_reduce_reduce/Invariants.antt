@@ -1,8 +1,8 @@
 -- those so far
 use Rattle.std.proofs.Common.{◌≡◌, ◌++◌, map, take}
 use Rattle.lrrows.specs.StoredLists.{stored_reduce_reduce}
-use Rattle.lrentries.specs.Entries.{ReduceReduce, entry_of}
-use Rattle.lrentries.proofs.conflicts.push_reduce_reduce.Given as goal
+use Rattle.lrconflicts.specs.Entries.{ReduceReduce, entry_of}
+use Rattle.lrconflicts.proofs.conflicts.push_reduce_reduce.Given as goal
 
 abbrev pub invariant-loop-conflict : goal.invariant-loop-conflict
 invariant-loop-conflict g l =

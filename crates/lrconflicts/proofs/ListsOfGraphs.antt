@@ -3,7 +3,7 @@ use Rattle.std.proofs.Common.{◌≡◌, ℕ, List, ap, ◌∙◌}
 use Rattle.lrspec.specs.grammars.Grammar.{Grammar}
 use Rattle.lrspec.specs.merging.Graph.{Graph}
 use Rattle.lrspec.specs.tables.Table.{Table, Lists, IsTableOf, lists_of, reduce_reduce_of}
-use Rattle.lrentries.specs.Entries.{lists_in}
+use Rattle.lrconflicts.specs.Entries.{lists_in}
 
 -- both lists
 abbrev both : List (ℕ × ℕ × ℕ × ℕ) → List (ℕ × ℕ × ℕ) → Lists

@@ -5,7 +5,7 @@ use Rattle.std.proofs.lemmas.List.Elements.{Contains-append_cases}
 use Rattle.lrspec.specs.grammars.Grammar.{Grammar}
 use Rattle.lrspec.specs.merging.Graph.{Graph}
 use Rattle.lrspec.specs.tables.Table.{shift_reduce_of, reduce_reduce_of}
-use Rattle.lrentries.specs.Entries.{Entry, ShiftReduce, ReduceReduce, entries_of, lists_in, IsListed}
+use Rattle.lrconflicts.specs.Entries.{Entry, ShiftReduce, ReduceReduce, entries_of, lists_in, IsListed}
 
 -- what is among the images is one of an element
 in_map : {X Y : Type 0} (f : X → Y) (xs : List X) (y : Y) → Contains (map f xs) y → (x : X) × Contains xs x × (f x ≡ y)

@@ -1,15 +1,27 @@
-//! The entries of a table's lists of conflicts.
+//! Conflicts: the entries of a table's lists.
 
 ghost use Rattle.std.specs.Prelude.{◌≡◌, ◌++◌, map, IfOk, OnOk};
 ghost use Rattle.lrrows.specs.StoredLists.{stored_shift_reduce, stored_reduce_reduce};
-ghost use Rattle.lrmoves.specs.StoredMoves.{move_of};
-ghost use Rattle.lrentries.specs.Entries.{ShiftReduce, ReduceReduce, entries_of, entry_of, other_of};
+ghost use Rattle.lrconflicts.specs.StoredMoves.{move_of};
+ghost use Rattle.lrconflicts.specs.Entries.{ShiftReduce, ReduceReduce, entries_of, entry_of, other_of};
 
+use crate::moves::Move;
 use lrcells::statetable::Conflicts;
-use lrforms::Conflict;
 use lrgrammar::idx::{IndexStorage, PIdx, StIdx, TIdx};
-use lrmoves::Move;
 use std::alloc::{AllocError, Global};
+
+/// An entry of a table's lists of conflicts.
+#[derive(Clone, Copy, Debug, PartialEq, Eq)]
+pub struct Conflict<T> {
+    /// The state in which two steps meet.
+    pub state: StIdx<T>,
+    /// The next token, or the end token.
+    pub token: TIdx<T>,
+    /// The production by which the state could reduce.
+    pub production: PIdx<T>,
+    /// Another one by which it could; None where it could shift the token.
+    pub other: Option<PIdx<T>>,
+}
 
 /// What the conflict's other candidate is: its shift, or the reduction by its other production.
 pub fn other_move<T: IndexStorage>(conflict: &Conflict<T>) -> Move<T>

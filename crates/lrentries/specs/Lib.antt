@@ -1,2 +1,0 @@
--- the files of definitions
-pub mod Entries
