@@ -24,10 +24,7 @@ fn is_any_ambiguous(reasons: &[Reason]) -> bool
 }
 
 /// Why the grammar has conflicts, as text; and whether a text with two trees was found, so that it is ambiguous.
-pub fn explain(
-    alloc: Global,
-    grm: &YaccGrammar<u32>,
-) -> Result<(String, bool), BuildError<u32>>
+pub fn explain(alloc: Global, grm: &YaccGrammar<u32>) -> Result<(String, bool), BuildError<u32>>
     ensures ambiguous { IfOk result (λ e. IsTrue e.1 → ¬ (IsUnambiguous grm.now)) }
 {
     let (graph, table) = from_yacc(alloc, grm, Minimiser::Pager)?;
