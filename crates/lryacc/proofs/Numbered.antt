@@ -1,5 +1,5 @@
 -- rules and tokens are numbered
-use Rattle.std.proofs.Common.{◌≡◌, ℕ, zero, suc, List, [], ◌∷◌, ◌++◌, length, map, Bool, true, false, cond, Option, None, Some, slice_get, refl, ap, sym, ◌∙◌, subst, inl, inr, codes, arith}
+use Rattle.std.proofs.Common.{◌≡◌, ℕ, zero, suc, ◌<◌, List, [], ◌∷◌, ◌++◌, length, map, Bool, true, false, cond, Option, None, Some, slice_get, refl, ap, sym, ◌∙◌, subst, inl, inr, codes, arith}
 use Rattle.std.specs.BTreeMap.{IsEmpty, get, is_at}
 use Rattle.std.specs.Map.{lookup}
 use Rattle.std.specs.BTreeMap.{BTreeMap}
@@ -75,6 +75,8 @@ with_more a rules tokens starts = record a { rules = rules; tokens = tokens; sta
 
 pub rule-more : (a : Names) (rules tokens : List (List ℕ)) (starts : List ℕ) (number rule : ℕ) → Keeps a.rules rules → IsRuleOf a number rule → IsRuleOf (with_more a rules tokens starts) number rule
 rule-more a rules tokens starts number rule keeps h = record {
+  is_rule = h.is_rule;
+  behind = h.behind;
   name = h.name;
   same = h.same;
   text = h.text;
@@ -102,6 +104,7 @@ numbered-more a rules tokens starts r t s keeps_rules keeps_tokens keeps_starts 
   of_tokens = λ number token e. token-more a rules tokens starts number token keeps_tokens (h.of_tokens number token e);
   of_actions = λ start rule e. keeps_starts rule start (h.of_actions start rule e);
   placed = placed h.placed;
+  accept = keeps_rules 0 (codes "$accept") h.accept;
 }
 
 -- a token has a number
@@ -111,6 +114,7 @@ numbered-token a r t t' s number token puts is h = record {
   of_tokens = all-put (IsTokenOf a) t t' number token puts is h.of_tokens;
   of_actions = h.of_actions;
   placed = h.placed;
+  accept = h.accept;
 }
 
 -- a rule has a number
@@ -120,6 +124,7 @@ numbered-rule a r r' t s number rule puts is h = record {
   of_tokens = h.of_tokens;
   of_actions = h.of_actions;
   placed = h.placed;
+  accept = h.accept;
 }
 
 -- a rule is that of an action
@@ -129,7 +134,13 @@ numbered-action a r t s s' start rule puts is h = record {
   of_tokens = h.of_tokens;
   of_actions = all-put (λ q v. slice_get a.starts v ≡ Some q) s s' start rule puts is h.of_actions;
   placed = h.placed;
+  accept = h.accept;
 }
+
+-- a list that has a first element is not empty
+pub some-first : {A : Type 0} (xs : List A) (x : A) → slice_get xs 0 ≡ Some x → 0 < length xs
+some-first [] x e = absurd (cc)
+some-first (y ∷ xs) x e = omega arith
 
 -- nothing is numbered
 none-at : (m : BTreeMap ℕ ℕ) (q v : ℕ) {X : Type 0} → IsEmpty m → get nat_cmp m q ≡ Some v → X
@@ -137,18 +148,20 @@ none-at m q v empty e =
     let nothing : None ≡ Some v = sym (ap (lookup (is_at (nat_cmp q))) empty) ∙ e in
     cc
 
-pub numbered-none : (a : Names) (r t s : BTreeMap ℕ ℕ) → IsEmpty r → IsEmpty t → IsEmpty s → length a.starts ≡ length a.rules → AreNumbered a (get nat_cmp r) (get nat_cmp t) (get nat_cmp s)
-numbered-none a r t s no_rule no_token no_action placed = record {
+pub numbered-none : (a : Names) (r t s : BTreeMap ℕ ℕ) → IsEmpty r → IsEmpty t → IsEmpty s → length a.starts ≡ length a.rules → slice_get a.rules 0 ≡ Some (codes "$accept") → AreNumbered a (get nat_cmp r) (get nat_cmp t) (get nat_cmp s)
+numbered-none a r t s no_rule no_token no_action placed accept = record {
   of_rules = λ number rule e. none-at r number rule no_rule e;
   of_tokens = λ number token e. none-at t number token no_token e;
   of_actions = λ start rule e. none-at s start rule no_action e;
   placed = placed;
+  accept = accept;
 }
 
 -- nothing was added
 pub adds_none : {old new : Numbering} → new ≡ old → AddsNumbers old new
 adds_none same = record {
   meaning = ap (λ (n : Numbering). n.meaning.now) same;
+  contents = ap (λ (n : Numbering). n.contents.now) same;
   numbered = λ h. subst IsNumbered (sym same) h;
 }
 
@@ -156,5 +169,6 @@ adds_none same = record {
 pub adds_again : {old now new : Numbering} → AddsNumbers old now → AddsNumbers now new → AddsNumbers old new
 adds_again one other = record {
   meaning = other.meaning ∙ one.meaning;
+  contents = other.contents ∙ one.contents;
   numbered = λ h. other.numbered (one.numbered h);
 }

@@ -4,6 +4,7 @@ use Rattle.std.proofs.lemmas.Grind.{flat_map-append}
 use Rattle.std.proofs.lemmas.List.{append-nil, append_assoc, length-append, map-append}
 use Rattle.lrgrammar.specs.declared.grammar.PartProd.{PartProd}
 use Rattle.lryacc.specs.declared.contents.BodyPart.TheVariants as part
+use Rattle.lryacc.specs.declared.contents.Contents.{Contents}
 use Rattle.lryacc.specs.declared.lexemes.Lexeme.{Lexeme}
 use Rattle.std.specs.Prelude.{Option}
 use Rattle.lryacc.specs.declared.meaning.Meaning.{Meaning}
@@ -82,5 +83,5 @@ places-made f old now new xs xs' x more one other =
     (places-again old now new (flat_map f xs) (f x) one other)
 
 -- the names of a grammar are those of its rules and tokens
-pub names-same : (m m' : Meaning) (f f' : FileGrammar) → m' ≡ m → f'.parts.rules.items ≡ f.parts.rules.items → f'.parts.tokens.items ≡ f.parts.tokens.items → f'.rule_places.items ≡ f.rule_places.items → names_in m f ≡ names_in m' f'
-names-same m m' f f' same rules tokens places = rw (same, rules, tokens, places) refl
+pub names-same : (m m' : Meaning) (c c' : Contents) (f f' : FileGrammar) → m' ≡ m → c' ≡ c → f'.parts.rules.items ≡ f.parts.rules.items → f'.parts.tokens.items ≡ f.parts.tokens.items → f'.rule_places.items ≡ f.rule_places.items → names_in m c f ≡ names_in m' c' f'
+names-same m m' c c' f f' same said rules tokens places = rw (same, said, rules, tokens, places) refl

@@ -1,5 +1,5 @@
 -- what the grammar of a file comes from
-use Rattle.std.specs.Prelude.{◌≡◌, ℕ, ◌<◌, ◌⊎◌, List, [], Some, map, length, string_bytes}
+use Rattle.std.specs.Prelude.{◌≡◌, ℕ, ◌<◌, ◌⊎◌, List, [], Some, codes, map, length, slice_get, string_bytes}
 use Rattle.lryacc.specs.declared.contents.Alternative.{Alternative}
 use Rattle.lryacc.specs.declared.contents.Statement.{Statement}
 use Rattle.lryacc.specs.declared.dialects.Dialect.{Dialect}
@@ -18,12 +18,15 @@ use Rattle.lryacc.specs.KeptProductions.{IsWithout}
 use Rattle.lryacc.specs.NamedSymbols.{NameOne, Names}
 use Rattle.lryacc.specs.ProductionPlaces.{file_places, start_rules_of}
 
--- the names of a file of this text and dialect, with these declarations, and of the rules and tokens of a grammar of it: lexemes
--- of one number name one symbol
+-- the names of a file of this text and dialect, with these declarations and bodies, and of the rules, of which the first is
+-- `$accept`, and the tokens of a grammar of it: lexemes of one number name one symbol
 pub record AreNamesOf (text : List ℕ) (dialect : Dialect) (statements : List Statement)
-    (file : FileGrammar) (names : Names) : Type 0 where
+    (bodies : List Alternative) (file : FileGrammar) (names : Names) : Type 0 where
   pub text_is : names.text ≡ text
   pub dialect_is : names.dialect ≡ dialect
+  pub statements_are : names.statements ≡ statements
+  pub bodies_are : names.bodies ≡ bodies
+  pub accept : slice_get names.rules 0 ≡ Some (codes "$accept")
   pub rules : names.rules ≡ map (λ name. string_bytes name) file.parts.rules.items
   pub tokens : names.tokens ≡ map (λ token. string_bytes token.name) file.parts.tokens.items
   pub starts : names.starts ≡ map (λ place. place.start) file.rule_places.items
@@ -40,7 +43,7 @@ pub record IsGrammarOf (text : List ℕ) (dialect : Dialect) (statements : List 
   pub whole : FileGrammar
   pub places : whole.production_places.items ≡ file_places starts bodies
   pub names : Names
-  pub named : AreNamesOf text dialect statements whole names
+  pub named : AreNamesOf text dialect statements bodies whole names
   pub productions :
       AreOfFile names (start_rules_of starts bodies) bodies whole.parts.prods.items
   pub useless : Useless

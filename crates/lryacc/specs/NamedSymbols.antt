@@ -9,6 +9,8 @@ use Rattle.std.specs.Option.{option_map}
 use Rattle.std.specs.Ordering.{nat_cmp}
 use Rattle.lrgrammar.specs.declared.grammar.PartSymbol.{PartSymbol}
 use Rattle.lrgrammar.specs.declared.grammar.PartSymbol.TheVariants.{Rule, Token}
+use Rattle.lryacc.specs.declared.contents.Alternative.{Alternative}
+use Rattle.lryacc.specs.declared.contents.Contents.{Contents}
 use Rattle.lryacc.specs.declared.contents.Statement.{Statement}
 use Rattle.lryacc.specs.declared.contents.Statement.TheVariants as says
 use Rattle.lryacc.specs.declared.dialects.Dialect.{Dialect}
@@ -207,6 +209,8 @@ NameOne text dialect statements one other =
 pub record Names : Type 0 where
   pub text : List ℕ
   pub dialect : Dialect
+  pub statements : List Statement
+  pub bodies : List Alternative
   -- the symbol that a lexeme names
   pub number : Lexeme → Option ℕ
   -- the end token
@@ -217,11 +221,13 @@ pub record Names : Type 0 where
   pub starts : List ℕ
 
 -- those of a file whose names have their meaning
-abbrev pub names_in : Meaning → FileGrammar → Names
-names_in meaning file =
+abbrev pub names_in : Meaning → Contents → FileGrammar → Names
+names_in meaning contents file =
     record {
       text = meaning.symbols.text.now;
       dialect = meaning.symbols.dialect;
+      statements = contents.statements.items;
+      bodies = contents.alternatives.items;
       number = symbol_number meaning.symbols;
       end = option_map (first_name meaning.symbols) meaning.end;
       rules = map (λ name. string_bytes name) file.parts.rules.items;
@@ -239,8 +245,26 @@ escaped_byte byte =
 abbrev pub IsTextOf : List ℕ → List ℕ → Type 0
 IsTextOf name text = (text ≡ name) ⊎ (text ≡ flat_map escaped_byte name)
 
--- a rule stands in a grammar by a name of a symbol
+-- a symbol is a rule: it stands before a colon, or is declared a rule or a start symbol
+pub data IsRule (number_of : Lexeme → Option ℕ) (statements : List Statement)
+    (bodies : List Alternative) (number : ℕ) : Type 0 where
+  before_colon : (body : Alternative) → Contains bodies body → number_of body.rule ≡ Some number
+      → IsRule number_of statements bodies number
+  declared : (lexeme : Lexeme) → Contains statements (says.Rule lexeme)
+      → number_of lexeme ≡ Some number → IsRule number_of statements bodies number
+  start : (lexeme : Lexeme) → Contains statements (says.Start lexeme)
+      → number_of lexeme ≡ Some number → IsRule number_of statements bodies number
+
+-- whether the symbol that a lexeme names is one
+abbrev pub NamesRule : Names → Lexeme → Type 0
+NamesRule names lexeme =
+    (number : ℕ) → names.number lexeme ≡ Some number
+    → IsRule names.number names.statements names.bodies number
+
+-- a rule stands in a grammar by a name of a symbol, behind `$accept`
 pub record IsRuleOf (names : Names) (number rule : ℕ) : Type 0 where
+  pub is_rule : IsRule names.number names.statements names.bodies number
+  pub behind : 0 < rule
   pub name : Lexeme
   pub same : names.number name ≡ Some number
   pub text : List ℕ

@@ -1,21 +1,24 @@
 -- the rules and tokens that were numbered so far
-use Rattle.std.specs.Prelude.{◌≡◌, ℕ, length, Option, Some, slice_get}
+use Rattle.std.specs.Prelude.{◌≡◌, ℕ, length, Option, Some, codes, slice_get}
 use Rattle.std.specs.BTreeMap.{get}
 use Rattle.std.specs.Ordering.{nat_cmp}
 use Rattle.lryacc.specs.declared.numbering.Numbering.{Numbering}
 use Rattle.lryacc.specs.NamedSymbols.{IsRuleOf, IsTokenOf, Names, names_in}
 
--- each rule and each token that a number has is that of the symbol of that number; that of an action stands where it does
+-- each rule and each token that a number has is that of the symbol of that number; that of an action stands where it does; rule 0 is
+-- `$accept`
 pub record AreNumbered (names : Names) (rules tokens actions : ℕ → Option ℕ) : Type 0 where
   pub of_rules : (number rule : ℕ) → rules number ≡ Some rule → IsRuleOf names number rule
   pub of_tokens : (number token : ℕ) → tokens number ≡ Some token → IsTokenOf names number token
   pub of_actions : (start rule : ℕ) → actions start ≡ Some rule
       → slice_get names.starts rule ≡ Some start
   pub placed : length names.starts ≡ length names.rules
+  pub accept : slice_get names.rules 0 ≡ Some (codes "$accept")
 
 -- the names of a numbering
 abbrev pub names_of : Numbering → Names
-names_of numbering = names_in numbering.meaning.now numbering.grammar
+names_of numbering =
+    names_in numbering.meaning.now numbering.contents.now numbering.grammar
 
 -- the same of all that was numbered
 abbrev pub IsNumbered : Numbering → Type 0
@@ -26,4 +29,5 @@ IsNumbered numbering =
 -- rules and tokens are added
 pub record AddsNumbers (old new : Numbering) : Type 0 where
   pub meaning : new.meaning.now ≡ old.meaning.now
+  pub contents : new.contents.now ≡ old.contents.now
   pub numbered : IsNumbered old → IsNumbered new

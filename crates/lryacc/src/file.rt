@@ -1,6 +1,6 @@
 //! Reads a grammar file.
 
-ghost use Rattle.std.specs.Prelude.{◌≡◌, ◌<◌, All, IfOk, length, vec_len};
+ghost use Rattle.std.specs.Prelude.{◌≡◌, ◌<◌, All, IfOk, Some, codes, length, slice_get, vec_len};
 ghost use Rattle.lryacc.specs.BodyProductions.{AreOfFile};
 ghost use Rattle.lryacc.specs.FilesRead.{AreBodiesRead, ComesTo, HasBodies, HasNoGrammar};
 ghost use Rattle.lryacc.specs.NamedSymbols.{AreApart, ArePartnered, names_in};
@@ -153,7 +153,9 @@ fn useful_read(
     requires places { whole.production_places.items
         ≡ file_places meaning.old.starts.items contents.now.alternatives.items }
     requires placed { IsPlaced whole }
-    requires productions { AreOfFile (names_in meaning.old whole)
+    requires accept { slice_get (names_in meaning.old contents.now whole).rules 0
+        ≡ Some (codes "$accept") }
+    requires productions { AreOfFile (names_in meaning.old contents.now whole)
         (start_rules_of meaning.old.starts.items contents.now.alternatives.items)
         contents.now.alternatives.items whole.parts.prods.items }
     ensures inside { IfOk result (λ read. All (λ fault. IsInside fault.span text.now) (told read)) }

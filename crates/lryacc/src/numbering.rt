@@ -1,6 +1,6 @@
 //! The parts of the grammar of a file, with their places.
 
-ghost use Rattle.std.specs.Prelude.{◌≡◌, ◌-◌, true, [], ◌∷◌, ◌++◌, map, flat_map, length, slice_get, string_bytes};
+ghost use Rattle.std.specs.Prelude.{◌≡◌, ◌-◌, true, [], ◌∷◌, ◌++◌, Some, codes, map, flat_map, length, slice_get, string_bytes};
 ghost use Rattle.std.specs.Prelude.{IfOk, OnOk, IfSome, IsSomeAnd};
 ghost use Rattle.lryacc.specs.Levels.{IsOfLine, group_of, line_of};
 ghost use Rattle.lryacc.specs.ProductionPlaces.{Adds, ArePlaced, IsPlaced, action_place, action_places, body_places};
@@ -8,12 +8,12 @@ ghost use Rattle.lryacc.specs.ProductionPlaces.{file_places, parts_before_last, 
 ghost use Rattle.lryacc.specs.BodyProductions.{AddsProduction, AddsProductions, AreOfActions, AreOfBodies, AreOfBody};
 ghost use Rattle.lryacc.specs.BodyProductions.{AreOfFile, AreRelated, AreStartSymbols, IsEmptyProduction, IsOfPart, IsOfPartBefore, IsOfStart};
 ghost use Rattle.lryacc.specs.BodyProductions.{IsRuleOfAction, symbol_parts};
-ghost use Rattle.lryacc.specs.NamedSymbols.{IsNamed, IsTokenText, name_of, names_in};
+ghost use Rattle.lryacc.specs.NamedSymbols.{IsNamed, IsTokenText, NamesRule, name_of, names_in};
 ghost use Rattle.lryacc.specs.Numbered.{AddsNumbers, IsNumbered, names_of};
 
 mod token_places;
 
-use crate::contents::{Alternative, BodyPart, Contents, LevelKind};
+use crate::contents::{Alternative, BodyPart, Contents, LevelKind, Statement};
 use crate::dialects::Dialect;
 use crate::lexemes::{Lexeme, LexemeKind};
 use crate::meaning::Meaning;
@@ -136,6 +136,7 @@ const UNDEFINED: usize = 2;
 #[derive(Drop)]
 struct Numbering<'m, 'a> {
     meaning: &'m Meaning<'a>,
+    contents: &'m Contents,
     /// The numbers of rules and tokens, by the number of their symbol.
     rules: BTreeMap<usize, usize>,
     tokens: BTreeMap<usize, usize>,
@@ -240,21 +241,29 @@ fn nowhere() -> Span {
 }
 
 impl<'m, 'a> Numbering<'m, 'a> {
-    /// No parts.
-    fn new(alloc: Global, meaning: &'m Meaning<'a>) -> Numbering<'m, 'a>
-        ensures meaning { result.meaning.now ≡ meaning.now }
-        ensures numbered { IsNumbered result }
+    /// The rule `$accept`, and no other part.
+    fn new(
+        alloc: Global,
+        meaning: &'m Meaning<'a>,
+        contents: &'m Contents,
+    ) -> Result<Numbering<'m, 'a>, AllocError>
+        ensures meaning { IfOk result (λ numbering. numbering.meaning.now ≡ meaning.now) }
+        ensures contents { IfOk result (λ numbering. numbering.contents.now ≡ contents.now) }
+        ensures numbered { IfOk result IsNumbered }
     {
-        Numbering {
+        let mut grammar = FileGrammar::empty(alloc);
+        let _ = grammar.add_rule(String::from_str(alloc, "$accept")?, nowhere())?;
+        Ok(Numbering {
             meaning,
+            contents,
             rules: BTreeMap::new(alloc),
             tokens: BTreeMap::new(alloc),
             below: BTreeMap::new(alloc),
             without_level: UNDEFINED,
             actions: BTreeMap::new(alloc),
             marks: Vec::new(alloc),
-            grammar: FileGrammar::empty(alloc),
-        }
+            grammar,
+        })
     }
 
     /// The memory that the parts take.
@@ -264,18 +273,14 @@ impl<'m, 'a> Numbering<'m, 'a> {
 
     /// Adds the tokens and the rules.
     #[tactic(auto, using(crate::proofs::Numbered::adds_again, crate::proofs::Numbered::adds_none))]
-    fn add_symbols(
-        &mut self,
-        starts: &[Lexeme],
-        alternatives: &[Alternative],
-    ) -> Result<(), AllocError>
+    fn add_symbols(&mut self, starts: &[Lexeme]) -> Result<(), AllocError>
         ensures { OnOk result (AddsNumbers self.old self.new) }
     {
         self.add_tokens()?;
         self.add_tokens_below()?;
         self.add_without_level()?;
         self.add_marks(starts)?;
-        self.add_rules(alternatives)?;
+        self.add_rules()?;
         self.add_bare_rules()
     }
 
@@ -287,7 +292,8 @@ impl<'m, 'a> Numbering<'m, 'a> {
     }
 
     /// Adds the rule of the symbol that a lexeme names, unless it is there.
-    fn add_rule_of(&mut self, name: Lexeme) -> Result<(), AllocError>
+    fn add_rule_of(&mut self, name: Lexeme, place: Span) -> Result<(), AllocError>
+        requires { NamesRule (names_of self.old) name }
         ensures { OnOk result (AddsNumbers self.old self.new) }
     {
         let Some(symbol) = self.meaning.find(name) else {
@@ -297,28 +303,19 @@ impl<'m, 'a> Numbering<'m, 'a> {
             return Ok(());
         }
         let text = name_text(self.allocator(), self.meaning.symbols.name(name))?;
-        let rule = self.grammar.add_rule(text, name.span)?;
+        let rule = self.grammar.add_rule(text, place)?;
         self.rules.insert(symbol, rule)?;
-        Ok(())
-    }
-
-    /// Adds the rule `$accept`.
-    fn add_accept(&mut self) -> Result<(), AllocError>
-        ensures { OnOk result (AddsNumbers self.old self.new) }
-    {
-        let accept = String::from_str(self.allocator(), "$accept")?;
-        let _ = self.grammar.add_rule(accept, nowhere())?;
         Ok(())
     }
 
     /// Adds the rules that names before colons are, and those that actions before the ends of bodies are.
     #[tactic(auto, using(crate::proofs::Numbered::adds_again, crate::proofs::Numbered::adds_none))]
-    fn add_rules(&mut self, alternatives: &[Alternative]) -> Result<(), AllocError>
+    fn add_rules(&mut self) -> Result<(), AllocError>
         ensures { OnOk result (AddsNumbers self.old self.new) }
     {
-        self.add_accept()?;
-        for alternative in alternatives {
-            self.add_rule_of(alternative.rule)?;
+        let contents = self.contents;
+        for alternative in &contents.alternatives {
+            self.add_rule_of(alternative.rule, alternative.rule.span)?;
             self.add_actions(alternative)?;
         }
         Ok(())
@@ -359,14 +356,30 @@ impl<'m, 'a> Numbering<'m, 'a> {
     fn add_bare_rules(&mut self) -> Result<(), AllocError>
         ensures { OnOk result (AddsNumbers self.old self.new) }
     {
-        for number in 0..self.meaning.symbols.list.len() {
-            if let Some(symbol) = self.known(number) {
-                if is_bare_rule(&symbol) {
-                    self.add_rule_of(symbol.mention)?;
-                }
+        let contents = self.contents;
+        for statement in &contents.statements {
+            if let Statement::Rule(name) | Statement::Start(name) = statement {
+                self.add_bare_rule(*name)?;
             }
         }
         Ok(())
+    }
+
+    /// Adds the rule of the symbol that a lexeme names, if it is one even where no colon stands behind it.
+    #[tactic(auto, using(crate::proofs::Numbered::adds_again, crate::proofs::Numbered::adds_none))]
+    fn add_bare_rule(&mut self, name: Lexeme) -> Result<(), AllocError>
+        requires { NamesRule (names_of self.old) name }
+        ensures { OnOk result (AddsNumbers self.old self.new) }
+    {
+        match self.symbol_named(name) {
+            Some(symbol) if is_bare_rule(&symbol) => self.add_rule_of(name, symbol.mention.span),
+            _ => Ok(()),
+        }
+    }
+
+    /// The symbol of that name.
+    fn symbol_named(&self, name: Lexeme) -> Option<Symbol> {
+        self.known(self.meaning.symbols.find(name)?)
     }
 
     /// The level of a token, by either of its names.
@@ -903,14 +916,16 @@ pub(crate) fn file_grammar(
     ensures places { IfOk result (λ file. file.production_places.items
         ≡ file_places meaning.now.starts.items contents.now.alternatives.items) }
     ensures placed { IfOk result IsPlaced }
-    ensures productions { IfOk result (λ file. AreOfFile (names_in meaning.now file)
+    ensures accept { IfOk result (λ file. slice_get (names_in meaning.now contents.now file).rules 0
+        ≡ Some (codes "$accept")) }
+    ensures productions { IfOk result (λ file. AreOfFile (names_in meaning.now contents.now file)
         (start_rules_of meaning.now.starts.items contents.now.alternatives.items)
         contents.now.alternatives.items file.parts.prods.items) }
 {
     let alternatives = contents.alternatives.as_slice();
     let starts = start_rules(alloc, meaning, alternatives)?;
-    let mut numbering = Numbering::new(alloc, meaning);
-    numbering.add_symbols(starts.as_slice(), alternatives)?;
+    let mut numbering = Numbering::new(alloc, meaning, contents)?;
+    numbering.add_symbols(starts.as_slice())?;
     let token_places = numbering.token_places(contents)?;
     let productions = numbering.productions(starts.as_slice(), alternatives)?;
     Ok(

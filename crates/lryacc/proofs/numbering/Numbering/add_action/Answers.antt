@@ -25,6 +25,7 @@ returns c =
     λ same. omega (arith, added.number, same, length-map old.rule_places.items start, length-map old.parts.rules.items rule_name) in
     record {
       meaning = refl;
+      contents = refl;
       numbered = λ h.
           numbered-action (with_more names rules tokens starts) _ _ _ _ c.args.action.span.start c.in_ok-rule.rule (λ q. c.in_ok-insert.ensures.updates.0 q)
           (ap (slice_get starts) (number h.placed) ∙ map-added start old.rule_places.items new.rule_places.items c.args.action.span added.places)

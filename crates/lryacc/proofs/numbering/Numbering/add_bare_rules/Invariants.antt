@@ -1,5 +1,5 @@
 use Rattle.lryacc.specs.Numbered.{AddsNumbers}
 use Rattle.lryacc.proofs.numbering.Numbering.add_bare_rules.Given as goal
 
-abbrev pub invariant-loop-number : goal.invariant-loop-number
-invariant-loop-number l = AddsNumbers l.initial.self l.self
+abbrev pub invariant-loop-statement : goal.invariant-loop-statement
+invariant-loop-statement l = AddsNumbers l.initial.self l.self

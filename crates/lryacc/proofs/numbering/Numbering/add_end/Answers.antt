@@ -12,6 +12,7 @@ returns c =
     let now = c.add_token.new.self in
     record {
       meaning = added.meaning;
+      contents = added.contents;
       numbered = λ h.
           numbered-token (names_of now) _ _ _ _ c.args.number c.in_ok-token.token (λ q. c.in_ok-insert.ensures.updates.0 q)
           (inr record {

@@ -1,4 +1,4 @@
-use Rattle.std.proofs.Common.{◌∙◌, ap, sym, refl, subst, map, List, ℕ, slice_get, string_bytes}
+use Rattle.std.proofs.Common.{◌∙◌, ◌<◌, arith, ap, sym, refl, subst, map, List, ℕ, slice_get, string_bytes}
 use Rattle.std.specs.declared.alloc.Global.{Global}
 use Rattle.std.specs.declared.string.String.{String}
 use Rattle.std.specs.declared.vec.Vec.{Vec}
@@ -6,7 +6,8 @@ use Rattle.lrgrammar.specs.declared.grammar.PartToken.{PartToken}
 use Rattle.lryacc.specs.declared.places.Span.{Span}
 use Rattle.lryacc.specs.NamedSymbols.{IsTextOf}
 use Rattle.lryacc.specs.Numbered.{names_of}
-use Rattle.lryacc.proofs.Numbered.{lengths-more, numbered-rule, numbered-more, map-added, map-more, with_more}
+use Rattle.std.proofs.lemmas.List.{length-map}
+use Rattle.lryacc.proofs.Numbered.{some-first, lengths-more, numbered-rule, numbered-more, map-added, map-more, with_more}
 use Rattle.lryacc.proofs.numbering.Numbering.add_rule_of.Goals as goal
 
 pub returns : goal.returns
@@ -23,9 +24,12 @@ returns c =
     let starts = map start new.rule_places.items in
     record {
       meaning = refl;
+      contents = refl;
       numbered = λ h.
           numbered-rule (with_more names rules tokens starts) _ _ _ _ c.in-Some.symbol c.in_ok-rule.rule (λ q. c.in_ok-insert.ensures.updates.0 q)
           (record {
+            is_rule = c.requires c.in-Some.symbol (sym c.find.ensures ∙ c.in-Some.is);
+            behind = subst (λ (n : ℕ). 0 < n) (sym added.number) (omega (arith, some-first names.rules _ h.accept, length-map old.parts.rules.items rule_name));
             name = c.args.name;
             same = sym c.find.ensures ∙ c.in-Some.is;
             text = string_bytes c.in_ok-text.text;
@@ -35,7 +39,7 @@ returns c =
           (numbered-more names rules tokens starts _ _ _
           (map-more rule_name old.parts.rules.items new.parts.rules.items c.in_ok-text.text added.rules)
           (λ n x e. ap (λ (ts : Vec PartToken Global). slice_get (map token_name ts.items) n) added.tokens ∙ e)
-          (map-more start old.rule_places.items new.rule_places.items c.args.name.span added.places)
-          (lengths-more start rule_name old.rule_places.items new.rule_places.items old.parts.rules.items new.parts.rules.items c.args.name.span c.in_ok-text.text added.places added.rules)
+          (map-more start old.rule_places.items new.rule_places.items c.args.place added.places)
+          (lengths-more start rule_name old.rule_places.items new.rule_places.items old.parts.rules.items new.parts.rules.items c.args.place c.in_ok-text.text added.places added.rules)
           h);
     }

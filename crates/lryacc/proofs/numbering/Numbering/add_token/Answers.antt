@@ -13,6 +13,7 @@ returns-clause-added c =
     let names = names_of old in
     record {
       meaning = refl;
+      contents = refl;
       numbered =
           numbered-more names names.rules (map name_of_token tokens) names.starts _ _ _ (λ _ _ h. h)
           (map-more name_of_token old.grammar.parts.tokens.items tokens record { name = c.args.name; precedence = c.args.precedence } c.in_ok-push.ensures.items)

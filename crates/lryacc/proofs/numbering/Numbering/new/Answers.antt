@@ -1,4 +1,4 @@
-use Rattle.std.proofs.Common.{ap, ◌∙◌, sym, length, map, string_bytes, List}
+use Rattle.std.proofs.Common.{◌≡◌, ◌∙◌, ◌++◌, ◌∷◌, [], ap, sym, length, map, slice_get, string_bytes, List, Some}
 use Rattle.std.specs.declared.alloc.Global.{Global}
 use Rattle.std.specs.declared.string.String.{String}
 use Rattle.lryacc.specs.declared.places.Span.{Span}
@@ -7,6 +7,13 @@ use Rattle.lryacc.proofs.numbering.Numbering.new.Goals as goal
 
 pub returns-clause-numbered : goal.returns-clause-numbered
 returns-clause-numbered c =
-    let rules = ap (λ (names : List (String Global)). length (map (λ (name : String Global). string_bytes name) names)) c.empty.ensures.rules in
-    let places = ap (λ (spans : List Span). length (map (λ (span : Span). span.start) spans)) c.empty.ensures.places in
-    numbered-none _ c.new.result c.new-2.result c.new-4.result c.new.ensures.empty c.new-2.ensures.empty c.new-4.ensures.empty (places ∙ sym rules)
+    let name = λ (text : String Global). string_bytes text in
+    let start = λ (span : Span). span.start in
+    let accept = c.in_ok-from_str.field-0 in
+    let rules : c.add_rule.new.self.parts.rules.items ≡ accept ∷ [] =
+    c.in_ok-add_rule.ensures.rules ∙ ap (λ (names : List (String Global)). names ++ accept ∷ []) c.empty-grammar.ensures.rules in
+    let places : c.add_rule.new.self.rule_places.items ≡ c.nowhere.result ∷ [] =
+    c.in_ok-add_rule.ensures.places ∙ ap (λ (spans : List Span). spans ++ c.nowhere.result ∷ []) c.empty-grammar.ensures.places in
+    let many = ap (λ (spans : List Span). length (map start spans)) places ∙ sym (ap (λ (names : List (String Global)). length (map name names)) rules) in
+    let first = ap (λ (names : List (String Global)). slice_get (map name names) 0) rules ∙ ap Some c.in_ok-from_str.ensures.ok in
+    numbered-none _ c.new.result c.new-2.result c.new-4.result c.new.ensures.empty c.new-2.ensures.empty c.new-4.ensures.empty many first

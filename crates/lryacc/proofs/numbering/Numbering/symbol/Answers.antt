@@ -1,0 +1,15 @@
+use Rattle.std.proofs.Common.{◌≡◌, ◌∙◌, Some, sym}
+use Rattle.std.specs.BTreeMap.{get}
+use Rattle.std.specs.Ordering.{nat_cmp}
+use Rattle.lryacc.specs.NamedSymbols.{symbol_number}
+use Rattle.lryacc.proofs.numbering.Numbering.symbol.Goals as goal
+
+pub returns-in-Some : goal.returns-in-Some
+returns-in-Some c =
+    let named : symbol_number c.args.self.now.meaning.now.symbols c.args.lexeme ≡ Some c.in_ok-number.number = sym c.find.ensures ∙ c.in_ok-number.was in
+    let there : get nat_cmp c.args.self.now.rules c.in_ok-number.number ≡ Some c.in-Some.rule.now = sym c.in-Some.ensures.value in
+    λ h. record {
+      number = c.in_ok-number.number;
+      names_it = named;
+      is = h.of_rules c.in_ok-number.number c.in-Some.rule.now there;
+    }
