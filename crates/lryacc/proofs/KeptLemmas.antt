@@ -1,5 +1,5 @@
 -- what stays of a grammar, one after another
-use Rattle.std.proofs.Common.{◌≡◌, ℕ, ◌+◌, ◌<◌, ◌≤◌, suc, zero, List, [], ◌∷◌, ◌++◌, length, get_or, take, map, Option, Some, None, refl, ap, sym, ◌∙◌, arith, add-one, add-zero}
+use Rattle.std.proofs.Common.{◌≡◌, ◌⊎◌, inl, inr, ℕ, ◌+◌, ◌<◌, ◌≤◌, suc, zero, List, [], ◌∷◌, ◌++◌, length, get_or, take, map, Option, Some, None, refl, ap, sym, ◌∙◌, arith, add-one, add-zero}
 use Rattle.std.specs.List.{filter_map, range_with_len}
 use Rattle.std.specs.declared.vec.Vec.{Vec}
 use Rattle.std.specs.declared.alloc.Global.{Global}
@@ -8,7 +8,7 @@ use Rattle.std.proofs.lemmas.List.Elements.{filter_map-append}
 use Rattle.std.proofs.lemmas.List.FromFn.{length-range_with_len}
 use Rattle.lrgrammar.specs.declared.grammar.PartProd.{PartProd}
 use Rattle.lrgrammar.specs.StoredParts.{part_symbol_of}
-use Rattle.lryacc.specs.KeptProductions.{AreInOrder, new_number, new_placed, new_symbol}
+use Rattle.lryacc.specs.KeptProductions.{AreInOrder, new_number, new_placed, new_symbol, with_numbers}
 use Rattle.lryacc.specs.PlacedProductions.{placed_at, with_places}
 use Rattle.lryacc.proofs.PlacedLemmas.{with_places-take}
 use Rattle.lryacc.specs.declared.places.Span.{Span}
@@ -61,3 +61,17 @@ with_places-all prods places symbols i behind p q =
     let behind_places : length places ≤ i = omega arith in
     let behind_symbols : length symbols ≤ i = omega arith in
     rw (take_all i prods behind, take_all i places behind_places, take_all i symbols behind_symbols) refl
+
+-- without an element, none stays
+with_numbers-none : {A : Type 0} (numbers : List (Option ℕ)) → with_numbers {A = A} numbers [] ≡ []
+with_numbers-none [] = refl
+with_numbers-none (number ∷ numbers) = refl
+
+-- no number is left, or no element
+pub with_numbers-end : {A : Type 0} (kept all : List A) (numbers : List (Option ℕ)) (items : List A) → (numbers ≡ []) ⊎ (items ≡ []) → kept ++ with_numbers numbers items ≡ all → kept ≡ all
+with_numbers-end kept all numbers items end left =
+    let none : with_numbers numbers items ≡ [] = elim end [
+      | inl first ↦ rw (first) refl
+      | inr item ↦ rw (item) (with_numbers-none numbers)
+    ] in
+    sym (append-nil kept) ∙ rw (none) at left

@@ -1,5 +1,5 @@
 -- what stays of a grammar out of which rules and productions are taken
-use Rattle.std.specs.Prelude.{◌≡◌, ℕ, List, [], map, length, Bool, Option, is_some, unwrap_or, slice_get, vec_len}
+use Rattle.std.specs.Prelude.{◌≡◌, ℕ, List, [], ◌∷◌, map, length, Bool, Option, Some, None, is_some, unwrap_or, slice_get, vec_len}
 use Rattle.std.specs.List.{filter, filter_map, range_with_len}
 use Rattle.std.specs.Option.{option_flatten}
 use Rattle.lrspec.specs.grammars.Grammar.{Production, Symbol}
@@ -37,9 +37,17 @@ new_production numbers production =
 abbrev pub new_placed : List (Option ℕ) → PlacedProduction → PlacedProduction
 new_placed numbers at = record at { production = new_production numbers at.production }
 
+-- of a list, the elements at whose places there is a number
+abbrev pub with_numbers : {A : Type 0} → List (Option ℕ) → List A → List A
+with_numbers [] xs = []
+with_numbers (number ∷ numbers) [] = []
+with_numbers (Some number ∷ numbers) (x ∷ xs) = x ∷ with_numbers numbers xs
+with_numbers (None ∷ numbers) (x ∷ xs) = with_numbers numbers xs
+
 -- the second grammar is the first one, out of which what is useless was taken. By a set with each productive rule and one with
--- each rule that is reached, a rule stays, and has a new number, where it is reached, and a production where it is useful, with
--- its symbols and its places, in their order. Where nothing is told as useless, all stay
+-- each rule that is reached, a rule stays, and has a new number, where it is reached, with its name and its place, and a
+-- production where it is useful, with its symbols and its places; all in their order. The tokens are the same. Where nothing is
+-- told as useless, all stay
 pub record IsWithout (useless : Useless) (whole kept : FileGrammar) : Type 0 where
   pub numbers : List (Option ℕ)
   pub in_order : AreInOrder numbers
@@ -49,6 +57,9 @@ pub record IsWithout (useless : Useless) (whole kept : FileGrammar) : Type 0 whe
   pub reached : List Bool
   pub has_reached : HasReached productive reached (productions_in whole.parts)
   pub numbered : map is_some numbers ≡ reached
+  pub names : kept.parts.rules.items ≡ with_numbers numbers whole.parts.rules.items
+  pub places : kept.rule_places.items ≡ with_numbers numbers whole.rule_places.items
+  pub tokens : kept.parts.tokens.items ≡ whole.parts.tokens.items
   pub stay : placed_in kept ≡ map (new_placed numbers)
       (filter (λ at. is_useful productive reached at.production) (placed_in whole))
   pub all : useless.rules.items ≡ [] → useless.productions.items ≡ []

@@ -5,18 +5,17 @@
 ghost use Rattle.std.specs.Prelude.{◌≡◌, [], ◌∷◌, ◌++◌, true, map, All, IsSome, IsTrue, IfOk, IfSome, OnOk, is_some, replicate, vec_len};
 ghost use Rattle.std.specs.List.{filter};
 ghost use Rattle.lrgrammar.specs.StoredParts.{part_production_of, part_symbol_of};
-ghost use Rattle.lryacc.specs.KeptProductions.{AreInOrder, IsWithout, new_number, new_placed, new_symbol};
+ghost use Rattle.lryacc.specs.KeptProductions.{AreInOrder, IsWithout, new_number, new_placed, new_symbol, with_numbers};
 ghost use Rattle.lryacc.specs.PlacedProductions.{placed, placed_at, placed_in};
 ghost use Rattle.lryacc.specs.ProductionPlaces.{Adds, ArePlaced, IsPlaced};
 ghost use Rattle.lryacc.specs.UsefulRules.{HasProductive, HasReached, has, has_all, has_symbol, is_useful, productions_in};
 
 use crate::faults::{Fault, FaultKind};
-use crate::numbering::{FileGrammar, TokenPlaces};
+use crate::numbering::FileGrammar;
 use crate::places::Span;
 use crate::productions::Productions;
 use lrgrammar::grammar::{GrammarParts, PartProd, PartSymbol};
 use std::alloc::{AllocError, Global};
-use std::mem;
 
 /// What is known of the rules of a grammar so far.
 #[derive(Drop)]
@@ -520,42 +519,53 @@ impl Selection {
         }
     }
 
-    /// The rules that stay, and the tokens, with no production. Notes why the others do not, and where they stand.
-    fn rules(
-        &self,
-        whole: &mut FileGrammar,
-        useless: &mut Vec<Fault>,
-    ) -> Result<FileGrammar, AllocError>
-        ensures { OnOk result (useless.new.items ≡ []
+    /// Why the other rules do not stay, and where they stand.
+    fn useless_rules(&self, places: &[Span]) -> Result<Vec<Fault>, AllocError>
+        ensures { IfOk result (λ useless. useless.items ≡ []
             → All (λ number. IsSome number) self.now.numbers.items) }
     {
-        let alloc = self.allocator();
-        let mut rules = FileGrammar::empty(alloc);
-        mem::swap(&mut rules.parts.tokens, &mut whole.parts.tokens);
+        let mut useless = Vec::new(self.allocator());
         for (rule, number) in self.numbers.iter().enumerate() {
-            let place = whole.rule_places.get(rule).copied();
-            let place = place.unwrap_or(Span::new(0, 0));
-            if number.is_none() {
-                useless.push(Fault {
-                    kind: self.why_useless(rule),
-                    span: place,
-                })?;
+            if number.is_some() {
                 continue;
             }
-            let name = taken_name(alloc, &mut whole.parts.rules, rule);
-            let _ = rules.add_rule(name, place)?;
+            let place = places.get(rule).copied();
+            useless.push(Fault {
+                kind: self.why_useless(rule),
+                span: place.unwrap_or(Span::new(0, 0)),
+            })?;
         }
-        Ok(rules)
+        Ok(useless)
     }
-}
 
-/// A name that is taken out of a list.
-fn taken_name(alloc: Global, names: &mut Vec<String>, at: usize) -> String {
-    let mut name = String::new(alloc);
-    if let Some(known) = names.get_mut(at) {
-        mem::swap(&mut name, known);
+    /// Of a list by rule, what it has of the rules that stay.
+    fn with_numbers<T: Drop>(&self, list: Vec<T>) -> Result<Vec<T>, AllocError>
+        ensures { IfOk result (λ kept.
+            kept.items ≡ with_numbers self.now.numbers.items list.items) }
+    {
+        let mut kept = Vec::new(self.allocator());
+        for (number, item) in self.numbers.iter().zip(list) {
+            if number.is_some() {
+                kept.push(item)?;
+            }
+        }
+        Ok(kept)
     }
-    name
+
+    /// The rules that stay, and the tokens, with no production.
+    fn rules(&self, parts: GrammarParts, places: Vec<Span>) -> Result<FileGrammar, AllocError>
+        ensures names { IfOk result (λ kept. kept.parts.rules.items
+            ≡ with_numbers self.now.numbers.items parts.rules.items) }
+        ensures places { IfOk result (λ kept. kept.rule_places.items
+            ≡ with_numbers self.now.numbers.items places.items) }
+        ensures tokens { IfOk result (λ kept. kept.parts.tokens.items ≡ parts.tokens.items) }
+    {
+        let mut kept = FileGrammar::empty(self.allocator());
+        kept.parts.rules = self.with_numbers(parts.rules)?;
+        kept.parts.tokens = parts.tokens;
+        kept.rule_places = self.with_numbers(places)?;
+        Ok(kept)
+    }
 }
 
 /// What was taken out of a grammar.
@@ -579,7 +589,7 @@ impl Useless {
 /// The grammar without the rules and productions that are not reached or derive no text, and what was taken out.
 pub(crate) fn without_useless(
     alloc: Global,
-    mut whole: FileGrammar,
+    whole: FileGrammar,
 ) -> Result<(FileGrammar, Useless), AllocError>
     requires { IsPlaced whole }
     ensures without { IfOk result (λ r. IsWithout r.1 whole r.0) }
@@ -587,15 +597,19 @@ pub(crate) fn without_useless(
 {
     let selection = Selection::new(alloc, &whole.parts)?;
     let mut useless = Useless {
-        rules: Vec::new(alloc),
+        rules: selection.useless_rules(whole.rule_places.as_slice())?,
         productions: Vec::new(alloc),
         starts: selection.unproductive_starts(&whole)?,
     };
     let productions = selection.productions(&whole, &mut useless.productions)?;
-    let tokens = selection.useless_tokens(&whole)?;
-    let rules = selection.rules(&mut whole, &mut useless.rules)?;
-    let mut token_places = TokenPlaces::new(alloc);
-    mem::swap(&mut token_places, &mut whole.token_places);
-    token_places.useless = tokens;
+    let useless_tokens = selection.useless_tokens(&whole)?;
+    let FileGrammar {
+        parts,
+        rule_places,
+        mut token_places,
+        ..
+    } = whole;
+    token_places.useless = useless_tokens;
+    let rules = selection.rules(parts, rule_places)?;
     Ok((rules.with_productions(token_places, productions), useless))
 }
