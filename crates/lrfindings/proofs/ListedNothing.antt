@@ -14,9 +14,14 @@ both f g [] [] e = (refl, refl)
 both f g [] (y ∷ ys) e = absurd cc
 both f g (x ∷ xs) ys e = absurd cc
 
+-- what has the elements of a list without any has none
+pub empty_by : {X Y : Type 0} (f : Y → X) (xs : List X) (ys : List Y) → IsPermutation xs (map f ys) → ys ≡ [] → xs ≡ []
+empty_by f xs ys moved none =
+    let back : IsPermutation (map f ys) xs = IsPermutation-sym _ _ moved in
+    no_more _ (subst (λ zs. IsPermutation (map f zs) xs) none back)
+
 pub lists_nothing : (b : Table) (es : List Entry) → IsPermutation (listed (lists_of b)) (map told es) → es ≡ [] → ListsNothing b
 lists_nothing b es moved none =
-    let back : IsPermutation (map told es) (listed (lists_of b)) = IsPermutation-sym _ _ moved in
-    let empty : listed (lists_of b) ≡ [] = no_more _ (subst (λ es. IsPermutation (map told es) (listed (lists_of b))) none back) in
+    let empty : listed (lists_of b) ≡ [] = empty_by told _ es moved none in
     let (shifts, reductions) = both shift_listing reduction_listing (lists_of b).shift_reduce (lists_of b).reduce_reduce empty in
     (reductions, shifts)

@@ -16,7 +16,7 @@ use Rattle.lrfindings.specs.FileGrammars.{IsGrammarOfFile, parts_in_force}
 use Rattle.lrfindings.specs.FindErrors.{IsNothingFound, parts_error, build_error}
 use Rattle.lrfindings.specs.declared.findings.FindError.{FindError}
 use Rattle.lrfindings.specs.declared.findings.Findings.{Findings}
-use Rattle.lrfindings.specs.Findings.{HasNoConflicts}
+use Rattle.lrfindings.specs.Findings.{DecidesNothing}
 
 -- a production that is told is one with which accepting is contested
 told_production :
@@ -57,7 +57,7 @@ module _ (max : ℕ) (file : FileGrammar) (b : Bool) where
 -- precedences are left out only where the table with them lists nothing
 pub kept_or_not :
     {T : Type 0} (max : ℕ) (file : FileGrammar) (b : Bool) (r : Result (Findings T) FindError) → IfOk r (λ f. f.has_precedences ≡ false)
-    → (b ≡ true → HasNoConflicts max file) → IfOk r (λ f. (f.has_precedences ≡ b) ⊎ HasNoConflicts max file)
+    → (b ≡ true → DecidesNothing max file) → IfOk r (λ f. (f.has_precedences ≡ b) ⊎ DecidesNothing max file)
 kept_or_not max file b (Err e) h nothing = tt
 kept_or_not max file true (Ok f) h nothing = inr (nothing refl)
 kept_or_not max file false (Ok f) h nothing = inl h

@@ -43,8 +43,9 @@ pub record AreFindings {T : Type 0} (max : ℕ) (file : FileGrammar) (f : Findin
   pub unambiguous : IsTrue f.is_unambiguous → IsUnambiguous f.grm
   pub known : HasNoPrecedences f.grm → ListsNothing f.table → IsTrue f.is_unambiguous
 
--- with its precedences, the grammar of the file has a table that lists no conflict
-pub record HasNoConflicts (max : ℕ) (file : FileGrammar) : Type 0 where
+-- the precedences of the file decide nothing: with them its grammar has a table that lists no conflict, and in the cells of its
+-- graph they leave none open and resolve none
+pub record DecidesNothing (max : ℕ) (file : FileGrammar) : Type 0 where
   pub grammar : Grammar
   pub graph : Graph
   pub table : Table
@@ -52,3 +53,5 @@ pub record HasNoConflicts (max : ℕ) (file : FileGrammar) : Type 0 where
   pub of_grammar : IsGraphOf grammar graph
   pub of_graph : IsTableOf grammar graph table
   pub nothing : ListsNothing table
+  pub left : ¬ (HasNoPrecedences grammar) → conflicts_left grammar graph ≡ []
+  pub resolved : resolved_in grammar graph ≡ []

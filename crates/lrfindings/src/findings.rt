@@ -10,7 +10,7 @@ ghost use Rattle.lrverdicts.specs.Listed.{told};
 ghost use Rattle.lrfindings.specs.CellConflicts.{conflicts_left, resolved_in};
 ghost use Rattle.lrfindings.specs.StoredCells.{resolution};
 ghost use Rattle.lrfindings.specs.declared.findings.FindError.TheVariants.{Memory};
-ghost use Rattle.lrfindings.specs.Findings.{AreFindings, FindNothing, HasNoConflicts};
+ghost use Rattle.lrfindings.specs.Findings.{AreFindings, FindNothing, DecidesNothing};
 ghost use Rattle.lrfindings.specs.FindErrors.{IsNothingFound};
 
 use crate::cells::{CellFindings, Resolved, cells_of};
@@ -207,7 +207,7 @@ pub fn find<T: IndexStorage>(
 ) -> Result<Findings<T>, FindError>
     ensures found { IfOk result (AreFindings T.MAX file.now) }
     ensures kept { IfOk result (λ f.
-        (f.has_precedences ≡ has_precedences) ⊎ HasNoConflicts T.MAX file.now) }
+        (f.has_precedences ≡ has_precedences) ⊎ DecidesNothing T.MAX file.now) }
     ensures left_out { has_precedences ≡ false → IfOk result (λ f. f.has_precedences ≡ false) }
     ensures refused { IfErr result (λ e. (b : Bool) × IsNothingFound T.MAX file.now b e) }
 {

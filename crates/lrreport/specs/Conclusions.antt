@@ -15,7 +15,7 @@ use Rattle.lryacc.specs.FilesRead.{ComesTo}
 use Rattle.lrverdicts.specs.Verdicts.{counts_of, IsVerdict}
 use Rattle.lrfindings.specs.CellConflicts.{resolved_in}
 use Rattle.lrfindings.specs.FileGrammars.{IsGrammarOfFile}
-use Rattle.lrfindings.specs.Findings.{HasNoConflicts}
+use Rattle.lrfindings.specs.Findings.{DecidesNothing}
 use Rattle.lrevidence.specs.Ambiguities.{HasTwoTrees, IsProved, PartsAtEntry}
 use Rattle.lrreport.specs.declared.options.Options.{Options}
 use Rattle.lrreport.specs.declared.reports.Conclusion.{Conclusion}
@@ -61,7 +61,7 @@ pub record IsConcluded (left_out : Bool) (c : Conclusion) : Type 0 where
   pub graph : Graph
   pub shown : Bool
   pub of_file : IsGrammarOfFile max c.file c.has_precedences grammar
-  pub kept : (c.has_precedences ≡ not left_out) ⊎ HasNoConflicts max c.file
+  pub kept : (c.has_precedences ≡ not left_out) ⊎ DecidesNothing max c.file
   pub of_grammar : IsGraphOf grammar graph
   pub left : AreLeftOpen grammar graph (map (λ e. e.entry) c.evidence.items)
   pub resolved : c.resolved ≡ length (resolved_in grammar graph)

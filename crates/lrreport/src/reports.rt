@@ -7,7 +7,7 @@ ghost use Rattle.lrspec.specs.merging.Graph.{IsGraphOf};
 ghost use Rattle.lrspec.specs.tables.Conflicts.{AreReductionsContested};
 ghost use Rattle.lrspec.specs.tables.Recognition.{IsUnambiguous};
 ghost use Rattle.lrverdicts.specs.declared.verdicts.Verdict.TheVariants.{Unambiguous};
-ghost use Rattle.lrfindings.specs.Findings.{AreFindings, FindNothing, HasNoConflicts};
+ghost use Rattle.lrfindings.specs.Findings.{AreFindings, FindNothing, DecidesNothing};
 ghost use Rattle.lrverdicts.specs.Verdicts.{counts_of, status_of};
 ghost use Rattle.lrwriter.specs.Texts.{Adds};
 ghost use Rattle.lrdiagnostics.specs.ShownTexts.{shown_text};
@@ -464,7 +464,7 @@ fn outcome_on_findings(
 ) -> Result<Outcome, AllocError>
     requires found { AreFindings (2 ^ 32 - 1) read.file.now found }
     requires kept { (found.has_precedences ≡ not options.ignores_precedences)
-        ⊎ HasNoConflicts (2 ^ 32 - 1) read.file.now }
+        ⊎ DecidesNothing (2 ^ 32 - 1) read.file.now }
     ensures proved { IfOk result (λ o.
         IsConcluded options.ignores_precedences (conclusion_of read.entry.file.now o)) }
     ensures told { IfOk result (λ o. TellsConclusion options read.entry.source.now.name.now

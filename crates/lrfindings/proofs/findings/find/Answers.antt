@@ -2,8 +2,10 @@ use Rattle.std.proofs.Common.{◌≡◌, ℕ, true, false, subst}
 use Rattle.lryacc.specs.declared.numbering.FileGrammar.{FileGrammar}
 use Rattle.lrfindings.specs.declared.findings.Findings.{Findings}
 use Rattle.lrfindings.specs.FileGrammars.{IsGrammarOfFile}
-use Rattle.lrfindings.specs.Findings.{AreFindings, FindNothing, HasNoConflicts}
-use Rattle.lrfindings.proofs.ListedNothing.{lists_nothing}
+use Rattle.lrfindings.specs.Findings.{AreFindings, FindNothing, DecidesNothing}
+use Rattle.lrverdicts.specs.Listed.{told}
+use Rattle.lrfindings.specs.StoredCells.{resolution}
+use Rattle.lrfindings.proofs.ListedNothing.{empty_by, lists_nothing}
 use Rattle.lrfindings.proofs.NothingFound.{with_or_without, kept_or_not}
 use Rattle.lrfindings.proofs.findings.find.Goals as goal
 
@@ -13,7 +15,7 @@ returns-then-is_nothing-clause-refused g c = with_or_without g.T.IndexStorage.MA
 -- with the precedences nothing was found
 none_with :
     {T : Type 0} (max : ℕ) (file : FileGrammar) (f : Findings T) → AreFindings max file f → FindNothing f → f.has_precedences ≡ true
-    → HasNoConflicts max file
+    → DecidesNothing max file
 none_with max file f are nothing with = record {
   grammar = f.grm;
   graph = are.graph;
@@ -22,6 +24,8 @@ none_with max file f are nothing with = record {
   of_grammar = are.of_grammar;
   of_graph = are.table;
   nothing = lists_nothing f.table f.conflicts.items are.conflicts nothing.conflicts;
+  left = λ some. empty_by told _ f.left.items (are.left some) nothing.left;
+  resolved = empty_by resolution _ f.resolved.items are.resolved nothing.resolved;
 }
 
 pub returns-then-is_nothing-clause-kept : goal.returns-then-is_nothing-clause-kept
