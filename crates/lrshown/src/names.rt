@@ -1,6 +1,6 @@
 //! The names of a file's symbols.
 
-ghost use Rattle.std.specs.Prelude.{◌≡◌};
+ghost use Rattle.std.specs.Prelude.{◌≡◌, map, IfOk};
 ghost use Rattle.lrshown.specs.ShownTexts.{chosen_in_body, chosen_by, shown_list};
 ghost use Rattle.lrshown.specs.ShownTexts.{behind_choice, without_end, shown_text};
 ghost use Rattle.lrshown.specs.DrawnTrees.{body};
@@ -50,12 +50,15 @@ pub fn body_of(file: &FileGrammar, production: usize) -> &[PartSymbol]
     }
 }
 
-/// The names of symbols.
+/// The names of symbols, one for each, in their order.
 pub fn names_of<'a>(
     alloc: Global,
     file: &'a FileGrammar,
     symbols: &[PartSymbol],
-) -> Result<Vec<&'a str>, AllocError> {
+) -> Result<Vec<&'a str>, AllocError>
+    ensures names { IfOk result (λ v.
+        map (λ n. n.now) v.items ≡ map (symbol_text file.now) symbols.now) }
+{
     let mut names = Vec::new(alloc);
     for symbol in symbols {
         names.push(symbol_name(file, *symbol))?;
@@ -63,12 +66,15 @@ pub fn names_of<'a>(
     Ok(names)
 }
 
-/// The names of tokens.
+/// The names of tokens, one for each, in their order.
 pub fn names_of_tokens<'a>(
     alloc: Global,
     file: &'a FileGrammar,
     tokens: &[usize],
-) -> Result<Vec<&'a str>, AllocError> {
+) -> Result<Vec<&'a str>, AllocError>
+    ensures names { IfOk result (λ v.
+        map (λ n. n.now) v.items ≡ map (token_text file.now) tokens.now) }
+{
     let mut names = Vec::new(alloc);
     for token in tokens {
         names.push(token_name(file, *token))?;
