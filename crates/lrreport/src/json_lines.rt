@@ -1,6 +1,6 @@
 //! What there is to tell of a file, as a line of JSON.
 
-ghost use Rattle.std.specs.Prelude.{◌≡◌, ◌⊎◌, [], ◌∷◌, All, IfOk, IfSome, IsSome, IsTrue, codes, is_some};
+ghost use Rattle.std.specs.Prelude.{◌≡◌, ◌⊎◌, false, [], ◌∷◌, All, IfOk, IfSome, IsSome, IsTrue, codes, is_some};
 ghost use Rattle.std.specs.List.{flat_map, list_any};
 ghost use Rattle.std.specs.String.{string_bytes};
 ghost use Rattle.json.specs.Token.{key, string, boolean};
@@ -52,7 +52,9 @@ fn add_verdict(json: &mut JsonText, name: &str, verdict: &str)
 }
 
 /// Adds that nothing is proved of a file.
-fn add_not_proved(json: &mut JsonText) {
+fn add_not_proved(json: &mut JsonText)
+    ensures { AddsTokens json.old json.new (key (codes "proved") ∷ boolean false ∷ []) }
+{
     json.key("proved");
     json.boolean(false);
 }
