@@ -1,4 +1,4 @@
--- line feeds, what is counted for a column, and text as it is shown and escaped
+-- line feeds, what is counted for a column, text as it is shown and escaped, and pieces that are added
 mod LineFeeds
 mod FeedPlaces
 mod CountedTexts
@@ -6,3 +6,4 @@ mod Ends
 mod KnownColumns
 pub mod EscapedTexts
 mod ShownTexts
+mod AddedPieces

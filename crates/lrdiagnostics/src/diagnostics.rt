@@ -1,5 +1,8 @@
 //! Faults of a file, and other places in it, each with the line and marks under the place.
 
+ghost use Rattle.std.specs.Prelude.{IfOk, IfSome, slice_get};
+ghost use Rattle.lrdiagnostics.specs.Places.{AddsMore, AddsPlace};
+
 use crate::lines::ShownLine;
 use crate::sources::Source;
 use crate::styles::Style;
@@ -77,14 +80,18 @@ struct MarkedLine {
 
 impl MarkedLine {
     /// Ends the row of the last mark, where that is not done yet.
-    fn end_row(&self, text: &mut Text) {
+    fn end_row(&self, text: &mut Text)
+        ensures { AddsMore text.old text.new }
+    {
         if self.row.is_some() {
             text.add_char('\n');
         }
     }
 
     /// Adds what stands before a mark at a column: the beginning of a row, or blanks behind the mark before it in its row.
-    fn begin_mark(&self, text: &mut Text, from: usize, width: usize) {
+    fn begin_mark(&self, text: &mut Text, from: usize, width: usize)
+        ensures { AddsMore text.old text.new }
+    {
         match self.row {
             Some(behind) if behind < from => text.add_times(' ', from - behind),
             _ => {
@@ -129,7 +136,9 @@ impl Teller<'_> {
     }
 
     /// Adds the line of a place, and answers it.
-    fn add_line(self, text: &mut Text, at: usize, width: usize) -> Result<ShownLine, AllocError> {
+    fn add_line(self, text: &mut Text, at: usize, width: usize) -> Result<ShownLine, AllocError>
+        ensures { IfOk result (λ _. AddsMore text.old text.new) }
+    {
         let number = self.source.line(at);
         let line = ShownLine::new(text.allocator(), self.source, at)?;
         text.add_times(' ', width.saturating_sub(digits(number)));
@@ -140,7 +149,9 @@ impl Teller<'_> {
     }
 
     /// Adds a place's mark under a line, with what is said: in the row of the mark before it, where nothing is said of that.
-    fn add_mark(self, text: &mut Text, marked: &mut MarkedLine, mark: &Mark, width: usize) {
+    fn add_mark(self, text: &mut Text, marked: &mut MarkedLine, mark: &Mark, width: usize)
+        ensures { AddsMore text.old text.new }
+    {
         let from = marked.line.column(mark.span.start);
         let times = marked
             .line
@@ -169,7 +180,9 @@ impl Teller<'_> {
         last: Option<MarkedLine>,
         at: usize,
         width: usize,
-    ) -> Result<MarkedLine, AllocError> {
+    ) -> Result<MarkedLine, AllocError>
+        ensures { IfOk result (λ _. AddsMore text.old text.new) }
+    {
         if let Some(marked) = last {
             if marked.line.shows(self.source.line(at), at) {
                 return Ok(marked);
@@ -182,7 +195,9 @@ impl Teller<'_> {
 
     /// Adds the lines of places, each with its mark. One line serves for places that follow each other in it. The error says
     /// that memory for a line was refused.
-    pub fn add_marks(self, text: &mut Text, marks: &[Mark]) -> Result<(), AllocError> {
+    pub fn add_marks(self, text: &mut Text, marks: &[Mark]) -> Result<(), AllocError>
+        ensures { IfOk result (λ _. AddsMore text.old text.new) }
+    {
         let width = self.width_of(marks);
         text.add_times(' ', width.saturating_add(2));
         text.add("|\n");
@@ -198,13 +213,25 @@ impl Teller<'_> {
         Ok(())
     }
 
+    /// Adds behind blanks where a place is.
+    fn add_place(self, text: &mut Text, at: usize, blanks: usize)
+        ensures { AddsPlace text.old text.new self.entry.source.now.name.now
+            self.entry.source.now.bytes.now at }
+    {
+        let position = self.source.position(at);
+        let name = self.source.name;
+        text.add_times(' ', blanks);
+        write!(text, " --> {name}:{}:{}\n", position.line, position.column);
+    }
+
     /// Adds where the first of the places is, and then all.
-    pub fn add_placed(self, text: &mut Text, marks: &[Mark]) -> Result<(), AllocError> {
+    pub fn add_placed(self, text: &mut Text, marks: &[Mark]) -> Result<(), AllocError>
+        ensures { IfOk result (λ _. IfSome (slice_get marks.now 0) (λ first.
+            AddsPlace text.old text.new self.entry.source.now.name.now
+            self.entry.source.now.bytes.now first.span.start)) }
+    {
         if let Some(first) = marks.first() {
-            let at = self.source.position(first.span.start);
-            let name = self.source.name;
-            text.add_times(' ', self.width_of(marks));
-            write!(text, " --> {name}:{}:{}\n", at.line, at.column);
+            self.add_place(text, first.span.start, self.width_of(marks));
         }
         self.add_marks(text, marks)
     }

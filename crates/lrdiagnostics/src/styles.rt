@@ -1,5 +1,7 @@
 //! Colours of what is told.
 
+ghost use Rattle.lrdiagnostics.specs.Places.{AddsMore};
+
 use lrwriter::Text;
 
 /// How words stand out.
@@ -27,14 +29,18 @@ impl Style {
     }
 
     /// Turns it on in a text, where colours are used.
-    pub(crate) fn begin(self, text: &mut Text, has_colours: bool) {
+    pub(crate) fn begin(self, text: &mut Text, has_colours: bool)
+        ensures { AddsMore text.old text.new }
+    {
         if has_colours {
             text.add(self.code());
         }
     }
 
     /// Turns it off again.
-    pub(crate) fn end(text: &mut Text, has_colours: bool) {
+    pub(crate) fn end(text: &mut Text, has_colours: bool)
+        ensures { AddsMore text.old text.new }
+    {
         if has_colours {
             text.add("\x1b[0m");
         }
