@@ -1,5 +1,5 @@
 -- the places that a search for line feeds finds
-use Rattle.std.proofs.Common.{◌≡◌, ℕ, zero, suc, ◌+◌, ◌-◌, ◌<◌, ◌≤◌, List, [], ◌∷◌, length, take, slice_index, count_by, sym, ap, ◌∙◌, arith, le_refl, take_all}
+use Rattle.std.proofs.Common.{◌≡◌, ℕ, zero, suc, ◌+◌, ◌-◌, ◌<◌, ◌≤◌, List, ◌∷◌, length, take, slice_index, count_by, sym, ap, ◌∙◌, arith, le_refl, take_all}
 use Rattle.std.proofs.lemmas.Bool.{cond_both}
 use Rattle.std.proofs.lemmas.List.Sums.{count_by_more_yes, count_by_more_no}
 use Rattle.memchr.specs.Find.{is_byte, Nowhere, Passes, places_from, places}
