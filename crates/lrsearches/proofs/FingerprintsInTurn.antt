@@ -1,31 +1,16 @@
--- numbers that tell cores apart, one after another
-use Rattle.std.proofs.Common.{◌≡◌, ℕ, ◌+◌, ◌<◌, List, [], ◌∷◌, ◌++◌, length, map, get_or, refl, sym, ◌∙◌, arith, inl, inr}
+-- fingerprints of cores, one after another
+use Rattle.std.proofs.Common.{◌≡◌, ℕ, ◌+◌, ◌<◌, List, [], ◌∷◌, ◌++◌, length, get_or, sym, ◌∙◌, arith, inl, inr}
 use Rattle.std.proofs.lemmas.Bool.{cases_eq}
 use Rattle.std.proofs.lemmas.List.{get_or_append_left, get_or_push}
-use Rattle.lrspec.specs.grammars.ItemSets.{Items, AreUpwards}
+use Rattle.lrspec.specs.grammars.ItemSets.{AreUpwards}
 use Rattle.lrspec.specs.merging.Graph.{Graph, core_of}
 use Rattle.lrspec.specs.merging.WeakCompatibility.{SameItems}
 use Rattle.lrgrammar.proofs.Turns.{count_more}
-use Rattle.lritems.specs.Merging.{HaveSameKeys}
-use Rattle.lritems.proofs.SameKeys.{keys_from_same}
-use Rattle.lrsearches.specs.Fingerprints.{mixed, fingerprint_from, fingerprint_of, AreFingerprints}
+use Rattle.lritems.specs.Fingerprints.{fingerprint_of}
+use Rattle.lritems.proofs.SameFingerprints.{same_fingerprint}
+use Rattle.lrsearches.specs.StoredWays.{AreFingerprints}
 
--- the same items in the same order have the same number
-of_keys : (n : ℕ) (a b : Items) → HaveSameKeys a b → fingerprint_from n a ≡ fingerprint_from n b
-of_keys n [] [] k = refl
-of_keys n [] (f ∷ fs) k = let no : [] ≡ f.0 ∷ map (λ x. x.0) fs = k in cc
-of_keys n (e ∷ es) [] k = let no : e.0 ∷ map (λ x. x.0) es ≡ [] = k in cc
-of_keys n (e ∷ es) (f ∷ fs) k =
-    let both : e.0 ∷ map (λ x. x.0) es ≡ f.0 ∷ map (λ x. x.0) fs = k in
-    let key : e.0 ≡ f.0 = cc in
-    let rest : map (λ x. x.0) es ≡ map (λ x. x.0) fs = cc in
-    rw key (of_keys (mixed n f.0.0 f.0.1) es fs rest)
-
--- so have the same items
-pub of_same : (a b : Items) → AreUpwards a → AreUpwards b → SameItems a b → fingerprint_of a ≡ fingerprint_of b
-of_same a b u w s = of_keys 0 a b (keys_from_same a b u w s)
-
--- the cores of the states below `n` have their numbers
+-- the cores of the states below `n` have their fingerprints
 pub record AreFingerprintsBelow (h : Graph) (n : ℕ) (fs : List ℕ) : Type 0 where
   pub states : length fs ≡ n
   pub cores : (s d : ℕ) → s < n → get_or fs s d ≡ fingerprint_of (core_of h s)
@@ -46,9 +31,9 @@ next_fingerprints h n old new x pushed made here k = record {
 pub end_fingerprints : (h : Graph) (n : ℕ) (fs : List ℕ) → n ≡ length h → AreFingerprintsBelow h n fs → AreFingerprints h fs
 end_fingerprints h n fs e k = record { states = k.states ∙ e; cores = λ s d l. k.cores s d (rw e l); upwards = λ s l. k.upwards s (rw e l) }
 
--- so cores with the same items have the same number
+-- so cores with the same items have the same fingerprint
 pub of_cores :
     (h : Graph) (fs : List ℕ) (s u d e : ℕ) → AreFingerprints h fs → s < length h → u < length h → SameItems (core_of h s) (core_of h u)
     → get_or fs u e ≡ get_or fs s d
 of_cores h fs s u d e k l m same =
-    k.cores u e m ∙ sym (of_same (core_of h s) (core_of h u) (k.upwards s l) (k.upwards u m) same) ∙ sym (k.cores s d l)
+    k.cores u e m ∙ sym (same_fingerprint (core_of h s) (core_of h u) (k.upwards s l) (k.upwards u m) same) ∙ sym (k.cores s d l)

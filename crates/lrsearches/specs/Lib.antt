@@ -3,7 +3,6 @@ pub mod Searches
 pub mod StoredPlaces
 pub mod StoredUses
 pub mod Rests
-pub mod Fingerprints
 pub mod StoredWays
 pub mod PlaceOrder
 pub mod Trails

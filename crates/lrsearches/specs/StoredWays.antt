@@ -4,12 +4,13 @@ use Rattle.std.specs.declared.vec.Vec.{Vec}
 use Rattle.std.specs.declared.alloc.Global.{Global}
 use Rattle.lrspec.specs.grammars.Grammar as math
 use Rattle.lrspec.specs.grammars.Grammar.{Grammar}
-use Rattle.lrspec.specs.merging.Graph.{Graph, edge}
+use Rattle.lrspec.specs.grammars.ItemSets.{AreUpwards}
+use Rattle.lrspec.specs.merging.Graph.{Graph, edge, core_of}
 use Rattle.lrgrammar.specs.declared.idx.StIdx.{StIdx}
 use Rattle.lrgrammar.specs.declared.idx.Symbol.{Symbol}
 use Rattle.lrgrammar.specs.Symbols.{symbol_of}
 use Rattle.lrgrammar.specs.Firsts.{AreFirstsOf}
-use Rattle.lrsearches.specs.Fingerprints.{AreFingerprints}
+use Rattle.lritems.specs.Fingerprints.{fingerprint_of}
 use Rattle.lrsearches.specs.StoredUses.{AreUses}
 use Rattle.lrsearches.specs.declared.ways.Ways.{Ways}
 
@@ -42,6 +43,12 @@ pub record AddsEdgesOf {T : Type 0} (number : T → ℕ) (h : Graph) (s : ℕ)
       → Contains (row_of number (slice_index_or new u d).items) (v, r)
       ↔ (Contains (row_of number (slice_index_or old u d).items) (v, r)
       ⊎ ((r ≡ s) × (edge h s v ≡ Some u)))
+
+-- for each state this is the fingerprint of its core, whose items come upwards
+pub record AreFingerprints (h : Graph) (fs : List ℕ) : Type 0 where
+  pub states : length fs ≡ length h
+  pub cores : (s d : ℕ) → s < length h → slice_index_or fs s d ≡ fingerprint_of (core_of h s)
+  pub upwards : (s : ℕ) → s < length h → AreUpwards (core_of h s)
 
 -- what all searches share is that of the grammar and its graph
 pub record AreWaysOf {T : Type 0} (number : T → ℕ) (g : Grammar) (h : Graph) (ways : Ways T)

@@ -2,7 +2,6 @@
 #![tactic(auto)]
 
 mod closes;
-mod fingerprints;
 mod places;
 mod rests;
 mod rows;

@@ -5,15 +5,15 @@ ghost use Rattle.lrspec.specs.merging.Graph.{IsGraphOf};
 ghost use Rattle.lrspec.specs.merging.Graph as math;
 ghost use Rattle.lrgrammar.specs.SymbolLaws.{symbol_cmp};
 ghost use Rattle.lrgraphs.specs.GraphOf.{edges_of};
-ghost use Rattle.lrsearches.specs.StoredWays.{AreIncoming, AreWaysOf, LeadsBelow, AddsEdgesOf};
+ghost use Rattle.lrsearches.specs.StoredWays.{AreIncoming, AreFingerprints, AreWaysOf, LeadsBelow, AddsEdgesOf};
 
-use crate::fingerprints::fingerprints;
 use crate::rows::empty_rows;
 use crate::uses::uses;
 use lrgrammar::firsts::YaccFirsts;
 use lrgrammar::grammar::YaccGrammar;
 use lrgrammar::idx::{IndexStorage, PIdx, SIdx, StIdx, Symbol};
 use lrgraphs::stategraph::StateGraph;
+use lritems::fingerprints::itemset_fingerprint;
 use std::alloc::AllocError;
 use std::collections::BTreeMap;
 
@@ -29,8 +29,8 @@ pub struct Ways<T: IndexStorage> {
     pub incoming: Vec<Vec<(Symbol<T>, StIdx<T>)>>,
     /// For each state the length of a shortest list that leads there.
     pub distances: Vec<Option<usize>>,
-    /// For each state a number of the items of its core: the same for cores with the same items.
-    pub fingerprints: Vec<usize>,
+    /// For each state the fingerprint of its core: the same for cores with the same items.
+    pub fingerprints: Vec<u64>,
 }
 
 impl<T: IndexStorage> Ways<T> {
@@ -142,4 +142,20 @@ fn distances<T: IndexStorage>(
         add_targets(&mut reached, &mut distances, graph, from)?;
     }
     Ok(distances)
+}
+
+/// For each state the fingerprint of its core.
+fn fingerprints<T: IndexStorage>(
+    grm: &YaccGrammar<T>,
+    graph: &StateGraph<T>,
+) -> Result<Vec<u64>, AllocError>
+    requires { IsGraphOf grm.now graph.now }
+    ensures { IfOk result (λ v. AreFingerprints graph.now v.items) }
+{
+    let mut fingerprints = Vec::new(grm.allocator());
+    for number in 0..graph.all_states_len().0.to_usize() {
+        let state = StIdx(T::from_usize(number).unwrap());
+        fingerprints.push(itemset_fingerprint(graph.core_state(state)))?;
+    }
+    Ok(fingerprints)
 }

@@ -1,6 +1,6 @@
--- the cores so far have their numbers
+-- the cores so far have their fingerprints
 use Rattle.lrsearches.proofs.FingerprintsInTurn.{AreFingerprintsBelow}
-use Rattle.lrsearches.proofs.fingerprints.fingerprints.Given as goal
+use Rattle.lrsearches.proofs.ways.fingerprints.Given as goal
 
 abbrev pub invariant-loop-number : goal.invariant-loop-number
 invariant-loop-number g l = AreFingerprintsBelow l.graph l.number l.fingerprints.items

@@ -2,7 +2,7 @@
 use Rattle.std.proofs.Common.{◌≡◌, length, arith}
 use Rattle.lrgrammar.proofs.Turns.{has_index, index_number}
 use Rattle.lrsearches.proofs.FingerprintsInTurn.{next_fingerprints, end_fingerprints}
-use Rattle.lrsearches.proofs.fingerprints.fingerprints.Goals as goal
+use Rattle.lrsearches.proofs.ways.fingerprints.Goals as goal
 
 pub unwrap-requires : goal.unwrap-requires
 unwrap-requires g c =
@@ -14,8 +14,8 @@ loop-number-preserved g c =
     let number = g.T.IndexStorage.number in
     let n = c.loop-number.number in
     let is = index_number number g.T.IndexStorage.MAX n c.from_usize.result c.unwrap.result c.unwrap.ensures c.from_usize.ensures in
-    let made = rw (c.core_state.ensures.items, is) at c.fingerprint.ensures in
-    next_fingerprints c.args.graph.now n c.loop-number.fingerprints.items c.push.new.self.items c.fingerprint.result c.in_ok-push.ensures.items made
+    let made = rw (c.core_state.ensures.items, is) at c.itemset_fingerprint.ensures in
+    next_fingerprints c.args.graph.now n c.loop-number.fingerprints.items c.push.new.self.items c.itemset_fingerprint.result c.in_ok-push.ensures.items made
     (rw is at c.core_state.ensures.upwards) c.loop-number.invariant
 
 pub returns : goal.returns
