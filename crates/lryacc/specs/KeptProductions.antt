@@ -60,6 +60,7 @@ pub record IsWithout (useless : Useless) (whole kept : FileGrammar) : Type 0 whe
   pub names : kept.parts.rules.items ≡ with_numbers numbers whole.parts.rules.items
   pub places : kept.rule_places.items ≡ with_numbers numbers whole.rule_places.items
   pub tokens : kept.parts.tokens.items ≡ whole.parts.tokens.items
+  pub start : kept.parts.start ≡ 0
   pub stay : placed_in kept ≡ map (new_placed numbers)
       (filter (λ at. is_useful productive reached at.production) (placed_in whole))
   pub all : useless.rules.items ≡ [] → useless.productions.items ≡ []

@@ -50,6 +50,7 @@ impl FileGrammar {
     pub(crate) fn empty(alloc: Global) -> FileGrammar
         ensures rules { result.parts.rules.items ≡ [] }
         ensures places { result.rule_places.items ≡ [] }
+        ensures start { result.parts.start ≡ 0 }
     {
         FileGrammar {
             parts: GrammarParts {
@@ -92,6 +93,7 @@ impl FileGrammar {
         ensures prods { result.parts.prods.items ≡ productions.prods.items }
         ensures places { result.production_places.items ≡ productions.places.items }
         ensures symbol_places { result.symbol_places.items ≡ productions.symbol_places.items }
+        ensures start { result.parts.start ≡ self.parts.start }
     {
         let FileGrammar {
             parts,

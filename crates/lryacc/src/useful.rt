@@ -559,6 +559,7 @@ impl Selection {
         ensures places { IfOk result (λ kept. kept.rule_places.items
             ≡ with_numbers self.now.numbers.items places.items) }
         ensures tokens { IfOk result (λ kept. kept.parts.tokens.items ≡ parts.tokens.items) }
+        ensures start { IfOk result (λ kept. kept.parts.start ≡ 0) }
     {
         let mut kept = FileGrammar::empty(self.allocator());
         kept.parts.rules = self.with_numbers(parts.rules)?;
