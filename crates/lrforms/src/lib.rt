@@ -8,7 +8,6 @@ mod beginnings;
 mod behind;
 mod costs;
 mod forms;
-mod graphs;
 mod items;
 mod layers;
 mod nodes;

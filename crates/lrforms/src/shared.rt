@@ -2,7 +2,6 @@
 
 use crate::beginnings::{Beginnings, Firsts};
 use crate::behind::BodyCosts;
-use crate::graphs::states_of;
 use crate::rules::Rules;
 use crate::states::States;
 use crate::texts::Texts;
@@ -35,7 +34,7 @@ impl Shared {
         let firsts = Firsts::new(alloc, grm)?;
         let texts = Texts::new(alloc, &rules)?;
         let body_costs = BodyCosts::new(alloc, &rules, &texts)?;
-        let states = States::new(alloc, &rules, states_of(alloc, &rules, graph)?.as_slice())?;
+        let states = States::new(alloc, &rules, graph)?;
         let mut beginnings = Vec::new(alloc);
         beginnings.resize_with(usize::from(grm.tokens_len()), || OnceCell::new())?;
         Ok(Shared {

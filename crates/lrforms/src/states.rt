@@ -1,8 +1,10 @@
 //! What is asked of a state graph.
 
-use crate::graphs::State;
+use crate::items::Item;
 use crate::rules::Rules;
 use lrgrammar::idx::{RIdx, StIdx, Symbol};
+use lrgraphs::StateGraph;
+use lritems::itemset::Itemset;
 use std::alloc::{AllocError, Global};
 use std::collections::BTreeMap;
 
@@ -46,44 +48,83 @@ pub(crate) struct States {
     alike: Vec<Vec<StIdx<u32>>>,
 }
 
+/// The items of a set, upwards.
+fn items_of(alloc: Global, set: &Itemset<u32>) -> Result<Vec<Item>, AllocError> {
+    let mut items = Vec::new(alloc);
+    for key in set.items.keys() {
+        items.push(Item::of(*key))?;
+    }
+    Ok(items)
+}
+
+/// The edges of a state; None where there is no such state.
+fn edges_of(
+    graph: &StateGraph<u32>,
+    state: StIdx<u32>,
+) -> Option<&BTreeMap<Symbol<u32>, StIdx<u32>>> {
+    if usize::from(state) < usize::from(graph.all_states_len()) {
+        Some(graph.edges(state))
+    } else {
+        None
+    }
+}
+
 impl States {
     /// Of the states of a graph of the grammar.
-    pub(crate) fn new(alloc: Global, rules: &Rules, graph: &[State]) -> Result<States, AllocError> {
+    pub(crate) fn new(
+        alloc: Global,
+        rules: &Rules,
+        graph: &StateGraph<u32>,
+    ) -> Result<States, AllocError> {
+        let len = usize::from(graph.all_states_len());
         let mut states = States {
             before: Vec::new(alloc),
             callers: Vec::new(alloc),
-            arrivals: Vec::from_elem(alloc, None, graph.len())?,
+            arrivals: Vec::from_elem(alloc, None, len)?,
             cores: Vec::new(alloc),
             alike: Vec::new(alloc),
         };
-        states.before.resize_with(graph.len(), || Vec::new(alloc))?;
-        for (number, state) in graph.iter().enumerate() {
-            if let Ok(number) = u32::try_from(number) {
-                states.add_edges(StIdx(number), state)?;
-            }
-            states.add_callers(rules, state)?;
+        states.before.resize_with(len, || Vec::new(alloc))?;
+        states.add_edges(graph)?;
+        for set in graph.iter_closed_states() {
+            states.add_callers(rules, set)?;
         }
         states.add_cores(alloc, graph)?;
         states.find_ways(alloc, graph)?;
         Ok(states)
     }
 
+    /// Tells states to which edges lead from where these come.
+    fn add_edges(&mut self, graph: &StateGraph<u32>) -> Result<(), AllocError> {
+        for state in graph.iter_stidxs() {
+            if let Some(edges) = edges_of(graph, state) {
+                self.add_edges_from(state, edges)?;
+            }
+        }
+        Ok(())
+    }
+
     /// Tells the states to which edges of this one lead.
-    fn add_edges(&mut self, from: StIdx<u32>, state: &State) -> Result<(), AllocError> {
-        for edge in &state.edges {
-            if let Some(before) = self.before.get_mut(usize::from(edge.to)) {
+    fn add_edges_from(
+        &mut self,
+        from: StIdx<u32>,
+        edges: &BTreeMap<Symbol<u32>, StIdx<u32>>,
+    ) -> Result<(), AllocError> {
+        for (_symbol, to) in edges {
+            if let Some(before) = self.before.get_mut(usize::from(*to)) {
                 before.push(from)?;
             }
         }
         Ok(())
     }
 
-    /// Adds the items before rules of the next state.
-    fn add_callers(&mut self, rules: &Rules, state: &State) -> Result<(), AllocError> {
+    /// Adds the items before rules of the next state, of which this is the closed set.
+    fn add_callers(&mut self, rules: &Rules, set: &Itemset<u32>) -> Result<(), AllocError> {
         let mut callers = Vec::new(*self.callers.allocator());
-        for item in &state.before_rules {
-            if let Some(Symbol::Rule(rule)) = rules.symbol(*item) {
-                if let Ok(place) = rules.uses(Symbol::Rule(rule)).binary_search(item) {
+        for key in set.items.keys() {
+            let item = Item::of(*key);
+            if let Some(Symbol::Rule(rule)) = rules.symbol(item) {
+                if let Ok(place) = rules.uses(Symbol::Rule(rule)).binary_search(&item) {
                     callers.push(Caller { rule, place })?;
                 }
             }
@@ -94,15 +135,15 @@ impl States {
     }
 
     /// Finds out which states are alike.
-    fn add_cores(&mut self, alloc: Global, graph: &[State]) -> Result<(), AllocError> {
+    fn add_cores(&mut self, alloc: Global, graph: &StateGraph<u32>) -> Result<(), AllocError> {
         let mut numbers = BTreeMap::new(alloc);
-        for state in graph {
-            let core = state.core.as_slice();
-            let number = match numbers.get(core) {
+        for core in graph.iter_core_states() {
+            let core = items_of(alloc, core)?;
+            let number = match numbers.get(core.as_slice()) {
                 Some(number) => *number,
                 None => {
                     let number = numbers.len();
-                    numbers.insert(state.core.clone()?, number)?;
+                    numbers.insert(core, number)?;
                     self.alike.push(Vec::new(alloc))?;
                     number
                 }
@@ -123,14 +164,14 @@ impl States {
     }
 
     /// Finds shortest ways to all states.
-    fn find_ways(&mut self, alloc: Global, graph: &[State]) -> Result<(), AllocError> {
+    fn find_ways(&mut self, alloc: Global, graph: &StateGraph<u32>) -> Result<(), AllocError> {
         let mut reached = vec![in alloc; START]?;
-        for place in 0..graph.len() {
+        for place in 0..self.arrivals.len() {
             let Some(from) = reached.get(place).copied() else {
                 break;
             };
-            if let Some(state) = graph.get(usize::from(from)) {
-                self.go_on(&mut reached, from, state)?;
+            if let Some(edges) = edges_of(graph, from) {
+                self.go_on(&mut reached, from, edges)?;
             }
         }
         Ok(())
@@ -141,18 +182,18 @@ impl States {
         &mut self,
         reached: &mut Vec<StIdx<u32>>,
         from: StIdx<u32>,
-        state: &State,
+        edges: &BTreeMap<Symbol<u32>, StIdx<u32>>,
     ) -> Result<(), AllocError> {
         let length = self.length(from).saturating_add(1);
-        for edge in &state.edges {
-            if let Some(arrival) = self.arrivals.get_mut(usize::from(edge.to)) {
-                if arrival.is_none() && edge.to != START {
+        for (symbol, to) in edges {
+            if let Some(arrival) = self.arrivals.get_mut(usize::from(*to)) {
+                if arrival.is_none() && *to != START {
                     *arrival = Some(Arrival {
                         from,
-                        symbol: edge.symbol,
+                        symbol: *symbol,
                         length,
                     });
-                    reached.push(edge.to)?;
+                    reached.push(*to)?;
                 }
             }
         }
