@@ -12,9 +12,11 @@ use crate::ambiguities::ambiguity_at;
 use crate::conflicts::conflict_of;
 use crate::examples::Numbering;
 use lrfindings::{Entry, Findings, is_among};
+use lrgrammar::grammar::YaccGrammar;
 use lrreasons::{Conflict, Reasons};
 pub use lrshown::Evidence;
 use lrshown::{Ambiguity, Example};
+use lrtable::StateGraph;
 use lryacc::FileGrammar;
 use std::alloc::{AllocError, Global};
 
@@ -47,6 +49,23 @@ pub struct Effort {
 }
 
 impl Effort {
+    /// What gives the reasons for conflicts.
+    fn reasons<'a>(
+        self,
+        grm: &'a YaccGrammar<u32>,
+        graph: &'a StateGraph<u32>,
+    ) -> Result<Reasons<'a>, AllocError>
+        requires { IsGraphOf grm.now graph.now }
+        ensures grammar { IfOk result (λ r. r.grammar ≡ grm.entry.now) }
+        ensures graph { IfOk result (λ r. r.graph ≡ graph.entry.now) }
+    {
+        if self.examples > 0 {
+            Reasons::new(grm, graph)
+        } else {
+            Reasons::without_examples(grm, graph)
+        }
+    }
+
     /// Whether an entry counts behind the last of those before it.
     fn counts(self, before: &[Evidence], entry: &Entry) -> bool {
         match before.last() {
@@ -110,7 +129,8 @@ fn push_evidence(
     ensures entries { OnOk result (map (λ e. e.entry) list.new.items
         ≡ map (λ e. e.entry) list.old.items ++ entries.now) }
     ensures proved { OnOk result (All (IsProved reasons.now.grammar) list.new.items) }
-    ensures parts { OnOk result (All (PartsAtEntry reasons.now.grammar reasons.now.graph) list.new.items) }
+    ensures parts { OnOk result
+        (All (PartsAtEntry reasons.now.grammar reasons.now.graph) list.new.items) }
 {
     let (alloc, steps) = (*list.allocator(), effort.steps);
     let mut count: usize = 0;
@@ -147,7 +167,7 @@ pub fn evidence_for(
     };
     let grm = &found.grm;
     let mut list = Vec::with_capacity(alloc, entries.len())?;
-    let reasons = Reasons::new(grm, graph)?;
+    let reasons = effort.reasons(grm, graph)?;
     reasons.allow(effort.work);
     let (numbering, listed) = (Numbering { grm, file }, found.conflicts.as_slice());
     push_evidence(&mut list, &reasons, numbering, listed, entries, effort)?;
@@ -189,7 +209,7 @@ pub fn find_ambiguity(
     let (Some(graph), true) = (&found.graph, steps > 0) else {
         return Ok(None);
     };
-    let reasons = Reasons::new(&found.grm, graph)?;
+    let reasons = Reasons::without_examples(&found.grm, graph)?;
     reasons.allow(work);
     first_ambiguity(alloc, &reasons, entries, steps)
 }

@@ -94,12 +94,13 @@ pub fn take_apart(reasons: Vec<Reason>) {
 pub struct Reasons<'a> {
     grm: &'a YaccGrammar<u32>,
     graph: &'a StateGraph<u32>,
-    contests: Contests<'a, u32>,
+    /// What is shared by the searches for where a conflict is real; None where none is asked for.
+    contests: Option<Contests<'a, u32>>,
     forms: Forms<'a>,
 }
 
 impl<'a> Model for Reasons<'a> {
-    ghost use Rattle.std.specs.Prelude.{◌≡◌};
+    ghost use Rattle.std.specs.Prelude.{◌≡◌, IfSome};
     ghost use Rattle.lrspec.specs.merging.Graph.{IsGraphOf};
     ghost use Rattle.lrcontests.specs.Contests.{Contested};
 
@@ -108,7 +109,39 @@ impl<'a> Model for Reasons<'a> {
     ghost view = { λ r. record { grammar = r.grm.now; graph = r.graph.now } };
 
     ghost invariant = { λ r. IsGraphOf r.grm.now r.graph.now
-        × (r.contests.grammar ≡ r.grm.now) × (r.contests.graph ≡ r.graph.now) };
+        × IfSome r.contests (λ c. (c.grammar ≡ r.grm.now) × (c.graph ≡ r.graph.now)) };
+}
+
+/// A shortest list of symbols after which the conflict is real, and the token on which it is.
+fn list_by(
+    contests: &Contests<'_, u32>,
+    conflict: Conflict<u32>,
+) -> Result<(Vec<Symbol<u32>>, TIdx<u32>), AllocError>
+    requires listed { IsListed contests.now.grammar contests.now.graph
+        (entry_of number_of conflict) }
+    requires contested { AreReductionsContested contests.now.grammar contests.now.graph }
+    ensures real { IfOk result (λ x. IsRealAfter contests.now.grammar contests.now.graph
+        x.1.0 (entry_of number_of conflict) (map (symbol_of number_of) x.0.items)) }
+    ensures own { IfOk result (λ x. (x.1.0 ≡ conflict.token.0)
+        ⊎ IsNowhereReal contests.now.grammar contests.now.graph
+        conflict.token.0 (entry_of number_of conflict)) }
+    ensures least { IfOk result (λ x. (x.1.0 ≡ conflict.token.0)
+        ⊎ ((t : ℕ) → t < x.1.0
+        → IsNowhereReal contests.now.grammar contests.now.graph
+        t (entry_of number_of conflict))) }
+{
+    let Conflict {
+        state,
+        token,
+        production,
+        other,
+    } = conflict;
+    let Some(other) = other else {
+        let list = contests.of_shift(token, production, state)?;
+        return Ok((list, token));
+    };
+    let found = contests.of_reductions(token, production, other, state)?;
+    Ok(found)
 }
 
 impl<'a> Reasons<'a> {
@@ -126,7 +159,25 @@ impl<'a> Reasons<'a> {
         Ok(Reasons {
             grm,
             graph,
-            contests,
+            contests: Some(contests),
+            forms,
+        })
+    }
+
+    /// The same for a caller who asks for no example: what searches for examples share is made for each by itself.
+    pub fn without_examples(
+        grm: &'a YaccGrammar<u32>,
+        graph: &'a StateGraph<u32>,
+    ) -> Result<Reasons<'a>, AllocError>
+        requires { IsGraphOf grm.now graph.now }
+        ensures grammar { IfOk result (λ r. r.grammar ≡ grm.entry.now) }
+        ensures graph { IfOk result (λ r. r.graph ≡ graph.entry.now) }
+    {
+        let forms = Forms::new(grm.allocator(), grm, graph)?;
+        Ok(Reasons {
+            grm,
+            graph,
+            contests: None,
             forms,
         })
     }
@@ -185,20 +236,10 @@ impl<'a> Reasons<'a> {
             ⊎ ((t : ℕ) → t < x.1.0
             → IsNowhereReal self.now.grammar self.now.graph t (entry_of number_of conflict))) }
     {
-        let Conflict {
-            state,
-            token,
-            production,
-            other,
-        } = conflict;
-        let Some(other) = other else {
-            let list = self.contests.of_shift(token, production, state)?;
-            return Ok((list, token));
-        };
-        let found = self
-            .contests
-            .of_reductions(token, production, other, state)?;
-        Ok(found)
+        match &self.contests {
+            Some(contests) => list_by(contests, conflict),
+            None => list_by(&Contests::new(self.grm, self.graph)?, conflict),
+        }
     }
 
     /// After what the conflict, which the table lists, is real. The error says that memory was refused.
