@@ -39,9 +39,9 @@ module _ (o q : ℕ → Outcome) (same : (p : ℕ) → o p ≡ q p) where
   same_conflicts s t false ps = refl
   same_conflicts s t true ps = rw (same_left ps, same_stands ps) refl
 
-  pub same_settled : (s t : ℕ) (b : Bool) (ps : List ℕ) → resolved_by o s t b ps ≡ resolved_by q s t b ps
-  same_settled s t false ps = refl
-  same_settled s t true ps = ap (resolved_of s t) (same_decided ps)
+  pub same_resolved : (s t : ℕ) (b : Bool) (ps : List ℕ) → resolved_by o s t b ps ≡ resolved_by q s t b ps
+  same_resolved s t false ps = refl
+  same_resolved s t true ps = ap (resolved_of s t) (same_decided ps)
 
 -- without reductions nothing is left, and nothing resolved
 pub no_conflicts : (o : ℕ → Outcome) (s t : ℕ) (b : Bool) → conflicts_by o s t b [] ≡ []
@@ -72,18 +72,18 @@ module _
     conflicts_added o b before new same shifts added =
         added ∙ ap (λ ls. before ++ ls) (same_conflicts o (outcome g t) same s t b ps ∙ rw (are, shifts) refl)
 
-    pub settled_added :
+    pub resolved_added :
         (o : ℕ → Outcome) (b : Bool) (before new : List Resolution) → ((p : ℕ) → o p ≡ outcome g t p) → b ≡ is_some (edge h s (Token t))
         → new ≡ before ++ resolved_by o s t b ps → new ≡ before ++ resolved_at g h s t
-    settled_added o b before new same shifts added =
-        added ∙ ap (λ ls. before ++ ls) (same_settled o (outcome g t) same s t b ps ∙ rw (are, shifts) refl)
+    resolved_added o b before new same shifts added =
+        added ∙ ap (λ ls. before ++ ls) (same_resolved o (outcome g t) same s t b ps ∙ rw (are, shifts) refl)
 
     -- without reductions nothing is left at the token, and nothing resolved
     pub no_conflicts_at : ps ≡ [] → conflicts_at g h s t ≡ []
     no_conflicts_at none = rw (sym are ∙ none) (no_conflicts (outcome g t) s t (is_some (edge h s (Token t))))
 
-    pub none_settled_at : ps ≡ [] → resolved_at g h s t ≡ []
-    none_settled_at none = rw (sym are ∙ none) (none_resolved (outcome g t) s t (is_some (edge h s (Token t))))
+    pub none_resolved_at : ps ≡ [] → resolved_at g h s t ≡ []
+    none_resolved_at none = rw (sym are ∙ none) (none_resolved (outcome g t) s t (is_some (edge h s (Token t))))
 
 -- nothing is added
 pub nothing_added : {X : Type 0} (before more : List X) → more ≡ [] → before ≡ before ++ more
@@ -125,10 +125,10 @@ module _
         nothing_added before _
         (nothing_given (conflicts_at g h s) ts (λ t. no_conflicts_at g h s t cs (looking_at cs t) up fits items refl (ap (λ cs. looking_at cs t) none)))
 
-    pub none_settled_in : (before : List Resolution) (ts : List ℕ) → before ≡ before ++ flat_map (resolved_at g h s) ts
-    none_settled_in before ts =
+    pub none_resolved_in : (before : List Resolution) (ts : List ℕ) → before ≡ before ++ flat_map (resolved_at g h s) ts
+    none_resolved_in before ts =
         nothing_added before _
-        (nothing_given (resolved_at g h s) ts (λ t. none_settled_at g h s t cs (looking_at cs t) up fits items refl (ap (λ cs. looking_at cs t) none)))
+        (nothing_given (resolved_at g h s) ts (λ t. none_resolved_at g h s t cs (looking_at cs t) up fits items refl (ap (λ cs. looking_at cs t) none)))
 
 first_of_range : (a n x : ℕ) (xs : List ℕ) → range_with_len a n ≡ x ∷ xs → (m : ℕ) × (n ≡ suc m) × (a ≡ x) × (range_with_len (a + 1) m ≡ xs)
 first_of_range a zero x xs e = cc

@@ -33,18 +33,18 @@ module _ (o : ℕ → Outcome) (open_all : (p : ℕ) → o p ≡ Open) where
   nothing_decided [] = refl
   nothing_decided (p ∷ ps) = rw (open_all p) (nothing_decided ps)
 
-  nothing_settled_by : (s t : ℕ) (b : Bool) (ps : List ℕ) → resolved_by o s t b ps ≡ []
-  nothing_settled_by s t false ps = refl
-  nothing_settled_by s t true ps = rw (nothing_decided ps) refl
+  nothing_resolved_by : (s t : ℕ) (b : Bool) (ps : List ℕ) → resolved_by o s t b ps ≡ []
+  nothing_resolved_by s t false ps = refl
+  nothing_resolved_by s t true ps = rw (nothing_decided ps) refl
 
 -- where no token has a precedence nothing is resolved
-pub nothing_settled : (g : Grammar) (h : Graph) → HasNoPrecedences g → resolved_in g h ≡ []
-nothing_settled g h plain =
+pub nothing_resolved : (g : Grammar) (h : Graph) → HasNoPrecedences g → resolved_in g h ≡ []
+nothing_resolved g h plain =
     let open_all : (t p : ℕ) → outcome g t p ≡ Open = λ t p. rw (plain t) refl in
     nothing_given (λ s. flat_map (resolved_at g h s) (range_with_len 0 (token_count g))) _
     (λ s.
     nothing_given (resolved_at g h s) (range_with_len 0 (token_count g))
-    (λ t. nothing_settled_by (outcome g t) (open_all t) s t _ (reductions g (closed_of h s) t)))
+    (λ t. nothing_resolved_by (outcome g t) (open_all t) s t _ (reductions g (closed_of h s) t)))
 
 -- that precedences decide or not, by whether a token has one
 pub decides_not : (g : Grammar) (b : Bool) → IsTrue b ↔ Any IsSome g.token_precedences → HasNoPrecedences g → b ≡ false
@@ -61,16 +61,16 @@ pub some_if_true : (g : Grammar) (b : Bool) → IsTrue b ↔ Any IsSome g.token_
 some_if_true g b test is plain = (no_precedences g).0 plain (test.0 is)
 
 -- nothing is found resolved there
-pub none_is_settled : (g : Grammar) (h : Graph) (xs : List Resolved) → HasNoPrecedences g → xs ≡ [] → IsPermutation (resolved_in g h) (map resolution xs)
-none_is_settled g h xs plain none = rw (nothing_settled g h plain, none) (IsPermutation-refl [])
+pub none_is_resolved : (g : Grammar) (h : Graph) (xs : List Resolved) → HasNoPrecedences g → xs ≡ [] → IsPermutation (resolved_in g h) (map resolution xs)
+none_is_resolved g h xs plain none = rw (nothing_resolved g h plain, none) (IsPermutation-refl [])
 
 -- the conflicts of the table are left
 pub all_are_left : (k : Lists) (es ls : List Entry) → IsPermutation (listed k) (map told es) → ls ≡ es → IsPermutation (listed k) (map told ls)
 all_are_left k es ls moved same = rw same moved
 
 -- it is by what is decided in the cells, or there is nothing to decide
-pub settled_either :
+pub resolved_either :
     (g : Grammar) (h : Graph) (xs : List Resolved) (b : Bool) → IsTrue b ↔ Any IsSome g.token_precedences
     → (b ≡ false → xs ≡ []) → (b ≡ true → IsPermutation (resolved_in g h) (map resolution xs)) → IsPermutation (resolved_in g h) (map resolution xs)
-settled_either g h xs true test none some = some refl
-settled_either g h xs false test none some = none_is_settled g h xs (plain_if_false g false test refl) (none refl)
+resolved_either g h xs true test none some = some refl
+resolved_either g h xs false test none some = none_is_resolved g h xs (plain_if_false g false test refl) (none refl)

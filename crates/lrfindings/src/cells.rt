@@ -96,12 +96,11 @@ fn compare(token: Option<Precedence>, production: Option<Precedence>) -> Outcome
 }
 /// The last token of a body.
 pub(crate) fn last_token(prod: &PartProd) -> Option<usize> {
-    for symbol in prod.symbols.iter().rev() {
-        if let PartSymbol::Token(token) = symbol {
-            return Some(*token);
-        }
-    }
-    None
+    let mut symbols = prod.symbols.iter().rev();
+    symbols.find_map(|symbol| match symbol {
+        PartSymbol::Token(token) => Some(*token),
+        PartSymbol::Rule(_) => None,
+    })
 }
 
 /// The token by which a production has its precedence: the one that it names, or else the last one of its body.

@@ -11,5 +11,5 @@ mod useless;
 pub use crate::cells::{Resolved, Winner, precedence_token};
 pub use crate::findings::{FindError, Findings, find};
 pub use crate::texts::small_text;
-pub use crate::useless::UselessPrecedences;
+pub use crate::useless::{UselessPrecedences, source_of};
 pub use lrverdicts::{Counts, Entry, Verdict, is_among};

@@ -31,8 +31,8 @@ fn mark(list: &mut Vec<bool>, number: usize) {
     }
 }
 
-/// The token in the file by which a production has its precedence.
-fn source_of(file: &FileGrammar, production: usize) -> Option<usize> {
+/// The token by which the file gives a production its precedence: the one behind `%prec`, or else the last one of its body.
+pub fn source_of(file: &FileGrammar, production: usize) -> Option<usize> {
     if let Some(named) = file.named_precedence(production) {
         return Some(named.token);
     }

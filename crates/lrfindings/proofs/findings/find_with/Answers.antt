@@ -5,7 +5,7 @@ use Rattle.lrspec.specs.tables.Table.{lists_of}
 use Rattle.lrverdicts.specs.Listed.{told}
 use Rattle.lrfindings.specs.CellConflicts.{conflicts_left, resolved_in}
 use Rattle.lrfindings.specs.StoredCells.{resolution}
-use Rattle.lrfindings.proofs.FoundInCells.{of_kept, decides, decides_not, some_if_true, settled_either, all_are_left}
+use Rattle.lrfindings.proofs.FoundInCells.{of_kept, decides, decides_not, some_if_true, resolved_either, all_are_left}
 use Rattle.lrfindings.proofs.FoundNothing.{nothing_found}
 use Rattle.lrspec.proofs.texts.ResultsPassedOn.{error_passed}
 use Rattle.lrfindings.specs.FindErrors.{IsNothingFound, parts_error, build_error}
@@ -41,7 +41,7 @@ returns-clause-found g c =
       left_listed = λ is. all_are_left (lists_of c.in_ok-graph.table) _ _ c.in_ok-conflicts.ensures (all_left is);
       left = λ some. of_kept graph c.as_ref.result h (HasNoPrecedences grm) (λ k. IsPermutation (conflicts_left grm k) (map told left.items))
           c.as_ref.ensures.value kept plain some (cells.left (decides grm c.has_precedences-may_decide.result test some));
-      resolved = settled_either grm h resolved.items c.has_precedences-may_decide.result test cells.none_resolved
+      resolved = resolved_either grm h resolved.items c.has_precedences-may_decide.result test cells.none_resolved
           (λ decided. of_kept graph c.as_ref.result h (HasNoPrecedences grm) (λ k. IsPermutation (resolved_in grm k) (map resolution resolved.items))
           c.as_ref.ensures.value kept plain (some_if_true grm c.has_precedences-may_decide.result test decided) (cells.resolved decided));
       unambiguous = c.is_unambiguous-is_unambiguous.ensures.proved;

@@ -3,7 +3,7 @@ use Rattle.lrspec.specs.merging.Graph.{closed_of}
 use Rattle.lrrows.specs.StateRows.{complete_items}
 use Rattle.lrfindings.specs.CellConflicts.{conflicts_at, resolved_at}
 use Rattle.lrfindings.specs.StoredCells.{complete}
-use Rattle.lrfindings.proofs.CellsInTurn.{nothing_listed, no_conflicts_in, none_settled_in, given_next}
+use Rattle.lrfindings.proofs.CellsInTurn.{nothing_listed, no_conflicts_in, none_resolved_in, given_next}
 use Rattle.lrfindings.proofs.cells.Cells.add_state.Goals as goal
 
 pub reductions_of-requires : goal.reductions_of-requires
@@ -40,4 +40,4 @@ returns-then-is_empty-clause-resolved g c =
     let rs = c.in_ok-reductions.reductions in
     let items : map complete rs.items ≡ complete_items grm (closed_of h s) = c.in_ok-reductions.ensures ∙ ap (complete_items grm) c.closed_state.ensures.items in
     let none : map complete rs.items ≡ [] = ap (map complete) (nothing_listed rs.items _ c.is_empty.result c.is_empty.ensures c.if-is_empty.true rs.ok.0) in
-    none_settled_in grm h s (map complete rs.items) c.closed_state.ensures.upwards (c.requires.graph.closed _ c.requires.below) items none _ _
+    none_resolved_in grm h s (map complete rs.items) c.closed_state.ensures.upwards (c.requires.graph.closed _ c.requires.below) items none _ _

@@ -1,6 +1,6 @@
 use Rattle.std.proofs.Common.{map}
 use Rattle.lrfindings.specs.StoredCells.{complete, outcome_in}
-use Rattle.lrfindings.proofs.CellsInTurn.{outcomes_are, nothing_listed, nothing_added, conflicts_added, settled_added, no_conflicts_at, none_settled_at}
+use Rattle.lrfindings.proofs.CellsInTurn.{outcomes_are, nothing_listed, nothing_added, conflicts_added, resolved_added, no_conflicts_at, none_resolved_at}
 use Rattle.lrfindings.proofs.cells.Cells.add_token.Goals as goal
 
 pub returns-then-is_empty-clause-left : goal.returns-then-is_empty-clause-left
@@ -29,7 +29,7 @@ returns-then-is_empty-clause-resolved g c =
     let h = c.args.looked.graph.now in
     let ps = c.list_at.new.productions in
     nothing_added _ _
-    (none_settled_at grm h (g.T.IndexStorage.number c.args.state.0) c.args.token (map complete c.args.reductions.now) ps.items c.requires.upwards c.requires.fits
+    (none_resolved_at grm h (g.T.IndexStorage.number c.args.state.0) c.args.token (map complete c.args.reductions.now) ps.items c.requires.upwards c.requires.fits
     c.requires.reductions c.in_ok-list_at.ensures (nothing_listed ps.items _ c.is_empty.result c.is_empty.ensures c.if-is_empty.true ps.ok.0))
 
 pub returns-clause-resolved : goal.returns-clause-resolved
@@ -38,7 +38,7 @@ returns-clause-resolved g c =
     let h = c.args.looked.graph.now in
     let precedences = c.args.looked.rules.precedences.now in
     let t = c.args.token in
-    settled_added grm h (g.T.IndexStorage.number c.args.state.0) t (map complete c.args.reductions.now) c.list_at.new.productions.items c.requires.upwards
+    resolved_added grm h (g.T.IndexStorage.number c.args.state.0) t (map complete c.args.reductions.now) c.list_at.new.productions.items c.requires.upwards
     c.requires.fits c.requires.reductions c.in_ok-list_at.ensures (outcome_in precedences t) c.shifts-shifts.result _ _
     (outcomes_are grm precedences c.requires.precedences t) c.shifts-shifts.ensures
     (rw (c.as_slice.ensures.value, c.from.ensures) at c.in_ok-add_cell.ensures.resolved)
