@@ -32,7 +32,8 @@ pub extern "C" fn lrc_report(alloc: Global, text: &[u8], kind: u32, out: &mut [u
 #[unsafe(no_mangle)]
 pub extern "C" fn lrc_table(alloc: Global, text: &[u8], out: &mut [u32]) -> usize
     ensures kept { (result ≡ 0) ⊎ (result ≡ 2 ^ 64 - 1) → out.new ≡ out.old }
-    ensures told { (result ≡ 0) ⊎ ((result ≡ 2 ^ 64 - 1) ⊎ IsTable text.now result out.old out.new) }
+    ensures told { (result ≡ 0)
+        ⊎ ((result ≡ 2 ^ 64 - 1) ⊎ IsTable text.now result out.old out.new) }
 {
     answer(table_of(alloc, text), out)
 }

@@ -357,7 +357,8 @@ impl Tree {
 
     /// Whether a node is the last of those that stand below one, or is over all.
     pub fn is_last(&self, number: usize) -> bool
-        ensures { (ts : Row) → IsDrawn self.now ts → result ≡ get_or (row_lasts true ts) number true }
+        ensures { (ts : Row) → IsDrawn self.now ts
+            → result ≡ get_or (row_lasts true ts) number true }
     {
         match number.checked_add(1) {
             Some(next) => is_over(self.node(next), self.entered_before(next)),
