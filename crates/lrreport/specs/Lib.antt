@@ -4,3 +4,5 @@ pub mod LeftOpen
 pub mod JsonTexts
 pub mod JsonHeads
 pub mod ToldConclusions
+-- sentences that are told of entries
+pub mod Sentences

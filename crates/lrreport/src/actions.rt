@@ -37,20 +37,17 @@ pub(crate) struct Row<'a> {
 
 /// The cells that entries are about.
 fn cells_of(alloc: Global, entries: &[Entry]) -> Result<Vec<Cell>, AllocError> {
-    let mut cells = Vec::new(alloc);
-    for entry in entries {
-        let (production, token) = (entry.production, entry.token);
-        cells.push(Cell { production, token })?;
-    }
-    Ok(cells)
+    let cells = entries.iter().map(|entry| Cell {
+        production: entry.production,
+        token: entry.token,
+    });
+    cells.collect(alloc)
 }
 
 /// Adds symbols, each with the state that it leads to, one under the other, behind an empty line, if there are some.
 pub(crate) fn push_targets(text: &mut Text, targets: &[Target<'_>], how: &str) {
-    let mut width: usize = 0;
-    for target in targets {
-        width = width.max(target.name.width());
-    }
+    let widths = targets.iter().map(|target| target.name.width());
+    let width = widths.max().unwrap_or(0);
     if !targets.is_empty() {
         text.add_char('\n');
     }

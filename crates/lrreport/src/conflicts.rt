@@ -166,12 +166,8 @@ impl<T: IndexStorage> Checked<'_, T> {
     /// What it does in the cells of all the entries, where that is the same.
     fn choice_of(&self, entries: &[Entry]) -> Option<Choice> {
         let choice = self.choice(entries.first()?);
-        for entry in entries {
-            if self.choice(entry) != choice {
-                return None;
-            }
-        }
-        Some(choice)
+        let is_one = entries.iter().all(|entry| self.choice(entry) == choice);
+        is_one.then_some(choice)
     }
 
     /// The items of the state of entries, as production and dot, in which it goes on by the token of one of them.
@@ -324,11 +320,7 @@ pub(crate) fn meetings(
 
 /// The entries of which something is known.
 pub(crate) fn entries_of(alloc: Global, evidence: &[Evidence]) -> Result<Vec<Entry>, AllocError> {
-    let mut entries = Vec::new(alloc);
-    for it in evidence {
-        entries.push(it.entry)?;
-    }
-    Ok(entries)
+    evidence.iter().map(|it| it.entry).collect(alloc)
 }
 
 /// Adds how many are not told.

@@ -13,13 +13,7 @@ pub(crate) fn rules_of_file(file: &FileGrammar) -> usize {
 
 /// How many productions the file has, without those of `$accept`.
 pub(crate) fn productions_of_file(file: &FileGrammar) -> usize {
-    let mut count: usize = 0;
-    for prod in &file.parts.prods {
-        if prod.rule > 0 {
-            count = count.saturating_add(1);
-        }
-    }
-    count
+    file.parts.prods.iter().filter(|prod| prod.rule > 0).count()
 }
 
 /// Whether a token is one of the file, and not one that stands below those of a `%precedence` line.
@@ -35,13 +29,8 @@ fn is_of_file(file: &FileGrammar, token: usize) -> bool {
 
 /// How many tokens the file has.
 pub(crate) fn tokens_of_file(file: &FileGrammar) -> usize {
-    let mut count: usize = 0;
-    for token in 0..file.parts.tokens.len() {
-        if is_of_file(file, token) {
-            count = count.saturating_add(1);
-        }
-    }
-    count
+    let tokens = 0..file.parts.tokens.len();
+    tokens.filter(|token| is_of_file(file, *token)).count()
 }
 
 /// Whether a token stands below those of the `%precedence` line of a level.

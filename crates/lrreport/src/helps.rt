@@ -138,12 +138,10 @@ impl<'a, T: IndexStorage> Trials<'_, 'a, T> {
             Some(token) if told.can_have_level(token) => Some(token),
             _ => None,
         };
-        let mut without = Vec::new(alloc);
-        for evidence in meeting {
-            if !told.has_level(evidence.entry.token) {
-                without.push(evidence.entry.token)?;
-            }
-        }
+        let tokens = meeting.iter().map(|evidence| evidence.entry.token);
+        let without: Vec<usize> = tokens
+            .filter(|token| !told.has_level(*token))
+            .collect(alloc)?;
         Ok(Sides {
             production,
             has_other: without.len() < meeting.len(),

@@ -227,8 +227,8 @@ impl<'a, T: IndexStorage> Checked<'a, T> {
     fn add_head(&self, json: &mut JsonText, verdict: Verdict)
         requires proved { All (IsProved self.now.found.now.grm) self.now.told.evidence.now }
         requires unambiguous { verdict ≡ Unambiguous → IsUnambiguous self.now.found.now.grm }
-        ensures { AddsTokens json.old json.new (head_tokens self.now.told.source.now.name.now verdict
-            (list_any has_sentence self.now.told.evidence.now)) }
+        ensures { AddsTokens json.old json.new (head_tokens self.now.told.source.now.name.now
+            verdict (list_any has_sentence self.now.told.evidence.now)) }
     {
         let shown = self.any_sentence(self.told.evidence);
         json.begin_object();

@@ -223,12 +223,10 @@ impl<'c, 'a, T: IndexStorage> Trials<'c, 'a, T> {
 
     /// By token, the levels of the file.
     fn levels_of_file(&self, alloc: Global) -> Result<Vec<Option<Level>>, AllocError> {
-        let mut levels = Vec::new(alloc);
-        let told = self.told();
-        for token in &told.file.parts.tokens {
-            levels.push(token.precedence.map(Level::of_file))?;
-        }
-        Ok(levels)
+        let tokens = self.told().file.parts.tokens.iter();
+        tokens
+            .map(|token| token.precedence.map(Level::of_file))
+            .collect(alloc)
     }
 
     /// The levels with those of a proposal.

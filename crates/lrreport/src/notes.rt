@@ -69,13 +69,8 @@ impl Notes {
 
 /// The tokens of the entries for which there is no sentence with two trees that part by what meets in them.
 fn unknown(alloc: Global, meeting: &[Evidence]) -> Result<Vec<usize>, AllocError> {
-    let mut tokens = Vec::new(alloc);
-    for evidence in meeting {
-        if !evidence.has_own_sentence() {
-            tokens.push(evidence.entry.token)?;
-        }
-    }
-    Ok(tokens)
+    let unknown = meeting.iter().filter(|it| !it.has_own_sentence());
+    unknown.map(|it| it.entry.token).collect(alloc)
 }
 
 /// Whether each of the entries has a sentence with two trees that part by what meets in it.

@@ -2,12 +2,13 @@
 
 ghost use Rattle.std.specs.Prelude.{All, IfSome};
 ghost use Rattle.lrevidence.specs.Ambiguities.{HasTwoTrees, IsProved};
+ghost use Rattle.lrreport.specs.Sentences.{IsOfOne};
 
 use crate::conflicts::{Checked, DONE, push_more};
 use crate::told::Told;
 use lrdiagnostics::add_shown;
 use lrevidence::Ambiguity;
-use lrfindings::{Entry, Resolved, Winner};
+use lrfindings::{Entry, Resolved, Winner, source_of};
 use lrgrammar::idx::IndexStorage;
 use lrwriter::Text;
 use std::alloc::{AllocError, Global};
@@ -82,13 +83,8 @@ pub(crate) fn won_by(
     resolved: &[Resolved],
     winner: Winner,
 ) -> Result<Vec<Entry>, AllocError> {
-    let mut entries = Vec::new(alloc);
-    for one in resolved {
-        if one.winner == winner {
-            entries.push(one.entry)?;
-        }
-    }
-    Ok(entries)
+    let won = resolved.iter().filter(|one| one.winner == winner);
+    won.map(|one| one.entry).collect(alloc)
 }
 
 impl Told<'_> {
@@ -154,7 +150,7 @@ impl Told<'_> {
                 "both have one level, and it is %nonassoc: the token is an error here",
         });
         if let (Reason::Production, Some(entry)) = (resolution.reason, resolution.entries.first()) {
-            if let Some(token) = self.named_token_of(entry.production) {
+            if let Some(token) = source_of(self.file, entry.production) {
                 text.add(", that of ");
                 add_shown(&mut text, self.token_name(token));
             }
@@ -167,7 +163,8 @@ impl<'a, T: IndexStorage> Checked<'a, T> {
     /// A sentence with two trees that part by what meets in one of the entries, where one is found.
     pub(crate) fn decided(&self, entries: &[Entry]) -> Option<&'a Ambiguity>
         requires proved { All (IsProved self.now.found.now.grm) self.now.told.resolved.now }
-        ensures { IfSome result (λ a. HasTwoTrees self.now.found.now.grm a.now) }
+        ensures trees { IfSome result (λ a. HasTwoTrees self.now.found.now.grm a.now) }
+        ensures of { IfSome result (λ a. IsOfOne entries.now a.now) }
     {
         let resolved = self.told.resolved;
         for entry in entries {

@@ -31,11 +31,7 @@ pub(crate) struct Listing<'a, T: IndexStorage> {
 fn by_state(alloc: Global, entries: &[Entry]) -> Result<BTreeMap<usize, Vec<Entry>>, AllocError> {
     let mut lists: BTreeMap<usize, Vec<Entry>> = BTreeMap::new(alloc);
     for entry in entries {
-        if let Some(list) = lists.get_mut(&entry.state) {
-            list.push(*entry)?;
-        } else {
-            lists.insert(entry.state, vec![in alloc; *entry]?)?;
-        }
+        lists.entry(entry.state)?.or_default().push(*entry)?;
     }
     Ok(lists)
 }

@@ -61,19 +61,6 @@ impl<'a> Told<'a> {
         precedence_token(self.production(production)?)
     }
 
-    /// The token by which the file gives a production its precedence: the one behind `%prec`, or else the last one of its body.
-    pub(crate) fn named_token_of(&self, production: usize) -> Option<usize> {
-        if let Some(named) = self.file.named_precedence(production) {
-            return Some(named.token);
-        }
-        for symbol in self.production(production)?.symbols.iter().rev() {
-            if let PartSymbol::Token(token) = symbol {
-                return Some(*token);
-            }
-        }
-        None
-    }
-
     /// Whether the symbol behind the dot of an item is the token of one of the entries.
     pub(crate) fn is_shifted(&self, production: usize, dot: usize, entries: &[Entry]) -> bool {
         let Some(prod) = self.production(production) else {
