@@ -10,9 +10,15 @@ use Rattle.lrreport.specs.ToldConclusions.{TellsConclusion}
 use Rattle.lrcheck.specs.declared.files.Outcome.{Outcome}
 use Rattle.lrcheck.specs.declared.files.Outcome.TheVariants.{Checked, Unread}
 
--- a report on a file of that name: what it concludes is so, of a text that was read, and its status and its text tell that
-pub record IsReport (options : Options) (name : List ℕ) (r : Report) : Type 0 where
+-- what stands in files, by their names, where that is known
+abbrev pub FileContents : Type 0
+FileContents = List ℕ → Option (List ℕ)
+
+-- a report on a file of that name: what it concludes is so, of the text that was read of it, and its status and its text tell that
+pub record IsReport (options : Options) (contents : FileContents) (name : List ℕ) (r : Report)
+    : Type 0 where
   pub read : List ℕ
+  pub is : IfSome (contents name) (λ all. read ≡ all)
   pub said : IfSome r.conclusion (IsSaidBy options read)
   pub proved : IfSome r.conclusion (IsConcluded options.ignores_precedences)
   pub status : IfSome r.conclusion (λ c. r.status ≡ status_of c.verdict)
@@ -20,9 +26,9 @@ pub record IsReport (options : Options) (name : List ℕ) (r : Report) : Type 0 
   pub unread : options.output ≢ Grammar → IfNone r.conclusion (r.status ≡ 2)
 
 -- what comes of a file of that name
-abbrev pub IsOutcomeOf : Options → List ℕ → Outcome → Type 0
-IsOutcomeOf options name (Checked r) = IsReport options name r
-IsOutcomeOf options name (Unread e) = ⊤
+abbrev pub IsOutcomeOf : Options → FileContents → List ℕ → Outcome → Type 0
+IsOutcomeOf options contents name (Checked r) = IsReport options contents name r
+IsOutcomeOf options contents name (Unread e) = ⊤
 
 -- what is written of it, and its status
 abbrev pub text_of : Outcome → List ℕ
@@ -35,12 +41,13 @@ outcome_status (Unread e) = 2
 
 -- files of these names are checked in turn: what is written of each stands behind what was written before, and the status is the
 -- greatest of theirs and of their pages', which is 2 where one can't be written
-pub data AreChecked (options : Options) (old : Option (List ℕ)) : List (List ℕ) → Option (List ℕ) → ℕ → Type 0 where
-  none : AreChecked options old [] old 0
+pub data AreChecked (options : Options) (contents : FileContents) (old : Option (List ℕ))
+    : List (List ℕ) → Option (List ℕ) → ℕ → Type 0 where
+  none : AreChecked options contents old [] old 0
   more :
       {names : List (List ℕ)} {before after : Option (List ℕ)} {status : ℕ} (name : List ℕ) (o : Outcome) (page : ℕ)
-      → AreChecked options old names before status
-      → IsOutcomeOf options name o
+      → AreChecked options contents old names before status
+      → IsOutcomeOf options contents name o
       → Appends before after (text_of o)
       → (page ≡ 0) ⊎ (page ≡ 2)
-      → AreChecked options old (names ++ name ∷ []) after (max (max (outcome_status o) status) page)
+      → AreChecked options contents old (names ++ name ∷ []) after (max (max (outcome_status o) status) page)

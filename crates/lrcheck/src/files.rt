@@ -1,6 +1,6 @@
 //! Files that are read, checked and told of.
 
-ghost use Rattle.std.specs.Prelude.{◌≡◌, ◌⊎◌, IfOk, OnOk, IfSome, map, string_bytes};
+ghost use Rattle.std.specs.Prelude.{◌≡◌, ◌⊎◌, ℕ, List, Option, None, IfOk, OnOk, IfSome, map, string_bytes};
 ghost use Rattle.std.specs.Io.KnownBytes.{Appends};
 ghost use Rattle.lrcheck.specs.Checked.{AreChecked, IsOutcomeOf, outcome_status, text_of};
 
@@ -43,22 +43,42 @@ fn bytes_of<R: Read + Drop>(alloc: Global, mut reader: R) -> io::Result<Vec<u8>>
     Ok(bytes)
 }
 
-/// The bytes of the file of that name, or of standard input.
-fn read(rt: &HostRuntime, name: &str) -> io::Result<Vec<u8>> {
-    if name == INPUT {
-        bytes_of(rt.alloc(), rt.stdin())
-    } else {
-        bytes_of(rt.alloc(), fs::File::open(rt, name)?)
+/// Files by their names.
+pub(crate) trait Files {
+    // What stands in the file of a name, where that is known.
+    ghost contents: { Self → List ℕ → Option (List ℕ) };
+
+    /// The bytes of the file of that name.
+    fn read(&self, name: &str) -> io::Result<Vec<u8>>
+        ensures { IfOk result (λ bytes.
+            IfSome (contents self.now name.now) (λ all. bytes.items ≡ all)) };
+}
+
+/// Those of the system, and standard input, of which nothing is known before they are read.
+impl Files for HostRuntime {
+    ghost contents = { λ rt name. None };
+
+    fn read(&self, name: &str) -> io::Result<Vec<u8>> {
+        if name == INPUT {
+            bytes_of(self.alloc(), self.stdin())
+        } else {
+            bytes_of(self.alloc(), fs::File::open(self, name)?)
+        }
     }
 }
 
 /// Reads a file and checks it.
-fn check(rt: &HostRuntime, name: &str, options: Options) -> Result<Outcome, AllocError>
-    ensures { IfOk result (IsOutcomeOf options name.now) }
+fn check<F: Files>(
+    alloc: Global,
+    files: &F,
+    name: &str,
+    options: Options,
+) -> Result<Outcome, AllocError>
+    ensures { IfOk result (IsOutcomeOf options (F.contents files.now) name.now) }
 {
-    match read(rt, name) {
+    match files.read(name) {
         Ok(bytes) => {
-            let report = report_on(rt.alloc(), name, bytes.as_slice(), options)?;
+            let report = report_on(alloc, name, bytes.as_slice(), options)?;
             Ok(Outcome::Checked(report))
         }
         Err(error) if error.kind() == io::ErrorKind::OutOfMemory => Err(AllocError),
@@ -125,21 +145,22 @@ fn tell_page(rt: &HostRuntime, outcome: &Outcome, path: Option<&str>) -> u8
 
 /// Checks the files in turn, writes what there is to tell of them, and answers the greatest exit status. The page of a file is
 /// written to that path.
-pub(crate) fn check_all<W: Write>(
+pub(crate) fn check_all<F: Files, W: Write>(
     rt: &HostRuntime,
+    files: &F,
     output: &mut W,
     names: &[&str],
     options: Options,
     page: Option<&str>,
     mut progress: Progress,
 ) -> Result<u8, Stop>
-    ensures { IfOk result (AreChecked options (W.contents output.old)
+    ensures { IfOk result (AreChecked options (F.contents files.now) (W.contents output.old)
         (map (λ name. name.now) names.now) (W.contents output.new)) }
 {
     let mut status = 0;
     for k in 0..names.len() {
         progress.show(rt, k + 1, names.len(), names[k]);
-        let outcome = check(rt, names[k], options);
+        let outcome = check(rt.alloc(), files, names[k], options);
         progress.clear(rt);
         let outcome = outcome?;
         let told = tell(rt, output, names[k], &outcome)?.max(status);

@@ -73,7 +73,7 @@ fn check_named(
         lines: lines_of(rt, options)?,
         ..options
     };
-    check_all(rt, &mut rt.stdout(), names, options, page, progress)
+    check_all(rt, rt, &mut rt.stdout(), names, options, page, progress)
 }
 
 /// Does what the words say, and answers the exit status.

@@ -5,4 +5,4 @@ use Rattle.lrcheck.proofs.files.check_all.Given as goal
 
 abbrev pub invariant-loop-k : goal.invariant-loop-k
 invariant-loop-k g l =
-    AreChecked l.options (g.W.Write.contents l.initial.output) (take l.k (map (λ name. name.now) l.names)) (g.W.Write.contents l.output) l.status
+    AreChecked l.options (g.F.Files.contents l.files) (g.W.Write.contents l.initial.output) (take l.k (map (λ name. name.now) l.names)) (g.W.Write.contents l.output) l.status
