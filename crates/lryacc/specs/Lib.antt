@@ -22,6 +22,8 @@ pub mod Delimiters
 pub mod Bodies
 -- all bodies of a file
 pub mod AllBodies
+-- what stands in quotes, and which bytes it is
+pub mod Quotes
 -- the lexemes of a text
 pub mod Lexemes
 -- bytes of one class

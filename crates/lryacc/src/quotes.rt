@@ -1,18 +1,25 @@
 //! Characters and texts in quotes.
 
-ghost use Rattle.std.specs.Prelude.{◌≡◌, ◌≢◌, ◌+◌, ◌<◌, ◌≤◌, length, slice_index, IfOk, IfSome};
+ghost use Rattle.std.specs.Prelude.{◌≡◌, ◌≢◌, ℕ, ◌+◌, ◌<◌, ◌≤◌, length, min, slice_index, slice_range, IfOk, IfSome};
+ghost use Rattle.std.specs.Str.Parse.{AllDigits, digits_value};
 ghost use Rattle.lryacc.specs.Lexemes.{EndsWith};
+ghost use Rattle.lryacc.specs.Quotes.{AreDigits, IsCapped, IsEscape, IsLetterFor, IsNoDigit};
 
 use crate::faults::{Fault, FaultKind};
 use crate::places::Span;
 
-/// The number of at most so many digits from a place on, and the place behind them.
+/// The number of the digits from a place on, at most so many, and the place behind them.
 fn digits(text: &[u8], from: usize, most: usize, radix: u32) -> (u32, usize)
     requires from { from ≤ length text.now }
     requires radix { 2 ≤ radix }
     requires digits { radix ≤ 36 }
     ensures from { from ≤ result.1 }
     ensures inside { result.1 ≤ length text.now }
+    ensures most { result.1 ≤ from + most }
+    ensures digits { AllDigits radix (slice_range text.now from result.1) }
+    ensures all { result.1 < from + most → IsNoDigit radix text.now result.1 }
+    ensures value { result.0
+        ≡ min (digits_value radix (slice_range text.now from result.1)) u32.MAX }
 {
     let stop = text.len().min(from.saturating_add(most));
     let mut value: u32 = 0;
@@ -31,6 +38,11 @@ fn hexadecimal(text: &[u8], from: usize, least: usize, most: usize) -> Option<(u
     requires { from ≤ length text.now }
     ensures from { IfSome result (λ found. from ≤ found.1) }
     ensures inside { IfSome result (λ found. found.1 ≤ length text.now) }
+    ensures least { IfSome result (λ found. from + least ≤ found.1) }
+    ensures most { IfSome result (λ found. found.1 ≤ from + most) }
+    ensures all { IfSome result (λ found.
+        found.1 < from + most → IsNoDigit 16 text.now found.1) }
+    ensures is { IfSome result (λ found. IsCapped found.0 (AreDigits 16 text.now from found.1)) }
 {
     let (number, end) = digits(text, from, most, 16);
     if end - from < least {
@@ -40,18 +52,20 @@ fn hexadecimal(text: &[u8], from: usize, least: usize, most: usize) -> Option<(u
 }
 
 /// The byte that a letter behind a backslash stands for by itself.
-fn letter_value(letter: u8) -> Option<u8> {
-    Some(match letter {
-        b'a' => 7,
-        b'b' => 8,
-        b'f' => 12,
-        b'n' => b'\n',
-        b'r' => b'\r',
-        b't' => b'\t',
-        b'v' => 11,
-        b'\\' | b'\'' | b'"' | b'?' => letter,
-        _ => return None,
-    })
+fn letter_value(letter: u8) -> Option<u8>
+    ensures { IfSome result (IsLetterFor letter) }
+{
+    match letter {
+        b'a' => Some(7),
+        b'b' => Some(8),
+        b'f' => Some(12),
+        b'n' => Some(b'\n'),
+        b'r' => Some(b'\r'),
+        b't' => Some(b'\t'),
+        b'v' => Some(11),
+        b'\\' | b'\'' | b'"' | b'?' => Some(letter),
+        _ => None,
+    }
 }
 
 /// The number of an escape whose backslash stands at a place, and the place behind it; None where no escape begins so.
@@ -59,6 +73,7 @@ fn escape_number(text: &[u8], from: usize) -> Option<(u32, usize)>
     requires { from < length text.now }
     ensures from { IfSome result (λ found. from < found.1) }
     ensures inside { IfSome result (λ found. found.1 ≤ length text.now) }
+    ensures is { IfSome result (λ found. IsCapped found.0 (IsEscape text.now from found.1)) }
 {
     let letter = *text.get(from + 1)?;
     let behind = from + 2;
@@ -79,6 +94,9 @@ fn escape(text: &[u8], from: usize) -> Result<(u8, usize), Fault>
     requires { from < length text.now }
     ensures from { IfOk result (λ found. from < found.1) }
     ensures inside { IfOk result (λ found. found.1 ≤ length text.now) }
+    ensures some { IfOk result (λ found. 0 < found.0) }
+    ensures byte { IfOk result (λ found. found.0 < 256) }
+    ensures is { IfOk result (λ found. IsEscape text.now from found.1 found.0) }
 {
     let Some((number, end)) = escape_number(text, from) else {
         let span = Span::new(from, from + 1);
