@@ -6,7 +6,8 @@ use Rattle.std.proofs.lemmas.Nat.{mul-le}
 use Rattle.std.proofs.lemmas.Bool.Decides.{nat_tests}
 use Rattle.std.specs.Char.{digit_value}
 use Rattle.std.specs.Str.Parse.{AllDigits, digits_value}
-use Rattle.lryacc.specs.Quotes.{AreDigits, IsCapped, IsEscape, IsLetterFor, IsNoDigit}
+use Rattle.lryacc.specs.Quotes.{AreDigits, IsEscape, IsLetterFor, IsNoDigit}
+use Rattle.lryacc.specs.QuotesRead.{IsCapped}
 use Rattle.lryacc.specs.Quotes.IsEscape.{hexadecimal, letter, long, octal, short}
 
 -- the digit at a place

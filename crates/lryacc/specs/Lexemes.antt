@@ -1,11 +1,12 @@
 -- the lexemes of a text
-use Rattle.std.specs.Prelude.{◌≡◌, ◌≢◌, ℕ, ◌+◌, ◌<◌, ◌≤◌, ◌⊎◌, ◌&&◌, ◌||◌, ◌==◌, if◌then◌else◌, not, Bool, true, false, List, [], ◌∷◌, codes, length, slice_index, slice_range}
+use Rattle.std.specs.Prelude.{◌≡◌, ℕ, ◌+◌, ◌<◌, ◌≤◌, ◌⊎◌, ◌&&◌, ◌||◌, ◌==◌, if◌then◌else◌, not, Bool, true, false, List, [], ◌∷◌, codes, length, slice_index, slice_range}
 use Rattle.std.specs.Char.{is_ascii_alphabetic, is_ascii_alphanumeric, is_ascii_digit}
 use Rattle.lryacc.specs.declared.dialects.Dialect.{Dialect}
 use Rattle.lryacc.specs.declared.dialects.Dialect.TheVariants.{Bison, Grmtools}
 use Rattle.lryacc.specs.declared.lexemes.Lexeme.{Lexeme}
 use Rattle.lryacc.specs.declared.lexemes.LexemeKind.{LexemeKind}
 use Rattle.lryacc.specs.declared.lexemes.LexemeKind.TheVariants as kind
+use Rattle.lryacc.specs.Quotes.{AreQuoted, IsText, IsTranslated}
 
 -- ---- classes of bytes
 
@@ -67,12 +68,6 @@ pub record IsBetween (opening closing : ℕ) (text : List ℕ) (start end : ℕ)
   pub opens : Begins opening text start
   pub closes : EndsWith closing text start end
 
--- they are a character between `'`: the byte that stands there, but behind a backslash
-pub record IsCharacter (byte : ℕ) (text : List ℕ) (start end : ℕ) : Type 0 where
-  pub quotes : IsBetween 39 39 text start end
-  pub plain : slice_index text (start + 1) ≢ 92
-      → (end ≡ start + 3) × (slice_index text (start + 1) ≡ byte)
-
 -- ---- lexemes
 
 -- what a lexeme of a kind is for Bison
@@ -80,9 +75,9 @@ abbrev pub IsBisonLexeme : LexemeKind → List ℕ → ℕ → ℕ → Type 0
 IsBisonLexeme kind.Name text start end = IsWord is_name_start is_in_name text start end
 IsBisonLexeme kind.BracketName text start end = IsBetween 91 93 text start end
 IsBisonLexeme kind.Number text start end = IsWord is_ascii_digit is_in_name text start end
-IsBisonLexeme (kind.Character byte) text start end = IsCharacter byte text start end
-IsBisonLexeme kind.Text text start end = IsBetween 34 34 text start end
-IsBisonLexeme kind.TranslatedText text start end = IsBetween 95 41 text start end
+IsBisonLexeme (kind.Character byte) text start end = AreQuoted 39 (byte ∷ []) text start end
+IsBisonLexeme kind.Text text start end = IsText text start end
+IsBisonLexeme kind.TranslatedText text start end = IsTranslated text start end
 IsBisonLexeme kind.Tag text start end = IsBetween 60 62 text start end
 IsBisonLexeme kind.AnyTag text start end =
     Are text start end (codes "<>") ⊎ Are text start end (codes "<*>")

@@ -1,5 +1,5 @@
 -- what stands in quotes, and which bytes it is
-use Rattle.std.specs.Prelude.{◌≡◌, ℕ, ◌+◌, ◌-◌, ◌^◌, ◌<◌, ◌≤◌, List, min, slice_index, slice_range}
+use Rattle.std.specs.Prelude.{◌≡◌, ℕ, ◌+◌, ◌<◌, ◌≤◌, ◌||◌, ◌==◌, not, Bool, true, List, [], ◌∷◌, ◌++◌, slice_index, slice_range}
 use Rattle.std.specs.Char.{digit_value}
 use Rattle.std.specs.Str.Parse.{AllDigits, digits_value}
 
@@ -24,7 +24,7 @@ pub data IsLetterFor : ℕ → ℕ → Type 0 where
   -- `\"`
   double_quote : IsLetterFor 34 34
   -- `\'`
-  quote : IsLetterFor 39 39
+  single_quote : IsLetterFor 39 39
   -- `\?`
   question_mark : IsLetterFor 63 63
   -- `\\`
@@ -59,8 +59,44 @@ pub data IsEscape (text : List ℕ) (start : ℕ) : ℕ → ℕ → Type 0 where
       → AreDigits 16 text (start + 2) (start + 10) number
       → IsEscape text start (start + 10) number
 
--- the number that something is; where it is no number of 32 bits, the greatest of these in its place
-pub record IsCapped (number : ℕ) (Is : ℕ → Type 0) : Type 0 where
-  pub exact : ℕ
-  pub is : Is exact
-  pub capped : number ≡ min exact (2 ^ 32 - 1)
+-- ---- bytes in quotes
+
+-- whether a byte stands by itself between quotes: it is no such quote, no line feed and no backslash
+abbrev pub is_literal : ℕ → ℕ → Bool
+is_literal quote byte = not (byte == quote || (byte == 10 || byte == 92))
+
+-- a byte between quotes, from one place up to another
+pub data IsByteIn (quote : ℕ) (text : List ℕ) (start : ℕ) : ℕ → ℕ → Type 0 where
+  -- one that stands there by itself
+  literal : is_literal quote (slice_index text start) ≡ true
+      → IsByteIn quote text start (start + 1) (slice_index text start)
+  -- an escape of it
+  escape : {end byte : ℕ} → slice_index text start ≡ 92 → IsEscape text start end byte → 0 < byte
+      → byte < 256 → IsByteIn quote text start end byte
+
+-- bytes between quotes, one behind another
+pub data AreBytesIn (quote : ℕ) (text : List ℕ) (start : ℕ) : ℕ → List ℕ → Type 0 where
+  none : AreBytesIn quote text start start []
+  more : {at end byte : ℕ} {bytes : List ℕ} → AreBytesIn quote text start at bytes
+      → IsByteIn quote text at end byte → AreBytesIn quote text start end (bytes ++ byte ∷ [])
+
+-- bytes in quotes: the first such quote that belongs to none of them closes them
+pub record AreQuoted (quote : ℕ) (bytes : List ℕ) (text : List ℕ) (start end : ℕ) : Type 0 where
+  pub last : ℕ
+  pub opens : slice_index text start ≡ quote
+  pub between : AreBytesIn quote text (start + 1) last bytes
+  pub closes : slice_index text last ≡ quote
+  pub ends : end ≡ last + 1
+
+-- any bytes in quotes
+abbrev pub IsText : List ℕ → ℕ → ℕ → Type 0
+IsText text start end = (bytes : List ℕ) × AreQuoted 34 bytes text start end
+
+-- a text to be translated: `_(`, a text, and `)`
+pub record IsTranslated (text : List ℕ) (start end : ℕ) : Type 0 where
+  pub last : ℕ
+  pub begins : slice_index text start ≡ 95
+  pub opens : slice_index text (start + 1) ≡ 40
+  pub between : IsText text (start + 2) last
+  pub closes : slice_index text last ≡ 41
+  pub ends : end ≡ last + 1

@@ -314,6 +314,8 @@ fn quoted_text(text: &[u8], from: usize) -> Result<(LexemeKind, usize), Fault>
 fn translated(text: &[u8], from: usize) -> Result<(LexemeKind, usize), Fault>
     requires from { from + 2 < length text.now }
     requires first { Begins 95 text.now from }
+    requires opens { Begins 40 text.now (from + 1) }
+    requires text { Begins 34 text.now (from + 2) }
     ensures from { IfOk result (λ found. from < found.1) }
     ensures inside { IfOk result (λ found. found.1 ≤ length text.now) }
     ensures is { IfOk result (λ found. IsBisonLexeme found.0 text.now from found.1) }

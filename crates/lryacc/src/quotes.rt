@@ -2,8 +2,8 @@
 
 ghost use Rattle.std.specs.Prelude.{◌≡◌, ◌≢◌, ℕ, ◌+◌, ◌<◌, ◌≤◌, length, min, slice_index, slice_range, IfOk, IfSome};
 ghost use Rattle.std.specs.Str.Parse.{AllDigits, digits_value};
-ghost use Rattle.lryacc.specs.Lexemes.{EndsWith};
-ghost use Rattle.lryacc.specs.Quotes.{AreDigits, IsCapped, IsEscape, IsLetterFor, IsNoDigit};
+ghost use Rattle.lryacc.specs.Quotes.{AreDigits, IsEscape, IsLetterFor, IsNoDigit};
+ghost use Rattle.lryacc.specs.QuotesRead.{AreRead, IsCapped};
 
 use crate::faults::{Fault, FaultKind};
 use crate::places::Span;
@@ -130,13 +130,11 @@ pub(crate) struct Quoted {
 
 /// What stands behind the quote at a place, up to the next such quote.
 pub(crate) fn between_quotes(text: &[u8], from: usize, quote: u8) -> Result<Quoted, Fault>
-    requires { from < length text.now }
+    requires from { from < length text.now }
+    requires opens { slice_index text.now from ≡ quote }
     ensures from { IfOk result (λ found. from < found.end) }
     ensures inside { IfOk result (λ found. found.end ≤ length text.now) }
-    ensures closes { IfOk result (λ found. EndsWith quote text.now from found.end) }
-    ensures plain { IfOk result (λ found. found.bytes ≡ 1
-        → slice_index text.now (from + 1) ≢ 92
-        → (found.end ≡ from + 3) × (slice_index text.now (from + 1) ≡ found.last)) }
+    ensures is { IfOk result (AreRead quote text.now from) }
 {
     let mut bytes: usize = 0;
     let mut last = 0;

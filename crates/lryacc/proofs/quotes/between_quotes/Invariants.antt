@@ -1,8 +1,7 @@
-use Rattle.std.proofs.Common.{◌≡◌, ◌≢◌, ◌+◌, ◌≤◌, ◌⊎◌, slice_index}
+use Rattle.std.proofs.Common.{◌+◌, ◌≤◌, max}
+use Rattle.lryacc.specs.QuotesRead.{AreReadUpTo}
 use Rattle.lryacc.proofs.quotes.between_quotes.Given as goal
 
 abbrev pub invariant-loop-at : goal.invariant-loop-at
-invariant-loop-at l = slice_index l.text (l.from + 1) ≢ 92
-    → (((l.at ≡ l.from + 1) × (l.bytes ≡ 0) × (l.behind ≡ l.from))
-    ⊎ ((l.at ≡ l.from + 2) × (l.bytes ≡ 1) × (l.behind ≡ l.from) × (slice_index l.text (l.from + 1) ≡ l.last)))
-    ⊎ (2 ≤ l.bytes)
+invariant-loop-at l = AreReadUpTo l.quote l.text (l.from + 1) (max l.at l.behind) l.bytes l.last
+    × (l.from + 1 + l.bytes ≤ max l.at l.behind)

@@ -1,6 +1,6 @@
 use Rattle.std.proofs.Common.{ℕ, subst, sym, inl, inr}
 use Rattle.lryacc.specs.Quotes.{IsLetterFor}
-use Rattle.lryacc.specs.Quotes.IsLetterFor.{alert, backspace, backslash, carriage_return, double_quote, form_feed, line_feed, question_mark, quote, tab, vertical_tab}
+use Rattle.lryacc.specs.Quotes.IsLetterFor.{alert, backspace, backslash, carriage_return, double_quote, form_feed, line_feed, question_mark, single_quote, tab, vertical_tab}
 use Rattle.lryacc.proofs.quotes.letter_value.Goals as goal
 
 pub returns-in-97 : goal.returns-in-97
@@ -29,7 +29,7 @@ returns-in-92 c =
     let Is : ℕ → Type 0 = λ byte. IsLetterFor byte byte in
     elim c.in-92.is [
       | inl is ↦ subst Is (sym is) double_quote
-      | inr (inl is) ↦ subst Is (sym is) quote
+      | inr (inl is) ↦ subst Is (sym is) single_quote
       | inr (inr (inl is)) ↦ subst Is (sym is) question_mark
       | inr (inr (inr is)) ↦ subst Is (sym is) backslash
     ]
