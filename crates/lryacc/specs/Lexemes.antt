@@ -6,6 +6,7 @@ use Rattle.lryacc.specs.declared.dialects.Dialect.TheVariants.{Bison, Grmtools}
 use Rattle.lryacc.specs.declared.lexemes.Lexeme.{Lexeme}
 use Rattle.lryacc.specs.declared.lexemes.LexemeKind.{LexemeKind}
 use Rattle.lryacc.specs.declared.lexemes.LexemeKind.TheVariants as kind
+use Rattle.lryacc.specs.GrmtoolsQuotes.{IsQuotedName, IsQuotedText}
 use Rattle.lryacc.specs.Quotes.{AreQuoted, IsText, IsTranslated}
 
 -- ---- classes of bytes
@@ -98,9 +99,9 @@ abbrev pub IsGrmtoolsLexeme : LexemeKind → List ℕ → ℕ → ℕ → Type 0
 IsGrmtoolsLexeme kind.Name text start end = IsWord is_word_start is_in_word text start end
 IsGrmtoolsLexeme kind.Number text start end = IsWord is_ascii_digit is_in_word text start end
 IsGrmtoolsLexeme kind.QuotedName text start end =
-    IsBetween 39 39 text start end ⊎ IsBetween 34 34 text start end
+    IsQuotedName 39 text start end ⊎ IsQuotedName 34 text start end
 IsGrmtoolsLexeme kind.QuotedText text start end =
-    IsBetween 39 39 text start end ⊎ IsBetween 34 34 text start end
+    IsQuotedText 39 text start end ⊎ IsQuotedText 34 text start end
 IsGrmtoolsLexeme kind.RuleType text start end = Are text start (start + 2) (codes "->")
 IsGrmtoolsLexeme kind.Directive text start end =
     IsWord is_percent is_in_directive text start end

@@ -24,6 +24,8 @@ pub mod Bodies
 pub mod AllBodies
 -- what stands in quotes, and which bytes it is
 pub mod Quotes
+-- names and texts in quotes, as grmtools reads them
+pub mod GrmtoolsQuotes
 -- bytes in quotes that are read up to a place within them
 pub mod QuotesRead
 -- the lexemes of a text

@@ -1,6 +1,9 @@
 -- bytes in quotes that are read up to a place within them
-use Rattle.std.specs.Prelude.{◌≡◌, ℕ, ◌-◌, ◌^◌, List, length, min, slice_index}
+use Rattle.std.specs.Prelude.{◌≡◌, ◌≢◌, ℕ, ◌+◌, ◌-◌, ◌^◌, Bool, true, false, List, length, min, slice_index}
+use Rattle.lryacc.specs.declared.lexemes.LexemeKind.{LexemeKind}
+use Rattle.lryacc.specs.declared.lexemes.LexemeKind.TheVariants as kind
 use Rattle.lryacc.specs.declared.quotes.Quoted.{Quoted}
+use Rattle.lryacc.specs.GrmtoolsQuotes.{AreParts}
 use Rattle.lryacc.specs.Quotes.{AreBytesIn, AreQuoted}
 
 -- the number that something is; where it is no number of 32 bits, the greatest of these in its place
@@ -22,3 +25,18 @@ pub record AreRead (quote : ℕ) (text : List ℕ) (start : ℕ) (found : Quoted
   pub are : AreQuoted quote bytes text start found.end
   pub number : found.bytes ≡ length bytes
   pub last : found.last ≡ slice_index bytes (found.bytes - 1)
+
+-- ---- of grmtools
+
+-- whether what stands in quotes has quotes of its own
+abbrev pub has_quote : LexemeKind → Bool
+has_quote kind.QuotedText = true
+has_quote _ = false
+
+-- parts that are read up to a place, and the byte before it, a space in place of one behind a backslash
+pub data ArePartsUpTo (quote : ℕ) (text : List ℕ) (start : ℕ) (has : Bool) : ℕ → ℕ → Type 0 where
+  whole : {at before : ℕ} → before ≢ 92 → AreParts quote text start has at
+      → ArePartsUpTo quote text start has at before
+  -- a backslash, behind which a byte belongs to it
+  half : {at : ℕ} → AreParts quote text start has at → slice_index text at ≡ 92
+      → ArePartsUpTo quote text start has (at + 1) 92

@@ -2,6 +2,7 @@
 
 ghost use Rattle.std.specs.Prelude.{◌≡◌, ◌+◌, ◌<◌, ◌≤◌, ◌⊎◌, true, codes, length, slice_index, IfOk, IsTrue};
 ghost use Rattle.std.specs.Char.{is_ascii_digit};
+ghost use Rattle.lryacc.specs.GrmtoolsQuotes.{IsLoneMark, is_quote};
 ghost use Rattle.lryacc.specs.Lexemes.{Are, Begins, IsGrmtoolsLexeme};
 
 use crate::faults::{Fault, FaultKind, Wanted};
@@ -36,10 +37,19 @@ fn number(text: &[u8], from: usize) -> Result<(LexemeKind, usize), Fault>
     })
 }
 
+/// Whether the byte is a quote.
+fn is_quote(byte: u8) -> bool
+    ensures { result ≡ is_quote byte }
+{
+    matches!(byte, b'\'' | b'"')
+}
+
 /// Whether a quote or a backslash stands between quotes by itself, as in `'''` and `'\'`.
 fn is_lone_mark(bytes: &[u8]) -> bool
+    requires { is_quote (slice_index bytes.now 0) ≡ true }
     ensures inside { IsTrue result → 3 ≤ length bytes.now }
-    ensures closes { IsTrue result → slice_index bytes.now 2 ≡ slice_index bytes.now 0 }
+    ensures is { IsTrue result → IsLoneMark (slice_index bytes.now 0) bytes.now 0 }
+    ensures only { IsLoneMark (slice_index bytes.now 0) bytes.now 0 → IsTrue result }
 {
     match bytes {
         [quote, b'\\', end, next, ..] => *end == *quote && *next != *quote,
@@ -64,7 +74,7 @@ fn quoted(text: &[u8], from: usize) -> Result<(LexemeKind, usize), Fault>
     let mut before = quote;
     for at in from + 1..text.len() {
         let byte = text[at];
-        if before == b'\\' && matches!(byte, b'\'' | b'"') {
+        if before == b'\\' && is_quote(byte) {
             kind = LexemeKind::QuotedText;
         } else if byte == quote {
             return ended(kind, from, at);
@@ -83,6 +93,7 @@ fn quoted(text: &[u8], from: usize) -> Result<(LexemeKind, usize), Fault>
 fn ended(kind: LexemeKind, from: usize, last: usize) -> Result<(LexemeKind, usize), Fault>
     requires order { from < last }
     requires fits { last < usize.MAX }
+    ensures some { IfOk result (λ _. from + 1 < last) }
     ensures kind { IfOk result (λ found. found.0 ≡ kind) }
     ensures end { IfOk result (λ found. found.1 ≡ last + 1) }
 {
