@@ -16,7 +16,8 @@ none-read quote text start at same =
 more-read : (quote : ℕ) (text : List ℕ) (start at end number last byte : ℕ) → AreReadUpTo quote text start at number last
     → IsByteIn quote text at end byte → AreReadUpTo quote text start end (number + 1) byte
 more-read quote text start at end number last byte read next =
-    let long : length (read.bytes ++ byte ∷ []) ≡ number + 1 = length-append read.bytes (byte ∷ []) ∙ ap (λ n. n + 1) (sym read.number_is) in
+    let long : length (read.bytes ++ byte ∷ []) ≡ number + 1 =
+    length-append read.bytes (byte ∷ []) ∙ ap (λ n. n + 1) (sym read.number_is) in
     let place : number + 1 - 1 ≡ length read.bytes = omega (arith, read.number_is) in
     record {
       bytes = read.bytes ++ byte ∷ [];

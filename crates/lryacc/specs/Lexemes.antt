@@ -8,6 +8,7 @@ use Rattle.lryacc.specs.declared.lexemes.LexemeKind.{LexemeKind}
 use Rattle.lryacc.specs.declared.lexemes.LexemeKind.TheVariants as kind
 use Rattle.lryacc.specs.GrmtoolsQuotes.{IsQuotedName, IsQuotedText}
 use Rattle.lryacc.specs.Quotes.{AreQuoted, IsText, IsTranslated}
+use Rattle.lryacc.specs.Tags.{IsTag}
 
 -- ---- classes of bytes
 
@@ -79,7 +80,7 @@ IsBisonLexeme kind.Number text start end = IsWord is_ascii_digit is_in_name text
 IsBisonLexeme (kind.Character byte) text start end = AreQuoted 39 (byte ∷ []) text start end
 IsBisonLexeme kind.Text text start end = IsText text start end
 IsBisonLexeme kind.TranslatedText text start end = IsTranslated text start end
-IsBisonLexeme kind.Tag text start end = IsBetween 60 62 text start end
+IsBisonLexeme kind.Tag text start end = IsTag text start end
 IsBisonLexeme kind.AnyTag text start end =
     Are text start end (codes "<>") ⊎ Are text start end (codes "<*>")
 IsBisonLexeme kind.Directive text start end = Begins 37 text start ⊎ Begins 92 text start

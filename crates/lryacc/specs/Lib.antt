@@ -28,6 +28,10 @@ pub mod Quotes
 pub mod GrmtoolsQuotes
 -- bytes in quotes that are read up to a place within them
 pub mod QuotesRead
+-- tags
+pub mod Tags
+-- tags that are read up to a place within them
+pub mod TagsRead
 -- the lexemes of a text
 pub mod Lexemes
 -- bytes of one class

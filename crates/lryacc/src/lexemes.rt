@@ -3,7 +3,8 @@
 ghost use Rattle.std.specs.Prelude.{◌≡◌, ◌+◌, ◌<◌, ◌≤◌, true, length, slice_index, IfOk};
 ghost use Rattle.std.specs.Char.{is_ascii_digit};
 ghost use Rattle.lryacc.specs.Bodies.{is_symbol};
-ghost use Rattle.lryacc.specs.Lexemes.{Begins, EndsWith, IsBisonLexeme, is_name_start};
+ghost use Rattle.lryacc.specs.Lexemes.{Begins, IsBisonLexeme, is_name_start};
+ghost use Rattle.lryacc.specs.Tags.{IsTag};
 
 use crate::code::{Ending, code_end};
 use crate::dialects::Dialect;
@@ -119,10 +120,11 @@ fn number(text: &[u8], from: usize) -> Result<(LexemeKind, usize), Fault>
 
 /// The place behind the tag that begins at a place: tags nest, and `->` closes none.
 fn tag_end(text: &[u8], from: usize) -> Result<usize, Fault>
-    requires { from < length text.now }
+    requires from { from < length text.now }
+    requires first { Begins 60 text.now from }
     ensures from { IfOk result (λ end. from < end) }
     ensures inside { IfOk result (λ end. end ≤ length text.now) }
-    ensures closes { IfOk result (EndsWith 62 text.now from) }
+    ensures is { IfOk result (IsTag text.now from) }
 {
     let mut depth: usize = 0;
     let mut before = b'<';
