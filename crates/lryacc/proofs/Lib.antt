@@ -1,7 +1,7 @@
 -- productions that are added, faults by their places, sets of rules, what stays of a grammar, delimiters that are passed, bodies
 -- that are read, and all of them, names of rules among lexemes, lexemes that are found one after another, gaps that are read
--- byte by byte, digits and escapes, bytes and parts in quotes, tags, rules and tokens that are numbered, productions of bodies, and
--- names of one symbol
+-- byte by byte, digits and escapes, bytes and parts in quotes, tags, texts of characters, rules and tokens that are numbered,
+-- productions of bodies, and names of one symbol
 pub mod AddedProductions
 pub mod MapsOfFaults
 pub mod UsefulLemmas
@@ -17,6 +17,7 @@ pub mod Escapes
 pub mod BytesInQuotes
 pub mod PartsInQuotes
 pub mod TagsByBytes
+pub mod CharacterTexts
 pub mod Numbered
 pub mod ProductionsAdded
 pub mod NamesOfOne

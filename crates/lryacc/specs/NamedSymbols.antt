@@ -22,6 +22,7 @@ use Rattle.lryacc.specs.declared.meaning.Meaning.{Meaning}
 use Rattle.lryacc.specs.declared.numbering.FileGrammar.{FileGrammar}
 use Rattle.lryacc.specs.declared.places.Span.{Span}
 use Rattle.lryacc.specs.declared.symbols.Symbols.{Symbols}
+use Rattle.lryacc.specs.Quotes.{IsLetterFor}
 
 -- the bytes at a place, if it is one of the text
 abbrev pub text_at : List ℕ → Span → List ℕ
@@ -271,12 +272,24 @@ pub record IsRuleOf (names : Names) (number rule : ℕ) : Type 0 where
   pub here : slice_get names.rules rule ≡ Some text
   pub is : IsTextOf (name_of names.text names.dialect name) text
 
--- how a byte in quotes stands in a grammar: by itself, if it prints and is no quote and no backslash
+-- whether a byte prints, and is no `'` and no backslash
 abbrev pub is_plain : ℕ → Bool
 is_plain byte = nat_le 32 byte && nat_le byte 126 && not (nat_eq byte 39) && not (nat_eq byte 92)
 
-abbrev pub IsCharacterText : ℕ → List ℕ → Type 0
-IsCharacterText byte text = is_plain byte ≡ true → text ≡ 39 ∷ byte ∷ 39 ∷ []
+-- a byte as three octal digits
+abbrev pub octal_digits : ℕ → List ℕ
+octal_digits byte = (48 + byte / 64) ∷ (48 + byte / 8 % 8) ∷ (48 + byte % 8) ∷ []
+
+-- how a byte in quotes stands in a grammar
+pub data IsCharacterText (byte : ℕ) : List ℕ → Type 0 where
+  -- by itself, if it is plain
+  by_itself : is_plain byte ≡ true → IsCharacterText byte (39 ∷ byte ∷ 39 ∷ [])
+  -- else by the letter that is it behind a backslash
+  by_letter : {letter : ℕ} → is_plain byte ≡ false → IsLetterFor letter byte
+      → IsCharacterText byte (39 ∷ 92 ∷ letter ∷ 39 ∷ [])
+  -- or, where no letter is, by octal digits there
+  by_digits : is_plain byte ≡ false → ((letter : ℕ) → ¬ IsLetterFor letter byte)
+      → IsCharacterText byte (39 ∷ 92 ∷ (octal_digits byte ++ 39 ∷ []))
 
 -- how a name of a token stands in a grammar: for grmtools in quotes
 abbrev pub IsNameOfToken : Dialect → List ℕ → List ℕ → Type 0

@@ -1,8 +1,9 @@
 //! The names of symbols in a grammar.
 
-ghost use Rattle.std.specs.Prelude.{◌≡◌, ◌&&◌, ◌++◌, not, nat_eq, nat_lt, IfOk, OnOk, string_bytes};
+ghost use Rattle.std.specs.Prelude.{◌≡◌, ℕ, ◌&&◌, ◌++◌, not, nat_eq, nat_lt, false, IfOk, MatchOption, OnOk, string_bytes};
 ghost use Rattle.std.specs.List.{flat_map};
-ghost use Rattle.lryacc.specs.NamedSymbols.{IsCharacterText, IsTextOf, escaped_byte};
+ghost use Rattle.lryacc.specs.NamedSymbols.{IsCharacterText, IsTextOf, escaped_byte, is_plain};
+ghost use Rattle.lryacc.specs.Quotes.{IsLetterFor};
 
 use std::alloc::{AllocError, Global};
 use std::str;
@@ -50,21 +51,42 @@ fn add_escaped(text: &mut String, byte: u8) -> Result<(), AllocError>
     text.push_str(number.as_str())
 }
 
+/// Whether a byte stands by itself between quotes.
+fn is_plain(byte: u8) -> bool
+    ensures { result ≡ is_plain byte }
+{
+    matches!(byte, b' '..=b'~') && !matches!(byte, b'\'' | b'\\')
+}
+
+/// The letter that is a byte behind a backslash, if one is.
+fn letter_for(byte: u8) -> Option<char>
+    requires { is_plain byte ≡ false }
+    ensures { MatchOption result
+        ((letter : ℕ) → ¬ IsLetterFor letter byte) (λ letter. IsLetterFor letter byte) }
+{
+    match byte {
+        7 => Some('a'),
+        8 => Some('b'),
+        b'\t' => Some('t'),
+        b'\n' => Some('n'),
+        11 => Some('v'),
+        12 => Some('f'),
+        b'\r' => Some('r'),
+        b'\'' => Some('\''),
+        b'\\' => Some('\\'),
+        _ => None,
+    }
+}
+
 /// The byte between quotes, as Bison tells it: by an escape where it does not print.
 pub(crate) fn character_text(alloc: Global, byte: u8) -> Result<String, AllocError>
     ensures { IfOk result (λ text. IsCharacterText byte (string_bytes text)) }
 {
-    let letter = match byte {
-        7 => 'a',
-        8 => 'b',
-        b'\t' => 't',
-        b'\n' => 'n',
-        11 => 'v',
-        12 => 'f',
-        b'\r' => 'r',
-        b'\'' | b'\\' => char::from(byte),
-        b' '..=b'~' => return format!(in alloc; "'{}'", char::from(byte)),
-        _ => return format!(in alloc; "'\\{byte:03o}'"),
-    };
-    format!(in alloc; "'\\{letter}'")
+    if is_plain(byte) {
+        return format!(in alloc; "'{}'", char::from(byte));
+    }
+    match letter_for(byte) {
+        Some(letter) => format!(in alloc; "'\\{letter}'"),
+        None => format!(in alloc; "'\\{byte:03o}'"),
+    }
 }
