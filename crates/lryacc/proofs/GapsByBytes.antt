@@ -4,7 +4,8 @@ use Rattle.lryacc.specs.declared.dialects.Dialect.{Dialect}
 use Rattle.lryacc.specs.declared.dialects.Dialect.TheVariants.{Bison, Grmtools}
 use Rattle.lryacc.specs.declared.gaps.Within.{Within}
 use Rattle.lryacc.specs.declared.gaps.Within.TheVariants as within
-use Rattle.lryacc.specs.Gaps.{BeginsLine, IsBlock, IsGap, IsLineMark, is_in_line}
+use Rattle.lryacc.specs.Comments.{IsBlock}
+use Rattle.lryacc.specs.Gaps.{BeginsLine, IsGap, IsLineMark, is_in_line}
 use Rattle.lryacc.specs.Gaps.IsGap.{blank, block, line}
 use Rattle.lryacc.specs.GapsRead.{BeginsGap, IsGapUpTo, IsInBlock, IsInLine}
 use Rattle.lryacc.specs.Lexemes.{IsRun}

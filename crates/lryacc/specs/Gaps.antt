@@ -1,9 +1,9 @@
 -- what stands between lexemes
-use Rattle.std.specs.Prelude.{◌≡◌, ℕ, ◌+◌, ◌-◌, ◌<◌, ◌≤◌, ◌⊎◌, ◌||◌, ◌==◌, not, Bool, true, List, codes, length, min, slice_index}
+use Rattle.std.specs.Prelude.{◌≡◌, ℕ, ◌+◌, ◌-◌, ◌⊎◌, ◌||◌, ◌==◌, not, Bool, true, List, codes, length, min, slice_index}
 use Rattle.lryacc.specs.declared.dialects.Dialect.{Dialect}
 use Rattle.lryacc.specs.declared.dialects.Dialect.TheVariants.{Bison, Grmtools}
+use Rattle.lryacc.specs.Comments.{IsBlock, IsPair, is_white}
 use Rattle.lryacc.specs.Lexemes.{Are, IsRun}
-use Rattle.lryacc.specs.Runs.{is_white}
 
 -- whether a byte is a blank: a space, a tab, a line feed or a carriage return; for Bison, so are a vertical tab, a form feed and a
 -- comma
@@ -15,11 +15,6 @@ is_blank Grmtools byte = byte == 32 || (byte == 9 || (byte == 10 || byte == 13))
 abbrev pub is_in_line : ℕ → Bool
 is_in_line byte = not (byte == 10)
 
--- two bytes at a place
-pub record IsPair (text : List ℕ) (at first second : ℕ) : Type 0 where
-  pub one : slice_index text at ≡ first
-  pub other : slice_index text (at + 1) ≡ second
-
 -- a line begins with `#line `
 pub record IsLineMark (text : List ℕ) (at : ℕ) : Type 0 where
   pub begins : (at ≡ 0) ⊎ (slice_index text (at - 1) ≡ 10)
@@ -29,13 +24,6 @@ pub record IsLineMark (text : List ℕ) (at : ℕ) : Type 0 where
 abbrev pub BeginsLine : Dialect → List ℕ → ℕ → Type 0
 BeginsLine Bison text at = IsPair text at 47 47 ⊎ IsLineMark text at
 BeginsLine Grmtools text at = IsPair text at 47 47
-
--- a comment from `/*` up to the first `*/` behind it, whose place is `last`
-pub record IsBlock (text : List ℕ) (start last : ℕ) : Type 0 where
-  pub opens : IsPair text start 47 42
-  pub behind : start + 2 ≤ last
-  pub closes : IsPair text last 42 47
-  pub first : (at : ℕ) → start + 2 ≤ at → at < last → ¬ IsPair text at 42 47
 
 -- only blanks, comments and lines with `#line` stand from one place up to another
 pub data IsGap (dialect : Dialect) (text : List ℕ) (from : ℕ) : ℕ → Type 0 where

@@ -4,7 +4,8 @@ use Rattle.lryacc.specs.declared.dialects.Dialect.{Dialect}
 use Rattle.lryacc.specs.declared.dialects.Dialect.TheVariants.{Bison}
 use Rattle.lryacc.specs.declared.gaps.Within.{Within}
 use Rattle.lryacc.specs.declared.gaps.Within.TheVariants as within
-use Rattle.lryacc.specs.Gaps.{BeginsLine, IsGap, IsLineMark, IsPair, is_blank, is_in_line}
+use Rattle.lryacc.specs.Comments.{IsPair}
+use Rattle.lryacc.specs.Gaps.{BeginsLine, IsGap, IsLineMark, is_blank, is_in_line}
 
 -- what begins with the byte at a place
 abbrev pub BeginsGap : Dialect → List ℕ → ℕ → Within → Type 0

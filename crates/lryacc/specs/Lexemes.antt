@@ -1,6 +1,7 @@
 -- the lexemes of a text
 use Rattle.std.specs.Prelude.{◌≡◌, ℕ, ◌+◌, ◌<◌, ◌≤◌, ◌⊎◌, ◌&&◌, ◌||◌, ◌==◌, if◌then◌else◌, not, Bool, true, false, List, [], ◌∷◌, codes, length, slice_index, slice_range}
 use Rattle.std.specs.Char.{is_ascii_alphabetic, is_ascii_alphanumeric, is_ascii_digit}
+use Rattle.lryacc.specs.declared.code.Ending.TheVariants.{Brace, PrologueMark}
 use Rattle.lryacc.specs.declared.dialects.Dialect.{Dialect}
 use Rattle.lryacc.specs.declared.dialects.Dialect.TheVariants.{Bison, Grmtools}
 use Rattle.lryacc.specs.declared.lexemes.Lexeme.{Lexeme}
@@ -9,6 +10,8 @@ use Rattle.lryacc.specs.declared.lexemes.LexemeKind.TheVariants as kind
 use Rattle.lryacc.specs.GrmtoolsQuotes.{IsQuotedName, IsQuotedText}
 use Rattle.lryacc.specs.Quotes.{AreQuoted, IsText, IsTranslated}
 use Rattle.lryacc.specs.Tags.{IsTag}
+use Rattle.lryacc.specs.Code.{EndsCode}
+use Rattle.lryacc.specs.Comments.{is_white}
 
 -- ---- classes of bytes
 
@@ -86,9 +89,13 @@ IsBisonLexeme kind.AnyTag text start end =
 IsBisonLexeme kind.Directive text start end = Begins 37 text start ⊎ Begins 92 text start
 IsBisonLexeme kind.Separator text start end =
     Are text start end (codes "%%") ⊎ Are text start end (codes "\\\\")
-IsBisonLexeme kind.Action text start end = Begins 123 text start
-IsBisonLexeme kind.Predicate text start end = Are text start (start + 2) (codes "%?")
-IsBisonLexeme kind.Prologue text start end = Are text start (start + 2) (codes "%{")
+IsBisonLexeme kind.Action text start end =
+    Begins 123 text start × EndsCode Brace text (start + 1) end
+IsBisonLexeme kind.Predicate text start end =
+    Are text start (start + 2) (codes "%?") × ((brace : ℕ) × IsRun is_white text (start + 2) brace
+    × Begins 123 text brace × EndsCode Brace text (brace + 1) end)
+IsBisonLexeme kind.Prologue text start end =
+    Are text start (start + 2) (codes "%{") × EndsCode PrologueMark text (start + 2) end
 IsBisonLexeme kind.Colon text start end = Are text start end (codes ":")
 IsBisonLexeme kind.Bar text start end = Are text start end (codes "|")
 IsBisonLexeme kind.Semicolon text start end = Are text start end (codes ";")

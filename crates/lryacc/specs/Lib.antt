@@ -32,6 +32,12 @@ pub mod QuotesRead
 pub mod Tags
 -- tags that are read up to a place within them
 pub mod TagsRead
+-- blanks, and comments
+pub mod Comments
+-- code of a host language, and where it ends
+pub mod Code
+-- code that is read up to a place within it
+pub mod CodeRead
 -- the lexemes of a text
 pub mod Lexemes
 -- bytes of one class

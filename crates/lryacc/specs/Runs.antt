@@ -1,14 +1,11 @@
 -- bytes of one class
-use Rattle.std.specs.Prelude.{◌&&◌, ◌||◌, ◌==◌, ℕ, nat_le, not, Bool, codes}
+use Rattle.std.specs.Prelude.{◌||◌, ◌==◌, ℕ, not, Bool, codes}
 use Rattle.std.specs.Char.{is_ascii_alphanumeric, is_ascii_digit, is_ascii_hexdigit}
 use Rattle.std.specs.List.{list_any}
 use Rattle.lryacc.specs.declared.runs.Run.{Run}
 use Rattle.lryacc.specs.declared.runs.Run.TheVariants as run
+use Rattle.lryacc.specs.Comments.{is_white}
 use Rattle.lryacc.specs.Lexemes.{is_in_directive, is_in_name, is_in_word}
-
--- spaces, tabs, feeds and carriage returns
-abbrev pub is_white : ℕ → Bool
-is_white byte = byte == 32 || nat_le 9 byte && nat_le byte 13
 
 -- whether a run may have a byte
 abbrev pub has : Run → ℕ → Bool

@@ -1,9 +1,10 @@
 //! The lexemes of a grammar file.
 
-ghost use Rattle.std.specs.Prelude.{◌≡◌, ◌+◌, ◌<◌, ◌≤◌, true, length, slice_index, IfOk};
+ghost use Rattle.std.specs.Prelude.{◌≡◌, ◌+◌, ◌<◌, ◌≤◌, true, codes, length, slice_index, IfOk};
 ghost use Rattle.std.specs.Char.{is_ascii_digit};
 ghost use Rattle.lryacc.specs.Bodies.{is_symbol};
-ghost use Rattle.lryacc.specs.Lexemes.{Begins, IsBisonLexeme, is_name_start};
+ghost use Rattle.lryacc.specs.Code.{EndsCode};
+ghost use Rattle.lryacc.specs.Lexemes.{Are, Begins, IsBisonLexeme, is_name_start};
 ghost use Rattle.lryacc.specs.Tags.{IsTag};
 
 use crate::code::{Ending, code_end};
@@ -208,9 +209,26 @@ fn code(
     ensures from { IfOk result (λ found. from < found.1) }
     ensures inside { IfOk result (λ found. found.1 ≤ length text.now) }
     ensures kind { IfOk result (λ found. found.0 ≡ kind) }
+    ensures code { IfOk result (λ found. EndsCode ending text.now (from + mark) found.1) }
 {
     let opening = Span::new(from, from + mark);
     Ok((kind, code_end(text, opening, from + mark, ending)?))
+}
+
+/// The predicate that begins at a place with `%?`: blanks may stand before its brace.
+fn predicate(text: &[u8], from: usize) -> Result<(LexemeKind, usize), Fault>
+    requires from { from + 2 ≤ length text.now }
+    requires first { Are text.now from (from + 2) (codes "%?") }
+    ensures from { IfOk result (λ found. from < found.1) }
+    ensures inside { IfOk result (λ found. found.1 ≤ length text.now) }
+    ensures is { IfOk result (λ found. IsBisonLexeme found.0 text.now from found.1) }
+{
+    let brace = Run::Blanks.end(text, from + 2);
+    if text.get(brace) == Some(&b'{') {
+        let mark = brace + 1 - from;
+        return code(text, from, mark, LexemeKind::Predicate, Ending::Brace);
+    }
+    Err(invalid(from))
 }
 
 /// The lexeme whose `%` stands at a place.
@@ -227,14 +245,7 @@ fn behind_percent(text: &[u8], from: usize) -> Result<(LexemeKind, usize), Fault
     match *byte {
         b'%' => Ok((LexemeKind::Separator, from + 2)),
         b'{' => code(text, from, 2, LexemeKind::Prologue, Ending::PrologueMark),
-        b'?' => {
-            let brace = Run::Blanks.end(text, from + 2);
-            if text.get(brace) != Some(&b'{') {
-                return Err(invalid(from));
-            }
-            let mark = brace + 1 - from;
-            code(text, from, mark, LexemeKind::Predicate, Ending::Brace)
-        }
+        b'?' => predicate(text, from),
         b'<' | b'>' | b'0' | b'2' => Ok((LexemeKind::Directive, from + 2)),
         byte if is_name_start(byte) => Ok((LexemeKind::Directive, Run::Name.end(text, from + 1))),
         _ => Err(invalid(from)),

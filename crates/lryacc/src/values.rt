@@ -130,7 +130,7 @@ impl<'a> Uses<'a> {
 
     /// Takes in the values that the action at a place of the body uses. What stands in its quotes and comments uses none.
     fn take_code(&mut self, at: usize, code: &'a [u8]) {
-        let mut reader = CodeReader::new(Ending::File);
+        let mut reader = CodeReader::new();
         // The place behind the last mark.
         let mut behind: usize = 0;
         for place in 0..code.len() {
@@ -141,7 +141,9 @@ impl<'a> Uses<'a> {
                     self.take(at, value);
                 }
             }
-            let _ = reader.take(place, code[place]);
+            if let Ok(Some(next)) = reader.step(code, place, Ending::File) {
+                reader = next;
+            }
         }
     }
 
