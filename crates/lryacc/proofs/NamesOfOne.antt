@@ -25,23 +25,32 @@ use Rattle.lryacc.specs.declared.symbols.Symbols.{Symbols}
 use Rattle.lryacc.specs.NamedSymbols.{AddsName, AddsNames, AreApart, ArePair, ArePartnered, HaveNumbers, IsDeclared, KeepsNames, KeepsSymbols, Name, NameOne, Pairs, TakesOne, TakesSome, called, earlier, first_name, name_as, number_in, number_of, partner_in, symbol_number}
 
 -- the same tables have the same numbers
-number-same : (old new : Symbols) → KeepsNames old new → (name : Name) → number_in new name ≡ number_in old name
+pub number-same : (old new : Symbols) → KeepsNames old new → (name : Name) → number_in new name ≡ number_in old name
 number-same old new keeps (Name.word bytes) = ap (λ m. get_by (λ key. slice_cmp nat_cmp bytes key.now) m) keeps.words
 number-same old new keeps (Name.character byte) = ap (λ m. get nat_cmp m byte) keeps.characters
 
 -- what has a number keeps it
-number-kept : (old new : Symbols) → KeepsNames old new → (lexeme : Lexeme) (n : ℕ) → number_of old lexeme ≡ Some n → number_of new lexeme ≡ Some n
+pub number-kept : (old new : Symbols) → KeepsNames old new → (lexeme : Lexeme) (n : ℕ) → number_of old lexeme ≡ Some n → number_of new lexeme ≡ Some n
 number-kept old new keeps lexeme n h =
     ap (λ t. number_in new (called t new.dialect lexeme)) keeps.text
     ∙ ap (λ d. number_in new (called old.text.now d lexeme)) keeps.dialect
     ∙ number-same old new keeps (called old.text.now old.dialect lexeme) ∙ h
 
-names-kept : {old now new : Symbols} → KeepsNames old now → KeepsNames now new → KeepsNames old new
+pub names-kept : {old now new : Symbols} → KeepsNames old now → KeepsNames now new → KeepsNames old new
 names-kept one other = record {
   text = other.text ∙ one.text;
   dialect = other.dialect ∙ one.dialect;
   words = other.words ∙ one.words;
   characters = other.characters ∙ one.characters;
+}
+
+-- names stay the same, seen from behind
+pub names-turned : {old new : Symbols} → KeepsNames old new → KeepsNames new old
+names-turned keeps = record {
+  text = sym keeps.text;
+  dialect = sym keeps.dialect;
+  words = sym keeps.words;
+  characters = sym keeps.characters;
 }
 
 pub kept-again : {old now new : Symbols} → KeepsSymbols old now → KeepsSymbols now new → KeepsSymbols old new
@@ -77,6 +86,10 @@ item-numbers s number symbol =
 pub ok-then : {A E P Q : Type 0} (r : Result A E) → (P → Q) → OnOk r P → OnOk r Q
 ok-then (Ok a) f p = f p
 ok-then (Err e) f p = p
+
+pub ok-both : {A E P Q S : Type 0} (r : Result A E) → (P → Q → S) → OnOk r P → OnOk r Q → OnOk r S
+ok-both (Ok a) f p q = f p q
+ok-both (Err e) f p q = p
 
 -- the name of a lexeme that is no byte in quotes is a word
 pub as-word : (k : LexemeKind) (bytes : List ℕ) → ((byte : ℕ) → k ≢ kind.Character byte) → name_as k bytes ≡ Name.word bytes

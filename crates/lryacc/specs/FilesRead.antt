@@ -13,13 +13,14 @@ use Rattle.lryacc.specs.declared.useful.Useless.{Useless}
 use Rattle.lryacc.specs.AllBodies.{AreAllBodies}
 use Rattle.lryacc.specs.AllLexemes.{AreAllLexemesOf}
 use Rattle.lryacc.specs.BodyProductions.{AreOfFile}
+use Rattle.lryacc.specs.EndTokens.{HasEnd}
 use Rattle.lryacc.specs.Headers.{HoldsHeader}
 use Rattle.lryacc.specs.KeptProductions.{IsWithout}
 use Rattle.lryacc.specs.NamedSymbols.{NameOne, Names}
 use Rattle.lryacc.specs.ProductionPlaces.{file_places, start_rules_of}
 
 -- the names of a file of this text and dialect, with these declarations and bodies, and of the rules, of which the first is
--- `$accept`, and the tokens of a grammar of it: lexemes of one number name one symbol
+-- `$accept`, and the tokens of a grammar of it: lexemes of one number name one symbol, and the end token is what declarations say
 pub record AreNamesOf (text : List ℕ) (dialect : Dialect) (statements : List Statement)
     (bodies : List Alternative) (file : FileGrammar) (names : Names) : Type 0 where
   pub text_is : names.text ≡ text
@@ -30,6 +31,7 @@ pub record AreNamesOf (text : List ℕ) (dialect : Dialect) (statements : List S
   pub rules : names.rules ≡ map (λ name. string_bytes name) file.parts.rules.items
   pub tokens : names.tokens ≡ map (λ token. string_bytes token.name) file.parts.tokens.items
   pub starts : names.starts ≡ map (λ place. place.start) file.rule_places.items
+  pub end : HasEnd names
   pub one : (lexeme other : Lexeme) (number : ℕ) → names.number lexeme ≡ Some number
       → names.number other ≡ Some number → NameOne text dialect statements lexeme other
 

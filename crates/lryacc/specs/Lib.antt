@@ -52,6 +52,8 @@ pub mod GapsRead
 pub mod AllLexemes
 -- which rule or token a lexeme names
 pub mod NamedSymbols
+-- which symbol is the end token
+pub mod EndTokens
 -- the productions of bodies
 pub mod BodyProductions
 -- the numbers of rules and tokens

@@ -2,7 +2,7 @@
 //! quotes, a body has a token only behind the place that makes it one.
 
 ghost use Rattle.std.specs.Prelude.{OnOk};
-ghost use Rattle.lryacc.specs.NamedSymbols.{KeepsSymbols};
+ghost use Rattle.lryacc.specs.EndTokens.{KeepsMeaning};
 
 use crate::contents::{Alternative, BodyPart, Contents, Statement};
 use crate::faults::{Fault, FaultKind};
@@ -16,7 +16,7 @@ use std::collections::BTreeSet;
 impl<'a> Meaning<'a> {
     /// Tells of names that stand for nothing, and of tokens behind `%prec` that have no precedence.
     pub(crate) fn tell_unknown(&mut self, contents: &Contents) -> Result<(), AllocError>
-        ensures { OnOk result (KeepsSymbols self.old.symbols self.new.symbols) }
+        ensures { OnOk result (KeepsMeaning self.old self.new) }
     {
         for statement in &contents.statements {
             if let Statement::Start(name) | Statement::Mention(name) = statement {
@@ -28,7 +28,7 @@ impl<'a> Meaning<'a> {
 
     /// Tells of such names in bodies.
     fn tell_unknown_in_bodies(&mut self, alternatives: &[Alternative]) -> Result<(), AllocError>
-        ensures { OnOk result (KeepsSymbols self.old.symbols self.new.symbols) }
+        ensures { OnOk result (KeepsMeaning self.old self.new) }
     {
         for alternative in alternatives {
             self.tell_unknown_parts(alternative.parts.as_slice())?;
@@ -41,7 +41,7 @@ impl<'a> Meaning<'a> {
 
     /// Tells of such names in a body.
     fn tell_unknown_parts(&mut self, parts: &[BodyPart]) -> Result<(), AllocError>
-        ensures { OnOk result (KeepsSymbols self.old.symbols self.new.symbols) }
+        ensures { OnOk result (KeepsMeaning self.old self.new) }
     {
         for part in parts {
             if let BodyPart::Symbol(name) = part {
@@ -99,7 +99,7 @@ impl<'a> Meaning<'a> {
 
     /// Tells of a name that is neither that of a rule nor of a token before a place.
     fn tell_unless_known(&mut self, name: Lexeme, end: usize) -> Result<(), AllocError>
-        ensures { OnOk result (KeepsSymbols self.old.symbols self.new.symbols) }
+        ensures { OnOk result (KeepsMeaning self.old self.new) }
     {
         if self.is_known_before(name, end) {
             return Ok(());
@@ -109,7 +109,7 @@ impl<'a> Meaning<'a> {
 
     /// Tells of what stands behind `%prec` and is no token, or has no precedence.
     fn tell_unless_leveled(&mut self, name: Lexeme) -> Result<(), AllocError>
-        ensures { OnOk result (KeepsSymbols self.old.symbols self.new.symbols) }
+        ensures { OnOk result (KeepsMeaning self.old self.new) }
     {
         self.tell_unless_known(name, usize::MAX)?;
         match self.symbol_of(name) {

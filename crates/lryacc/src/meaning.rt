@@ -1,9 +1,10 @@
 //! What the names of a file mean: its symbols, and what is said of them.
 
-ghost use Rattle.std.specs.Prelude.{◌≡◌, ◌+◌, length, IfOk, OnOk, true, false, None, Some, vec_len};
+ghost use Rattle.std.specs.Prelude.{◌≡◌, ◌+◌, ◌<◌, ◌≤◌, [], ◌∷◌, length, IfOk, MatchOption, OnOk, true, false, None, Some, vec_len};
 ghost use Rattle.std.specs.BTreeMap.{IsEmpty};
-ghost use Rattle.std.specs.Option.{option_map};
-ghost use Rattle.lryacc.specs.NamedSymbols.{AreApart, BecomeOne, KeepsSymbols, TakesOne, TakesSome, first_name, partner_in, symbol_number};
+ghost use Rattle.std.specs.Option.{option_map, option_or};
+ghost use Rattle.lryacc.specs.EndTokens.{HasEndBy, KeepsMeaning, TakesEnd, end_by_name, written_number};
+ghost use Rattle.lryacc.specs.NamedSymbols.{AreApart, BecomeOne, KeepsSymbols, TakesOne, TakesSome, first_name, partner_in, symbol_number, text_at};
 ghost use Rattle.lryacc.specs.declared.contents.Statement.{Statement};
 
 use crate::contents::{Alternative, BodyPart, Contents, LevelKind, Statement};
@@ -75,6 +76,7 @@ impl<'a> Meaning<'a> {
         ensures dialect { IfOk result (λ meaning. meaning.symbols.dialect ≡ dialect) }
         ensures apart { IfOk result (λ meaning. AreApart meaning.symbols) }
         ensures single { IfOk result (λ meaning. IsEmpty meaning.symbols.partners) }
+        ensures end { IfOk result (λ meaning. meaning.end ≡ None) }
     {
         let symbols = Symbols::of(alloc, text, dialect, contents)?;
         Ok(Meaning {
@@ -94,7 +96,8 @@ impl<'a> Meaning<'a> {
 
     /// Tells a fault.
     pub(crate) fn tell(&mut self, kind: FaultKind, span: Span) -> Result<(), AllocError>
-        ensures { OnOk result (KeepsSymbols self.old.symbols self.new.symbols) }
+        ensures keeps { OnOk result (KeepsMeaning self.old self.new) }
+        ensures told { OnOk result (0 < vec_len self.new.faults) }
     {
         self.faults.push(Fault { kind, span })?;
         Ok(())
@@ -102,7 +105,7 @@ impl<'a> Meaning<'a> {
 
     /// Warns of something.
     pub(crate) fn warn(&mut self, kind: FaultKind, span: Span) -> Result<(), AllocError>
-        ensures { OnOk result (KeepsSymbols self.old.symbols self.new.symbols) }
+        ensures { OnOk result (KeepsMeaning self.old self.new) }
     {
         self.warnings.push(Fault { kind, span })?;
         Ok(())
@@ -162,7 +165,7 @@ impl<'a> Meaning<'a> {
         class: Class,
         otherwise: FaultKind,
     ) -> Result<(), AllocError>
-        ensures { OnOk result (KeepsSymbols self.old.symbols self.new.symbols) }
+        ensures { OnOk result (KeepsMeaning self.old self.new) }
     {
         let Some(number) = self.symbols.find(lexeme) else {
             return Ok(());
@@ -182,7 +185,8 @@ impl<'a> Meaning<'a> {
 
     /// Takes in what the declarations say.
     fn take_statements(&mut self, statements: &[Statement]) -> Result<(), AllocError>
-        ensures { OnOk result (TakesSome statements.now self.old.symbols self.new.symbols) }
+        ensures taken { OnOk result (TakesSome statements.now self.old.symbols self.new.symbols) }
+        ensures end { OnOk result (TakesEnd statements.now self.old self.new) }
     {
         for statement in statements {
             self.take_statement(*statement)?;
@@ -192,7 +196,7 @@ impl<'a> Meaning<'a> {
 
     /// Leaves out what `%expect-rr` says where Bison does: it holds for generalized parsers alone.
     fn leave_out_reductions(&mut self) -> Result<(), AllocError>
-        ensures { OnOk result (KeepsSymbols self.old.symbols self.new.symbols) }
+        ensures { OnOk result (KeepsMeaning self.old self.new) }
     {
         let is_read = self.is_glr || self.symbols.dialect == Dialect::Grmtools;
         if let (Some(number), false) = (self.expected_reductions, is_read) {
@@ -204,7 +208,8 @@ impl<'a> Meaning<'a> {
 
     /// Takes in what a declaration says.
     fn take_statement(&mut self, statement: Statement) -> Result<(), AllocError>
-        ensures { OnOk result (TakesOne statement self.old.symbols self.new.symbols) }
+        ensures taken { OnOk result (TakesOne statement self.old.symbols self.new.symbols) }
+        ensures end { OnOk result (TakesEnd (statement ∷ []) self.old self.new) }
     {
         match statement {
             Statement::Token(symbol) => self.take_token(symbol),
@@ -244,7 +249,7 @@ impl<'a> Meaning<'a> {
 
     /// Takes in that a precedence line begins with a directive.
     fn begin_level(&mut self, kind: LevelKind, directive: Lexeme) -> Result<(), AllocError>
-        ensures { OnOk result (KeepsSymbols self.old.symbols self.new.symbols) }
+        ensures { OnOk result (KeepsMeaning self.old self.new) }
     {
         self.levels.push(kind)?;
         self.level_start = directive.span.start;
@@ -253,7 +258,9 @@ impl<'a> Meaning<'a> {
 
     /// The number that a lexeme is; None where it is too large, which is told.
     fn number(&mut self, number: Lexeme) -> Result<Option<u64>, AllocError>
-        ensures { OnOk result (KeepsSymbols self.old.symbols self.new.symbols) }
+        ensures keeps { OnOk result (KeepsMeaning self.old self.new) }
+        ensures value { IfOk result (λ value. MatchOption value (0 < vec_len self.new.faults)
+            (λ value. value ≡ written_number (text_at self.old.symbols.text.now number.span))) }
     {
         let value = value_of(self.symbols.bytes(number.span));
         if value.is_none() {
@@ -264,7 +271,7 @@ impl<'a> Meaning<'a> {
 
     /// Takes in that a symbol is declared a token.
     fn take_token(&mut self, lexeme: Lexeme) -> Result<(), AllocError>
-        ensures { OnOk result (KeepsSymbols self.old.symbols self.new.symbols) }
+        ensures { OnOk result (KeepsMeaning self.old self.new) }
     {
         self.take_class(lexeme, Class::Token, FaultKind::BothKinds)?;
         self.declare(lexeme)
@@ -273,7 +280,7 @@ impl<'a> Meaning<'a> {
     /// Takes in that a symbol is declared here, and warns where it was declared before. For grmtools each use between quotes
     /// declares a token.
     fn declare(&mut self, lexeme: Lexeme) -> Result<(), AllocError>
-        ensures { OnOk result (KeepsSymbols self.old.symbols self.new.symbols) }
+        ensures { OnOk result (KeepsMeaning self.old self.new) }
     {
         let Some(number) = self.symbols.find(lexeme) else {
             return Ok(());
@@ -291,7 +298,7 @@ impl<'a> Meaning<'a> {
 
     /// Takes in that a symbol is a start rule, and warns where it was one before.
     fn take_start(&mut self, lexeme: Lexeme) -> Result<(), AllocError>
-        ensures { OnOk result (KeepsSymbols self.old.symbols self.new.symbols) }
+        ensures { OnOk result (KeepsMeaning self.old self.new) }
     {
         let Some(number) = self.symbols.find(lexeme) else {
             return Ok(());
@@ -310,7 +317,7 @@ impl<'a> Meaning<'a> {
 
     /// Takes in that a symbol is declared a rule.
     fn take_rule_name(&mut self, lexeme: Lexeme) -> Result<(), AllocError>
-        ensures { OnOk result (KeepsSymbols self.old.symbols self.new.symbols) }
+        ensures { OnOk result (KeepsMeaning self.old self.new) }
     {
         if lexeme.kind != LexemeKind::Name {
             return self.tell(FaultKind::CharacterAsRule, lexeme.span);
@@ -321,7 +328,8 @@ impl<'a> Meaning<'a> {
 
     /// Takes in the number of a token. It is less than the greatest one that is read.
     fn take_code(&mut self, lexeme: Lexeme, number: Lexeme) -> Result<(), AllocError>
-        ensures { OnOk result (KeepsSymbols self.old.symbols self.new.symbols) }
+        ensures symbols { OnOk result (KeepsSymbols self.old.symbols self.new.symbols) }
+        ensures end { OnOk result (TakesEnd (Statement.Code lexeme number ∷ []) self.old self.new) }
     {
         let Some(symbol) = self.symbols.find(lexeme) else {
             return Ok(());
@@ -335,12 +343,7 @@ impl<'a> Meaning<'a> {
         if code == GREATEST {
             return self.tell(FaultKind::LargeNumber, number.span);
         }
-        let mut is_other = false;
-        if let Some(symbol) = self.symbols.list.get_mut(symbol) {
-            is_other = matches!(symbol.code, Some(known) if known != code);
-            symbol.code = symbol.code.or(Some(code));
-        }
-        if is_other {
+        if !self.give_code(symbol, code) {
             return self.tell(FaultKind::CodeTwice, number.span);
         }
         if code == 0 {
@@ -349,9 +352,23 @@ impl<'a> Meaning<'a> {
         Ok(())
     }
 
+    /// Gives a symbol a number, unless it has another one.
+    fn give_code(&mut self, symbol: usize, code: u64) -> bool
+        ensures { KeepsMeaning self.old self.new }
+    {
+        match self.symbols.list.get_mut(symbol) {
+            Some(symbol) => {
+                let known = symbol.code.unwrap_or(code);
+                symbol.code = Some(known);
+                known == code
+            }
+            None => true,
+        }
+    }
+
     /// Tells what is wrong with symbols: two levels, a code of another symbol, no meaning.
     fn tell_symbols(&mut self) -> Result<(), AllocError>
-        ensures { OnOk result (KeepsSymbols self.old.symbols self.new.symbols) }
+        ensures { OnOk result (KeepsMeaning self.old self.new) }
     {
         let mut first = BTreeMap::new(*self.faults.allocator());
         for number in 0..self.symbols.list.len() {
@@ -369,7 +386,7 @@ impl<'a> Meaning<'a> {
         number: usize,
         symbol: Symbol,
     ) -> Result<(), AllocError>
-        ensures { OnOk result (KeepsSymbols self.old.symbols self.new.symbols) }
+        ensures { OnOk result (KeepsMeaning self.old self.new) }
     {
         if let Some(span) = self.second_level(number) {
             self.tell(FaultKind::LevelTwice, span)?;
@@ -387,7 +404,7 @@ impl<'a> Meaning<'a> {
         code: u64,
         span: Span,
     ) -> Result<(), AllocError>
-        ensures { OnOk result (KeepsSymbols self.old.symbols self.new.symbols) }
+        ensures { OnOk result (KeepsMeaning self.old self.new) }
     {
         if let Some(other) = first.get(&code).copied() {
             if other.start < span.start {
@@ -401,7 +418,7 @@ impl<'a> Meaning<'a> {
 
     /// Takes in the tag of a symbol, by either of its names.
     fn take_tag(&mut self, lexeme: Lexeme, tag: Lexeme) -> Result<(), AllocError>
-        ensures { OnOk result (KeepsSymbols self.old.symbols self.new.symbols) }
+        ensures { OnOk result (KeepsMeaning self.old self.new) }
     {
         let Some(number) = self.symbols.find(lexeme) else {
             return Ok(());
@@ -430,7 +447,7 @@ impl<'a> Meaning<'a> {
 
     /// Tells where two names that become those of one symbol have two tags.
     fn tell_tags(&mut self, one: usize, other: usize) -> Result<(), AllocError>
-        ensures { OnOk result (KeepsSymbols self.old.symbols self.new.symbols) }
+        ensures { OnOk result (KeepsMeaning self.old self.new) }
     {
         let (Some((tag, here)), Some((other_tag, there))) = (self.tag(one), self.tag(other)) else {
             return Ok(());
@@ -456,8 +473,10 @@ impl<'a> Meaning<'a> {
 
     /// Makes a text another name of a symbol, unless one of them has another name already.
     fn take_alias(&mut self, symbol: Lexeme, text: Lexeme) -> Result<(), AllocError>
-        ensures { OnOk result (TakesOne (Statement.Alias symbol text) self.old.symbols
+        ensures taken { OnOk result (TakesOne (Statement.Alias symbol text) self.old.symbols
             self.new.symbols) }
+        ensures end { OnOk result (self.new.end ≡ self.old.end) }
+        ensures faults { OnOk result (vec_len self.old.faults ≤ vec_len self.new.faults) }
     {
         let (Some(one), Some(other)) = (self.symbols.find(symbol), self.symbols.find(text)) else {
             return Ok(());
@@ -476,7 +495,9 @@ impl<'a> Meaning<'a> {
 
     /// Makes two names those of one symbol, which has the class of the first one.
     fn pair(&mut self, one: usize, other: usize) -> Result<(), AllocError>
-        ensures { OnOk result (BecomeOne self.old.symbols self.new.symbols one other) }
+        ensures one { OnOk result (BecomeOne self.old.symbols self.new.symbols one other) }
+        ensures end { OnOk result (self.new.end ≡ self.old.end) }
+        ensures faults { OnOk result (vec_len self.old.faults ≤ vec_len self.new.faults) }
     {
         self.symbols.pair(one, other)?;
         self.set_class(other, self.class(one));
@@ -494,7 +515,7 @@ impl<'a> Meaning<'a> {
 
     /// Gives a name the class of the symbol.
     fn set_class(&mut self, number: usize, class: Class)
-        ensures { KeepsSymbols self.old.symbols self.new.symbols }
+        ensures { KeepsMeaning self.old self.new }
     {
         if let Some(symbol) = self.symbols.list.get_mut(number) {
             symbol.class = class;
@@ -503,7 +524,7 @@ impl<'a> Meaning<'a> {
 
     /// Puts a symbol into the precedence line in hand.
     fn take_in_level(&mut self, lexeme: Lexeme) -> Result<(), AllocError>
-        ensures { OnOk result (KeepsSymbols self.old.symbols self.new.symbols) }
+        ensures { OnOk result (KeepsMeaning self.old self.new) }
     {
         let level = self.levels.len();
         let span = Span::new(self.level_start, lexeme.span.end);
@@ -538,7 +559,7 @@ impl<'a> Meaning<'a> {
 
     /// Takes in the symbols of a body.
     fn take_body(&mut self, alternative: &Alternative)
-        ensures { KeepsSymbols self.old.symbols self.new.symbols }
+        ensures { KeepsMeaning self.old self.new }
     {
         for part in &alternative.parts {
             if let BodyPart::Symbol(lexeme) = part {
@@ -549,7 +570,7 @@ impl<'a> Meaning<'a> {
 
     /// Takes in that a body has a symbol.
     fn take_use(&mut self, lexeme: Lexeme)
-        ensures { KeepsSymbols self.old.symbols self.new.symbols }
+        ensures { KeepsMeaning self.old self.new }
     {
         if let Some(number) = self.symbols.find(lexeme) {
             if let Some(symbol) = self.symbols.list.get_mut(number) {
@@ -560,7 +581,7 @@ impl<'a> Meaning<'a> {
 
     /// Takes in the symbols of all bodies.
     fn take_bodies(&mut self, alternatives: &[Alternative])
-        ensures { KeepsSymbols self.old.symbols self.new.symbols }
+        ensures { KeepsMeaning self.old self.new }
     {
         for alternative in alternatives {
             self.take_body(alternative);
@@ -569,7 +590,7 @@ impl<'a> Meaning<'a> {
 
     /// Warns of tokens that stand behind `%prec` and nowhere else.
     fn warn_of_precedences(&mut self, alternatives: &[Alternative]) -> Result<(), AllocError>
-        ensures { OnOk result (KeepsSymbols self.old.symbols self.new.symbols) }
+        ensures { OnOk result (KeepsMeaning self.old self.new) }
     {
         for alternative in alternatives {
             if let Some(token) = alternative.precedence {
@@ -599,7 +620,7 @@ impl<'a> Meaning<'a> {
 
     /// Tells that a symbol is nothing, though a body has it, and warns of one that only declarations name.
     fn tell_undefined(&mut self, symbol: Symbol) -> Result<(), AllocError>
-        ensures { OnOk result (KeepsSymbols self.old.symbols self.new.symbols) }
+        ensures { OnOk result (KeepsMeaning self.old self.new) }
     {
         match symbol.class {
             Class::Unknown if symbol.is_used => {
@@ -612,7 +633,7 @@ impl<'a> Meaning<'a> {
 
     /// Tells of start symbols that are no rules.
     fn tell_starts(&mut self) -> Result<(), AllocError>
-        ensures { OnOk result (KeepsSymbols self.old.symbols self.new.symbols) }
+        ensures { OnOk result (KeepsMeaning self.old self.new) }
     {
         for at in 0..self.starts.len() {
             if let Some(start) = self.starts.get(at).copied() {
@@ -625,7 +646,7 @@ impl<'a> Meaning<'a> {
     /// Tells of a start symbol that is no rule. It may be a token where it isn't the only one, and for Bison one that nothing
     /// else names is a rule without bodies.
     fn tell_start(&mut self, start: Lexeme) -> Result<(), AllocError>
-        ensures { OnOk result (KeepsSymbols self.old.symbols self.new.symbols) }
+        ensures { OnOk result (KeepsMeaning self.old self.new) }
     {
         let Some(number) = self.symbols.find(start) else {
             return Ok(());
@@ -666,8 +687,10 @@ impl<'a> Meaning<'a> {
 
     /// Takes in all that the file says of its symbols.
     pub(crate) fn take(&mut self, contents: &Contents) -> Result<(), AllocError>
-        ensures { OnOk result (TakesSome contents.now.statements.items self.old.symbols
+        requires { self.old.end ≡ None }
+        ensures taken { OnOk result (TakesSome contents.now.statements.items self.old.symbols
             self.new.symbols) }
+        ensures end { OnOk result (HasEndBy contents.now.statements.items self.new) }
     {
         self.take_statements(contents.statements.as_slice())?;
         self.leave_out_reductions()?;
@@ -684,7 +707,9 @@ impl<'a> Meaning<'a> {
 
     /// Takes `YYEOF` for the end token where no symbol has the code 0.
     fn find_end(&mut self)
-        ensures { KeepsSymbols self.old.symbols self.new.symbols }
+        ensures symbols { KeepsSymbols self.old.symbols self.new.symbols }
+        ensures end { self.new.end ≡ option_or self.old.end (end_by_name self.old.symbols) }
+        ensures faults { self.new.faults ≡ self.old.faults }
     {
         if self.end.is_some() {
             return;

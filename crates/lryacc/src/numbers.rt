@@ -1,7 +1,14 @@
 //! The numbers that a file has.
 
+ghost use Rattle.std.specs.Prelude.{◌≡◌, IfSome};
+ghost use Rattle.std.specs.Char.{digit_value};
+ghost use Rattle.std.specs.Str.Parse.{digits_value};
+ghost use Rattle.lryacc.specs.EndTokens.{written_number};
+
 /// The value of a hexadecimal digit.
-fn digit_value(byte: u8) -> Option<u64> {
+fn value_of_digit(byte: u8) -> Option<u64>
+    ensures { IfSome result (λ value. value ≡ digit_value byte) }
+{
     match byte {
         b'0'..=b'9' => Some(u64::from(byte - b'0')),
         b'a'..=b'f' => Some(u64::from(byte - b'a') + 10),
@@ -11,16 +18,22 @@ fn digit_value(byte: u8) -> Option<u64> {
 }
 
 /// The number that digits mean in a base; None where it is too large.
-fn value_in(base: u64, digits: &[u8]) -> Option<u64> {
+fn value_in(base: u64, digits: &[u8]) -> Option<u64>
+    ensures { IfSome result (λ value. value ≡ digits_value base digits.now) }
+{
     let mut value: u64 = 0;
     for digit in digits {
-        value = value.checked_mul(base)?.checked_add(digit_value(*digit)?)?;
+        value = value
+            .checked_mul(base)?
+            .checked_add(value_of_digit(*digit)?)?;
     }
     Some(value)
 }
 
 /// The number that is written so, where it is at most the greatest `i32`.
-pub(crate) fn value_of(bytes: &[u8]) -> Option<u64> {
+pub(crate) fn value_of(bytes: &[u8]) -> Option<u64>
+    ensures { IfSome result (λ value. value ≡ written_number bytes.now) }
+{
     let value = match bytes {
         [b'0', b'x' | b'X', digits @ ..] => value_in(16, digits)?,
         _ => value_in(10, bytes)?,

@@ -3,7 +3,8 @@
 ghost use Rattle.std.specs.Prelude.{◌≡◌, ◌&&◌, IfOk, OnOk};
 ghost use Rattle.std.specs.BTreeMap.{IsEmpty};
 ghost use Rattle.std.specs.Str.{bytes_eq};
-ghost use Rattle.lryacc.specs.NamedSymbols.{is_bison, name_of, number_of, partner_in, text_at};
+ghost use Rattle.lryacc.specs.EndTokens.{for_bison};
+ghost use Rattle.lryacc.specs.NamedSymbols.{Name, is_bison, name_of, number_in, number_of, partner_in, text_at};
 ghost use Rattle.lryacc.specs.NamedSymbols.{AddsName, AddsNames, AreApart, HaveNumbers, KeepsSymbols, Pairs};
 
 use crate::contents::{Alternative, BodyPart, Contents, Statement};
@@ -112,7 +113,9 @@ impl<'a> Symbols<'a> {
     }
 
     /// The number of the symbol of that name, which has a meaning of its own for Bison.
-    pub(crate) fn find_name(&self, name: &'a [u8]) -> Option<usize> {
+    pub(crate) fn find_name(&self, name: &'a [u8]) -> Option<usize>
+        ensures { result ≡ for_bison self.now.dialect (number_in self.now (Name.word name.now)) }
+    {
         match self.dialect {
             Dialect::Bison => self.names.get(&name).copied(),
             Dialect::Grmtools => None,

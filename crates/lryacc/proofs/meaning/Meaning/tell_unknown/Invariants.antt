@@ -1,5 +1,5 @@
-use Rattle.lryacc.specs.NamedSymbols.{KeepsSymbols}
+use Rattle.lryacc.specs.EndTokens.{KeepsMeaning}
 use Rattle.lryacc.proofs.meaning.Meaning.tell_unknown.Given as goal
 
 abbrev pub invariant-loop-statement : goal.invariant-loop-statement
-invariant-loop-statement l = KeepsSymbols l.initial.self.symbols l.self.symbols
+invariant-loop-statement l = KeepsMeaning l.initial.self l.self

@@ -1,0 +1,33 @@
+use Rattle.std.proofs.Common.{◌<◌, List, length, arith, refl, subst}
+use Rattle.std.proofs.lemmas.List.{take_all, take_more}
+use Rattle.std.proofs.lemmas.List.Elements.{Contains-get_or}
+use Rattle.lryacc.specs.declared.contents.Statement.{Statement}
+use Rattle.lryacc.specs.EndTokens.{TakesEnd}
+use Rattle.lryacc.proofs.EndsTaken.{takes_more_end, takes_none}
+use Rattle.lryacc.proofs.NamesOfOne.{takes_more}
+use Rattle.lryacc.proofs.meaning.Meaning.take_statements.Goals as goal
+
+pub loop-statement-init : goal.loop-statement-init
+loop-statement-init c = record {
+  taken = record {
+    names = record { text = refl; dialect = refl; words = refl; characters = refl };
+    partnered = λ h. h;
+  };
+  end = takes_none c.args.self.now;
+}
+
+pub loop-statement-preserved : goal.loop-statement-preserved
+loop-statement-preserved c =
+    let all = c.args.statements.now in
+    let index = c.loop-statement.statement-index in
+    let below : index < length all = c.loop-statement-test.true in
+    let one = c.in_ok-take_statement.ensures in
+    let so_far = c.loop-statement.invariant in
+    record {
+      taken = takes_more all _ (Contains-get_or all index _ below) so_far.taken one.taken;
+      end = takes_more_end _ _ _ _ _ _ (take_more all index _ below) so_far.end one.taken.names one.end;
+    }
+
+pub returns-clause-end : goal.returns-clause-end
+returns-clause-end c =
+    subst (λ (xs : List Statement). TakesEnd xs c.args.self.now c.loop-statement.self) (take_all _ _ c.loop-statement-test.false) c.loop-statement.invariant.end
