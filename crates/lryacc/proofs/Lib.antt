@@ -23,3 +23,4 @@ pub mod Numbered
 pub mod ProductionsAdded
 pub mod NamesOfOne
 pub mod EndsTaken
+pub mod MarksAdded

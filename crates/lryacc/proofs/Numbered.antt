@@ -1,5 +1,5 @@
 -- rules and tokens are numbered
-use Rattle.std.proofs.Common.{◌≡◌, ℕ, zero, suc, ◌<◌, List, [], ◌∷◌, ◌++◌, length, map, Bool, true, false, cond, Option, None, Some, slice_get, refl, ap, sym, ◌∙◌, subst, inl, inr, codes, arith}
+use Rattle.std.proofs.Common.{◌≡◌, ℕ, zero, suc, ◌<◌, List, [], ◌∷◌, ◌++◌, get_or, length, map, Bool, true, false, cond, Option, None, Some, slice_get, refl, ap, sym, ◌∙◌, subst, inl, inr, codes, arith}
 use Rattle.std.specs.BTreeMap.{IsEmpty, get, is_at}
 use Rattle.std.specs.Map.{lookup}
 use Rattle.std.specs.BTreeMap.{BTreeMap}
@@ -11,6 +11,7 @@ use Rattle.std.proofs.lemmas.Option.{same_Some}
 use Rattle.std.specs.Ordering.{nat_cmp, is_eq}
 use Rattle.std.proofs.lemmas.List.{length-map, length_push, map-append}
 use Rattle.lryacc.specs.declared.numbering.Numbering.{Numbering}
+use Rattle.lryacc.specs.BodyProductions.{Keeps}
 use Rattle.lryacc.specs.NamedSymbols.{Names, IsRuleOf, IsTokenOf}
 use Rattle.lryacc.specs.Numbered.{AddsNumbers, AreNumbered, IsNumbered}
 
@@ -24,6 +25,17 @@ has-more (y ∷ xs) ys (suc n) x e = has-more xs ys n x e
 pub has-added : {A : Type 0} (xs : List A) (x : A) → slice_get (xs ++ x ∷ []) (length xs) ≡ Some x
 has-added [] x = refl
 has-added (y ∷ xs) x = has-added xs x
+
+-- an element that is come by
+pub some-at : {A : Type 0} (xs : List A) (i : ℕ) (x : A) → i < length xs → x ≡ get_or xs i x → slice_get xs i ≡ Some x
+some-at [] i x below is = absurd (omega arith)
+some-at (y ∷ xs) zero x below is = ap Some (sym is)
+some-at (y ∷ xs) (suc i) x below is = some-at xs i x (omega arith) is
+
+pub element-at : {A : Type 0} (xs : List A) (i : ℕ) (d : A) → i < length xs → slice_get xs i ≡ Some (get_or xs i d)
+element-at [] i d below = absurd (omega arith)
+element-at (y ∷ xs) zero d below = refl
+element-at (y ∷ xs) (suc i) d below = element-at xs i d (omega arith)
 
 -- the same of what is read of each element
 pub map-more : {A B : Type 0} (f : A → B) (old new : List A) (x : A) → new ≡ old ++ x ∷ [] → (n : ℕ) (y : B) → slice_get (map f old) n ≡ Some y → slice_get (map f new) n ≡ Some y
@@ -64,10 +76,6 @@ lengths-more f g xs xs' ys ys' x y d e same =
 pub all-put : (P : ℕ → ℕ → Type 0) (old new : ℕ → Option ℕ) (key value : ℕ) → ((q : ℕ) → new q ≡ cond (is_at (nat_cmp key) q) (Some value) (old q)) → P key value → ((q v : ℕ) → old q ≡ Some v → P q v) → (q v : ℕ) → new q ≡ Some v → P q v
 all-put P old new key value puts put there q v e =
     put-at P old new key value q v (is_at (nat_cmp key) q) refl (puts q) put there e
-
--- a list has what another has
-abbrev pub Keeps : {A : Type 0} → List A → List A → Type 0
-Keeps {A} xs ys = (n : ℕ) (x : A) → slice_get xs n ≡ Some x → slice_get ys n ≡ Some x
 
 -- names with more rules and tokens
 abbrev pub with_more : Names → List (List ℕ) → List (List ℕ) → List ℕ → Names

@@ -1,5 +1,5 @@
 -- the productions of the bodies of a file
-use Rattle.std.specs.Prelude.{◌≡◌, ℕ, ◌-◌, ◌⊎◌, ◌++◌, Bool, true, false, cond, List, [], ◌∷◌, Option, Some, length, slice_get}
+use Rattle.std.specs.Prelude.{◌≡◌, ℕ, ◌-◌, ◌++◌, Bool, true, false, cond, List, [], ◌∷◌, Option, None, Some, codes, length, nat_eq, slice_get}
 use Rattle.lrgrammar.specs.declared.grammar.PartProd.{PartProd}
 use Rattle.lrgrammar.specs.declared.grammar.PartSymbol.{PartSymbol}
 use Rattle.lrgrammar.specs.declared.grammar.PartSymbol.TheVariants.{Rule, Token}
@@ -8,7 +8,7 @@ use Rattle.lryacc.specs.declared.contents.BodyPart.{BodyPart}
 use Rattle.lryacc.specs.declared.contents.BodyPart.TheVariants as part
 use Rattle.lryacc.specs.declared.lexemes.Lexeme.{Lexeme}
 use Rattle.lryacc.specs.declared.productions.Productions.{Productions}
-use Rattle.lryacc.specs.NamedSymbols.{IsNamed, Names}
+use Rattle.lryacc.specs.NamedSymbols.{IsNamed, IsTextOf, Names, name_of}
 use Rattle.lryacc.specs.ProductionPlaces.{parts_before_last}
 
 -- two lists of the same length, whose elements are related one by one
@@ -77,18 +77,45 @@ pub record AreOfBody (names : Names) (body : Alternative) (prods : List PartProd
 abbrev pub AreOfBodies : Names → List Alternative → List PartProd → Type 0
 AreOfBodies names = AreMade (AreOfBody names)
 
--- the symbols of the production of a start rule: that rule and the end token, behind a token of its own where there are several
-abbrev pub AreStartSymbols : PartSymbol → List PartSymbol → Type 0
-AreStartSymbols start symbols =
-    (symbols ≡ start ∷ Token 0 ∷ [])
-    ⊎ ((mark : ℕ) × (symbols ≡ Token mark ∷ start ∷ Token 0 ∷ []))
+-- the name of the token before a start rule of that name
+abbrev pub IsMarkName : List ℕ → List ℕ → Type 0
+IsMarkName name text =
+    (inner : List ℕ) × IsTextOf name inner × (text ≡ codes "YY_PARSE_" ++ inner)
 
--- the production of a start rule
-pub record IsOfStart (names : Names) (start : Lexeme) (prod : PartProd) : Type 0 where
+-- a token is the mark of a start rule: it stands in the grammar by the name of that rule behind `YY_PARSE_`
+pub record IsMarkOf (names : Names) (start : Lexeme) (mark : ℕ) : Type 0 where
+  pub text : List ℕ
+  pub here : slice_get names.tokens mark ≡ Some text
+  pub is : IsMarkName (name_of names.text names.dialect start) text
+
+-- a start rule has a mark where it is not the only one
+abbrev pub IsMark : Names → Bool → Lexeme → Option ℕ → Type 0
+IsMark names true start mark = mark ≡ None
+IsMark names false start mark = (token : ℕ) × (mark ≡ Some token) × IsMarkOf names start token
+
+-- the symbols of the production of a start rule: that rule and the end token, behind its mark if it has one
+abbrev pub start_symbols_of : PartSymbol → Option ℕ → List PartSymbol
+start_symbols_of start None = start ∷ Token 0 ∷ []
+start_symbols_of start (Some mark) = Token mark ∷ start ∷ Token 0 ∷ []
+
+-- the production of a start rule with this mark
+pub record IsMarked (names : Names) (start : Lexeme) (mark : Option ℕ) (prod : PartProd)
+    : Type 0 where
   pub rule : prod.rule ≡ 0
   pub symbol : PartSymbol
   pub named : IsNamed names start symbol
-  pub symbols : AreStartSymbols symbol prod.symbols.items
+  pub symbols : prod.symbols.items ≡ start_symbols_of symbol mark
+
+-- the production of a start rule, which may be the only one
+pub record IsOfStart (names : Names) (only : Bool) (start : Lexeme) (prod : PartProd)
+    : Type 0 where
+  pub mark : Option ℕ
+  pub is_mark : IsMark names only start mark
+  pub marked : IsMarked names start mark prod
+
+-- whether there is one start rule alone
+abbrev pub is_one : List Lexeme → Bool
+is_one starts = nat_eq (length starts) 1
 
 -- the productions of a file: those of the start rules, and then those of the bodies
 pub record AreOfFile (names : Names) (starts : List Lexeme) (bodies : List Alternative)
@@ -96,8 +123,17 @@ pub record AreOfFile (names : Names) (starts : List Lexeme) (bodies : List Alter
   pub of_starts : List PartProd
   pub of_bodies : List PartProd
   pub all : prods ≡ of_starts ++ of_bodies
-  pub first : AreRelated (IsOfStart names) starts of_starts
+  pub first : AreRelated (IsOfStart names (is_one starts)) starts of_starts
   pub behind : AreOfBodies names bodies of_bodies
+
+-- a list has what another has, at the same places
+abbrev pub Keeps : {A : Type 0} → List A → List A → Type 0
+Keeps {A} xs ys = (n : ℕ) (x : A) → slice_get xs n ≡ Some x → slice_get ys n ≡ Some x
+
+-- the marks of start rules: none where there is one start rule alone, and else one for each
+abbrev pub AreMarks : Names → Bool → List Lexeme → List ℕ → Type 0
+AreMarks names true starts marks = marks ≡ []
+AreMarks names false starts marks = AreRelated (IsMarkOf names) starts marks
 
 -- productions are added that are so
 pub record AddsProductions (old new : Productions) (P : List PartProd → Type 0) : Type 0 where

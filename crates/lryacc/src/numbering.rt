@@ -6,8 +6,8 @@ ghost use Rattle.lryacc.specs.Levels.{IsOfLine, group_of, line_of};
 ghost use Rattle.lryacc.specs.ProductionPlaces.{Adds, ArePlaced, IsPlaced, action_place, action_places, body_places};
 ghost use Rattle.lryacc.specs.ProductionPlaces.{file_places, parts_before_last, start_rules_of};
 ghost use Rattle.lryacc.specs.BodyProductions.{AddsProduction, AddsProductions, AreOfActions, AreOfBodies, AreOfBody};
-ghost use Rattle.lryacc.specs.BodyProductions.{AreOfFile, AreRelated, AreStartSymbols, IsEmptyProduction, IsOfPart, IsOfPartBefore, IsOfStart};
-ghost use Rattle.lryacc.specs.BodyProductions.{IsRuleOfAction, symbol_parts};
+ghost use Rattle.lryacc.specs.BodyProductions.{AreMarks, AreOfFile, AreRelated, IsEmptyProduction, IsMark, IsMarked, IsMarkName, IsOfPart, IsOfPartBefore, IsOfStart};
+ghost use Rattle.lryacc.specs.BodyProductions.{IsMarkOf, IsRuleOfAction, Keeps, is_one, start_symbols_of, symbol_parts};
 ghost use Rattle.lryacc.specs.NamedSymbols.{IsNamed, IsTokenText, NamesRule, name_of, names_in};
 ghost use Rattle.lryacc.specs.Numbered.{AddsNumbers, IsNumbered, names_of};
 
@@ -148,8 +148,6 @@ struct Numbering<'m, 'a> {
     without_level: usize,
     /// The rules that actions before the ends of bodies are, by where these begin.
     actions: BTreeMap<usize, usize>,
-    /// The tokens before the start rules, where there are several.
-    marks: Vec<usize>,
     /// The rules and tokens themselves, with no production.
     grammar: FileGrammar,
 }
@@ -228,13 +226,20 @@ fn start_symbols(
     start: PartSymbol,
     mark: Option<usize>,
 ) -> Result<Vec<PartSymbol>, AllocError>
-    ensures { IfOk result (λ symbols. AreStartSymbols start symbols.items) }
+    ensures { IfOk result (λ symbols. symbols.items ≡ start_symbols_of start mark) }
 {
     let end = PartSymbol::Token(0);
     Ok(match mark {
         Some(mark) => vec![in alloc; PartSymbol::Token(mark), start, end]?,
         None => vec![in alloc; start, end]?,
     })
+}
+
+/// The token before a start rule, by the place of this among the others.
+fn mark_at(marks: &[usize], at: usize) -> Option<usize>
+    ensures { result ≡ slice_get marks.now at }
+{
+    marks.get(at).copied()
 }
 
 /// Where nothing of the file stands.
@@ -263,7 +268,6 @@ impl<'m, 'a> Numbering<'m, 'a> {
             below: BTreeMap::new(alloc),
             without_level: UNDEFINED,
             actions: BTreeMap::new(alloc),
-            marks: Vec::new(alloc),
             grammar,
         })
     }
@@ -273,17 +277,19 @@ impl<'m, 'a> Numbering<'m, 'a> {
         *self.grammar.rule_places.allocator()
     }
 
-    /// Adds the tokens and the rules.
+    /// Adds the tokens and the rules, and answers the tokens before the start rules.
     #[tactic(auto, using(crate::proofs::Numbered::adds_again, crate::proofs::Numbered::adds_none))]
-    fn add_symbols(&mut self, starts: &[Lexeme]) -> Result<(), AllocError>
-        ensures { OnOk result (AddsNumbers self.old self.new) }
+    fn add_symbols(&mut self, starts: &[Lexeme]) -> Result<Vec<usize>, AllocError>
+        ensures added { OnOk result (AddsNumbers self.old self.new) }
+        ensures marks { IfOk result (λ marks. AreMarks (names_of self.new) (is_one starts.now)
+            starts.now marks.items) }
     {
         self.add_tokens()?;
         self.add_tokens_below()?;
         self.add_without_level()?;
-        self.add_marks(starts)?;
         self.add_rules()?;
-        self.add_bare_rules()
+        self.add_bare_rules()?;
+        self.add_marks(starts)
     }
 
     /// A symbol of the file.
@@ -465,6 +471,8 @@ impl<'m, 'a> Numbering<'m, 'a> {
         ensures added { OnOk result (AddsNumbers self.old self.new) }
         ensures number { IfOk result (λ number.
             slice_get (names_of self.new).tokens number ≡ Some (string_bytes name)) }
+        ensures tokens { OnOk result ((names_of self.new).tokens
+            ≡ (names_of self.old).tokens ++ string_bytes name ∷ []) }
     {
         let number = self.grammar.parts.tokens.len();
         self.grammar
@@ -608,32 +616,53 @@ impl<'m, 'a> Numbering<'m, 'a> {
     }
 
     /// The token of that name.
-    fn token_named(&self, name: &str) -> Option<usize> {
-        let tokens = self.grammar.parts.tokens.as_slice();
-        tokens.iter().position(|token| token.name.as_str() == name)
+    fn token_named(&self, name: &str) -> Option<usize>
+        ensures { IfSome result (λ token.
+            slice_get (names_of self.now).tokens token ≡ Some name.now) }
+    {
+        for (number, token) in self.grammar.parts.tokens.iter().enumerate() {
+            if token.name.as_str() == name {
+                return Some(number);
+            }
+        }
+        None
     }
 
-    /// Adds the tokens before the start rules, where there are several. Where the file has a token of that name, it is that one.
-    #[tactic(auto, using(crate::proofs::Numbered::adds_again, crate::proofs::Numbered::adds_none))]
-    fn add_marks(&mut self, starts: &[Lexeme]) -> Result<(), AllocError>
-        ensures { OnOk result (AddsNumbers self.old self.new) }
+    /// Adds the tokens before the start rules, where there are several, and answers them.
+    fn add_marks(&mut self, starts: &[Lexeme]) -> Result<Vec<usize>, AllocError>
+        ensures added { OnOk result (AddsNumbers self.old self.new) }
+        ensures marks { IfOk result (λ marks. AreMarks (names_of self.new) (is_one starts.now)
+            starts.now marks.items) }
     {
+        let mut marks = Vec::new(self.allocator());
         if starts.len() == 1 {
-            return Ok(());
+            return Ok(marks);
         }
         for start in starts {
-            let name = self.mark_name(*start)?;
-            let mark = match self.token_named(name.as_str()) {
-                Some(token) => token,
-                None => self.add_token(name, None)?,
-            };
-            self.marks.push(mark)?;
+            let mark = self.mark(*start)?;
+            marks.push(mark)?;
         }
-        Ok(())
+        Ok(marks)
+    }
+
+    /// The token before a start rule. Where the file has a token of that name, it is that one, and else it is added.
+    fn mark(&mut self, start: Lexeme) -> Result<usize, AllocError>
+        ensures added { OnOk result (AddsNumbers self.old self.new) }
+        ensures kept { OnOk result (Keeps (names_of self.old).tokens (names_of self.new).tokens) }
+        ensures mark { IfOk result (IsMarkOf (names_of self.new) start) }
+    {
+        let name = self.mark_name(start)?;
+        match self.token_named(name.as_str()) {
+            Some(token) => Ok(token),
+            None => self.add_token(name, None),
+        }
     }
 
     /// The name of the token before a start rule.
-    fn mark_name(&self, start: Lexeme) -> Result<String, AllocError> {
+    fn mark_name(&self, start: Lexeme) -> Result<String, AllocError>
+        ensures { IfOk result (λ name. IsMarkName (name_of (names_of self.now).text
+            (names_of self.now).dialect start) (string_bytes name)) }
+    {
         let name = name_text(self.allocator(), self.meaning.symbols.name(start))?;
         format!(in self.allocator(); "YY_PARSE_{name}")
     }
@@ -841,7 +870,7 @@ impl<'m, 'a> Numbering<'m, 'a> {
         requires { IsNumbered self.now }
         ensures places { OnOk result (Adds productions.old productions.new (start.span ∷ [])) }
         ensures added { OnOk result (AddsProduction productions.old productions.new
-            (IsOfStart (names_of self.now) start)) }
+            (IsMarked (names_of self.now) start mark)) }
     {
         let alloc = self.allocator();
         let symbol = self.symbol_of(BodyPart::Symbol(start))?;
@@ -861,15 +890,17 @@ impl<'m, 'a> Numbering<'m, 'a> {
         &self,
         productions: &mut Productions,
         starts: &[Lexeme],
+        marks: &[usize],
     ) -> Result<(), NoProductions>
-        requires { IsNumbered self.now }
+        requires numbered { IsNumbered self.now }
+        requires marks { AreMarks (names_of self.now) (is_one starts.now) starts.now marks.now }
         ensures places { OnOk result (Adds productions.old productions.new
             (map (λ start. start.span) starts.now)) }
         ensures added { OnOk result (AddsProductions productions.old productions.new
-            (AreRelated (IsOfStart (names_of self.now)) starts.now)) }
+            (AreRelated (IsOfStart (names_of self.now) (is_one starts.now)) starts.now)) }
     {
         for (at, start) in starts.iter().enumerate() {
-            self.add_start(productions, *start, self.marks.get(at).copied())?;
+            self.add_start(productions, *start, mark_at(marks, at))?;
         }
         Ok(())
     }
@@ -878,9 +909,11 @@ impl<'m, 'a> Numbering<'m, 'a> {
     fn productions(
         &self,
         starts: &[Lexeme],
+        marks: &[usize],
         alternatives: &[Alternative],
     ) -> Result<Productions, NoProductions>
-        requires { IsNumbered self.now }
+        requires numbered { IsNumbered self.now }
+        requires marks { AreMarks (names_of self.now) (is_one starts.now) starts.now marks.now }
         ensures productions { IfOk result (λ all. AreOfFile (names_of self.now) starts.now
             alternatives.now all.prods.items) }
         ensures places { IfOk result (λ all. all.places.items
@@ -888,7 +921,7 @@ impl<'m, 'a> Numbering<'m, 'a> {
         ensures placed { IfOk result ArePlaced }
     {
         let mut productions = Productions::new(self.allocator());
-        self.add_starts(&mut productions, starts)?;
+        self.add_starts(&mut productions, starts, marks)?;
         self.add_alternatives(&mut productions, alternatives)?;
         Ok(productions)
     }
@@ -927,9 +960,9 @@ pub(crate) fn file_grammar(
     let alternatives = contents.alternatives.as_slice();
     let starts = start_rules(alloc, meaning, alternatives)?;
     let mut numbering = Numbering::new(alloc, meaning, contents)?;
-    numbering.add_symbols(starts.as_slice())?;
+    let marks = numbering.add_symbols(starts.as_slice())?;
     let token_places = numbering.token_places(contents)?;
-    let productions = numbering.productions(starts.as_slice(), alternatives)?;
+    let productions = numbering.productions(starts.as_slice(), marks.as_slice(), alternatives)?;
     Ok(
         numbering
             .grammar

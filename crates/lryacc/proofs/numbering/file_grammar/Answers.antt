@@ -9,8 +9,8 @@ use Rattle.lryacc.specs.ProductionPlaces.{start_rules_of}
 use Rattle.lryacc.proofs.ProductionsAdded.{names-same}
 use Rattle.lryacc.proofs.numbering.file_grammar.Goals as goal
 
-pub productions-requires : goal.productions-requires
-productions-requires c = c.in_ok-add_symbols.ensures.numbered c.in_ok-numbering.ensures.numbered
+pub productions-requires-clause-numbered : goal.productions-requires-clause-numbered
+productions-requires-clause-numbered c = c.in_ok-marks.ensures.added.numbered c.in_ok-numbering.ensures.numbered
 
 pub returns-clause-productions : goal.returns-clause-productions
 returns-clause-productions c =
@@ -21,7 +21,7 @@ returns-clause-productions c =
     let starts = c.as_slice-2.ensures.value ∙ c.in_ok-starts.ensures in
     let kept = c.with_productions.ensures in
     let same : names ≡ names_in c.args.meaning.now c.args.contents.now file =
-    names-same now.meaning.now c.args.meaning.now now.contents.now c.args.contents.now now.grammar file (sym (c.in_ok-add_symbols.ensures.meaning ∙ c.in_ok-numbering.ensures.meaning)) (sym (c.in_ok-add_symbols.ensures.contents ∙ c.in_ok-numbering.ensures.contents)) kept.rules kept.tokens kept.rule_places in
+    names-same now.meaning.now c.args.meaning.now now.contents.now c.args.contents.now now.grammar file (sym (c.in_ok-marks.ensures.added.meaning ∙ c.in_ok-numbering.ensures.meaning)) (sym (c.in_ok-marks.ensures.added.contents ∙ c.in_ok-numbering.ensures.contents)) kept.rules kept.tokens kept.rule_places in
     let all : AreOfFile names c.as_slice-2.result.now c.as_slice-alternatives.result.now file.parts.prods.items =
     subst (λ (ps : List PartProd). AreOfFile names c.as_slice-2.result.now c.as_slice-alternatives.result.now ps) (sym kept.prods) c.in_ok-productions.ensures.productions in
     let prods = file.parts.prods.items in
