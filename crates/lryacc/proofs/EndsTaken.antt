@@ -13,8 +13,8 @@ use Rattle.lryacc.specs.declared.lexemes.Lexeme.{Lexeme}
 use Rattle.lryacc.specs.declared.meaning.Meaning.{Meaning}
 use Rattle.lryacc.specs.declared.numbering.FileGrammar.{FileGrammar}
 use Rattle.lryacc.specs.declared.symbols.Symbols.{Symbols}
-use Rattle.lryacc.specs.EndTokens.{HasEnd, HasEndBy, HasSome, IsEndByName, IsGivenEnd, IsGivenEndBy, IsGivenZeroBy, IsGivenZeroIn, KeepsMeaning, TakesEnd, end_by_name, for_bison, written_number}
-use Rattle.lryacc.specs.NamedSymbols.{KeepsNames, KeepsSymbols, Name, Names, called, first_name, names_in, number_in, number_of, text_at}
+use Rattle.lryacc.specs.EndTokens.{HasEnd, HasEndBy, HasSome, IsEndByName, IsGivenEnd, IsGivenEndBy, IsGivenZeroBy, KeepsMeaning, TakesEnd, end_by_name, for_bison, written_number}
+use Rattle.lryacc.specs.NamedSymbols.{KeepsNames, KeepsSymbols, Name, Names, first_name, names_in, number_in, number_of, text_at}
 use Rattle.lryacc.proofs.NamesOfOne.{kept-again, names-turned, number-kept, number-same}
 
 -- more is kept

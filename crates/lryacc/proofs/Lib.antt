@@ -24,3 +24,4 @@ pub mod ProductionsAdded
 pub mod NamesOfOne
 pub mod EndsTaken
 pub mod MarksAdded
+pub mod LeastSets

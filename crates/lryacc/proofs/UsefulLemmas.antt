@@ -1,42 +1,13 @@
 -- sets of rules, and productions that stay by them
-use Rattle.std.proofs.Common.{◌≡◌, ◌&&◌, ◌<◌, ◌≤◌, ◌+◌, ℕ, suc, zero, List, [], ◌∷◌, ◌++◌, Bool, true, false, Option, Result, Ok, Err, IfOk, All, get_or, is_some, length, map, replicate, take, refl, ap, sym, ◌∙◌, subst}
+use Rattle.std.proofs.Common.{◌≡◌, ◌&&◌, ◌<◌, ◌≤◌, ◌+◌, ℕ, List, [], ◌∷◌, ◌++◌, Bool, true, false, Option, All, get_or, is_some, length, map, take, refl, ap, sym, ◌∙◌, subst}
 use Rattle.std.specs.List.{filter}
-use Rattle.std.specs.declared.alloc.AllocError.{AllocError}
 use Rattle.std.proofs.lemmas.List.{append-nil, map-append, take_all, take_more}
 use Rattle.std.proofs.lemmas.List.Elements.{All-push, filter-append}
 use Rattle.std.proofs.lemmas.List.Folds.{list_all-map, list_all_at}
 use Rattle.lrgrammar.specs.declared.grammar.PartSymbol.{PartSymbol}
 use Rattle.lrgrammar.specs.StoredParts.{part_symbol_of}
-use Rattle.lrspec.specs.grammars.Grammar.{Production, Symbol}
-use Rattle.lrspec.specs.grammars.Grammar.Symbol.{Rule, Token}
-use Rattle.lryacc.specs.declared.useful.Search.{Search}
-use Rattle.lryacc.specs.UsefulRules.{HasReached, has, has_all, has_symbol, is_useful}
-
--- the set of all rules has each of them
-has-replicate : (n rule : ℕ) → has (replicate n true) rule ≡ true
-has-replicate zero rule = refl
-has-replicate (suc n) zero = refl
-has-replicate (suc n) (suc rule) = has-replicate n rule
-
-has_symbol-replicate : (n : ℕ) (symbol : Symbol) → has_symbol (replicate n true) symbol ≡ true
-has_symbol-replicate n (Rule rule) = has-replicate n rule
-has_symbol-replicate n (Token token) = refl
-
-has_all-replicate : (n : ℕ) (symbols : List Symbol) → has_all (replicate n true) symbols ≡ true
-has_all-replicate n [] = refl
-has_all-replicate n (symbol ∷ symbols) = rw (has_symbol-replicate n symbol) (has_all-replicate n symbols)
-
-HasReached-replicate : (productive : List Bool) (n : ℕ) (productions : List Production) → HasReached productive (replicate n true) productions
-HasReached-replicate productive n productions = record {
-  start = has-replicate n 0;
-  behind = λ k d below useful. has_all-replicate n (get_or productions k d).body;
-}
-
--- a set of all rules has each that is reached, if it was made
-pub HasReached-all : (productive : List Bool) (n : ℕ) (productions : List Production) (made : Result Search AllocError) → IfOk made (λ search. search.found.items ≡ replicate n true) → IfOk made (λ search. HasReached productive search.found.items productions)
-HasReached-all productive n productions (Ok search) all =
-    subst (λ (reached : List Bool). HasReached productive reached productions) (sym all) (HasReached-replicate productive n productions)
-HasReached-all productive n productions (Err error) all = tt
+use Rattle.lrspec.specs.grammars.Grammar.{Production}
+use Rattle.lryacc.specs.UsefulRules.{has, has_all, has_symbol, is_useful}
 
 -- a production of a rule that is not reached is not useful
 pub is_useful-unreached : (productive reached : List Bool) (production : Production) → has reached production.rule ≡ false → is_useful productive reached production ≡ false

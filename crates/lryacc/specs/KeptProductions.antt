@@ -7,7 +7,7 @@ use Rattle.lrspec.specs.grammars.Grammar.Symbol.{Rule, Token}
 use Rattle.lryacc.specs.declared.numbering.FileGrammar.{FileGrammar}
 use Rattle.lryacc.specs.declared.useful.Useless.{Useless}
 use Rattle.lryacc.specs.PlacedProductions.{PlacedProduction, placed_in}
-use Rattle.lryacc.specs.UsefulRules.{HasProductive, HasReached, is_useful, productions_in}
+use Rattle.lryacc.specs.UsefulRules.{AreProductive, AreReached, HasProductive, HasReached, is_useful, productions_in}
 
 -- the rules that stay have the new numbers 0, 1, 2 and so on, in their order
 abbrev pub AreInOrder : List (Option ℕ) → Type 0
@@ -44,8 +44,8 @@ with_numbers (number ∷ numbers) [] = []
 with_numbers (Some number ∷ numbers) (x ∷ xs) = x ∷ with_numbers numbers xs
 with_numbers (None ∷ numbers) (x ∷ xs) = with_numbers numbers xs
 
--- the second grammar is the first one, out of which what is useless was taken. By a set with each productive rule and one with
--- each rule that is reached, a rule stays, and has a new number, where it is reached, with its name and its place, and a
+-- the second grammar is the first one, out of which what is useless was taken. By the least set with each productive rule and the
+-- least one with each rule that is reached, a rule stays, and has a new number, where it is reached, with its name and its place, and a
 -- production where it is useful, with its symbols and its places; all in their order. The tokens are the same. Where nothing is
 -- told as useless, all stay
 pub record IsWithout (useless : Useless) (whole kept : FileGrammar) : Type 0 where
@@ -54,8 +54,12 @@ pub record IsWithout (useless : Useless) (whole kept : FileGrammar) : Type 0 whe
   pub many : length numbers ≡ vec_len whole.parts.rules
   pub productive : List Bool
   pub has_productive : HasProductive productive (productions_in whole.parts)
+  pub least_productive :
+      AreProductive (vec_len whole.parts.rules) (productions_in whole.parts) productive
   pub reached : List Bool
   pub has_reached : HasReached productive reached (productions_in whole.parts)
+  pub least_reached :
+      AreReached productive (vec_len whole.parts.rules) (productions_in whole.parts) reached
   pub numbered : map is_some numbers ≡ reached
   pub names : kept.parts.rules.items ≡ with_numbers numbers whole.parts.rules.items
   pub places : kept.rule_places.items ≡ with_numbers numbers whole.rule_places.items

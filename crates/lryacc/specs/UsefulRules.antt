@@ -1,5 +1,5 @@
 -- sets of rules, and which productions are useful by them
-use Rattle.std.specs.Prelude.{◌&&◌, ℕ, List, Bool, true, All, IsTrue, map, slice_get, unwrap_or}
+use Rattle.std.specs.Prelude.{◌≡◌, ◌&&◌, ℕ, List, Bool, true, All, IsTrue, length, map, slice_get, unwrap_or}
 use Rattle.std.specs.List.{list_all}
 use Rattle.lrgrammar.specs.declared.grammar.GrammarParts.{GrammarParts}
 use Rattle.lrgrammar.specs.StoredParts.{part_production_of}
@@ -37,6 +37,50 @@ pub record HasReached (productive reached : List Bool) (productions : List Produ
   pub start : IsTrue (has reached 0)
   pub behind : All (λ production. IsTrue (is_useful productive reached production)
       → IsTrue (has_all reached production.body)) productions
+
+-- ---- the least of such sets
+
+-- each rule of a set is in another one
+abbrev pub IsWithin : List Bool → List Bool → Type 0
+IsWithin rules other = (rule : ℕ) → IsTrue (has rules rule) → IsTrue (has other rule)
+
+-- a set of so many rules has no rule that is not productive: it lies within each one that has all of them
+pub record AreProductive (many : ℕ) (productions : List Production) (rules : List Bool)
+    : Type 0 where
+  pub many_rules : length rules ≡ many
+  pub within : (other : List Bool) → length other ≡ many → HasProductive other productions
+      → IsWithin rules other
+
+-- a set of so many rules has no rule that is not reached
+pub record AreReached (productive : List Bool) (many : ℕ) (productions : List Production)
+    (rules : List Bool) : Type 0 where
+  pub many_rules : length rules ≡ many
+  pub within : (other : List Bool) → length other ≡ many
+      → HasReached productive other productions → IsWithin rules other
+
+-- rules are found, and no set that has all productive rules lacks them
+pub record FindsProductive (productions : List Production) (old new : List Bool)
+    : Type 0 where
+  pub many : length new ≡ length old
+  pub within : (other : List Bool) → length other ≡ length old
+      → HasProductive other productions → IsWithin old other → IsWithin new other
+
+-- rules are found, and no set that has all rules that are reached lacks them
+pub record FindsReached (productive : List Bool) (productions : List Production)
+    (old new : List Bool) : Type 0 where
+  pub many : length new ≡ length old
+  pub within : (other : List Bool) → length other ≡ length old
+      → HasReached productive other productions → IsWithin old other → IsWithin new other
+
+-- rules are found, and no set that has all those among some symbols lacks them
+pub record FindsAmong (symbols : List Symbol) (old new : List Bool) : Type 0 where
+  pub many : length new ≡ length old
+  pub within : (other : List Bool) → IsTrue (has_all other symbols) → IsWithin old other
+      → IsWithin new other
+
+-- a rule is among symbols: each set that has all of these has it
+pub record IsRuleAmong (symbols : List Symbol) (rule : ℕ) : Type 0 where
+  pub within : (other : List Bool) → IsTrue (has_all other symbols) → IsTrue (has other rule)
 
 -- the productions of a grammar
 abbrev pub productions_in : GrammarParts → List Production

@@ -1,14 +1,15 @@
 //! What of a grammar is useful: the productions that derive a text and are reached from the start. The searches are those for
 //! generating and for reachable symbols (Hopcroft, Motwani and Ullman, "Introduction to Automata Theory", section 7.1): what
-//! they find is checked, and where it lacks a rule, all rules are taken.
+//! they find is checked, and where it lacks a rule, that is found too.
 
-ghost use Rattle.std.specs.Prelude.{◌≡◌, [], ◌∷◌, ◌++◌, true, map, All, IsSome, IsTrue, IfOk, IfSome, OnOk, is_some, replicate, vec_len};
+ghost use Rattle.std.specs.Prelude.{◌≡◌, [], ◌∷◌, ◌++◌, true, false, map, All, IsSome, IsTrue, IfOk, IfSome, OnOk, None, is_some, replicate, slice_set, vec_len};
 ghost use Rattle.std.specs.List.{filter};
 ghost use Rattle.lrgrammar.specs.StoredParts.{part_production_of, part_symbol_of};
 ghost use Rattle.lryacc.specs.KeptProductions.{AreInOrder, IsWithout, new_number, new_placed, new_symbol, with_numbers};
 ghost use Rattle.lryacc.specs.PlacedProductions.{placed, placed_at, placed_in};
 ghost use Rattle.lryacc.specs.ProductionPlaces.{Adds, ArePlaced, IsPlaced};
-ghost use Rattle.lryacc.specs.UsefulRules.{HasProductive, HasReached, has, has_all, has_symbol, is_useful, productions_in};
+ghost use Rattle.lryacc.specs.UsefulRules.{AreProductive, AreReached, HasProductive, HasReached, has, has_all, has_symbol, is_useful, productions_in};
+ghost use Rattle.lryacc.specs.UsefulRules.{FindsAmong, FindsProductive, FindsReached, IsRuleAmong};
 
 use crate::faults::{Fault, FaultKind};
 use crate::numbering::FileGrammar;
@@ -28,25 +29,19 @@ struct Search {
 
 impl Search {
     /// No rule is found.
-    fn new(alloc: Global, rules: usize) -> Result<Search, AllocError> {
+    fn new(alloc: Global, rules: usize) -> Result<Search, AllocError>
+        ensures { IfOk result (λ search. search.found.items ≡ replicate rules false) }
+    {
         Ok(Search {
             found: vec![in alloc; false; rules]?,
             todo: Vec::new(alloc),
         })
     }
 
-    /// All rules are found.
-    fn all(alloc: Global, rules: usize) -> Result<Search, AllocError>
-        ensures { IfOk result (λ search. search.found.items ≡ replicate rules true) }
-    {
-        Ok(Search {
-            found: vec![in alloc; true; rules]?,
-            todo: Vec::new(alloc),
-        })
-    }
-
     /// Finds a rule.
-    fn find(&mut self, rule: usize) -> Result<(), AllocError> {
+    fn find(&mut self, rule: usize) -> Result<(), AllocError>
+        ensures { OnOk result (self.new.found.items ≡ slice_set self.old.found.items rule true) }
+    {
         let mut is_new = false;
         if let Some(found) = self.found.get_mut(rule) {
             is_new = !*found;
@@ -96,34 +91,111 @@ impl Search {
         self.has(prod.rule) && productive.has_all(prod.symbols.as_slice())
     }
 
-    /// Whether no rule that derives a text is lacking: one is found where all rules in the body of a production of it are.
-    fn has_productive(&self, parts: &GrammarParts) -> bool
-        ensures { IsTrue result
+    /// A rule that is lacking though it derives a text: all rules in the body of a production of it are found.
+    fn lacking(&self, parts: &GrammarParts) -> Option<usize>
+        ensures none { result ≡ None
             → HasProductive self.now.found.items (productions_in parts.now) }
+        ensures gone { IfSome result (λ rule. has self.now.found.items rule ≡ false) }
+        ensures finds { IfSome result (λ rule. FindsProductive (productions_in parts.now)
+            self.now.found.items (slice_set self.now.found.items rule true)) }
     {
         for prod in &parts.prods {
             if self.has_all(prod.symbols.as_slice()) {
                 if !self.has(prod.rule) {
-                    return false;
+                    return Some(prod.rule);
                 }
             }
         }
-        true
+        None
     }
 
-    /// Whether no rule that is reached is lacking: rule 0 is found, and the rules behind those that are.
-    fn has_reached(&self, parts: &GrammarParts, productive: &Search) -> bool
-        ensures { IsTrue result
-            → HasReached productive.now.found.items self.now.found.items (productions_in parts.now) }
+    /// A rule among the symbols that is not found.
+    fn lacking_among(&self, symbols: &[PartSymbol]) -> Option<usize>
+        ensures none { result ≡ None
+            → IsTrue (has_all self.now.found.items (map part_symbol_of symbols.now)) }
+        ensures gone { IfSome result (λ rule. has self.now.found.items rule ≡ false) }
+        ensures among { IfSome result (λ rule. IsRuleAmong (map part_symbol_of symbols.now) rule) }
+    {
+        for symbol in symbols {
+            if let PartSymbol::Rule(rule) = symbol {
+                if !self.has(*rule) {
+                    return Some(*rule);
+                }
+            }
+        }
+        None
+    }
+
+    /// A rule that is lacking though it is reached: rule 0, or one behind a rule that is found.
+    fn lacking_reached(&self, parts: &GrammarParts, productive: &Search) -> Option<usize>
+        ensures none { result ≡ None → HasReached productive.now.found.items
+            self.now.found.items (productions_in parts.now) }
+        ensures gone { IfSome result (λ rule. has self.now.found.items rule ≡ false) }
+        ensures finds { IfSome result (λ rule. FindsReached productive.now.found.items
+            (productions_in parts.now) self.now.found.items
+            (slice_set self.now.found.items rule true)) }
     {
         for prod in &parts.prods {
             if self.is_useful(productive, prod) {
-                if !self.has_all(prod.symbols.as_slice()) {
-                    return false;
+                if let Some(rule) = self.lacking_among(prod.symbols.as_slice()) {
+                    return Some(rule);
                 }
             }
         }
-        self.has(0)
+        if self.has(0) { None } else { Some(0) }
+    }
+
+    /// Finds the rule of a production if all rules in its body are found.
+    fn find_of(&mut self, parts: &GrammarParts, prod: usize) -> Result<(), AllocError>
+        ensures { OnOk result (FindsProductive (productions_in parts.now) self.old.found.items
+            self.new.found.items) }
+    {
+        if let Some(found) = parts.prods.get(prod) {
+            if self.has_all(found.symbols.as_slice()) {
+                self.find(found.rule)?;
+            }
+        }
+        Ok(())
+    }
+
+    /// Finds a symbol, if it is a rule.
+    fn find_symbol(&mut self, symbol: PartSymbol) -> Result<(), AllocError>
+        ensures { OnOk result (FindsAmong (part_symbol_of symbol ∷ []) self.old.found.items
+            self.new.found.items) }
+    {
+        match symbol {
+            PartSymbol::Rule(rule) => self.find(rule),
+            PartSymbol::Token(_) => Ok(()),
+        }
+    }
+
+    /// Finds the rules among the symbols.
+    fn find_rules(&mut self, symbols: &[PartSymbol]) -> Result<(), AllocError>
+        ensures { OnOk result (FindsAmong (map part_symbol_of symbols.now) self.old.found.items
+            self.new.found.items) }
+    {
+        for symbol in symbols {
+            self.find_symbol(*symbol)?;
+        }
+        Ok(())
+    }
+
+    /// Finds the rules in the body of a production if it is useful.
+    fn find_behind(
+        &mut self,
+        parts: &GrammarParts,
+        prod: usize,
+        productive: &Search,
+    ) -> Result<(), AllocError>
+        ensures { OnOk result (FindsReached productive.now.found.items (productions_in parts.now)
+            self.old.found.items self.new.found.items) }
+    {
+        if let Some(prod) = parts.prods.get(prod) {
+            if self.is_useful(productive, prod) {
+                self.find_rules(prod.symbols.as_slice())?;
+            }
+        }
+        Ok(())
     }
 }
 
@@ -153,26 +225,26 @@ struct Uses {
     counts: Vec<usize>,
 }
 
-impl Uses {
-    /// Adds a production. Its rule is found where its body has no rule.
-    fn add(&mut self, search: &mut Search, at: usize, prod: &PartProd) -> Result<(), AllocError> {
-        let count = add_uses(&mut self.by_rule, at, prod.symbols.as_slice())?;
-        self.counts.push(count)?;
-        if count == 0 {
-            search.find(prod.rule)?;
-        }
-        Ok(())
-    }
-}
-
 /// Where the bodies of a grammar have rules. Finds the rules of those that have none.
-fn uses_of(alloc: Global, parts: &GrammarParts, search: &mut Search) -> Result<Uses, AllocError> {
+#[tactic(auto, using(crate::proofs::LeastSets::finds_again, crate::proofs::LeastSets::finds_nothing))]
+fn uses_of(alloc: Global, parts: &GrammarParts, search: &mut Search) -> Result<Uses, AllocError>
+    ensures { OnOk result (FindsProductive (productions_in parts.now) search.old.found.items
+        search.new.found.items) }
+{
     let mut uses = Uses {
         by_rule: empty_lists(alloc, parts.rules.len())?,
         counts: Vec::new(alloc),
     };
     for prod in 0..parts.prods.len() {
-        uses.add(search, prod, &parts.prods[prod])?;
+        let count = add_uses(
+            &mut uses.by_rule,
+            prod,
+            parts.prods[prod].symbols.as_slice(),
+        )?;
+        uses.counts.push(count)?;
+        if count == 0 {
+            search.find_of(parts, prod)?;
+        }
     }
     Ok(uses)
 }
@@ -194,7 +266,10 @@ fn add_uses(
 }
 
 /// Searches for the rules that derive a text.
-fn search_productive(alloc: Global, parts: &GrammarParts) -> Result<Search, AllocError> {
+fn search_productive(alloc: Global, parts: &GrammarParts) -> Result<Search, AllocError>
+    ensures { IfOk result (λ search. AreProductive (vec_len parts.now.rules)
+        (productions_in parts.now) search.found.items) }
+{
     let mut search = Search::new(alloc, parts.rules.len())?;
     let mut uses = uses_of(alloc, parts, &mut search)?;
     find_productive(&mut search, &mut uses, parts)?;
@@ -202,11 +277,15 @@ fn search_productive(alloc: Global, parts: &GrammarParts) -> Result<Search, Allo
 }
 
 /// Finds the rules that derive a text by those that are found.
+#[tactic(auto, using(crate::proofs::LeastSets::finds_again, crate::proofs::LeastSets::finds_nothing))]
 fn find_productive(
     search: &mut Search,
     uses: &mut Uses,
     parts: &GrammarParts,
-) -> Result<(), AllocError> {
+) -> Result<(), AllocError>
+    ensures { OnOk result (FindsProductive (productions_in parts.now) search.old.found.items
+        search.new.found.items) }
+{
     for _ in 0..parts.rules.len() {
         let Some(rule) = search.todo.pop() else {
             break;
@@ -219,12 +298,16 @@ fn find_productive(
 }
 
 /// Notes that a rule of these productions derives a text.
+#[tactic(auto, using(crate::proofs::LeastSets::finds_again, crate::proofs::LeastSets::finds_nothing))]
 fn count_down(
     search: &mut Search,
     counts: &mut Vec<usize>,
     parts: &GrammarParts,
     prods: &[usize],
-) -> Result<(), AllocError> {
+) -> Result<(), AllocError>
+    ensures { OnOk result (FindsProductive (productions_in parts.now) search.old.found.items
+        search.new.found.items) }
+{
     for prod in prods {
         let mut is_last = false;
         if let Some(count) = counts.get_mut(*prod) {
@@ -232,9 +315,7 @@ fn count_down(
             *count = count.saturating_sub(1);
         }
         if is_last {
-            if let Some(found) = parts.prods.get(*prod) {
-                search.find(found.rule)?;
-            }
+            search.find_of(parts, *prod)?;
         }
     }
     Ok(())
@@ -242,13 +323,16 @@ fn count_down(
 
 /// Which rules derive a text.
 fn productive(alloc: Global, parts: &GrammarParts) -> Result<Search, AllocError>
-    ensures { IfOk result (λ search. HasProductive search.found.items (productions_in parts.now)) }
+    ensures productive { IfOk result (λ search.
+        HasProductive search.found.items (productions_in parts.now)) }
+    ensures least { IfOk result (λ search. AreProductive (vec_len parts.now.rules)
+        (productions_in parts.now) search.found.items) }
 {
-    let search = search_productive(alloc, parts)?;
-    if search.has_productive(parts) {
-        return Ok(search);
+    let mut search = search_productive(alloc, parts)?;
+    while let Some(rule) = search.lacking(parts) {
+        search.find(rule)?;
     }
-    Search::all(alloc, parts.rules.len())
+    Ok(search)
 }
 
 /// By rule, its productions.
@@ -265,7 +349,10 @@ fn search_reached(
     alloc: Global,
     parts: &GrammarParts,
     productive: &Search,
-) -> Result<Search, AllocError> {
+) -> Result<Search, AllocError>
+    ensures { IfOk result (λ search. AreReached productive.now.found.items
+        (vec_len parts.now.rules) (productions_in parts.now) search.found.items) }
+{
     let by_rule = prods_of_rules(alloc, parts)?;
     let mut search = Search::new(alloc, parts.rules.len())?;
     find_reached(&mut search, by_rule.as_slice(), parts, productive)?;
@@ -273,12 +360,16 @@ fn search_reached(
 }
 
 /// Finds the rules that are reached from rule 0 over productions that derive a text.
+#[tactic(auto, using(crate::proofs::LeastSets::reaches_again, crate::proofs::LeastSets::reaches_nothing))]
 fn find_reached(
     search: &mut Search,
     by_rule: &[Vec<usize>],
     parts: &GrammarParts,
     productive: &Search,
-) -> Result<(), AllocError> {
+) -> Result<(), AllocError>
+    ensures { OnOk result (FindsReached productive.now.found.items (productions_in parts.now)
+        search.old.found.items search.new.found.items) }
+{
     search.find(0)?;
     for _ in 0..parts.rules.len() {
         let Some(rule) = search.todo.pop() else {
@@ -292,28 +383,18 @@ fn find_reached(
 }
 
 /// Finds the rules in the bodies of those of the productions that derive a text.
+#[tactic(auto, using(crate::proofs::LeastSets::reaches_again, crate::proofs::LeastSets::reaches_nothing))]
 fn find_behind(
     search: &mut Search,
     parts: &GrammarParts,
     prods: &[usize],
     productive: &Search,
-) -> Result<(), AllocError> {
+) -> Result<(), AllocError>
+    ensures { OnOk result (FindsReached productive.now.found.items (productions_in parts.now)
+        search.old.found.items search.new.found.items) }
+{
     for prod in prods {
-        if let Some(prod) = parts.prods.get(*prod) {
-            if productive.has_all(prod.symbols.as_slice()) {
-                find_rules(search, prod.symbols.as_slice())?;
-            }
-        }
-    }
-    Ok(())
-}
-
-/// Finds the rules among the symbols.
-fn find_rules(search: &mut Search, symbols: &[PartSymbol]) -> Result<(), AllocError> {
-    for symbol in symbols {
-        if let PartSymbol::Rule(rule) = symbol {
-            search.find(*rule)?;
-        }
+        search.find_behind(parts, *prod, productive)?;
     }
     Ok(())
 }
@@ -323,14 +404,14 @@ fn reached(alloc: Global, parts: &GrammarParts, productive: &Search) -> Result<S
     ensures many { IfOk result (λ search. vec_len search.found ≡ vec_len parts.now.rules) }
     ensures reached { IfOk result (λ search.
         HasReached productive.now.found.items search.found.items (productions_in parts.now)) }
+    ensures least { IfOk result (λ search. AreReached productive.now.found.items
+        (vec_len parts.now.rules) (productions_in parts.now) search.found.items) }
 {
-    let search = search_reached(alloc, parts, productive)?;
-    if search.found.len() == parts.rules.len() {
-        if search.has_reached(parts, productive) {
-            return Ok(search);
-        }
+    let mut search = search_reached(alloc, parts, productive)?;
+    while let Some(rule) = search.lacking_reached(parts, productive) {
+        search.find(rule)?;
     }
-    Search::all(alloc, parts.rules.len())
+    Ok(search)
 }
 
 /// The new number of each rule that stays.
@@ -396,9 +477,15 @@ impl Selection {
             vec_len selection.numbers ≡ vec_len parts.now.rules) }
         ensures productive { IfOk result (λ selection.
             HasProductive selection.productive.found.items (productions_in parts.now)) }
+        ensures least_productive { IfOk result (λ selection. AreProductive
+            (vec_len parts.now.rules) (productions_in parts.now)
+            selection.productive.found.items) }
         ensures reached { IfOk result (λ selection.
             HasReached selection.productive.found.items (map is_some selection.numbers.items)
             (productions_in parts.now)) }
+        ensures least_reached { IfOk result (λ selection. AreReached
+            selection.productive.found.items (vec_len parts.now.rules) (productions_in parts.now)
+            (map is_some selection.numbers.items)) }
     {
         let productive = productive(alloc, parts)?;
         let kept = reached(alloc, parts, &productive)?;

@@ -1,4 +1,4 @@
-use Rattle.std.proofs.Common.{◌<◌, length, arith}
+use Rattle.std.proofs.Common.{◌<◌, length}
 use Rattle.std.proofs.lemmas.Int.Digits.{digits_value_more}
 use Rattle.lryacc.proofs.numbers.value_in.Goals as goal
 

@@ -1,7 +1,8 @@
-use Rattle.lryacc.proofs.UsefulLemmas.{HasReached-all}
-use Rattle.lryacc.specs.UsefulRules.{productions_in}
+use Rattle.std.proofs.Common.{◌<◌, List, Bool, subst, sym}
+use Rattle.lryacc.proofs.LeastSets.{fewer-lack, lacking}
 use Rattle.lryacc.proofs.useful.reached.Goals as goal
 
-pub returns-clause-reached : goal.returns-clause-reached
-returns-clause-reached c =
-    HasReached-all c.args.productive.now.found.items c.len-3.result (productions_in c.args.parts.now) c.all.result c.all.ensures
+pub loop-rule-smaller : goal.loop-rule-smaller
+loop-rule-smaller c =
+    let found = c.loop-rule.search.found.items in
+    subst (λ (rules : List Bool). lacking rules < lacking found) (sym c.in_ok-find.ensures) (fewer-lack found c.in-Some.rule c.in-Some.ensures.gone)

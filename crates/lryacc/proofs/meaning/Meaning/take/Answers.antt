@@ -1,6 +1,6 @@
 use Rattle.std.proofs.Common.{List, subst}
 use Rattle.lryacc.specs.declared.contents.Statement.{Statement}
-use Rattle.lryacc.specs.EndTokens.{KeepsMeaning, TakesEnd}
+use Rattle.lryacc.specs.EndTokens.{TakesEnd}
 use Rattle.lryacc.specs.NamedSymbols.{TakesSome}
 use Rattle.lryacc.proofs.EndsTaken.{end-found, end-kept, meaning-again, takes_end_rest}
 use Rattle.lryacc.proofs.NamesOfOne.{kept-again, ok-then, takes_rest}

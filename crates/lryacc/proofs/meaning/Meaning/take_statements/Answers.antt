@@ -1,4 +1,4 @@
-use Rattle.std.proofs.Common.{◌<◌, List, length, arith, refl, subst}
+use Rattle.std.proofs.Common.{◌<◌, List, length, refl, subst}
 use Rattle.std.proofs.lemmas.List.{take_all, take_more}
 use Rattle.std.proofs.lemmas.List.Elements.{Contains-get_or}
 use Rattle.lryacc.specs.declared.contents.Statement.{Statement}

@@ -1,7 +1,7 @@
 use Rattle.std.proofs.Common.{map, take}
 use Rattle.lrgrammar.specs.StoredParts.{part_production_of}
 use Rattle.lryacc.specs.UsefulRules.{HasProductive}
-use Rattle.lryacc.proofs.useful.Search.has_productive.Given as goal
+use Rattle.lryacc.proofs.useful.Search.lacking.Given as goal
 
 abbrev pub invariant-loop-prod : goal.invariant-loop-prod
 invariant-loop-prod l =

@@ -1,7 +1,7 @@
 use Rattle.std.proofs.Common.{All, IsTrue, map, take}
 use Rattle.lrgrammar.specs.StoredParts.{part_production_of}
 use Rattle.lryacc.specs.UsefulRules.{has_all, is_useful}
-use Rattle.lryacc.proofs.useful.Search.has_reached.Given as goal
+use Rattle.lryacc.proofs.useful.Search.lacking_reached.Given as goal
 
 abbrev pub invariant-loop-prod : goal.invariant-loop-prod
 invariant-loop-prod l =
