@@ -10,6 +10,7 @@ use Rattle.std.proofs.lemmas.Map.Lookups.{exact_unsigned}
 use Rattle.std.proofs.lemmas.Option.{same_Some}
 use Rattle.std.specs.Ordering.{nat_cmp, is_eq}
 use Rattle.std.proofs.lemmas.List.{length-map, length_push, map-append}
+use Rattle.lrgrammar.specs.declared.grammar.Precedence.{Precedence}
 use Rattle.lryacc.specs.declared.numbering.Numbering.{Numbering}
 use Rattle.lryacc.specs.BodyProductions.{Keeps}
 use Rattle.lryacc.specs.NamedSymbols.{Names, IsRuleOf, IsTokenOf}
@@ -78,11 +79,11 @@ all-put P old new key value puts put there q v e =
     put-at P old new key value q v (is_at (nat_cmp key) q) refl (puts q) put there e
 
 -- names with more rules and tokens
-abbrev pub with_more : Names → List (List ℕ) → List (List ℕ) → List ℕ → Names
-with_more a rules tokens starts = record a { rules = rules; tokens = tokens; starts = starts }
+abbrev pub with_more : Names → List (List ℕ) → List (List ℕ) → List (Option Precedence) → List ℕ → Names
+with_more a rules tokens precedences starts = record a { rules = rules; tokens = tokens; precedences = precedences; starts = starts }
 
-pub rule-more : (a : Names) (rules tokens : List (List ℕ)) (starts : List ℕ) (number rule : ℕ) → Keeps a.rules rules → IsRuleOf a number rule → IsRuleOf (with_more a rules tokens starts) number rule
-rule-more a rules tokens starts number rule keeps h = record {
+pub rule-more : (a : Names) (rules tokens : List (List ℕ)) (precedences : List (Option Precedence)) (starts : List ℕ) (number rule : ℕ) → Keeps a.rules rules → IsRuleOf a number rule → IsRuleOf (with_more a rules tokens precedences starts) number rule
+rule-more a rules tokens precedences starts number rule keeps h = record {
   is_rule = h.is_rule;
   behind = h.behind;
   name = h.name;
@@ -92,24 +93,29 @@ rule-more a rules tokens starts number rule keeps h = record {
   is = h.is;
 }
 
-pub token-more : (a : Names) (rules tokens : List (List ℕ)) (starts : List ℕ) (number token : ℕ) → Keeps a.tokens tokens → IsTokenOf a number token → IsTokenOf (with_more a rules tokens starts) number token
-token-more a rules tokens starts number token keeps (inl h) = inl record {
+pub token-more : (a : Names) (rules tokens : List (List ℕ)) (precedences : List (Option Precedence)) (starts : List ℕ) (number token : ℕ) → Keeps a.tokens tokens → Keeps a.precedences precedences → IsTokenOf a number token → IsTokenOf (with_more a rules tokens precedences starts) number token
+token-more a rules tokens precedences starts number token keeps levels (inl h) = inl record {
   name = h.name;
   same = h.same;
   text = h.text;
   here = keeps token h.text h.here;
   is = h.is;
+  precedence = record {
+    precedence = h.precedence.precedence;
+    here = levels token h.precedence.precedence h.precedence.here;
+    is = h.precedence.is;
+  };
 }
-token-more a rules tokens starts number token keeps (inr h) = inr record {
+token-more a rules tokens precedences starts number token keeps levels (inr h) = inr record {
   end = h.end;
   is = elim h.is [ inl first ↦ inl first | inr named ↦ inr (keeps token (codes "$end") named) ];
 }
 
 -- rules and tokens that were numbered stay so where others are added
-pub numbered-more : (a : Names) (rules tokens : List (List ℕ)) (starts : List ℕ) (r t s : ℕ → Option ℕ) → Keeps a.rules rules → Keeps a.tokens tokens → Keeps a.starts starts → (length a.starts ≡ length a.rules → length starts ≡ length rules) → AreNumbered a r t s → AreNumbered (with_more a rules tokens starts) r t s
-numbered-more a rules tokens starts r t s keeps_rules keeps_tokens keeps_starts placed h = record {
-  of_rules = λ number rule e. rule-more a rules tokens starts number rule keeps_rules (h.of_rules number rule e);
-  of_tokens = λ number token e. token-more a rules tokens starts number token keeps_tokens (h.of_tokens number token e);
+pub numbered-more : (a : Names) (rules tokens : List (List ℕ)) (precedences : List (Option Precedence)) (starts : List ℕ) (r t s : ℕ → Option ℕ) → Keeps a.rules rules → Keeps a.tokens tokens → Keeps a.precedences precedences → Keeps a.starts starts → (length a.starts ≡ length a.rules → length starts ≡ length rules) → AreNumbered a r t s → AreNumbered (with_more a rules tokens precedences starts) r t s
+numbered-more a rules tokens precedences starts r t s keeps_rules keeps_tokens keeps_levels keeps_starts placed h = record {
+  of_rules = λ number rule e. rule-more a rules tokens precedences starts number rule keeps_rules (h.of_rules number rule e);
+  of_tokens = λ number token e. token-more a rules tokens precedences starts number token keeps_tokens keeps_levels (h.of_tokens number token e);
   of_actions = λ start rule e. keeps_starts rule start (h.of_actions start rule e);
   placed = placed h.placed;
   accept = keeps_rules 0 (codes "$accept") h.accept;

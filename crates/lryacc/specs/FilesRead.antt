@@ -31,6 +31,7 @@ pub record AreNamesOf (text : List ℕ) (dialect : Dialect) (statements : List S
   pub rules : names.rules ≡ map (λ name. string_bytes name) file.parts.rules.items
   pub tokens : names.tokens ≡ map (λ token. string_bytes token.name) file.parts.tokens.items
   pub starts : names.starts ≡ map (λ place. place.start) file.rule_places.items
+  pub precedences : names.precedences ≡ map (λ token. token.precedence) file.parts.tokens.items
   pub end : HasEnd names
   pub one : (lexeme other : Lexeme) (number : ℕ) → names.number lexeme ≡ Some number
       → names.number other ≡ Some number → NameOne text dialect statements lexeme other

@@ -1,6 +1,8 @@
 -- the precedence lines of a file, and the precedences of its tokens
-use Rattle.std.specs.Prelude.{◌≡◌, ℕ, ◌-◌, ◌*◌, List, Option, Some, slice_get}
+use Rattle.std.specs.Prelude.{◌≡◌, ℕ, ◌-◌, ◌*◌, List, Option, IfSome, None, Some, slice_get}
+use Rattle.std.specs.BTreeMap.{get}
 use Rattle.std.specs.Option.{option_map, option_and_then, option_or}
+use Rattle.std.specs.Ordering.{nat_cmp}
 use Rattle.lrgrammar.specs.declared.grammar.AssocKind.{AssocKind}
 use Rattle.lrgrammar.specs.declared.grammar.AssocKind.TheVariants as group
 use Rattle.lrgrammar.specs.declared.grammar.Precedence.{Precedence}
@@ -8,7 +10,6 @@ use Rattle.lryacc.specs.declared.contents.LevelKind.{LevelKind}
 use Rattle.lryacc.specs.declared.contents.LevelKind.TheVariants as line
 use Rattle.lryacc.specs.declared.symbols.Symbol.{Symbol}
 use Rattle.lryacc.specs.declared.symbols.Symbols.{Symbols}
-use Rattle.lryacc.specs.NamedSymbols.{partner_in}
 
 -- the precedence line in which a symbol stands by this name, counted from 1
 abbrev pub own_line : Symbol → Option ℕ
@@ -18,7 +19,7 @@ own_line symbol = option_map (λ level. level.0) symbol.level
 abbrev pub other_line : Symbols → ℕ → Option ℕ
 other_line symbols number =
     option_and_then (λ other. option_and_then own_line (slice_get symbols.list.items other))
-    (partner_in symbols number)
+    (get nat_cmp symbols.partners number)
 
 -- the precedence line of a symbol, by either of its names
 abbrev pub line_of : Symbols → ℕ → Option ℕ
@@ -37,3 +38,8 @@ group_of line.Precedence = group.Nonassoc
 pub record IsOfLine (lines : List LevelKind) (number : ℕ) (precedence : Precedence) : Type 0 where
   pub level : precedence.level ≡ number * 2
   pub group : option_map group_of (slice_get lines (number - 1)) ≡ Some precedence.kind
+
+-- the precedence of the tokens of a line, if it has one; tokens of no line have none
+abbrev pub IsOfLines : List LevelKind → Option ℕ → Option Precedence → Type 0
+IsOfLines lines None precedence = precedence ≡ None
+IsOfLines lines (Some line) precedence = IfSome precedence (IsOfLine lines line)

@@ -10,7 +10,9 @@ use Rattle.std.specs.Ordering.{nat_cmp}
 use Rattle.lrgrammar.specs.declared.grammar.PartSymbol.{PartSymbol}
 use Rattle.lrgrammar.specs.declared.grammar.PartSymbol.TheVariants.{Rule, Token}
 use Rattle.lryacc.specs.declared.contents.Alternative.{Alternative}
+use Rattle.lrgrammar.specs.declared.grammar.Precedence.{Precedence}
 use Rattle.lryacc.specs.declared.contents.Contents.{Contents}
+use Rattle.lryacc.specs.declared.contents.LevelKind.{LevelKind}
 use Rattle.lryacc.specs.declared.contents.Statement.{Statement}
 use Rattle.lryacc.specs.declared.contents.Statement.TheVariants as says
 use Rattle.lryacc.specs.declared.dialects.Dialect.{Dialect}
@@ -22,6 +24,7 @@ use Rattle.lryacc.specs.declared.meaning.Meaning.{Meaning}
 use Rattle.lryacc.specs.declared.numbering.FileGrammar.{FileGrammar}
 use Rattle.lryacc.specs.declared.places.Span.{Span}
 use Rattle.lryacc.specs.declared.symbols.Symbols.{Symbols}
+use Rattle.lryacc.specs.Levels.{IsOfLines, line_of}
 use Rattle.lryacc.specs.Quotes.{IsLetterFor}
 
 -- the bytes at a place, if it is one of the text
@@ -220,6 +223,11 @@ pub record Names : Type 0 where
   pub tokens : List (List ℕ)
   -- by rule, where it stands first
   pub starts : List ℕ
+  -- the precedence lines, and the one in which a symbol stands, counted from 1
+  pub lines : List LevelKind
+  pub line : ℕ → Option ℕ
+  -- by token
+  pub precedences : List (Option Precedence)
 
 -- those of a file whose names have their meaning
 abbrev pub names_in : Meaning → Contents → FileGrammar → Names
@@ -234,6 +242,9 @@ names_in meaning contents file =
       rules = map (λ name. string_bytes name) file.parts.rules.items;
       tokens = map (λ token. string_bytes token.name) file.parts.tokens.items;
       starts = map (λ place. place.start) file.rule_places.items;
+      lines = meaning.levels.items;
+      line = line_of meaning.symbols;
+      precedences = map (λ token. token.precedence) file.parts.tokens.items;
     }
 
 -- a name whose bytes that are not ASCII, and its backslashes, are written by their numbers
@@ -301,13 +312,20 @@ abbrev pub IsTokenText : Dialect → LexemeKind → List ℕ → List ℕ → Ty
 IsTokenText dialect (kind.Character byte) name text = IsCharacterText byte text
 IsTokenText dialect _ name text = IsNameOfToken dialect name text
 
--- a token stands in a grammar by a name of a symbol
+-- a token has the precedence of the line in which a symbol stands
+pub record HasPrecedenceOf (names : Names) (number token : ℕ) : Type 0 where
+  pub precedence : Option Precedence
+  pub here : slice_get names.precedences token ≡ Some precedence
+  pub is : IsOfLines names.lines (names.line number) precedence
+
+-- a token stands in a grammar by a name of a symbol, with its precedence
 pub record IsTokenNamed (names : Names) (number token : ℕ) : Type 0 where
   pub name : Lexeme
   pub same : names.number name ≡ Some number
   pub text : List ℕ
   pub here : slice_get names.tokens token ≡ Some text
   pub is : IsTokenText names.dialect name.kind (name_of names.text names.dialect name) text
+  pub precedence : HasPrecedenceOf names number token
 
 -- the end token is token 0, and may have a name that stands in no file
 pub record IsEndToken (names : Names) (number token : ℕ) : Type 0 where

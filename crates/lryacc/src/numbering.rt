@@ -2,7 +2,7 @@
 
 ghost use Rattle.std.specs.Prelude.{◌≡◌, ◌-◌, true, [], ◌∷◌, ◌++◌, Some, codes, map, flat_map, length, slice_get, string_bytes};
 ghost use Rattle.std.specs.Prelude.{IfOk, OnOk, IfSome, IsSomeAnd};
-ghost use Rattle.lryacc.specs.Levels.{IsOfLine, group_of, line_of};
+ghost use Rattle.lryacc.specs.Levels.{IsOfLines, group_of, line_of};
 ghost use Rattle.lryacc.specs.ProductionPlaces.{Adds, ArePlaced, IsPlaced, action_place, action_places, body_places};
 ghost use Rattle.lryacc.specs.ProductionPlaces.{file_places, parts_before_last, start_rules_of};
 ghost use Rattle.lryacc.specs.BodyProductions.{AddsProduction, AddsProductions, AreOfActions, AreOfBodies, AreOfBody};
@@ -412,9 +412,7 @@ impl<'m, 'a> Numbering<'m, 'a> {
 
     /// The precedence of a token: levels are twice as many as in the file, so that there is one below each.
     fn precedence(&self, number: usize) -> Option<Precedence>
-        ensures { IfSome result (λ precedence.
-            IsSomeAnd (line_of self.now.meaning.now.symbols number) (λ line.
-            IsOfLine self.now.meaning.now.levels.items line precedence)) }
+        ensures { IsOfLines (names_of self.now).lines ((names_of self.now).line number) result }
     {
         let level = self.level(number)?;
         let kind = self.level_kind(level)?;
@@ -471,6 +469,8 @@ impl<'m, 'a> Numbering<'m, 'a> {
         ensures added { OnOk result (AddsNumbers self.old self.new) }
         ensures number { IfOk result (λ number.
             slice_get (names_of self.new).tokens number ≡ Some (string_bytes name)) }
+        ensures precedence { IfOk result (λ number.
+            slice_get (names_of self.new).precedences number ≡ Some precedence) }
         ensures tokens { OnOk result ((names_of self.new).tokens
             ≡ (names_of self.old).tokens ++ string_bytes name ∷ []) }
     {
@@ -489,32 +489,32 @@ impl<'m, 'a> Numbering<'m, 'a> {
         let Some(symbol) = self.known(number) else {
             return Ok(());
         };
-        let precedence = self.precedence(number);
         if self.is_end_by_name(number, symbol) {
-            return self.add_end(number, precedence);
+            return self.add_end(number);
         }
-        self.add_told(self.told_name(number, symbol), precedence)
+        self.add_told(self.told_name(number, symbol))
     }
 
     /// Adds the end token where the file gives it no name.
-    fn add_end(&mut self, number: usize, precedence: Option<Precedence>) -> Result<(), AllocError>
+    fn add_end(&mut self, number: usize) -> Result<(), AllocError>
         requires { (names_of self.old).end ≡ Some number }
         ensures { OnOk result (AddsNumbers self.old self.new) }
     {
         let name = String::from_str(self.allocator(), END)?;
-        let token = self.add_token(name, precedence)?;
+        let token = self.add_token(name, self.precedence(number))?;
         self.tokens.insert(number, token)?;
         Ok(())
     }
 
     /// Adds the token that a lexeme names, by that name.
-    fn add_told(&mut self, told: Lexeme, precedence: Option<Precedence>) -> Result<(), AllocError>
+    fn add_told(&mut self, told: Lexeme) -> Result<(), AllocError>
         ensures { OnOk result (AddsNumbers self.old self.new) }
     {
         let Some(number) = self.meaning.find(told) else {
             return Ok(());
         };
         let name = self.token_name(told)?;
+        let precedence = self.precedence(number);
         let token = self.add_token(name, precedence)?;
         self.tokens.insert(number, token)?;
         Ok(())

@@ -37,6 +37,7 @@ returns-clause-bodies c =
           rules = refl;
           tokens = refl;
           starts = refl;
+          precedences = refl;
           end = has-end c.args.meaning.now c.args.contents.now c.args.whole c.requires.faults c.requires.end;
           one = λ lexeme other number e d. named-in c.args.text.now c.args.dialect c.args.contents.now.statements.items c.args.meaning.now.symbols c.requires.text c.requires.dialect c.requires.apart c.requires.partnered lexeme other number e d;
         };

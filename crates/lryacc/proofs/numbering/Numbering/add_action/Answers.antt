@@ -20,6 +20,7 @@ returns c =
     let names = names_of c.args.self.now in
     let rules = map rule_name new.parts.rules.items in
     let tokens = map token_name new.parts.tokens.items in
+    let levels = map (λ (token : PartToken). token.precedence) new.parts.tokens.items in
     let starts = map start new.rule_places.items in
     let number : length names.starts ≡ length names.rules → c.in_ok-rule.rule ≡ length old.rule_places.items =
     λ same. omega (arith, added.number, same, length-map old.rule_places.items start, length-map old.parts.rules.items rule_name) in
@@ -27,11 +28,12 @@ returns c =
       meaning = refl;
       contents = refl;
       numbered = λ h.
-          numbered-action (with_more names rules tokens starts) _ _ _ _ c.args.action.span.start c.in_ok-rule.rule (λ q. c.in_ok-insert.ensures.updates.0 q)
+          numbered-action (with_more names rules tokens levels starts) _ _ _ _ c.args.action.span.start c.in_ok-rule.rule (λ q. c.in_ok-insert.ensures.updates.0 q)
           (ap (slice_get starts) (number h.placed) ∙ map-added start old.rule_places.items new.rule_places.items c.args.action.span added.places)
-          (numbered-more names rules tokens starts _ _ _
+          (numbered-more names rules tokens levels starts _ _ _
           (map-more rule_name old.parts.rules.items new.parts.rules.items c.in_ok-name.name added.rules)
           (λ n x e. ap (λ (ts : Vec PartToken Global). slice_get (map token_name ts.items) n) added.tokens ∙ e)
+          (λ n x e. ap (λ (ts : Vec PartToken Global). slice_get (map (λ (token : PartToken). token.precedence) ts.items) n) added.tokens ∙ e)
           (map-more start old.rule_places.items new.rule_places.items c.args.action.span added.places)
           (lengths-more start rule_name old.rule_places.items new.rule_places.items old.parts.rules.items new.parts.rules.items c.args.action.span c.in_ok-name.name added.places added.rules)
           h);

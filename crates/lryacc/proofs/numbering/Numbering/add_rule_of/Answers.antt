@@ -21,12 +21,13 @@ returns c =
     let names = names_of c.args.self.now in
     let rules = map rule_name new.parts.rules.items in
     let tokens = map token_name new.parts.tokens.items in
+    let levels = map (λ (token : PartToken). token.precedence) new.parts.tokens.items in
     let starts = map start new.rule_places.items in
     record {
       meaning = refl;
       contents = refl;
       numbered = λ h.
-          numbered-rule (with_more names rules tokens starts) _ _ _ _ c.in-Some.symbol c.in_ok-rule.rule (λ q. c.in_ok-insert.ensures.updates.0 q)
+          numbered-rule (with_more names rules tokens levels starts) _ _ _ _ c.in-Some.symbol c.in_ok-rule.rule (λ q. c.in_ok-insert.ensures.updates.0 q)
           (record {
             is_rule = c.requires c.in-Some.symbol (sym c.find.ensures ∙ c.in-Some.is);
             behind = subst (λ (n : ℕ). 0 < n) (sym added.number) (omega (arith, some-first names.rules _ h.accept, length-map old.parts.rules.items rule_name));
@@ -36,9 +37,10 @@ returns c =
             here = ap (slice_get rules) added.number ∙ map-added rule_name old.parts.rules.items new.parts.rules.items c.in_ok-text.text added.rules;
             is = subst (λ (bytes : List ℕ). IsTextOf bytes (string_bytes c.in_ok-text.text)) c.name.ensures c.in_ok-text.ensures;
           })
-          (numbered-more names rules tokens starts _ _ _
+          (numbered-more names rules tokens levels starts _ _ _
           (map-more rule_name old.parts.rules.items new.parts.rules.items c.in_ok-text.text added.rules)
           (λ n x e. ap (λ (ts : Vec PartToken Global). slice_get (map token_name ts.items) n) added.tokens ∙ e)
+          (λ n x e. ap (λ (ts : Vec PartToken Global). slice_get (map (λ (token : PartToken). token.precedence) ts.items) n) added.tokens ∙ e)
           (map-more start old.rule_places.items new.rule_places.items c.args.place added.places)
           (lengths-more start rule_name old.rule_places.items new.rule_places.items old.parts.rules.items new.parts.rules.items c.args.place c.in_ok-text.text added.places added.rules)
           h);

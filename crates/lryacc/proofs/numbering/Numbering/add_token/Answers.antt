@@ -11,12 +11,15 @@ returns-clause-added c =
     let tokens = c.push.new.self.items in
     let old = c.args.self.now in
     let names = names_of old in
+    let token : PartToken = record { name = c.args.name; precedence = c.args.precedence } in
+    let level_of_token = λ (token : PartToken). token.precedence in
     record {
       meaning = refl;
       contents = refl;
       numbered =
-          numbered-more names names.rules (map name_of_token tokens) names.starts _ _ _ (λ _ _ h. h)
-          (map-more name_of_token old.grammar.parts.tokens.items tokens record { name = c.args.name; precedence = c.args.precedence } c.in_ok-push.ensures.items)
+          numbered-more names names.rules (map name_of_token tokens) (map level_of_token tokens) names.starts _ _ _ (λ _ _ h. h)
+          (map-more name_of_token old.grammar.parts.tokens.items tokens token c.in_ok-push.ensures.items)
+          (map-more level_of_token old.grammar.parts.tokens.items tokens token c.in_ok-push.ensures.items)
           (λ _ _ h. h) (λ same. same);
     }
 
@@ -28,3 +31,12 @@ returns-clause-number c =
     let number : c.len-number.result ≡ length old.items = omega (arith, c.len-number.ensures, old.ok.0) in
     ap (slice_get (map name_of_token tokens)) number
     ∙ map-added name_of_token c.args.self.now.grammar.parts.tokens.items tokens record { name = c.args.name; precedence = c.args.precedence } c.in_ok-push.ensures.items
+
+pub returns-clause-precedence : goal.returns-clause-precedence
+returns-clause-precedence c =
+    let level_of_token = λ (token : PartToken). token.precedence in
+    let tokens = c.push.new.self.items in
+    let old = c.args.self.now.grammar.parts.tokens in
+    let number : c.len-number.result ≡ length old.items = omega (arith, c.len-number.ensures, old.ok.0) in
+    ap (slice_get (map level_of_token tokens)) number
+    ∙ map-added level_of_token old.items tokens record { name = c.args.name; precedence = c.args.precedence } c.in_ok-push.ensures.items

@@ -1,5 +1,6 @@
 use Rattle.std.proofs.Common.{◌∙◌, ap, inl, string_bytes, subst, sym}
 use Rattle.lryacc.specs.declared.meaning.Meaning.{Meaning}
+use Rattle.lryacc.specs.Levels.{IsOfLines, line_of}
 use Rattle.lryacc.specs.NamedSymbols.{IsTokenText, name_of, symbol_number}
 use Rattle.lryacc.specs.Numbered.{names_of}
 use Rattle.lryacc.proofs.Numbered.{numbered-token}
@@ -22,6 +23,13 @@ returns c =
             is =
                 subst (λ (m : Meaning). IsTokenText m.symbols.dialect c.args.told.kind (name_of m.symbols.text.now m.symbols.dialect c.args.told) (string_bytes c.in_ok-name.name))
                 (sym added.meaning) c.in_ok-name.ensures;
+            precedence = record {
+              precedence = c.precedence-precedence.result;
+              here = c.in_ok-token.ensures.precedence;
+              is =
+                  subst (λ (m : Meaning). IsOfLines m.levels.items (line_of m.symbols c.in-Some.number) c.precedence-precedence.result)
+                  (sym added.meaning) c.precedence-precedence.ensures;
+            };
           })
           (added.numbered h);
     }
