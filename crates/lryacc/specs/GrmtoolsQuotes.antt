@@ -8,6 +8,7 @@ is_quote byte = byte == 39 || byte == 34
 
 -- what stands between quotes, from one place up to another; whether a quote is there behind a backslash
 pub data AreParts (quote : ℕ) (text : List ℕ) (start : ℕ) : Bool → ℕ → Type 0 where
+  -- nothing
   nothing : AreParts quote text start false start
   -- a byte that stands there by itself
   by_itself : {has : Bool} {at : ℕ} → AreParts quote text start has at
@@ -39,7 +40,9 @@ pub record AreInQuotes (quote : ℕ) (has : Bool) (text : List ℕ) (start end :
 
 -- a name in quotes: a mark, or parts without a quote
 pub data IsQuotedName (quote : ℕ) (text : List ℕ) (start : ℕ) : ℕ → Type 0 where
+  -- a mark by itself
   mark : IsLoneMark quote text start → IsQuotedName quote text start (start + 3)
+  -- parts of which none has a quote
   parts : {end : ℕ} → AreInQuotes quote false text start end → IsQuotedName quote text start end
 
 -- a text in quotes: parts with a quote

@@ -26,7 +26,7 @@ pub mod AllBodies
 pub mod Quotes
 -- names and texts in quotes, as grmtools reads them
 pub mod GrmtoolsQuotes
--- bytes in quotes that are read up to a place within them
+-- what stands in quotes, as it is read up to a place within it
 pub mod QuotesRead
 -- tags
 pub mod Tags

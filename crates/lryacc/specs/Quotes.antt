@@ -76,7 +76,9 @@ pub data IsByteIn (quote : ℕ) (text : List ℕ) (start : ℕ) : ℕ → ℕ �
 
 -- bytes between quotes, one behind another
 pub data AreBytesIn (quote : ℕ) (text : List ℕ) (start : ℕ) : ℕ → List ℕ → Type 0 where
+  -- none
   none : AreBytesIn quote text start start []
+  -- one more behind some
   more : {at end byte : ℕ} {bytes : List ℕ} → AreBytesIn quote text start at bytes
       → IsByteIn quote text at end byte → AreBytesIn quote text start end (bytes ++ byte ∷ [])
 

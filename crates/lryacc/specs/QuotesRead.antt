@@ -1,4 +1,4 @@
--- bytes in quotes that are read up to a place within them
+-- what stands in quotes, as it is read up to a place within it
 use Rattle.std.specs.Prelude.{◌≡◌, ◌≢◌, ℕ, ◌+◌, ◌-◌, ◌^◌, Bool, true, false, List, length, min, slice_index}
 use Rattle.lryacc.specs.declared.lexemes.LexemeKind.{LexemeKind}
 use Rattle.lryacc.specs.declared.lexemes.LexemeKind.TheVariants as kind
@@ -35,6 +35,7 @@ has_quote _ = false
 
 -- parts that are read up to a place, and the byte before it, a space in place of one behind a backslash
 pub data ArePartsUpTo (quote : ℕ) (text : List ℕ) (start : ℕ) (has : Bool) : ℕ → ℕ → Type 0 where
+  -- no part goes on behind the place
   whole : {at before : ℕ} → before ≢ 92 → AreParts quote text start has at
       → ArePartsUpTo quote text start has at before
   -- a backslash, behind which a byte belongs to it

@@ -12,6 +12,7 @@ is_angle byte = byte == 60 || byte == 62
 
 -- what may stand in a tag, from one place up to another
 pub data IsInTag (text : List ℕ) : ℕ → ℕ → Type 0 where
+  -- nothing
   nothing : {from : ℕ} → IsInTag text from from
   -- one more byte
   byte : {from at : ℕ} → IsInTag text from at → is_angle (slice_index text at) ≡ false
