@@ -12,6 +12,7 @@ use Rattle.lryacc.specs.Quotes.{AreQuoted, IsText, IsTranslated}
 use Rattle.lryacc.specs.Tags.{IsTag}
 use Rattle.lryacc.specs.Code.{EndsCode}
 use Rattle.lryacc.specs.Comments.{is_white}
+use Rattle.lryacc.specs.RustCode.{EndsRustCode}
 
 -- ---- classes of bytes
 
@@ -115,7 +116,8 @@ IsGrmtoolsLexeme kind.Directive text start end =
     IsWord is_percent is_in_directive text start end
 IsGrmtoolsLexeme kind.DirectiveLine text start end = Begins 37 text start
 IsGrmtoolsLexeme kind.Separator text start end = Are text start end (codes "%%")
-IsGrmtoolsLexeme kind.Action text start end = Begins 123 text start
+IsGrmtoolsLexeme kind.Action text start end =
+    Begins 123 text start × EndsRustCode text (start + 1) end
 IsGrmtoolsLexeme kind.Colon text start end = Are text start end (codes ":")
 IsGrmtoolsLexeme kind.Bar text start end = Are text start end (codes "|")
 IsGrmtoolsLexeme kind.Semicolon text start end = Are text start end (codes ";")

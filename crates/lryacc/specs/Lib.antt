@@ -38,6 +38,10 @@ pub mod Comments
 pub mod Code
 -- code that is read up to a place within it
 pub mod CodeRead
+-- code of Rust, and where it ends
+pub mod RustCode
+-- code of Rust that is read up to a place within it
+pub mod RustCodeRead
 -- the lexemes of a text
 pub mod Lexemes
 -- bytes of one class

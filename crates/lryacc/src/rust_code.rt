@@ -1,6 +1,9 @@
 //! Code of Rust, which is passed over: only strings, characters, comments and braces matter in it.
 
-ghost use Rattle.std.specs.Prelude.{◌<◌, ◌≤◌, length, IfOk};
+ghost use Rattle.std.specs.Prelude.{◌≡◌, ℕ, ◌+◌, ◌<◌, ◌≤◌, true, false, List, length, min, IfNone, IfOk, IfSome};
+ghost use Rattle.std.specs.Char.{is_ascii_digit};
+ghost use Rattle.lryacc.specs.RustCode.{EndsRustCode, goes_on, is_word_byte};
+ghost use Rattle.lryacc.specs.RustCodeRead.{Begins, IsHalf, IsRustCodeUpTo, LeadsOn, Settles, Stays, Takes, TakesByte};
 
 use crate::faults::{Fault, FaultKind};
 use crate::places::Span;
@@ -8,8 +11,30 @@ use crate::places::Span;
 /// What the next byte of code stands in.
 #[derive(Clone, Copy)]
 enum Within {
-    /// Code itself.
-    Code,
+    /// Code itself, behind bytes that it may go on.
+    Code(Before),
+    /// Something else.
+    Piece(Piece),
+}
+
+/// What the bytes before one of code are, where it may go on.
+#[derive(Clone, Copy)]
+enum Before {
+    /// Nothing that goes on.
+    Nothing,
+    /// A `/`.
+    Slash,
+    /// A part of a word.
+    Word,
+    /// A word `b` or `c`, which may go on as the prefix of a raw string.
+    Prefix,
+    /// The prefix of a raw string and so many `#`.
+    Raw(usize),
+}
+
+/// A part of code in which braces are none.
+#[derive(Clone, Copy)]
+enum Piece {
     /// A string; whether a backslash stands before the byte and takes it.
     Text(bool),
     /// A raw string that ends with a quote and so many `#`.
@@ -24,234 +49,394 @@ enum Within {
     Escape(bool),
     /// A comment up to the end of its line.
     Line,
-    /// So many comments up to `*/`, each in the one before.
-    Block(usize),
+    /// So many comments up to `*/`, each in the one before, behind such a byte.
+    Block(usize, Half),
 }
 
-/// What the bytes before one make of it.
+/// The byte before one of a comment, where it may begin a mark of two bytes.
 #[derive(Clone, Copy)]
-enum Before {
-    /// Nothing.
+enum Half {
+    /// Another one.
     Nothing,
-    /// They end with a `/`.
+    /// `/`.
     Slash,
-    /// They end with a `*`, in a comment.
+    /// `*`.
     Star,
-    /// They end with a part of a word.
-    Word,
-    /// They end with a word `b` or `c`, which may go on as the prefix of a raw string.
-    Prefix,
-    /// They end with the prefix of a raw string and so many `#`.
-    Raw(usize),
 }
 
 /// Code that was read up to some byte.
-#[derive(Drop)]
+#[derive(Clone, Copy)]
 struct RustReader {
     within: Within,
-    before: Before,
     /// How many braces are open.
     depth: usize,
     /// Where the string, character or comment in hand was opened.
     opened: usize,
 }
 
-/// What a byte of code brings.
-#[derive(Clone, Copy)]
-enum Step {
-    /// The code goes on.
-    On,
-    /// The code ends with this byte.
-    Ends,
-    /// What was opened can't go on so.
-    Breaks(FaultKind),
-}
-
 /// Whether a word may have the byte.
-fn is_word_byte(byte: u8) -> bool {
+fn is_word_byte(byte: u8) -> bool
+    ensures { result ≡ is_word_byte byte }
+{
     byte.is_ascii_alphanumeric() || byte == b'_' || byte >= 0x80
 }
 
-/// What a byte of code itself makes of the next one.
-fn behind(before: Before, byte: u8) -> Before {
-    match (before, byte) {
-        (_, b'/') => Before::Slash,
-        (Before::Raw(marks), b'#') => Before::Raw(marks.saturating_add(1)),
-        (Before::Nothing | Before::Slash | Before::Prefix, b'r') => Before::Raw(0),
-        (Before::Nothing | Before::Slash, b'b' | b'c') => Before::Prefix,
-        _ if is_word_byte(byte) => Before::Word,
-        _ => Before::Nothing,
+/// Whether the byte goes on a character of several bytes.
+fn goes_on(byte: u8) -> bool
+    ensures { result ≡ goes_on byte }
+{
+    matches!(byte, 0x80..=0xbf)
+}
+
+/// What the byte behind one of code stands in, where that one goes on what the bytes before began.
+fn joined(before: Before, byte: u8) -> Option<Within>
+    ensures some { IfSome result (LeadsOn byte (Within.Code before)) }
+    ensures none { IfNone result (Settles before byte) }
+{
+    let is_word = is_word_byte(byte);
+    match before {
+        Before::Nothing => None,
+        Before::Slash if byte == b'/' => Some(Within::Piece(Piece::Line)),
+        Before::Slash if byte == b'*' => Some(Within::Piece(Piece::Block(1, Half::Nothing))),
+        Before::Slash => None,
+        Before::Word if is_word => Some(Within::Code(Before::Word)),
+        Before::Word => None,
+        Before::Prefix if byte == b'r' => Some(Within::Code(Before::Raw(0))),
+        Before::Prefix if is_word => Some(Within::Code(Before::Word)),
+        Before::Prefix => None,
+        Before::Raw(marks) => joined_raw(marks, byte),
     }
 }
 
-/// What stands behind a byte of a string.
-fn behind_text(is_taken: bool, byte: u8) -> Within {
-    match byte {
-        b'"' if !is_taken => Within::Code,
-        b'\\' if !is_taken => Within::Text(true),
-        _ => Within::Text(false),
-    }
-}
-
-/// What stands behind a quote of a raw string, and some of the `#` that end it.
-fn behind_raw_quote(marks: usize, left: usize) -> Within {
-    if left == 0 {
-        Within::Code
-    } else {
-        Within::RawEnd(marks, left)
-    }
-}
-
-/// What stands behind a byte of a raw string.
-fn behind_raw(marks: usize, byte: u8) -> Within {
+/// The same behind the prefix of a raw string and so many `#`.
+fn joined_raw(marks: usize, byte: u8) -> Option<Within>
+    ensures some { IfSome result (LeadsOn byte (Within.Code (Before.Raw marks))) }
+    ensures none { IfNone result (Settles (Before.Raw marks) byte) }
+{
     if byte == b'"' {
-        behind_raw_quote(marks, marks)
-    } else {
-        Within::Raw(marks)
+        return Some(Within::Piece(Piece::Raw(marks)));
+    }
+    if byte == b'#' {
+        return Some(Within::Code(Before::Raw(marks.saturating_add(1))));
+    }
+    if is_word_byte(byte) {
+        return Some(Within::Code(Before::Word));
+    }
+    None
+}
+
+/// What a byte of code begins that goes on nothing.
+fn begun(byte: u8) -> Before
+    ensures { Begins byte result }
+{
+    if byte == b'/' {
+        return Before::Slash;
+    }
+    if byte == b'r' {
+        return Before::Raw(0);
+    }
+    if byte == b'b' || byte == b'c' {
+        return Before::Prefix;
+    }
+    if is_word_byte(byte) {
+        return Before::Word;
+    }
+    Before::Nothing
+}
+
+/// What the byte behind one of a string stands in.
+fn behind_text(is_taken: bool, byte: u8) -> Within
+    ensures { LeadsOn byte (Within.Piece (Piece.Text is_taken)) result }
+{
+    if is_taken {
+        return Within::Piece(Piece::Text(false));
+    }
+    if byte == b'"' {
+        return Within::Code(Before::Nothing);
+    }
+    if byte == b'\\' {
+        return Within::Piece(Piece::Text(true));
+    }
+    Within::Piece(Piece::Text(false))
+}
+
+/// What the byte behind one of a raw string stands in.
+fn behind_raw(marks: usize, byte: u8) -> Within
+    ensures { LeadsOn byte (Within.Piece (Piece.Raw marks)) result }
+{
+    if byte != b'"' {
+        return Within::Piece(Piece::Raw(marks));
+    }
+    if marks == 0 {
+        return Within::Code(Before::Nothing);
+    }
+    Within::Piece(Piece::RawEnd(marks, marks))
+}
+
+/// What the byte behind one stands in that may be one of the `#` that end a raw string.
+fn behind_raw_end(marks: usize, left: usize, byte: u8) -> Within
+    ensures { LeadsOn byte (Within.Piece (Piece.RawEnd marks left)) result }
+{
+    if byte != b'#' {
+        return behind_raw(marks, byte);
+    }
+    if left <= 1 {
+        return Within::Code(Before::Nothing);
+    }
+    Within::Piece(Piece::RawEnd(marks, left - 1))
+}
+
+/// Whether a lifetime may begin with the byte.
+fn may_begin_name(byte: u8) -> bool
+    ensures word { result ≡ true → is_word_byte byte ≡ true }
+    ensures no_digit { result ≡ true → is_ascii_digit byte ≡ false }
+{
+    is_word_byte(byte) && !byte.is_ascii_digit()
+}
+
+/// What the byte behind the first one that stands behind a `'` stands in; or what is wrong with that.
+fn behind_quote(byte: u8) -> Result<Within, FaultKind>
+    ensures { IfOk result (LeadsOn byte (Within.Piece Piece.Quote)) }
+{
+    if byte == b'\'' {
+        return Err(FaultKind::EmptyCharacter);
+    }
+    if byte == b'\n' {
+        return Err(FaultKind::OpenCharacter);
+    }
+    if byte == b'\\' {
+        return Ok(Within::Piece(Piece::Escape(true)));
+    }
+    Ok(Within::Piece(Piece::Quoted(may_begin_name(byte))))
+}
+
+/// What a byte stands in: code, where a lifetime ends before it.
+fn behind_name(within: Within, byte: u8) -> Within
+    ensures { Stays byte within result }
+{
+    match within {
+        Within::Piece(Piece::Quoted(true)) if byte != b'\'' && !goes_on(byte) => {
+            Within::Code(Before::Word)
+        }
+        _ => within,
+    }
+}
+
+/// What the byte behind one stands in that ends a character, or goes on its first one.
+fn behind_quoted(is_name: bool, byte: u8) -> Result<Within, FaultKind>
+    ensures { IfOk result (LeadsOn byte (Within.Piece (Piece.Quoted is_name))) }
+{
+    if byte == b'\'' {
+        return Ok(Within::Code(Before::Nothing));
+    }
+    if goes_on(byte) {
+        return Ok(Within::Piece(Piece::Quoted(is_name)));
+    }
+    Err(FaultKind::OpenCharacter)
+}
+
+/// What the byte behind one of a character that begins with a backslash stands in.
+fn behind_escape(is_taken: bool, byte: u8) -> Result<Within, FaultKind>
+    ensures { IfOk result (LeadsOn byte (Within.Piece (Piece.Escape is_taken))) }
+{
+    if byte == b'\n' {
+        return Err(FaultKind::OpenCharacter);
+    }
+    if is_taken {
+        return Ok(Within::Piece(Piece::Escape(false)));
+    }
+    if byte == b'\'' {
+        return Ok(Within::Code(Before::Nothing));
+    }
+    Ok(Within::Piece(Piece::Escape(false)))
+}
+
+/// What the byte behind one of a comment up to the end of its line stands in.
+fn behind_line(byte: u8) -> Within
+    ensures { LeadsOn byte (Within.Piece Piece.Line) result }
+{
+    if byte == b'\n' {
+        return Within::Code(Before::Nothing);
+    }
+    Within::Piece(Piece::Line)
+}
+
+/// What a byte of a comment may begin.
+fn half_of(byte: u8) -> Half
+    ensures { IsHalf byte result }
+{
+    if byte == b'/' {
+        return Half::Slash;
+    }
+    if byte == b'*' {
+        return Half::Star;
+    }
+    Half::Nothing
+}
+
+/// What the byte behind a `*/` stands in, before which so many comments are open.
+fn behind_end(levels: usize) -> Within
+    ensures { LeadsOn 47 (Within.Piece (Piece.Block levels Half.Star)) result }
+{
+    if levels <= 1 {
+        return Within::Code(Before::Nothing);
+    }
+    Within::Piece(Piece::Block(levels - 1, Half::Nothing))
+}
+
+/// What the byte behind one of comments up to `*/` stands in, of which so many are open.
+fn behind_block(levels: usize, half: Half, byte: u8) -> Within
+    ensures { LeadsOn byte (Within.Piece (Piece.Block levels half)) result }
+{
+    let next = half_of(byte);
+    match half {
+        Half::Star if byte == b'/' => behind_end(levels),
+        Half::Star => Within::Piece(Piece::Block(levels, next)),
+        Half::Slash if byte == b'*' => {
+            Within::Piece(Piece::Block(levels.saturating_add(1), Half::Nothing))
+        }
+        Half::Slash => Within::Piece(Piece::Block(levels, next)),
+        Half::Nothing => Within::Piece(Piece::Block(levels, next)),
+    }
+}
+
+/// What the byte behind one of a piece stands in; or why the piece can't go on so.
+fn behind_piece(piece: Piece, byte: u8) -> Result<Within, FaultKind>
+    ensures { IfOk result (LeadsOn byte (Within.Piece piece)) }
+{
+    match piece {
+        Piece::Text(is_taken) => Ok(behind_text(is_taken, byte)),
+        Piece::Raw(marks) => Ok(behind_raw(marks, byte)),
+        Piece::RawEnd(marks, left) => Ok(behind_raw_end(marks, left, byte)),
+        Piece::Quote => behind_quote(byte),
+        Piece::Quoted(is_name) => behind_quoted(is_name, byte),
+        Piece::Escape(is_taken) => behind_escape(is_taken, byte),
+        Piece::Line => Ok(behind_line(byte)),
+        Piece::Block(levels, half) => Ok(behind_block(levels, half, byte)),
+    }
+}
+
+/// Where what begins with the byte at a place was opened.
+fn opening(within: Within, at: usize) -> usize {
+    match within {
+        Within::Piece(Piece::Block(..)) => at.saturating_sub(1),
+        _ => at,
     }
 }
 
 impl RustReader {
     /// Nothing was read.
-    fn new() -> RustReader {
+    fn new() -> RustReader
+        ensures { (text : List ℕ) (from : ℕ) → IsRustCodeUpTo text from from result }
+    {
         RustReader {
-            within: Within::Code,
-            before: Before::Nothing,
+            within: Within::Code(Before::Nothing),
             depth: 0,
             opened: 0,
         }
     }
 
-    /// Takes the byte at a place.
-    fn take(&mut self, at: usize, byte: u8) -> Step {
-        match self.within {
-            Within::Code => self.take_in_code(at, byte),
-            Within::Text(is_taken) => self.go_on(behind_text(is_taken, byte)),
-            Within::Raw(marks) => self.go_on(behind_raw(marks, byte)),
-            Within::RawEnd(marks, left) if byte == b'#' => {
-                self.go_on(behind_raw_quote(marks, left.saturating_sub(1)))
-            }
-            Within::RawEnd(marks, _) => self.go_on(behind_raw(marks, byte)),
-            Within::Quote => self.take_quoted(byte),
-            Within::Quoted(is_name) => self.take_behind_quoted(at, byte, is_name),
-            Within::Escape(is_taken) => self.take_escaped(byte, is_taken),
-            Within::Line if byte == b'\n' => self.go_on(Within::Code),
-            Within::Line => Step::On,
-            Within::Block(open) => self.take_in_block(byte, open),
+    /// What was read with the byte at a place of the text; None where the code ends with it.
+    fn step(self, text: &[u8], at: usize) -> Result<Option<RustReader>, Fault>
+        requires { at < length text.now }
+        ensures { IfOk result (λ found. (from : ℕ)
+            → IsRustCodeUpTo text.now from at self → Takes text.now from at found) }
+    {
+        let byte = text[at];
+        match behind_name(self.within, byte) {
+            Within::Code(before) => Ok(self.behind_code(before, at, byte)),
+            Within::Piece(piece) => match behind_piece(piece, byte) {
+                Ok(within) => Ok(Some(self.with(within, self.opened))),
+                Err(kind) => {
+                    let span = Span::new(self.opened, at);
+                    Err(Fault { kind, span })
+                }
+            },
         }
     }
 
-    /// Goes on in what stands behind a byte.
-    fn go_on(&mut self, within: Within) -> Step {
-        self.within = within;
-        Step::On
-    }
-
-    /// Begins what the mark at a place opens.
-    fn open(&mut self, within: Within, opened: usize) -> Step {
-        self.opened = opened;
-        self.before = Before::Nothing;
-        self.go_on(within)
-    }
-
-    /// Opens a brace.
-    fn open_brace(&mut self) -> Step {
-        self.depth = self.depth.saturating_add(1);
-        Step::On
-    }
-
-    /// Closes a brace.
-    fn close_brace(&mut self) -> Step {
-        match self.depth.checked_sub(1) {
-            Some(depth) => {
-                self.depth = depth;
-                Step::On
-            }
-            None => Step::Ends,
+    /// What was read with a byte of code itself.
+    fn behind_code(self, before: Before, at: usize, byte: u8) -> Option<RustReader>
+        requires { at < usize.MAX }
+        ensures { TakesByte at byte before self result }
+    {
+        match joined(before, byte) {
+            Some(within) => Some(self.with(within, opening(within, at))),
+            None => self.behind_byte(at, byte),
         }
     }
 
-    /// Takes a byte of code itself.
-    fn take_in_code(&mut self, at: usize, byte: u8) -> Step {
-        let before = self.before;
-        self.before = behind(before, byte);
-        match (before, byte) {
-            (Before::Slash, b'/') => self.open(Within::Line, at),
-            (Before::Slash, b'*') => self.open(Within::Block(1), at.saturating_sub(1)),
-            (Before::Raw(marks), b'"') => self.open(Within::Raw(marks), at),
-            (_, b'"') => self.open(Within::Text(false), at),
-            (_, b'\'') => self.open(Within::Quote, at),
-            (_, b'{') => self.open_brace(),
-            (_, b'}') => self.close_brace(),
-            _ => Step::On,
-        }
-    }
-
-    /// Takes the byte behind a `'`.
-    fn take_quoted(&mut self, byte: u8) -> Step {
+    /// What was read with a byte of code itself that goes on nothing.
+    fn behind_byte(self, at: usize, byte: u8) -> Option<RustReader>
+        requires { at < usize.MAX }
+        ensures { TakesByte at byte Before.Nothing self result }
+    {
         match byte {
-            b'\'' => Step::Breaks(FaultKind::EmptyCharacter),
-            b'\n' => Step::Breaks(FaultKind::OpenCharacter),
-            b'\\' => self.go_on(Within::Escape(true)),
-            _ => self.go_on(Within::Quoted(is_word_byte(byte) && !byte.is_ascii_digit())),
+            b'"' => Some(self.with(Within::Piece(Piece::Text(false)), at)),
+            b'\'' => Some(self.with(Within::Piece(Piece::Quote), at)),
+            b'{' => Some(self.with_opened()),
+            b'}' => self.with_closed(),
+            _ => Some(self.with(Within::Code(begun(byte)), at)),
         }
     }
 
-    /// Takes a byte behind a `'` and another byte: of the same character, its end, or of code behind a lifetime.
-    fn take_behind_quoted(&mut self, at: usize, byte: u8, is_name: bool) -> Step {
-        match byte {
-            b'\'' => self.go_on(Within::Code),
-            0x80..=0xbf => Step::On,
-            _ if is_name => {
-                self.within = Within::Code;
-                self.before = Before::Word;
-                self.take_in_code(at, byte)
-            }
-            _ => Step::Breaks(FaultKind::OpenCharacter),
+    /// The same, where the next byte stands in something else that was opened at a place.
+    fn with(self, within: Within, opened: usize) -> RustReader
+        ensures { result ≡ record self { within = within; opened = opened } }
+    {
+        RustReader {
+            within,
+            opened,
+            ..self
         }
     }
 
-    /// Takes a byte of a character that begins with a backslash.
-    fn take_escaped(&mut self, byte: u8, is_taken: bool) -> Step {
-        match byte {
-            b'\n' => Step::Breaks(FaultKind::OpenCharacter),
-            b'\'' if !is_taken => self.go_on(Within::Code),
-            _ => self.go_on(Within::Escape(false)),
+    /// The same behind a brace that opens.
+    fn with_opened(self) -> RustReader
+        ensures { result ≡ record self {
+          within = Within.Code Before.Nothing;
+          depth = min (self.depth + 1) usize.MAX;
+        } }
+    {
+        RustReader {
+            within: Within::Code(Before::Nothing),
+            depth: self.depth.saturating_add(1),
+            opened: self.opened,
         }
     }
 
-    /// Takes a byte of comments up to `*/`, of which so many are open.
-    fn take_in_block(&mut self, byte: u8, open: usize) -> Step {
-        let before = self.before;
-        self.before = Before::Nothing;
-        match (before, byte) {
-            (Before::Star, b'/') if open <= 1 => self.go_on(Within::Code),
-            (Before::Star, b'/') => self.go_on(Within::Block(open.saturating_sub(1))),
-            (Before::Slash, b'*') => self.go_on(Within::Block(open.saturating_add(1))),
-            (_, b'*') => self.mark(Before::Star),
-            (_, b'/') => self.mark(Before::Slash),
-            _ => Step::On,
-        }
-    }
-
-    /// Notes what the next byte stands behind.
-    fn mark(&mut self, before: Before) -> Step {
-        self.before = before;
-        Step::On
+    /// The same behind a brace that closes; None where none is open.
+    fn with_closed(self) -> Option<RustReader>
+        ensures none { IfNone result (self.depth ≡ 0) }
+        ensures within { IfSome result (λ next. next.within ≡ Within.Code Before.Nothing) }
+        ensures depth { IfSome result (λ next. self.depth ≡ next.depth + 1) }
+    {
+        let depth = self.depth.checked_sub(1)?;
+        Some(RustReader {
+            within: Within::Code(Before::Nothing),
+            depth,
+            opened: self.opened,
+        })
     }
 
     /// The fault that what was opened is never closed, where the code begins with the brace at `opening`.
-    fn fault_at_end(&self, opening: Span) -> Fault {
+    fn fault_at_end(self, opening: Span) -> Fault {
         let kind = match self.within {
-            Within::Code | Within::Line => FaultKind::OpenBrace,
-            Within::Text(_) | Within::Raw(_) | Within::RawEnd(..) => FaultKind::OpenString,
-            Within::Quote | Within::Quoted(_) | Within::Escape(_) => FaultKind::OpenCharacter,
-            Within::Block(_) => FaultKind::OpenComment,
+            Within::Code(_) | Within::Piece(Piece::Line) => {
+                return Fault {
+                    kind: FaultKind::OpenBrace,
+                    span: opening,
+                };
+            }
+            Within::Piece(Piece::Text(_) | Piece::Raw(_) | Piece::RawEnd(..)) => {
+                FaultKind::OpenString
+            }
+            Within::Piece(Piece::Block(..)) => FaultKind::OpenComment,
+            Within::Piece(Piece::Quote | Piece::Quoted(_) | Piece::Escape(_)) => {
+                FaultKind::OpenCharacter
+            }
         };
-        let span = match kind {
-            FaultKind::OpenBrace => opening,
-            _ => Span::new(self.opened, self.opened.saturating_add(1)),
-        };
+        let span = Span::new(self.opened, self.opened.saturating_add(1));
         Fault { kind, span }
     }
 }
@@ -261,16 +446,13 @@ pub(crate) fn rust_code_end(text: &[u8], opening: Span, from: usize) -> Result<u
     requires { from ≤ length text.now }
     ensures from { IfOk result (λ end. from < end) }
     ensures inside { IfOk result (λ end. end ≤ length text.now) }
+    ensures code { IfOk result (EndsRustCode text.now from) }
 {
     let mut reader = RustReader::new();
     for at in from..text.len() {
-        match reader.take(at, text[at]) {
-            Step::On => {}
-            Step::Ends => return Ok(at + 1),
-            Step::Breaks(kind) => {
-                let span = Span::new(reader.opened, at);
-                return Err(Fault { kind, span });
-            }
+        match reader.step(text, at)? {
+            Some(next) => reader = next,
+            None => return Ok(at + 1),
         }
     }
     Err(reader.fault_at_end(opening))

@@ -35,7 +35,9 @@ returns-in-Blanks-2 c =
 
 pub returns-in-Blanks-3 : goal.returns-in-Blanks-3
 returns-in-Blanks-3 c =
-    let stand = blanks-stand c.args.quote c.args.opened c.args.byte c.behind_plain-in-Blanks-3.result c.behind_plain-in-Blanks-3.ensures in
+    let stand =
+    blanks-stand c.args.quote c.args.opened c.args.byte c.behind_plain-in-Blanks-3.result
+    c.behind_plain-in-Blanks-3.ensures in
     subst
     (λ kind. IfSome c.behind_plain-in-Blanks-3.result (LeadsOn c.args.byte (within.Quotes c.args.quote c.args.opened kind)))
     (sym c.in-Blanks.is) stand

@@ -17,7 +17,8 @@ returns-in-Some c = λ from up.
     let text = c.args.text.now in
     let at = c.args.at in
     subst (IsCodeUpTo c.args.ending text from (at + 1)) (sym c.with.ensures)
-    (goes-on c.args.ending text from at (slice_index text at) c.args.self (within.Quotes c.in-Quotes.quote c.in-Quotes.opened c.in-Quotes.escape)
+    (goes-on c.args.ending text from at (slice_index text at) c.args.self
+    (within.Quotes c.in-Quotes.quote c.in-Quotes.opened c.in-Quotes.escape)
     c.in-Some.within c.requires refl c.in-Quotes.is c.in-Some.ensures up)
 
 pub returns-in-Line : goal.returns-in-Line
