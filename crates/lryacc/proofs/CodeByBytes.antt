@@ -10,7 +10,7 @@ use Rattle.lryacc.specs.declared.code.Mark.{Mark}
 use Rattle.lryacc.specs.declared.code.Within.{Within}
 use Rattle.lryacc.specs.declared.code.Within.TheVariants as within
 use Rattle.lryacc.specs.Comments.{IsBackslash, IsBlock, IsLineComment, IsPair, is_line_blank}
-use Rattle.lryacc.specs.Code.{AreQuoted, EndsCode, IsCode, is_mark, is_single}
+use Rattle.lryacc.specs.Code.{AreInQuotation, EndsCode, IsCode, is_mark, is_single}
 use Rattle.lryacc.specs.CodeRead.{IsCodeUpTo, IsEscape, IsMark, IsMarkBehind, IsPending, IsWithin, LeadsOn, TakesByte, TakesMark}
 
 -- ---- marks
@@ -194,7 +194,7 @@ pub quoted-byte : (quote start byte : ℕ) → byte ≢ quote → byte ≢ 10 �
 quoted-byte quote start byte no_quote no_feed no_backslash = λ ending text from at opened closed inside is up. (
   up.0,
   up.1,
-  AreQuoted.one up.2 (byte-at text at byte quote is no_quote) (byte-at text at byte 10 is no_feed)
+  AreInQuotation.one up.2 (byte-at text at byte quote is no_quote) (byte-at text at byte 10 is no_feed)
       (byte-at text at byte 92 is no_backslash),
 )
 
@@ -231,7 +231,7 @@ backslash-takes quote start byte = λ ending text from at opened closed inside i
     let end : had.backslash + 2 ≡ at + 1 = omega (arith, up.2.1) in (
       up.0,
       up.1,
-      subst (AreQuoted quote text (start + 1)) end (AreQuoted.escaped had.before had.is.is),
+      subst (AreInQuotation quote text (start + 1)) end (AreInQuotation.escaped had.before had.is.is),
     )
 
 -- or the end of its line
@@ -239,7 +239,7 @@ pub backslash-joins : (quote start byte : ℕ) → byte ≡ 10
     → LeadsOn byte (within.Quotes quote start escape.Blanks) (within.Quotes quote start escape.None)
 backslash-joins quote start byte e = λ ending text from at opened closed inside is up.
     let had = up.2.0 in
-    (up.0, up.1, AreQuoted.spliced had.before had.is (is ∙ e))
+    (up.0, up.1, AreInQuotation.spliced had.before had.is (is ∙ e))
 
 -- where neither, the blanks stand for themselves
 blank-apart : (byte other : ℕ) → is_line_blank byte ≡ true → is_line_blank other ≡ false → byte ≢ other
@@ -255,17 +255,17 @@ blank-no_quote quote byte one blank = λ e.
     ]
 
 blanks-are : (quote : ℕ) (text : List ℕ) (from at : ℕ) (n : ℕ) → (quote ≡ 34) ⊎ (quote ≡ 39)
-    → AreQuoted quote text from at → ((k : ℕ) → at ≤ k → k < at + n → is_line_blank (slice_index text k) ≡ true)
-    → AreQuoted quote text from (at + n)
+    → AreInQuotation quote text from at → ((k : ℕ) → at ≤ k → k < at + n → is_line_blank (slice_index text k) ≡ true)
+    → AreInQuotation quote text from (at + n)
 blanks-are quote text from at zero one had blanks =
     let none : at ≡ at + 0 = omega arith in
-    subst (AreQuoted quote text from) none had
+    subst (AreInQuotation quote text from) none had
 blanks-are quote text from at (suc n) one had blanks =
     let more = blanks-are quote text from at n one had (λ k low high. blanks k low (omega arith)) in
     let blank : is_line_blank (slice_index text (at + n)) ≡ true = blanks (at + n) (omega arith) (omega arith) in
     let end : (at + n) + 1 ≡ at + suc n = omega arith in
-    subst (AreQuoted quote text from) end
-    (AreQuoted.one more (blank-no_quote quote (slice_index text (at + n)) one blank)
+    subst (AreInQuotation quote text from) end
+    (AreInQuotation.one more (blank-no_quote quote (slice_index text (at + n)) one blank)
     (blank-apart (slice_index text (at + n)) 10 blank refl) (blank-apart (slice_index text (at + n)) 92 blank refl))
 
 pub blanks-stand : (quote start byte : ℕ) (found : Option Within)
@@ -277,10 +277,10 @@ blanks-stand quote start byte (Some after) leads = λ ending text from at opened
     let n : ℕ = at - (had.backslash + 2) in
     let end : had.backslash + 2 + n ≡ at = omega (arith, up.2.1) in
     let before =
-    blanks-are quote text (start + 1) (had.backslash + 2) n up.1.one (AreQuoted.escaped had.before had.is.is)
+    blanks-are quote text (start + 1) (had.backslash + 2) n up.1.one (AreInQuotation.escaped had.before had.is.is)
     (λ k low high. had.is.blanks k (omega arith) (omega arith)) in
     leads ending text from at opened closed inside is
-    (up.0, up.1, subst (AreQuoted quote text (start + 1)) end before)
+    (up.0, up.1, subst (AreInQuotation quote text (start + 1)) end before)
 
 -- ---- comments
 

@@ -11,7 +11,7 @@ use Rattle.lryacc.specs.declared.rust_code.RustReader.{RustReader}
 use Rattle.lryacc.specs.declared.rust_code.Within.{Within}
 use Rattle.lryacc.specs.declared.rust_code.Within.TheVariants as within
 use Rattle.lryacc.specs.Comments.{IsPair}
-use Rattle.lryacc.specs.RustCode.{AreComments, AreInText, AreMarks, IsEscapedCharacter, IsOther, IsPlainCharacter, IsRaw, IsRawEnd, IsRawName, IsRawPrefix, IsRustCode, IsRustLine, IsRustWord, IsWordRun, goes_on, is_word_byte}
+use Rattle.lryacc.specs.RustCode.{AreComments, AreInString, AreMarks, IsEscapedCharacter, IsOther, IsPlainCharacter, IsRaw, IsRawEnd, IsRawName, IsRawPrefix, IsRustCode, IsRustLine, IsRustWord, IsWordRun, goes_on, is_word_byte}
 use Rattle.lryacc.specs.RustCodeRead.{AreBehindByte, AreCommentsUpTo, Begins, IsBehind, IsBehindByte, IsHalf, IsInRaw, IsInRawEnd, IsRawUpTo, IsRustCodeUpTo, IsWithin, LeadsOn, Settles, Stays, Takes, TakesByte}
 
 -- ---- bytes
@@ -336,7 +336,7 @@ pub text-takes : (byte : ℕ) → LeadsOn byte (within.Piece (piece.Text true)) 
 text-takes byte = λ text from at depth fits is up.
     let had = up.3 in
     let end : had.0 + 2 ≡ at + 1 = omega (arith, had.1) in
-    (up.0, up.1, up.2, subst (AreInText text (up.0 + 1)) end (AreInText.escaped had.2 had.3))
+    (up.0, up.1, up.2, subst (AreInString text (up.0 + 1)) end (AreInString.escaped had.2 had.3))
 
 pub text-closes : (byte : ℕ) → byte ≡ 34 → LeadsOn byte (within.Piece (piece.Text false)) (within.Code before.Nothing)
 text-closes byte e = λ text from at depth fits is up.
@@ -348,7 +348,7 @@ text-on byte no_quote no_backslash = λ text from at depth fits is up. (
   up.0,
   up.1,
   up.2,
-  AreInText.one up.3 (not-at text at byte 34 is no_quote) (not-at text at byte 92 is no_backslash),
+  AreInString.one up.3 (not-at text at byte 34 is no_quote) (not-at text at byte 92 is no_backslash),
 )
 
 -- ---- raw strings

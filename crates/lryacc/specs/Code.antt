@@ -8,18 +8,18 @@ use Rattle.lryacc.specs.Comments.{IsBackslash, IsBlock, IsLineComment, IsPair}
 
 -- what stands between quotes, from one place up to another: bytes, and backslashes, each of which takes the byte behind it, or
 -- blanks and the end of the line
-pub data AreQuoted (quote : ℕ) (text : List ℕ) (from : ℕ) : ℕ → Type 0 where
+pub data AreInQuotation (quote : ℕ) (text : List ℕ) (from : ℕ) : ℕ → Type 0 where
   -- nothing
-  nothing : AreQuoted quote text from from
+  nothing : AreInQuotation quote text from from
   -- a byte that is no such quote, no line feed and no backslash
-  one : {at : ℕ} → AreQuoted quote text from at → slice_index text at ≢ quote
-      → slice_index text at ≢ 10 → slice_index text at ≢ 92 → AreQuoted quote text from (at + 1)
+  one : {at : ℕ} → AreInQuotation quote text from at → slice_index text at ≢ quote
+      → slice_index text at ≢ 10 → slice_index text at ≢ 92 → AreInQuotation quote text from (at + 1)
   -- a backslash, and any byte
-  escaped : {at : ℕ} → AreQuoted quote text from at → slice_index text at ≡ 92
-      → AreQuoted quote text from (at + 2)
+  escaped : {at : ℕ} → AreInQuotation quote text from at → slice_index text at ≡ 92
+      → AreInQuotation quote text from (at + 2)
   -- a backslash, blanks, and a line feed
-  spliced : {at end : ℕ} → AreQuoted quote text from at → IsBackslash text at end
-      → slice_index text end ≡ 10 → AreQuoted quote text from (end + 1)
+  spliced : {at end : ℕ} → AreInQuotation quote text from at → IsBackslash text at end
+      → slice_index text end ≡ 10 → AreInQuotation quote text from (end + 1)
 
 -- a `"` or a `'` stands at a place
 pub record IsQuote (quote : ℕ) (text : List ℕ) (at : ℕ) : Type 0 where
@@ -30,7 +30,7 @@ pub record IsQuote (quote : ℕ) (text : List ℕ) (at : ℕ) : Type 0 where
 pub record IsQuotation (text : List ℕ) (start last : ℕ) : Type 0 where
   pub quote : ℕ
   pub opens : IsQuote quote text start
-  pub between : AreQuoted quote text (start + 1) last
+  pub between : AreInQuotation quote text (start + 1) last
   pub closes : slice_index text last ≡ quote
 
 -- ---- marks

@@ -9,7 +9,7 @@ use Rattle.lryacc.specs.declared.code.Mark.{Mark}
 use Rattle.lryacc.specs.declared.code.Mark.TheVariants as mark
 use Rattle.lryacc.specs.declared.code.Within.{Within}
 use Rattle.lryacc.specs.declared.code.Within.TheVariants as within
-use Rattle.lryacc.specs.Code.{AreQuoted, EndsCode, IsCode, IsQuote, is_single}
+use Rattle.lryacc.specs.Code.{AreInQuotation, EndsCode, IsCode, IsQuote, is_single}
 use Rattle.lryacc.specs.Comments.{IsBackslash, IsPair, IsSpliced}
 
 -- the two bytes of a mark
@@ -38,15 +38,15 @@ pub record IsPending (ending : Ending) (text : List ℕ) (from at first opened c
 -- a backslash between quotes stands before a place, and only blanks between them
 pub record IsEscape (quote : ℕ) (text : List ℕ) (from at : ℕ) : Type 0 where
   pub backslash : ℕ
-  pub before : AreQuoted quote text from backslash
+  pub before : AreInQuotation quote text from backslash
   pub is : IsBackslash text backslash at
 
 -- what stands between quotes goes on up to a place
-abbrev pub AreQuotedUpTo : ℕ → List ℕ → ℕ → ℕ → Escape → Type 0
-AreQuotedUpTo quote text from at escape.None = AreQuoted quote text from at
-AreQuotedUpTo quote text from at escape.Begun =
+abbrev pub AreInQuotationUpTo : ℕ → List ℕ → ℕ → ℕ → Escape → Type 0
+AreInQuotationUpTo quote text from at escape.None = AreInQuotation quote text from at
+AreInQuotationUpTo quote text from at escape.Begun =
     (up : IsEscape quote text from at) × (at ≡ up.backslash + 1)
-AreQuotedUpTo quote text from at escape.Blanks =
+AreInQuotationUpTo quote text from at escape.Blanks =
     (up : IsEscape quote text from at) × (up.backslash + 2 ≤ at)
 
 -- whether a backslash of a comment stands before a place, and only blanks between them
@@ -78,7 +78,7 @@ IsWithin ending text from at opened closed (within.Code (Some first)) =
     IsPending ending text from at first opened closed
 IsWithin ending text from at opened closed (within.Quotes quote start escape) =
     IsCode ending text from start opened closed × IsQuote quote text start
-    × AreQuotedUpTo quote text (start + 1) at escape
+    × AreInQuotationUpTo quote text (start + 1) at escape
 IsWithin ending text from at opened closed (within.Line escape) =
     (start : ℕ) × IsCode ending text from start opened closed × IsLineUpTo text start at escape
 IsWithin ending text from at opened closed (within.Block start star) =

@@ -13,7 +13,7 @@ pub record IsCapped (number : ℕ) (Is : ℕ → Type 0) : Type 0 where
   pub capped : number ≡ min exact (2 ^ 32 - 1)
 
 -- bytes between quotes that are read up to a place: so many, and the last of them, if there is one
-pub record AreReadUpTo (quote : ℕ) (text : List ℕ) (start at number last : ℕ) : Type 0 where
+pub record AreBytesUpTo (quote : ℕ) (text : List ℕ) (start at number last : ℕ) : Type 0 where
   pub bytes : List ℕ
   pub are : AreBytesIn quote text start at bytes
   pub number_is : number ≡ length bytes

@@ -51,20 +51,20 @@ pub record IsRawName (text : List ℕ) (start end : ℕ) : Type 0 where
 -- ---- strings
 
 -- what stands in a string, from one place up to another: bytes, and backslashes, each of which takes the byte behind it
-pub data AreInText (text : List ℕ) (from : ℕ) : ℕ → Type 0 where
+pub data AreInString (text : List ℕ) (from : ℕ) : ℕ → Type 0 where
   -- nothing
-  nothing : AreInText text from from
+  nothing : AreInString text from from
   -- a byte that is no such quote and no backslash
-  one : {at : ℕ} → AreInText text from at → slice_index text at ≢ 34
-      → slice_index text at ≢ 92 → AreInText text from (at + 1)
+  one : {at : ℕ} → AreInString text from at → slice_index text at ≢ 34
+      → slice_index text at ≢ 92 → AreInString text from (at + 1)
   -- a backslash, and any byte
-  escaped : {at : ℕ} → AreInText text from at → slice_index text at ≡ 92
-      → AreInText text from (at + 2)
+  escaped : {at : ℕ} → AreInString text from at → slice_index text at ≡ 92
+      → AreInString text from (at + 2)
 
 -- a string, whose last quote stands at `last`
-pub record IsText (text : List ℕ) (start last : ℕ) : Type 0 where
+pub record IsString (text : List ℕ) (start last : ℕ) : Type 0 where
   pub opens : slice_index text start ≡ 34
-  pub between : AreInText text (start + 1) last
+  pub between : AreInString text (start + 1) last
   pub closes : slice_index text last ≡ 34
 
 -- a quote and so many `#`
@@ -178,7 +178,7 @@ pub data IsRustCode (text : List ℕ) (from : ℕ) : ℕ → ℕ → Type 0 wher
   raw_name : {at end depth : ℕ} → IsRustCode text from at depth → IsRawName text at end
       → IsRustCode text from end depth
   -- a string
-  string : {at last depth : ℕ} → IsRustCode text from at depth → IsText text at last
+  string : {at last depth : ℕ} → IsRustCode text from at depth → IsString text at last
       → IsRustCode text from (last + 1) depth
   -- a raw string
   raw : {at last marks depth : ℕ} → IsRustCode text from at depth → IsRaw text at last marks

@@ -11,7 +11,7 @@ use Rattle.lryacc.specs.declared.rust_code.RustReader.{RustReader}
 use Rattle.lryacc.specs.declared.rust_code.Within.{Within}
 use Rattle.lryacc.specs.declared.rust_code.Within.TheVariants as within
 use Rattle.lryacc.specs.Comments.{IsPair}
-use Rattle.lryacc.specs.RustCode.{AreComments, AreInText, AreMarks, BeginsRaw, EndsRustCode, IsRawEnd, IsRawPrefix, IsRustCode, IsWordRun, goes_on, is_word_byte}
+use Rattle.lryacc.specs.RustCode.{AreComments, AreInString, AreMarks, BeginsRaw, EndsRustCode, IsRawEnd, IsRawPrefix, IsRustCode, IsWordRun, goes_on, is_word_byte}
 
 -- ---- bytes
 
@@ -66,10 +66,10 @@ IsBehind text from at depth (before.Raw marks) = IsRawUpTo text from at depth ma
 -- ---- pieces
 
 -- what stands in a string goes on up to a place; whether a backslash stands right before it
-abbrev pub AreInTextUpTo : List ℕ → ℕ → ℕ → Bool → Type 0
-AreInTextUpTo text from at false = AreInText text from at
-AreInTextUpTo text from at true =
-    (last : ℕ) × (at ≡ last + 1) × AreInText text from last × (slice_index text last ≡ 92)
+abbrev pub AreInStringUpTo : List ℕ → ℕ → ℕ → Bool → Type 0
+AreInStringUpTo text from at false = AreInString text from at
+AreInStringUpTo text from at true =
+    (last : ℕ) × (at ≡ last + 1) × AreInString text from last × (slice_index text last ≡ 92)
 
 -- a raw string goes on up to a place, and ends nowhere before
 pub record IsInRaw (text : List ℕ) (from at depth marks : ℕ) : Type 0 where
@@ -147,7 +147,7 @@ AreCommentsUpTo text start at levels half.Star =
 abbrev pub IsInPiece : List ℕ → ℕ → ℕ → ℕ → Piece → Type 0
 IsInPiece text from at depth (piece.Text taken) =
     (start : ℕ) × IsRustCode text from start depth × (slice_index text start ≡ 34)
-    × AreInTextUpTo text (start + 1) at taken
+    × AreInStringUpTo text (start + 1) at taken
 IsInPiece text from at depth (piece.Raw marks) = IsInRaw text from at depth marks
 IsInPiece text from at depth (piece.RawEnd marks left) = IsInRawEnd text from at depth marks left
 IsInPiece text from at depth piece.Quote = IsBehindByte (λ byte. byte ≡ 39) text from at depth

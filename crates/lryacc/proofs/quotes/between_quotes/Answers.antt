@@ -1,5 +1,5 @@
 use Rattle.std.proofs.Common.{◌≡◌, ◌+◌, max, subst, arith}
-use Rattle.lryacc.specs.QuotesRead.{AreReadUpTo}
+use Rattle.lryacc.specs.QuotesRead.{AreBytesUpTo}
 use Rattle.lryacc.proofs.BytesInQuotes.{escape-read, literal-read, none-read}
 use Rattle.lryacc.proofs.quotes.between_quotes.Goals as goal
 use Rattle.lryacc.proofs.quotes.between_quotes.Goals.{then-byte-eq92+in_ok-last, else-byte-eq92}
@@ -15,7 +15,7 @@ loop-at-preserved c =
     let start = c.args.from + 1 in
     let at = c.loop-at.at in
     let here : max at c.loop-at.behind ≡ at = omega arith in
-    let read = subst (λ at. AreReadUpTo quote text start at c.loop-at.bytes c.loop-at.last) here c.loop-at.invariant.0 in
+    let read = subst (λ at. AreBytesUpTo quote text start at c.loop-at.bytes c.loop-at.last) here c.loop-at.invariant.0 in
     let one : c.saturating_add-bytes.result ≡ c.loop-at.bytes + 1 = omega arith in
     elim c.if-byte-eq92.branch [
       | then-byte-eq92+in_ok-last w ↦

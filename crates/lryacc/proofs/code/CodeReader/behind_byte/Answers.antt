@@ -1,6 +1,6 @@
 use Rattle.std.proofs.Common.{◌≡◌, ◌+◌, false, subst, sym, ◌∙◌, refl, rules, arith}
 use Rattle.lryacc.specs.Code.{is_single}
-use Rattle.lryacc.specs.Code.AreQuoted.{nothing}
+use Rattle.lryacc.specs.Code.AreInQuotation.{nothing}
 use Rattle.lryacc.specs.Code.IsCode.{closes, opens}
 use Rattle.lryacc.specs.CodeRead.{IsCodeUpTo}
 use Rattle.lryacc.proofs.CodeByBytes.{brace-ends, with-closed, with-opened}

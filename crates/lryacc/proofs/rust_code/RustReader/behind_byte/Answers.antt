@@ -1,7 +1,7 @@
 use Rattle.std.proofs.Common.{◌≢◌, ◌+◌, subst, sym, ◌∙◌, rules, arith}
 use Rattle.lryacc.specs.declared.rust_code.Before.TheVariants as before
 use Rattle.lryacc.specs.declared.rust_code.Within.TheVariants as within
-use Rattle.lryacc.specs.RustCode.AreInText.{nothing}
+use Rattle.lryacc.specs.RustCode.AreInString.{nothing}
 use Rattle.lryacc.specs.RustCodeRead.{IsRustCodeUpTo}
 use Rattle.lryacc.proofs.RustCodeByBytes.{begun, brace-closes, brace-opens, goes_on-with}
 use Rattle.lryacc.proofs.rust_code.RustReader.behind_byte.Goals as goal
