@@ -6,7 +6,7 @@ use Rattle.lrspec.specs.grammars.Trees.{Tree, Forest}
 use Rattle.lrspec.specs.grammars.Candidates.{IsCandidate}
 use Rattle.lrspec.specs.grammars.ItemSets.{Items, HasItem}
 use Rattle.lrspec.specs.merging.Cores.{HasCoreAfter}
-use Rattle.lrspec.specs.merging.Graph.{Graph, core_of}
+use Rattle.lrspec.specs.merging.Graph.{Graph}
 use Rattle.lrspec.specs.tables.Machine.{next_token}
 use Rattle.lrconflicts.specs.Moves.{Move, candidate_of, IsTreeBy}
 use Rattle.lrambiguity.specs.Partings.{Contend, PartAt}

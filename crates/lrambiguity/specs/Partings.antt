@@ -16,6 +16,10 @@ pub record Contend (g : Grammar) (h : Graph) (s t : ℕ) (one other : Move) : Ty
   pub is_one : IsCandidate g roots t (candidate_of one)
   pub is_other : IsCandidate g roots t (candidate_of other)
 
+-- the moves begin with this one
+abbrev pub BeginsWith : List Move → Move → Type 0
+BeginsWith ms m = (rest : List Move) × (ms ≡ m ∷ rest)
+
 -- both ways to read the text begin with the moves before, which put trees together whose roots are a
 -- list with the core of the state `s`; then the token `t` comes, and the one way goes on with the
 -- move `m`, and the other with `n`
@@ -27,5 +31,5 @@ pub record PartAt (g : Grammar) (h : Graph) (s t : ℕ) (m n : Move) (text : Lis
   pub reads : Reads g before (take used text) roots trees
   pub core : HasCoreAfter g roots (core_of h s)
   pub next : next_token g (drop used text) ≡ t
-  pub first : (rest : List Move) × (one ≡ m ∷ rest)
-  pub second : (rest : List Move) × (other ≡ n ∷ rest)
+  pub first : BeginsWith one m
+  pub second : BeginsWith other n

@@ -1,6 +1,6 @@
 //! Where both trees of an ambiguity part.
 
-ghost use Rattle.std.specs.Prelude.{◌≡◌, ℕ, ◌<◌, List, ◌∷◌, length, drop, IfOk, IsTrue};
+ghost use Rattle.std.specs.Prelude.{◌≡◌, ℕ, ◌<◌, length, drop, IfOk, IsTrue};
 ghost use Rattle.lrspec.specs.grammars.ItemSets.{HasItem};
 ghost use Rattle.lrspec.specs.merging.Cores.{HasCoreAfter};
 ghost use Rattle.lrspec.specs.merging.Graph.{core_of, IsGraphOf};
@@ -8,8 +8,7 @@ ghost use Rattle.lrspec.specs.merging.WeakCompatibility.{SameItems};
 ghost use Rattle.lrspec.specs.tables.Machine.{next_token};
 ghost use Rattle.lritems.specs.ItemsOf.{set_of};
 ghost use Rattle.lrtable.specs.RunAnswers.{text_of};
-ghost use Rattle.lrconflicts.specs.Moves as plain;
-ghost use Rattle.lrambiguity.specs.Partings.{Contend};
+ghost use Rattle.lrambiguity.specs.Partings.{BeginsWith, Contend};
 ghost use Rattle.lrconflicts.specs.StoredMoves.{move_of, moves_stored};
 ghost use Rattle.lrambiguity.specs.StoredReplays.{roots_of};
 ghost use Rattle.lrambiguity.specs.StoredAmbiguities.{IsAmbiguity, AmbiguityPartsAt};
@@ -65,9 +64,9 @@ fn have_same_items<T: IndexStorage>(graph: &StateGraph<T>, one: StIdx<T>, other:
 }
 
 /// Whether the moves begin with this one.
-pub(crate) fn begins_with<T: IndexStorage>(moves: &[Move<T>], first: Move<T>) -> bool
-    ensures { IsTrue result → (rest : List plain.Move)
-        × (moves_stored T.number moves.now ≡ move_of T.number first ∷ rest) }
+pub fn begins_with<T: IndexStorage>(moves: &[Move<T>], first: Move<T>) -> bool
+    ensures { IsTrue result
+        → BeginsWith (moves_stored T.number moves.now) (move_of T.number first) }
 {
     moves.first().copied() == Some(first)
 }

@@ -11,12 +11,13 @@ use Rattle.lrconflicts.specs.StoredMoves.{move_of, moves_stored}
 use Rattle.lrconflicts.specs.declared.moves.Move as stored
 use Rattle.lrconflicts.specs.declared.moves.Move.TheVariants as code
 use Rattle.lrconflicts.specs.declared.conflicts.Conflict.{Conflict}
+use Rattle.lrambiguity.specs.Partings.{BeginsWith}
 use Rattle.lrreasons.specs.declared.ambiguities.ProvedAmbiguity.{ProvedAmbiguity}
 use Rattle.lrreasons.specs.Ambiguities.{IsProofOf}
 use Rattle.lrreasons.specs.Numbers.{number_of}
 use Rattle.lrshown.specs.declared.ambiguities.Ambiguity.{Ambiguity}
 use Rattle.lrshown.specs.Steps.{moves_by}
-use Rattle.lrshown.specs.Ambiguities.{HasTwoTrees, HasTwoWays}
+use Rattle.lrshown.specs.Ambiguities.{HasTwoTrees, HasTwoWays, PartAlike}
 use Rattle.lrevidence.specs.Ambiguities.{PartsAt}
 
 -- its steps are the moves of one that is proved
@@ -45,6 +46,10 @@ begin_differently (m ∷ ms) (n ∷ ns) differ = λ same.
     let equal : move_of number_of m ≡ move_of number_of n = cc in
     differ (ap Some (same_move m n equal))
 
+-- moves that begin with one move have the same first move
+begin_alike : {ms ns : List Move} {m : Move} → BeginsWith ms m → BeginsWith ns m → slice_get ms 0 ≡ slice_get ns 0
+begin_alike (rest, is) (others, are) = ap (λ l. slice_get l 0) is ∙ sym (ap (λ l. slice_get l 0) are)
+
 module _ (g : Grammar) (h : Graph) (c : Conflict ℕ) (p : ProvedAmbiguity) (a : Ambiguity) (proof : IsProofOf g h c p) (has : HasMovesOf p a) where
   -- the form is derived in the same two ways
   two_ways : HasTwoWays g a.form
@@ -56,6 +61,13 @@ module _ (g : Grammar) (h : Graph) (c : Conflict ℕ) (p : ProvedAmbiguity) (a :
     differ = rw (has.form_one, has.form_other) (begin_differently p.form.ways.first.items p.form.ways.second.items proof.form.part);
   }
 
+  -- and these part by the moves by which the trees part
+  part_alike : PartAlike a.form a.trees
+  part_alike = record {
+    one = rw (has.form_one, has.one) (begin_alike proof.form_parts.first proof.parts.first);
+    other = rw (has.form_other, has.other) (begin_alike proof.form_parts.second proof.parts.second);
+  }
+
   -- the text has both trees of that
   pub numbered : tree_of number_of p.ambiguity.one_tree ≢ tree_of number_of p.ambiguity.other_tree → HasTwoTrees g a
   numbered differ = record {
@@ -65,6 +77,7 @@ module _ (g : Grammar) (h : Graph) (c : Conflict ℕ) (p : ProvedAmbiguity) (a :
     second = rw (has.before, has.other, has.tokens) proof.trees.second;
     differ = differ;
     drawn = two_ways;
+    alike = part_alike;
   }
 
   -- and they part where those of that do

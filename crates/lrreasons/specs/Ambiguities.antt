@@ -5,7 +5,9 @@ use Rattle.lrspec.specs.merging.Graph.{Graph}
 use Rattle.lrgrammar.specs.Symbols.{symbol_of}
 use Rattle.lrconflicts.specs.declared.moves.Move as stored
 use Rattle.lrambiguity.specs.Derivations.{IsDerivedBy}
-use Rattle.lrconflicts.specs.StoredMoves.{moves_stored}
+use Rattle.lrambiguity.specs.Partings.{BeginsWith}
+use Rattle.lrambiguity.specs.declared.partings.Contest.{Contest}
+use Rattle.lrconflicts.specs.StoredMoves.{move_of, moves_stored}
 use Rattle.lrambiguity.specs.StoredAmbiguities.{IsAmbiguity, AmbiguityPartsAt}
 use Rattle.lrconflicts.specs.declared.conflicts.Conflict.{Conflict}
 use Rattle.lrforms.specs.declared.ambiguous.Form.{Form}
@@ -24,11 +26,17 @@ pub record IsAmbiguousForm (g : Grammar) (f : Form) : Type 0 where
   pub second : IsWayOf g f f.ways.second.items
   pub part : slice_get f.ways.first.items 0 ≢ slice_get f.ways.second.items 0
 
--- a rule derives a form in two ways, a text has two trees, and these part at the state and the token
--- of the conflict
+-- its two ways part by the moves of the contest
+pub record FormPartsBy (f : Form) (c : Contest ℕ) : Type 0 where
+  pub first : BeginsWith (moves_stored number_of f.ways.first.items) (move_of number_of c.one)
+  pub second : BeginsWith (moves_stored number_of f.ways.second.items) (move_of number_of c.other)
+
+-- a rule derives a form in two ways, a text has two trees, these part at the state and the token of the conflict, and the two
+-- ways part by the same moves
 pub record IsProofOf (g : Grammar) (h : Graph) (c : Conflict ℕ) (a : ProvedAmbiguity) : Type 0 where
   pub state : a.contest.state ≡ c.state
   pub token : a.contest.token ≡ c.token
   pub form : IsAmbiguousForm g a.form
+  pub form_parts : FormPartsBy a.form a.contest
   pub trees : IsAmbiguity number_of g a.ambiguity
   pub parts : AmbiguityPartsAt number_of g h a.ambiguity a.contest

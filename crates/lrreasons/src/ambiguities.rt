@@ -3,12 +3,12 @@
 ghost use Rattle.std.specs.Prelude.{◌≡◌, ◌<◌, ◌++◌, length, IsTrue, IfOk, IfSome, map};
 ghost use Rattle.lrspec.specs.merging.Graph.{IsGraphOf};
 ghost use Rattle.lrambiguity.specs.StoredAmbiguities.{IsAmbiguity, AmbiguityPartsAt};
-ghost use Rattle.lrreasons.specs.Ambiguities.{IsWayOf, IsAmbiguousForm, IsProofOf};
+ghost use Rattle.lrreasons.specs.Ambiguities.{IsWayOf, IsAmbiguousForm, FormPartsBy, IsProofOf};
 ghost use Rattle.lrreasons.specs.Numbers.{number_of};
 
 use crate::candidates::{Pair, pairs};
-use lrambiguity::{Ambiguity, Contest, Move, check_ambiguity, derives, parts_at};
-use lrconflicts::Conflict;
+use lrambiguity::{Ambiguity, Contest, Move, begins_with, check_ambiguity, derives, parts_at};
+use lrconflicts::{Conflict, differ_at_once};
 use lrforms::{Ambiguous, Form, Forms, Search, Sentence};
 use lrgrammar::grammar::YaccGrammar;
 use lrtable::StateGraph;
@@ -55,13 +55,21 @@ fn derives_by(
     )
 }
 
-/// Whether the form is derived in both ways, and these part at the dot.
-fn derives_twice(alloc: Global, grm: &YaccGrammar<u32>, form: &Form) -> Result<bool, AllocError>
-    ensures { IfOk result (λ derives. IsTrue derives → IsAmbiguousForm grm.now form.now) }
+/// Whether the form is derived in both ways, and these part at the dot by the moves of the contest.
+fn derives_twice(
+    alloc: Global,
+    grm: &YaccGrammar<u32>,
+    form: &Form,
+    contest: Contest<u32>,
+) -> Result<bool, AllocError>
+    ensures form { IfOk result (λ derives. IsTrue derives → IsAmbiguousForm grm.now form.now) }
+    ensures parts { IfOk result (λ derives. IsTrue derives → FormPartsBy form.now contest) }
 {
     let (first, second) = (form.ways.first.as_slice(), form.ways.second.as_slice());
     Ok(
-        first.first().copied() != second.first().copied()
+        begins_with(first, contest.one)
+            && begins_with(second, contest.other)
+            && differ_at_once(first, second)
             && derives_by(alloc, grm, form, first)?
             && derives_by(alloc, grm, form, second)?,
     )
@@ -107,12 +115,13 @@ fn checked(
     requires state { contest.state.0 < length graph.now }
     ensures contest { IfOk result (λ o. IfSome o (λ a. a.contest ≡ contest)) }
     ensures form { IfOk result (λ o. IfSome o (λ a. IsAmbiguousForm grm.now a.form)) }
+    ensures form_parts { IfOk result (λ o. IfSome o (λ a. FormPartsBy a.form contest)) }
     ensures trees { IfOk result (λ o. IfSome o (λ a. IsAmbiguity number_of grm.now a.ambiguity)) }
     ensures parts { IfOk result (λ o. IfSome o (λ a.
         AmbiguityPartsAt number_of grm.now graph.now a.ambiguity contest)) }
 {
     let Ambiguous { form, sentence } = found;
-    if !derives_twice(alloc, grm, &form)? {
+    if !derives_twice(alloc, grm, &form, contest)? {
         return Ok(None);
     }
     let Sentence { tokens, ways, .. } = sentence;

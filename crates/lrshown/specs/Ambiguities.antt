@@ -23,7 +23,12 @@ pub record HasTwoWays (g : Grammar) (form : TwoTrees) : Type 0 where
   pub second : IsDerivedBy g rule symbols (moves_by form.before.items ++ moves_by form.other.items)
   pub differ : slice_get (moves_by form.one.items) 0 ≢ slice_get (moves_by form.other.items) 0
 
--- by its steps the sentence has two trees, which differ, and so do the two ways that are drawn of it
+-- the two ways that are drawn part by the same steps as the trees
+pub record PartAlike (form trees : TwoTrees) : Type 0 where
+  pub one : slice_get (moves_by form.one.items) 0 ≡ slice_get (moves_by trees.one.items) 0
+  pub other : slice_get (moves_by form.other.items) 0 ≡ slice_get (moves_by trees.other.items) 0
+
+-- by its steps the sentence has two trees, which differ, and so do the two ways that are drawn of it, by the same steps
 pub record HasTwoTrees (g : Grammar) (a : Ambiguity) : Type 0 where
   pub one : Tree
   pub other : Tree
@@ -33,6 +38,7 @@ pub record HasTwoTrees (g : Grammar) (a : Ambiguity) : Type 0 where
       (moves_by a.trees.before.items ++ moves_by a.trees.other.items) a.tokens.items other
   pub differ : one ≢ other
   pub drawn : HasTwoWays g a.form
+  pub alike : PartAlike a.form a.trees
 
 -- a text that is told of an entry has two trees
 abbrev pub IsProved : Grammar → Evidence → Type 0
