@@ -6,6 +6,8 @@ pub mod Derivations
 pub mod Nesting
 -- where trees part
 pub mod Partings
+-- parts of sentences
+pub mod Parts
 -- how the code stores them
 pub mod StoredReplays
 pub mod StoredAmbiguities

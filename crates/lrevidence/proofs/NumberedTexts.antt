@@ -52,7 +52,7 @@ begin_alike (rest, is) (others, are) = ap (λ l. slice_get l 0) is ∙ sym (ap (
 
 module _ (g : Grammar) (h : Graph) (c : Conflict ℕ) (p : ProvedAmbiguity) (a : Ambiguity) (proof : IsProofOf g h c p) (has : HasMovesOf p a) where
   -- the form is derived in the same two ways
-  two_ways : HasTwoWays g a.form
+  abbrev two_ways : HasTwoWays g a.form
   two_ways = record {
     rule = p.form.rule.0;
     symbols = map (symbol_of number_of) p.form.symbols.items;
@@ -78,6 +78,7 @@ module _ (g : Grammar) (h : Graph) (c : Conflict ℕ) (p : ProvedAmbiguity) (a :
     differ = differ;
     drawn = two_ways;
     alike = part_alike;
+    part = rw (has.form_before, has.form_one, has.form_other, has.before, has.one, has.other) proof.part;
   }
 
   -- and they part where those of that do

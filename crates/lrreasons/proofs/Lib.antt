@@ -3,6 +3,8 @@ pub mod PlainTokens
 pub mod ProvedOnes
 pub mod ReasonsInTurn
 pub mod SameNumbers
+pub mod MoveTests
+pub mod Fillings
 pub mod NamesRead
 pub mod Pieces
 pub mod Shown

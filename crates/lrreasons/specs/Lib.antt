@@ -1,6 +1,7 @@
 -- the files of definitions
 pub mod Numbers
 pub mod Examples
+pub mod Parts
 pub mod Ambiguities
 pub mod Reasons
 pub mod Precedences

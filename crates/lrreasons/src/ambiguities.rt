@@ -3,10 +3,11 @@
 ghost use Rattle.std.specs.Prelude.{◌≡◌, ◌<◌, ◌++◌, length, IsTrue, IfOk, IfSome, map};
 ghost use Rattle.lrspec.specs.merging.Graph.{IsGraphOf};
 ghost use Rattle.lrambiguity.specs.StoredAmbiguities.{IsAmbiguity, AmbiguityPartsAt};
-ghost use Rattle.lrreasons.specs.Ambiguities.{IsWayOf, IsAmbiguousForm, FormPartsBy, IsProofOf};
+ghost use Rattle.lrreasons.specs.Ambiguities.{IsWayOf, IsAmbiguousForm, FormPartsBy, IsPart, ways_to, IsProofOf};
 ghost use Rattle.lrreasons.specs.Numbers.{number_of};
 
 use crate::candidates::{Pair, pairs};
+use crate::parts::is_part;
 use lrambiguity::{Ambiguity, Contest, Move, begins_with, check_ambiguity, derives, parts_at};
 use lrconflicts::{Conflict, differ_at_once};
 use lrforms::{Ambiguous, Form, Forms, Search, Sentence};
@@ -119,9 +120,11 @@ fn checked(
     ensures trees { IfOk result (λ o. IfSome o (λ a. IsAmbiguity number_of grm.now a.ambiguity)) }
     ensures parts { IfOk result (λ o. IfSome o (λ a.
         AmbiguityPartsAt number_of grm.now graph.now a.ambiguity contest)) }
+    ensures part { IfOk result (λ o. IfSome o (λ a.
+        IsPart grm.now a.form (ways_to a.ambiguity))) }
 {
     let Ambiguous { form, sentence } = found;
-    if !derives_twice(alloc, grm, &form, contest)? {
+    if !derives_twice(alloc, grm, &form, contest)? || !is_part(alloc, grm, &form, &sentence)? {
         return Ok(None);
     }
     let Sentence { tokens, ways, .. } = sentence;

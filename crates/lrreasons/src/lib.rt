@@ -9,6 +9,8 @@ mod examples;
 mod groups;
 mod lines;
 mod names;
+mod parts;
+mod places;
 mod precedences;
 mod reasons;
 mod texts;

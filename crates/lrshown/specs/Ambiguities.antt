@@ -6,6 +6,7 @@ use Rattle.lrspec.specs.grammars.Trees.{Tree}
 use Rattle.lryacc.specs.declared.numbering.FileGrammar.{FileGrammar}
 use Rattle.lrconflicts.specs.Moves.{IsTreeBy}
 use Rattle.lrambiguity.specs.Derivations.{IsDerivedBy}
+use Rattle.lrambiguity.specs.Parts.{Ways, IsPartOf}
 use Rattle.lrshown.specs.declared.ambiguities.Ambiguity.{Ambiguity}
 use Rattle.lrshown.specs.declared.evidence.Evidence.{Evidence}
 use Rattle.lrshown.specs.declared.steps.TwoTrees.{TwoTrees}
@@ -28,7 +29,16 @@ pub record PartAlike (form trees : TwoTrees) : Type 0 where
   pub one : slice_get (moves_by form.one.items) 0 ≡ slice_get (moves_by trees.one.items) 0
   pub other : slice_get (moves_by form.other.items) 0 ≡ slice_get (moves_by trees.other.items) 0
 
--- by its steps the sentence has two trees, which differ, and so do the two ways that are drawn of it, by the same steps
+-- two ways to read the same, by their steps
+abbrev pub ways_by : TwoTrees → Ways
+ways_by t = record {
+  before = moves_by t.before.items;
+  one = moves_by t.one.items;
+  other = moves_by t.other.items;
+}
+
+-- by its steps the sentence has two trees, which differ, and the two ways that are drawn of it are those of a part of it, which
+-- part by the same steps
 pub record HasTwoTrees (g : Grammar) (a : Ambiguity) : Type 0 where
   pub one : Tree
   pub other : Tree
@@ -39,6 +49,7 @@ pub record HasTwoTrees (g : Grammar) (a : Ambiguity) : Type 0 where
   pub differ : one ≢ other
   pub drawn : HasTwoWays g a.form
   pub alike : PartAlike a.form a.trees
+  pub part : IsPartOf g drawn.symbols (ways_by a.form) (ways_by a.trees)
 
 -- a text that is told of an entry has two trees
 abbrev pub IsProved : Grammar → Evidence → Type 0
