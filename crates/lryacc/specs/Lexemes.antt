@@ -40,6 +40,10 @@ is_in_directive byte = is_ascii_alphanumeric byte || (byte == 95 || byte == 45)
 abbrev pub is_percent : ℕ → Bool
 is_percent byte = byte == 37
 
+-- what may stand behind the `%` of a directive of Bison by itself: `<`, `>`, `0` or `2`
+abbrev pub is_short : ℕ → Bool
+is_short byte = byte == 60 || (byte == 62 || (byte == 48 || byte == 50))
+
 -- ---- the bytes of a text from `start` up to `end`
 
 -- they are these
@@ -74,6 +78,19 @@ pub record IsBetween (opening closing : ℕ) (text : List ℕ) (start end : ℕ)
   pub opens : Begins opening text start
   pub closes : EndsWith closing text start end
 
+-- ---- directives of Bison
+
+-- `%`, or of old Yacc a backslash, and a word
+pub record IsWordDirective (text : List ℕ) (start end : ℕ) : Type 0 where
+  pub mark : Begins 37 text start ⊎ Begins 92 text start
+  pub word : IsWord is_name_start is_in_name text (start + 1) end
+
+-- `%`, and one byte
+pub record IsShortDirective (text : List ℕ) (start end : ℕ) : Type 0 where
+  pub mark : Begins 37 text start
+  pub short : is_short (slice_index text (start + 1)) ≡ true
+  pub ends : end ≡ start + 2
+
 -- ---- lexemes
 
 -- what a lexeme of a kind is for Bison
@@ -87,7 +104,8 @@ IsBisonLexeme kind.TranslatedText text start end = IsTranslated text start end
 IsBisonLexeme kind.Tag text start end = IsTag text start end
 IsBisonLexeme kind.AnyTag text start end =
     Are text start end (codes "<>") ⊎ Are text start end (codes "<*>")
-IsBisonLexeme kind.Directive text start end = Begins 37 text start ⊎ Begins 92 text start
+IsBisonLexeme kind.Directive text start end =
+    IsWordDirective text start end ⊎ IsShortDirective text start end
 IsBisonLexeme kind.Separator text start end =
     Are text start end (codes "%%") ⊎ Are text start end (codes "\\\\")
 IsBisonLexeme kind.Action text start end =

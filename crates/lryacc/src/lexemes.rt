@@ -247,7 +247,7 @@ fn behind_percent(text: &[u8], from: usize) -> Result<(LexemeKind, usize), Fault
         b'{' => code(text, from, 2, LexemeKind::Prologue, Ending::PrologueMark),
         b'?' => predicate(text, from),
         b'<' | b'>' | b'0' | b'2' => Ok((LexemeKind::Directive, from + 2)),
-        byte if is_name_start(byte) => Ok((LexemeKind::Directive, Run::Name.end(text, from + 1))),
+        byte if is_name_start(byte) => Ok((LexemeKind::Directive, Run::Name.end(text, from + 2))),
         _ => Err(invalid(from)),
     }
 }
@@ -263,7 +263,7 @@ fn behind_backslash(text: &[u8], from: usize) -> Result<(LexemeKind, usize), Fau
     match text.get(from + 1) {
         Some(b'\\') => Ok((LexemeKind::Separator, from + 2)),
         Some(byte) if is_name_start(*byte) => {
-            Ok((LexemeKind::Directive, Run::Name.end(text, from + 1)))
+            Ok((LexemeKind::Directive, Run::Name.end(text, from + 2)))
         }
         _ => Err(invalid(from)),
     }
