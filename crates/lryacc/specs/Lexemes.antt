@@ -36,6 +36,10 @@ is_word_start byte = is_in_word byte && not (is_ascii_digit byte)
 abbrev pub is_in_directive : ℕ → Bool
 is_in_directive byte = is_ascii_alphanumeric byte || (byte == 95 || byte == 45)
 
+-- what the rest of a line has for grmtools: all but line feeds and carriage returns
+abbrev pub is_in_rest : ℕ → Bool
+is_in_rest byte = not (byte == 10 || byte == 13)
+
 -- `%`
 abbrev pub is_percent : ℕ → Bool
 is_percent byte = byte == 37
@@ -91,6 +95,25 @@ pub record IsShortDirective (text : List ℕ) (start end : ℕ) : Type 0 where
   pub short : is_short (slice_index text (start + 1)) ≡ true
   pub ends : end ≡ start + 2
 
+-- ---- directives of grmtools
+
+-- with these names, a type stands on the rest of the line
+abbrev pub HasLine : List ℕ → Type 0
+HasLine name =
+    (name ≡ codes "%actiontype") ⊎ ((name ≡ codes "%parse-param") ⊎ (name ≡ codes "%parse-generics"))
+
+-- a directive by its name alone
+pub record IsNameDirective (text : List ℕ) (start end : ℕ) : Type 0 where
+  pub name : IsWord is_percent is_in_directive text start end
+  pub alone : ¬ HasLine (slice_range text start end)
+
+-- a directive whose name ends at `behind`, with the rest of its line
+pub record IsLineDirective (text : List ℕ) (start end : ℕ) : Type 0 where
+  pub behind : ℕ
+  pub name : IsWord is_percent is_in_directive text start behind
+  pub has_line : HasLine (slice_range text start behind)
+  pub line : IsRun is_in_rest text behind end
+
 -- ---- lexemes
 
 -- what a lexeme of a kind is for Bison
@@ -130,9 +153,8 @@ IsGrmtoolsLexeme kind.QuotedName text start end =
 IsGrmtoolsLexeme kind.QuotedText text start end =
     IsQuotedText 39 text start end ⊎ IsQuotedText 34 text start end
 IsGrmtoolsLexeme kind.RuleType text start end = Are text start (start + 2) (codes "->")
-IsGrmtoolsLexeme kind.Directive text start end =
-    IsWord is_percent is_in_directive text start end
-IsGrmtoolsLexeme kind.DirectiveLine text start end = Begins 37 text start
+IsGrmtoolsLexeme kind.Directive text start end = IsNameDirective text start end
+IsGrmtoolsLexeme kind.DirectiveLine text start end = IsLineDirective text start end
 IsGrmtoolsLexeme kind.Separator text start end = Are text start end (codes "%%")
 IsGrmtoolsLexeme kind.Action text start end =
     Begins 123 text start × EndsRustCode text (start + 1) end

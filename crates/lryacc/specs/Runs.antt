@@ -5,7 +5,7 @@ use Rattle.std.specs.List.{list_any}
 use Rattle.lryacc.specs.declared.runs.Run.{Run}
 use Rattle.lryacc.specs.declared.runs.Run.TheVariants as run
 use Rattle.lryacc.specs.Comments.{is_white}
-use Rattle.lryacc.specs.Lexemes.{is_in_directive, is_in_name, is_in_word}
+use Rattle.lryacc.specs.Lexemes.{is_in_directive, is_in_name, is_in_rest, is_in_word}
 
 -- whether a run may have a byte
 abbrev pub has : Run → ℕ → Bool
@@ -15,7 +15,7 @@ has run.Name = is_in_name
 has run.Word = is_in_word
 has run.Directive = is_in_directive
 has run.Blanks = is_white
-has run.Line = λ byte. not (byte == 10 || byte == 13)
+has run.Line = is_in_rest
 has run.Invalid = λ byte.
     not (is_white byte || (is_ascii_alphanumeric byte
     || list_any (λ mark. byte == mark) (codes "%[{}<>\"'*;|=/,_")))

@@ -3,7 +3,7 @@
 ghost use Rattle.std.specs.Prelude.{◌≡◌, ◌+◌, ◌<◌, ◌≤◌, ◌⊎◌, true, codes, length, slice_index, IfOk, IsTrue};
 ghost use Rattle.std.specs.Char.{is_ascii_digit};
 ghost use Rattle.lryacc.specs.GrmtoolsQuotes.{IsLoneMark, is_quote};
-ghost use Rattle.lryacc.specs.Lexemes.{Are, Begins, IsGrmtoolsLexeme};
+ghost use Rattle.lryacc.specs.Lexemes.{Are, Begins, HasLine, IsGrmtoolsLexeme};
 
 use crate::faults::{Fault, FaultKind, Wanted};
 use crate::lexemes::{LexemeKind, invalid};
@@ -150,17 +150,14 @@ fn rule_type(text: &[u8], from: usize) -> Result<(LexemeKind, usize), Fault>
     }
 }
 
-/// The directives with which the rest of the line is Rust.
-static LINE_DIRECTIVES: [&str; 3] = ["%actiontype", "%parse-param", "%parse-generics"];
-
-/// Whether the rest of the line belongs to the directive of that name.
-fn has_line(name: &[u8]) -> bool {
-    for listed in &LINE_DIRECTIVES {
-        if listed.as_bytes() == name {
-            return true;
-        }
-    }
-    false
+/// Whether the rest of the line belongs to the directive of that name: it is Rust.
+fn has_line(name: &[u8]) -> bool
+    ensures is { IsTrue result → HasLine name.now }
+    ensures only { HasLine name.now → IsTrue result }
+{
+    name == b"%actiontype".as_slice()
+        || name == b"%parse-param".as_slice()
+        || name == b"%parse-generics".as_slice()
 }
 
 /// Whether a directive that names a parameter lacks the colon before its type.
