@@ -8,7 +8,7 @@ use Rattle.lryacc.specs.Comments.{IsBlock}
 use Rattle.lryacc.specs.Gaps.{BeginsLine, IsGap, IsLineMark, is_in_line}
 use Rattle.lryacc.specs.Gaps.IsGap.{blank, block, line}
 use Rattle.lryacc.specs.GapsRead.{BeginsGap, IsGapUpTo, IsInBlock, IsInLine}
-use Rattle.lryacc.specs.Lexemes.{IsRun}
+use Rattle.lryacc.specs.Words.{IsRun}
 
 mark : (dialect : Dialect) (text : List ℕ) (at : ℕ) → dialect ≡ Bison → IsLineMark text at → BeginsLine dialect text at
 mark Bison text at is line_mark = inr line_mark

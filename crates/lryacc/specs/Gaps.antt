@@ -3,7 +3,7 @@ use Rattle.std.specs.Prelude.{◌≡◌, ℕ, ◌+◌, ◌-◌, ◌⊎◌, ◌||
 use Rattle.lryacc.specs.declared.dialects.Dialect.{Dialect}
 use Rattle.lryacc.specs.declared.dialects.Dialect.TheVariants.{Bison, Grmtools}
 use Rattle.lryacc.specs.Comments.{IsBlock, IsPair, is_white}
-use Rattle.lryacc.specs.Lexemes.{Are, IsRun}
+use Rattle.lryacc.specs.Words.{Are, IsRun}
 
 -- whether a byte is a blank: a space, a tab, a line feed or a carriage return; for Bison, so are a vertical tab, a form feed and a
 -- comma

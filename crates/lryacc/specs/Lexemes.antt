@@ -1,6 +1,6 @@
 -- the lexemes of a text
-use Rattle.std.specs.Prelude.{◌≡◌, ℕ, ◌+◌, ◌<◌, ◌≤◌, ◌⊎◌, ◌&&◌, ◌||◌, ◌==◌, if◌then◌else◌, not, Bool, true, false, List, [], ◌∷◌, codes, length, slice_index, slice_range}
-use Rattle.std.specs.Char.{is_ascii_alphabetic, is_ascii_alphanumeric, is_ascii_digit}
+use Rattle.std.specs.Prelude.{◌≡◌, ℕ, ◌+◌, ◌<◌, ◌≤◌, ◌⊎◌, ◌&&◌, ◌||◌, if◌then◌else◌, Bool, true, false, List, [], ◌∷◌, codes, length, slice_index, slice_range}
+use Rattle.std.specs.Char.{is_ascii_digit}
 use Rattle.lryacc.specs.declared.code.Ending.TheVariants.{Brace, PrologueMark}
 use Rattle.lryacc.specs.declared.dialects.Dialect.{Dialect}
 use Rattle.lryacc.specs.declared.dialects.Dialect.TheVariants.{Bison, Grmtools}
@@ -12,75 +12,9 @@ use Rattle.lryacc.specs.Quotes.{AreQuoted, IsText, IsTranslated}
 use Rattle.lryacc.specs.Tags.{IsTag}
 use Rattle.lryacc.specs.Code.{EndsCode}
 use Rattle.lryacc.specs.Comments.{is_white}
+use Rattle.lryacc.specs.Gaps.{IsGap}
 use Rattle.lryacc.specs.RustCode.{EndsRustCode}
-
--- ---- classes of bytes
-
--- what a name begins with for Bison: a letter, `.` or `_`
-abbrev pub is_name_start : ℕ → Bool
-is_name_start byte = is_ascii_alphabetic byte || (byte == 46 || byte == 95)
-
--- what it goes on with: a letter, a digit, `.`, `_` or `-`
-abbrev pub is_in_name : ℕ → Bool
-is_in_name byte = is_ascii_alphanumeric byte || (byte == 46 || (byte == 95 || byte == 45))
-
--- what a name has for grmtools: letters, digits and `_`
-abbrev pub is_in_word : ℕ → Bool
-is_in_word byte = is_ascii_alphanumeric byte || byte == 95
-
--- what it begins with: all of them but digits
-abbrev pub is_word_start : ℕ → Bool
-is_word_start byte = is_in_word byte && not (is_ascii_digit byte)
-
--- what the name of a directive has for grmtools: the same, and `-`
-abbrev pub is_in_directive : ℕ → Bool
-is_in_directive byte = is_ascii_alphanumeric byte || (byte == 95 || byte == 45)
-
--- what the rest of a line has for grmtools: all but line feeds and carriage returns
-abbrev pub is_in_rest : ℕ → Bool
-is_in_rest byte = not (byte == 10 || byte == 13)
-
--- `%`
-abbrev pub is_percent : ℕ → Bool
-is_percent byte = byte == 37
-
--- what may stand behind the `%` of a directive of Bison by itself: `<`, `>`, `0` or `2`
-abbrev pub is_short : ℕ → Bool
-is_short byte = byte == 60 || (byte == 62 || (byte == 48 || byte == 50))
-
--- ---- the bytes of a text from `start` up to `end`
-
--- they are these
-abbrev pub Are : List ℕ → ℕ → ℕ → List ℕ → Type 0
-Are text start end bytes = slice_range text start end ≡ bytes
-
--- they are all those of a class that stand there one behind another
-pub record IsRun (class : ℕ → Bool) (text : List ℕ) (start end : ℕ) : Type 0 where
-  pub ordered : start ≤ end
-  pub inside : end ≤ length text
-  pub each : (at : ℕ) → start ≤ at → at < end → class (slice_index text at) ≡ true
-  pub ends : end < length text → class (slice_index text end) ≡ false
-
--- the first is of one class, and those behind it are all of another that stand there
-pub record IsWord (first goes_on : ℕ → Bool) (text : List ℕ) (start end : ℕ) : Type 0 where
-  pub begins : first (slice_index text start) ≡ true
-  pub rest : IsRun goes_on text (start + 1) end
-
--- they begin with this byte
-abbrev pub Begins : ℕ → List ℕ → ℕ → Type 0
-Begins byte text start = slice_index text start ≡ byte
-
--- they end with this byte, which is not the first of them
-pub record EndsWith (byte : ℕ) (text : List ℕ) (start end : ℕ) : Type 0 where
-  pub last : ℕ
-  pub behind : start < last
-  pub ends : end ≡ last + 1
-  pub is : slice_index text last ≡ byte
-
--- they begin with one byte, and end with another one
-pub record IsBetween (opening closing : ℕ) (text : List ℕ) (start end : ℕ) : Type 0 where
-  pub opens : Begins opening text start
-  pub closes : EndsWith closing text start end
+use Rattle.lryacc.specs.Words.{Are, Begins, IsRun, IsWord, is_in_directive, is_in_name, is_in_rest, is_in_word, is_name_start, is_percent, is_short, is_word_start}
 
 -- ---- directives of Bison
 
@@ -114,12 +48,26 @@ pub record IsLineDirective (text : List ℕ) (start end : ℕ) : Type 0 where
   pub has_line : HasLine (slice_range text start behind)
   pub line : IsRun is_in_rest text behind end
 
+-- ---- names in brackets
+
+-- a name in brackets, with gaps around it: it begins at `name`, ends at `behind`, and its `]` stands at `last`
+pub record IsBracketName (text : List ℕ) (start end : ℕ) : Type 0 where
+  pub name : ℕ
+  pub behind : ℕ
+  pub last : ℕ
+  pub opens : Begins 91 text start
+  pub before : IsGap Bison text (start + 1) name
+  pub word : IsWord is_name_start is_in_name text name behind
+  pub after : IsGap Bison text behind last
+  pub closes : Begins 93 text last
+  pub ends : end ≡ last + 1
+
 -- ---- lexemes
 
 -- what a lexeme of a kind is for Bison
 abbrev pub IsBisonLexeme : LexemeKind → List ℕ → ℕ → ℕ → Type 0
 IsBisonLexeme kind.Name text start end = IsWord is_name_start is_in_name text start end
-IsBisonLexeme kind.BracketName text start end = IsBetween 91 93 text start end
+IsBisonLexeme kind.BracketName text start end = IsBracketName text start end
 IsBisonLexeme kind.Number text start end = IsWord is_ascii_digit is_in_name text start end
 IsBisonLexeme (kind.Character byte) text start end = AreQuoted 39 (byte ∷ []) text start end
 IsBisonLexeme kind.Text text start end = IsText text start end

@@ -42,6 +42,8 @@ pub mod CodeRead
 pub mod RustCode
 -- code of Rust that is read up to a place within it
 pub mod RustCodeRead
+-- classes of bytes, and what stands in a text from one place up to another
+pub mod Words
 -- the lexemes of a text
 pub mod Lexemes
 -- bytes of one class

@@ -5,7 +5,7 @@ use Rattle.std.specs.List.{list_any}
 use Rattle.lryacc.specs.declared.runs.Run.{Run}
 use Rattle.lryacc.specs.declared.runs.Run.TheVariants as run
 use Rattle.lryacc.specs.Comments.{is_white}
-use Rattle.lryacc.specs.Lexemes.{is_in_directive, is_in_name, is_in_rest, is_in_word}
+use Rattle.lryacc.specs.Words.{is_in_directive, is_in_name, is_in_rest, is_in_word}
 
 -- whether a run may have a byte
 abbrev pub has : Run → ℕ → Bool

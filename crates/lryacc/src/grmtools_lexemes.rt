@@ -3,7 +3,8 @@
 ghost use Rattle.std.specs.Prelude.{◌≡◌, ◌+◌, ◌<◌, ◌≤◌, ◌⊎◌, true, codes, length, slice_index, IfOk, IsTrue};
 ghost use Rattle.std.specs.Char.{is_ascii_digit};
 ghost use Rattle.lryacc.specs.GrmtoolsQuotes.{IsLoneMark, is_quote};
-ghost use Rattle.lryacc.specs.Lexemes.{Are, Begins, HasLine, IsGrmtoolsLexeme};
+ghost use Rattle.lryacc.specs.Lexemes.{HasLine, IsGrmtoolsLexeme};
+ghost use Rattle.lryacc.specs.Words.{Are, Begins};
 
 use crate::faults::{Fault, FaultKind, Wanted};
 use crate::lexemes::{LexemeKind, invalid};

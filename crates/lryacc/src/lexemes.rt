@@ -4,8 +4,9 @@ ghost use Rattle.std.specs.Prelude.{◌≡◌, ◌+◌, ◌<◌, ◌≤◌, true
 ghost use Rattle.std.specs.Char.{is_ascii_digit};
 ghost use Rattle.lryacc.specs.Bodies.{is_symbol};
 ghost use Rattle.lryacc.specs.Code.{EndsCode};
-ghost use Rattle.lryacc.specs.Lexemes.{Are, Begins, IsBisonLexeme, is_name_start};
+ghost use Rattle.lryacc.specs.Lexemes.{IsBisonLexeme};
 ghost use Rattle.lryacc.specs.Tags.{IsTag};
+ghost use Rattle.lryacc.specs.Words.{Are, Begins, is_name_start};
 
 use crate::code::{Ending, code_end};
 use crate::dialects::Dialect;

@@ -1,7 +1,7 @@
 //! Runs of bytes of one class.
 
 ghost use Rattle.std.specs.Prelude.{◌≡◌, ◌≤◌, length};
-ghost use Rattle.lryacc.specs.Lexemes.{IsRun};
+ghost use Rattle.lryacc.specs.Words.{IsRun};
 ghost use Rattle.lryacc.specs.Runs.{has};
 
 /// Bytes of one class that stand one behind another.

@@ -5,7 +5,8 @@ use Rattle.lryacc.specs.declared.lexemes.LexemeKind.{LexemeKind}
 use Rattle.lryacc.specs.declared.lexemes.LexemeKind.TheVariants.{Predicate}
 use Rattle.lryacc.specs.Code.{EndsCode}
 use Rattle.lryacc.specs.Comments.{is_white}
-use Rattle.lryacc.specs.Lexemes.{Are, Begins, IsBisonLexeme, IsRun}
+use Rattle.lryacc.specs.Lexemes.{IsBisonLexeme}
+use Rattle.lryacc.specs.Words.{Are, Begins, IsRun}
 use Rattle.lryacc.proofs.lexemes.predicate.Goals as goal
 
 -- `%?`, blanks, and code between braces
