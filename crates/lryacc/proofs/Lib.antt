@@ -1,6 +1,6 @@
 -- productions that are added, faults by their places, sets of rules, what stays of a grammar, delimiters that are passed, bodies
 -- that are read, and all of them, names of rules among lexemes, lexemes that are found one after another, gaps, code, also of
--- Rust, and tags that are read byte by byte, digits and escapes, bytes and parts in quotes, texts of characters, rules and tokens
+-- Rust, tags and types that are read byte by byte, digits and escapes, bytes and parts in quotes, texts of characters, rules and tokens
 -- that are numbered, productions of bodies, names of one symbol, the end token, the tokens before start rules, and the least sets
 -- of rules
 pub mod AddedProductions
@@ -18,6 +18,7 @@ pub mod Escapes
 pub mod BytesInQuotes
 pub mod PartsInQuotes
 pub mod TagsByBytes
+pub mod TypesByBytes
 pub mod CharacterTexts
 pub mod CodeByBytes
 pub mod RustCodeByBytes

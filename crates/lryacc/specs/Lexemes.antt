@@ -13,6 +13,7 @@ use Rattle.lryacc.specs.Tags.{IsTag}
 use Rattle.lryacc.specs.Code.{EndsCode}
 use Rattle.lryacc.specs.Comments.{is_white}
 use Rattle.lryacc.specs.Gaps.{IsGap}
+use Rattle.lryacc.specs.RuleTypes.{IsRuleType}
 use Rattle.lryacc.specs.RustCode.{EndsRustCode}
 use Rattle.lryacc.specs.Words.{Are, Begins, IsRun, IsWord, is_in_directive, is_in_name, is_in_rest, is_in_word, is_name_start, is_percent, is_short, is_word_start}
 
@@ -100,7 +101,7 @@ IsGrmtoolsLexeme kind.QuotedName text start end =
     IsQuotedName 39 text start end ⊎ IsQuotedName 34 text start end
 IsGrmtoolsLexeme kind.QuotedText text start end =
     IsQuotedText 39 text start end ⊎ IsQuotedText 34 text start end
-IsGrmtoolsLexeme kind.RuleType text start end = Are text start (start + 2) (codes "->")
+IsGrmtoolsLexeme kind.RuleType text start end = IsRuleType text start end
 IsGrmtoolsLexeme kind.Directive text start end = IsNameDirective text start end
 IsGrmtoolsLexeme kind.DirectiveLine text start end = IsLineDirective text start end
 IsGrmtoolsLexeme kind.Separator text start end = Are text start end (codes "%%")

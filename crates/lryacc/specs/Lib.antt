@@ -44,6 +44,10 @@ pub mod RustCode
 pub mod RustCodeRead
 -- classes of bytes, and what stands in a text from one place up to another
 pub mod Words
+-- types of rules, as grmtools reads them
+pub mod RuleTypes
+-- types that are read up to a place within them
+pub mod TypesRead
 -- the lexemes of a text
 pub mod Lexemes
 -- bytes of one class

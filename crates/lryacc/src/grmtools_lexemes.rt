@@ -4,6 +4,7 @@ ghost use Rattle.std.specs.Prelude.{◌≡◌, ◌+◌, ◌<◌, ◌≤◌, ◌�
 ghost use Rattle.std.specs.Char.{is_ascii_digit};
 ghost use Rattle.lryacc.specs.GrmtoolsQuotes.{IsLoneMark, is_quote};
 ghost use Rattle.lryacc.specs.Lexemes.{HasLine, IsGrmtoolsLexeme};
+ghost use Rattle.lryacc.specs.RuleTypes.{IsType};
 ghost use Rattle.lryacc.specs.Words.{Are, Begins};
 
 use crate::faults::{Fault, FaultKind, Wanted};
@@ -107,16 +108,17 @@ fn ended(kind: LexemeKind, from: usize, last: usize) -> Result<(LexemeKind, usiz
     Ok((kind, last + 1))
 }
 
-/// The place at which the type of a rule ends, which begins with `->` at a place: that of a colon with no other one beside it,
+/// The place at which the type of a rule ends, which begins behind `->` at a place: that of a colon with no other one beside it,
 /// or of a `;` outside of brackets, before which the colon is missing.
 fn type_end(text: &[u8], from: usize) -> usize
-    requires { from < length text.now }
-    ensures from { from < result }
+    requires { from ≤ length text.now }
+    ensures from { from ≤ result }
     ensures inside { result ≤ length text.now }
+    ensures is { IsType text.now from result }
 {
     let mut brackets: usize = 0;
     let mut is_second = false;
-    for at in from + 1..text.len() {
+    for at in from..text.len() {
         let byte = text[at];
         if byte == b':' && !is_second {
             if text.get(at + 1) != Some(&b':') {
@@ -138,13 +140,13 @@ fn type_end(text: &[u8], from: usize) -> usize
 
 /// The type of a rule that begins with `->` at a place.
 fn rule_type(text: &[u8], from: usize) -> Result<(LexemeKind, usize), Fault>
-    requires from { from < length text.now }
+    requires from { from + 2 ≤ length text.now }
     requires first { Are text.now from (from + 2) (codes "->") }
     ensures from { IfOk result (λ found. from < found.1) }
     ensures inside { IfOk result (λ found. found.1 ≤ length text.now) }
     ensures is { IfOk result (λ found. IsGrmtoolsLexeme found.0 text.now from found.1) }
 {
-    let end = type_end(text, from);
+    let end = type_end(text, from + 2);
     match text[from..end].trim_ascii() {
         b"->" => Err(wants(Wanted::Type, end, end)),
         _ => Ok((LexemeKind::RuleType, end)),
