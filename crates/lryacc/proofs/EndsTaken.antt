@@ -13,16 +13,24 @@ use Rattle.lryacc.specs.declared.lexemes.Lexeme.{Lexeme}
 use Rattle.lryacc.specs.declared.meaning.Meaning.{Meaning}
 use Rattle.lryacc.specs.declared.numbering.FileGrammar.{FileGrammar}
 use Rattle.lryacc.specs.declared.symbols.Symbols.{Symbols}
-use Rattle.lryacc.specs.EndTokens.{HasEnd, HasEndBy, HasSome, IsEndByName, IsGivenEnd, IsGivenEndBy, IsGivenZeroBy, KeepsMeaning, TakesEnd, end_by_name, for_bison, written_number}
+use Rattle.lryacc.specs.EndTokens.{KeepsLines, HasEnd, HasEndBy, HasSome, IsEndByName, IsGivenEnd, IsGivenEndBy, IsGivenZeroBy, KeepsMeaning, TakesEnd, end_by_name, for_bison, written_number}
 use Rattle.lryacc.specs.NamedSymbols.{KeepsNames, KeepsSymbols, Name, Names, first_name, names_in, number_in, number_of, text_at}
 use Rattle.lryacc.proofs.NamesOfOne.{kept-again, names-turned, number-kept, number-same}
+
+-- lines are kept, and then again
+pub lines-again : {old now new : Meaning} → KeepsLines old now → KeepsLines now new → KeepsLines old new
+lines-again one other = record {
+  levels = other.levels ∙ one.levels;
+  lines = other.lines ∙ one.lines;
+}
 
 -- more is kept
 pub meaning-again : {old now new : Meaning} → KeepsMeaning old now → KeepsMeaning now new → KeepsMeaning old new
 meaning-again one other = record {
   symbols = kept-again one.symbols other.symbols;
   end = other.end ∙ one.end;
-  faults = omega arith;
+  faults = omega (arith, one.faults, other.faults);
+  lines = lines-again one.lines other.lines;
 }
 
 -- a symbol that has the value 0 has it where names stay the same

@@ -68,10 +68,22 @@ end_by_name symbols =
     for_bison symbols.dialect (number_in symbols (Name.word (codes "YYEOF")))
 
 -- names and the end token are the same, and no fault is taken back
+pub record KeepsEnd (old new : Meaning) : Type 0 where
+  pub symbols : KeepsSymbols old.symbols new.symbols
+  pub end : new.end ≡ old.end
+  pub faults : vec_len old.faults ≤ vec_len new.faults
+
+-- precedence lines are the same, and so is which symbols stand in them
+pub record KeepsLines (old new : Meaning) : Type 0 where
+  pub levels : new.levels ≡ old.levels
+  pub lines : new.lines ≡ old.lines
+
+-- all of this is the same
 pub record KeepsMeaning (old new : Meaning) : Type 0 where
   pub symbols : KeepsSymbols old.symbols new.symbols
   pub end : new.end ≡ old.end
   pub faults : vec_len old.faults ≤ vec_len new.faults
+  pub lines : KeepsLines old new
 
 -- one of some declarations gives the symbol of that number the value 0
 abbrev pub IsGivenZeroBy : List Statement → Meaning → ℕ → Type 0

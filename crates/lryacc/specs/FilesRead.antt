@@ -1,7 +1,8 @@
 -- what the grammar of a file comes from
-use Rattle.std.specs.Prelude.{◌≡◌, ℕ, ◌<◌, ◌⊎◌, List, [], Some, codes, map, length, slice_get, string_bytes}
+use Rattle.std.specs.Prelude.{◌≡◌, ℕ, ◌<◌, ◌⊎◌, List, [], Some, Contains, codes, map, length, slice_get, string_bytes}
 use Rattle.lryacc.specs.declared.contents.Alternative.{Alternative}
 use Rattle.lryacc.specs.declared.contents.Statement.{Statement}
+use Rattle.lryacc.specs.declared.contents.Statement.TheVariants as says
 use Rattle.lryacc.specs.declared.dialects.Dialect.{Dialect}
 use Rattle.lryacc.specs.declared.dialects.Dialect.TheVariants.{Bison}
 use Rattle.lryacc.specs.declared.faults.Fault.{Fault}
@@ -16,11 +17,13 @@ use Rattle.lryacc.specs.BodyProductions.{AreOfFile}
 use Rattle.lryacc.specs.EndTokens.{HasEnd}
 use Rattle.lryacc.specs.Headers.{HoldsHeader}
 use Rattle.lryacc.specs.KeptProductions.{IsWithout}
+use Rattle.lryacc.specs.Levels.{IsInLine, levels_of}
 use Rattle.lryacc.specs.NamedSymbols.{NameOne, Names}
 use Rattle.lryacc.specs.ProductionPlaces.{file_places, start_rules_of}
 
 -- the names of a file of this text and dialect, with these declarations and bodies, and of the rules, of which the first is
--- `$accept`, and the tokens of a grammar of it: lexemes of one number name one symbol, and the end token is what declarations say
+-- `$accept`, and the tokens of a grammar of it: lexemes of one number name one symbol, the end token is what declarations
+-- say, and so are the precedence lines of symbols
 pub record AreNamesOf (text : List ℕ) (dialect : Dialect) (statements : List Statement)
     (bodies : List Alternative) (file : FileGrammar) (names : Names) : Type 0 where
   pub text_is : names.text ≡ text
@@ -33,6 +36,11 @@ pub record AreNamesOf (text : List ℕ) (dialect : Dialect) (statements : List S
   pub starts : names.starts ≡ map (λ place. place.start) file.rule_places.items
   pub precedences : names.precedences ≡ map (λ token. token.precedence) file.parts.tokens.items
   pub end : HasEnd names
+  pub lines : names.lines ≡ levels_of statements
+  pub in_line : (lexeme : Lexeme) (number line : ℕ) → names.number lexeme ≡ Some number
+      → names.line number ≡ Some line → IsInLine statements names.number number line
+  pub has_line : (lexeme : Lexeme) (number : ℕ) → Contains statements (says.InLevel lexeme)
+      → names.number lexeme ≡ Some number → (line : ℕ) × (names.line number ≡ Some line)
   pub one : (lexeme other : Lexeme) (number : ℕ) → names.number lexeme ≡ Some number
       → names.number other ≡ Some number → NameOne text dialect statements lexeme other
 

@@ -1,5 +1,5 @@
 -- the precedence lines of a file, and the precedences of its tokens
-use Rattle.std.specs.Prelude.{◌≡◌, ℕ, ◌-◌, ◌*◌, List, Option, IfSome, None, Some, slice_get}
+use Rattle.std.specs.Prelude.{◌≡◌, ℕ, ◌-◌, ◌*◌, List, [], ◌∷◌, ◌++◌, Option, IfSome, None, Some, length, slice_get}
 use Rattle.std.specs.BTreeMap.{get}
 use Rattle.std.specs.Option.{option_map, option_and_then, option_or}
 use Rattle.std.specs.Ordering.{nat_cmp}
@@ -8,24 +8,36 @@ use Rattle.lrgrammar.specs.declared.grammar.AssocKind.TheVariants as group
 use Rattle.lrgrammar.specs.declared.grammar.Precedence.{Precedence}
 use Rattle.lryacc.specs.declared.contents.LevelKind.{LevelKind}
 use Rattle.lryacc.specs.declared.contents.LevelKind.TheVariants as line
-use Rattle.lryacc.specs.declared.symbols.Symbol.{Symbol}
-use Rattle.lryacc.specs.declared.symbols.Symbols.{Symbols}
+use Rattle.lryacc.specs.declared.contents.Statement.{Statement}
+use Rattle.lryacc.specs.declared.contents.Statement.TheVariants as says
+use Rattle.lryacc.specs.declared.lexemes.Lexeme.{Lexeme}
+use Rattle.lryacc.specs.declared.meaning.Meaning.{Meaning}
 
 -- the precedence line in which a symbol stands by this name, counted from 1
-abbrev pub own_line : Symbol → Option ℕ
-own_line symbol = option_map (λ level. level.0) symbol.level
-
--- the same by the other name of a symbol, if it has one
-abbrev pub other_line : Symbols → ℕ → Option ℕ
-other_line symbols number =
-    option_and_then (λ other. option_and_then own_line (slice_get symbols.list.items other))
-    (get nat_cmp symbols.partners number)
+abbrev pub own_line : Meaning → ℕ → Option ℕ
+own_line meaning number = option_map (λ place. place.0) (get nat_cmp meaning.lines number)
 
 -- the precedence line of a symbol, by either of its names
-abbrev pub line_of : Symbols → ℕ → Option ℕ
-line_of symbols number =
-    option_and_then (λ symbol. option_or (own_line symbol) (other_line symbols number))
-    (slice_get symbols.list.items number)
+abbrev pub line_of : Meaning → ℕ → Option ℕ
+line_of meaning number =
+    option_or (own_line meaning number)
+    (option_and_then (own_line meaning) (get nat_cmp meaning.symbols.partners number))
+
+-- the precedence lines that declarations begin
+abbrev pub levels_of : List Statement → List LevelKind
+levels_of [] = []
+levels_of (says.Level kind directive ∷ statements) = kind ∷ levels_of statements
+levels_of (_ ∷ statements) = levels_of statements
+
+-- a declaration puts the symbol of that number into a precedence line, the last one that begins before it
+pub record IsInLine (statements : List Statement) (number_of : Lexeme → Option ℕ)
+    (number line : ℕ) : Type 0 where
+  pub before : List Statement
+  pub symbol : Lexeme
+  pub behind : List Statement
+  pub is : statements ≡ before ++ says.InLevel symbol ∷ behind
+  pub same : number_of symbol ≡ Some number
+  pub line_is : line ≡ length (levels_of before)
 
 -- how the tokens of a line group: those of a `%precedence` line settle nothing among themselves
 abbrev pub group_of : LevelKind → AssocKind

@@ -64,6 +64,8 @@ pub mod AllLexemes
 pub mod NamedSymbols
 -- which symbol is the end token
 pub mod EndTokens
+-- which lines symbols stand in
+pub mod LinesTaken
 -- the productions of bodies
 pub mod BodyProductions
 -- the numbers of rules and tokens

@@ -243,7 +243,7 @@ names_in meaning contents file =
       tokens = map (λ token. string_bytes token.name) file.parts.tokens.items;
       starts = map (λ place. place.start) file.rule_places.items;
       lines = meaning.levels.items;
-      line = line_of meaning.symbols;
+      line = line_of meaning;
       precedences = map (λ token. token.precedence) file.parts.tokens.items;
     }
 

@@ -4,6 +4,7 @@ ghost use Rattle.std.specs.Prelude.{◌≡◌, ◌<◌, All, IfOk, Some, codes, 
 ghost use Rattle.lryacc.specs.BodyProductions.{AreOfFile};
 ghost use Rattle.lryacc.specs.EndTokens.{HasEndBy};
 ghost use Rattle.lryacc.specs.FilesRead.{AreBodiesRead, ComesTo, HasBodies, HasNoGrammar};
+ghost use Rattle.lryacc.specs.LinesTaken.{HasLines};
 ghost use Rattle.lryacc.specs.NamedSymbols.{AreApart, ArePartnered, names_in};
 ghost use Rattle.lryacc.specs.ProductionPlaces.{IsPlaced, file_places, start_rules_of};
 ghost use Rattle.lryacc.specs.Spans.{IsInside};
@@ -123,6 +124,7 @@ fn grammar_read(
     requires partnered { ArePartnered contents.now.statements.items meaning.old.symbols }
     requires faults { vec_len meaning.old.faults ≡ 0 }
     requires end { HasEndBy contents.now.statements.items meaning.old }
+    requires lines { HasLines contents.now.statements.items meaning.old }
     ensures inside { IfOk result (λ read. All (λ fault. IsInside fault.span text.now) (told read)) }
     ensures faults { IfOk result HasFaults }
     ensures placed { IfOk result HasPlaces }
@@ -155,6 +157,7 @@ fn useful_read(
     requires partnered { ArePartnered contents.now.statements.items meaning.old.symbols }
     requires faults { vec_len meaning.old.faults ≡ 0 }
     requires end { HasEndBy contents.now.statements.items meaning.old }
+    requires lines { HasLines contents.now.statements.items meaning.old }
     requires places { whole.production_places.items
         ≡ file_places meaning.old.starts.items contents.now.alternatives.items }
     requires placed { IsPlaced whole }

@@ -112,8 +112,8 @@ impl<'a> Meaning<'a> {
         ensures { OnOk result (KeepsMeaning self.old self.new) }
     {
         self.tell_unless_known(name, usize::MAX)?;
-        match self.symbol_of(name) {
-            Some(symbol) if symbol.level.is_some() => Ok(()),
+        match self.symbols.find(name) {
+            Some(number) if self.line(number).is_some() => Ok(()),
             _ => self.tell(FaultKind::NoPrecedence, name.span),
         }
     }

@@ -1,9 +1,11 @@
 //! What the names of a file mean: its symbols, and what is said of them.
 
 ghost use Rattle.std.specs.Prelude.{◌≡◌, ◌+◌, ◌<◌, ◌≤◌, [], ◌∷◌, length, IfOk, MatchOption, OnOk, true, false, None, Some, vec_len};
-ghost use Rattle.std.specs.BTreeMap.{IsEmpty};
+ghost use Rattle.std.specs.BTreeMap.{IsEmpty, get};
+ghost use Rattle.std.specs.Ordering.{nat_cmp};
 ghost use Rattle.std.specs.Option.{option_map, option_or};
-ghost use Rattle.lryacc.specs.EndTokens.{HasEndBy, KeepsMeaning, TakesEnd, end_by_name, written_number};
+ghost use Rattle.lryacc.specs.EndTokens.{HasEndBy, KeepsEnd, KeepsLines, KeepsMeaning, TakesEnd, end_by_name, written_number};
+ghost use Rattle.lryacc.specs.LinesTaken.{BeginsLine, PutsInLine, TakesLines};
 ghost use Rattle.lryacc.specs.NamedSymbols.{AreApart, BecomeOne, KeepsSymbols, TakesOne, TakesSome, first_name, partner_in, symbol_number, text_at};
 ghost use Rattle.lryacc.specs.declared.contents.Statement.{Statement};
 
@@ -46,6 +48,8 @@ pub(crate) struct Meaning<'a> {
     pub(crate) symbols: Symbols<'a>,
     /// The kinds of the precedence lines, in the order of the file.
     pub(crate) levels: Vec<LevelKind>,
+    /// By symbol, the precedence line in which it stands by this name, counted from 1, and the line up to where it is named there.
+    lines: BTreeMap<usize, (usize, Span)>,
     /// Where the precedence line in hand begins.
     level_start: usize,
     /// The symbols behind `%start`, each once.
@@ -77,11 +81,14 @@ impl<'a> Meaning<'a> {
         ensures apart { IfOk result (λ meaning. AreApart meaning.symbols) }
         ensures single { IfOk result (λ meaning. IsEmpty meaning.symbols.partners) }
         ensures end { IfOk result (λ meaning. meaning.end ≡ None) }
+        ensures levels { IfOk result (λ meaning. meaning.levels.items ≡ []) }
+        ensures lines { IfOk result (λ meaning. IsEmpty meaning.lines) }
     {
         let symbols = Symbols::of(alloc, text, dialect, contents)?;
         Ok(Meaning {
             symbols,
             levels: Vec::new(alloc),
+            lines: BTreeMap::new(alloc),
             level_start: 0,
             starts: Vec::new(alloc),
             end: None,
@@ -187,6 +194,7 @@ impl<'a> Meaning<'a> {
     fn take_statements(&mut self, statements: &[Statement]) -> Result<(), AllocError>
         ensures taken { OnOk result (TakesSome statements.now self.old.symbols self.new.symbols) }
         ensures end { OnOk result (TakesEnd statements.now self.old self.new) }
+        ensures lines { OnOk result (TakesLines statements.now self.old self.new) }
     {
         for statement in statements {
             self.take_statement(*statement)?;
@@ -210,6 +218,7 @@ impl<'a> Meaning<'a> {
     fn take_statement(&mut self, statement: Statement) -> Result<(), AllocError>
         ensures taken { OnOk result (TakesOne statement self.old.symbols self.new.symbols) }
         ensures end { OnOk result (TakesEnd (statement ∷ []) self.old self.new) }
+        ensures lines { OnOk result (TakesLines (statement ∷ []) self.old self.new) }
     {
         match statement {
             Statement::Token(symbol) => self.take_token(symbol),
@@ -249,7 +258,8 @@ impl<'a> Meaning<'a> {
 
     /// Takes in that a precedence line begins with a directive.
     fn begin_level(&mut self, kind: LevelKind, directive: Lexeme) -> Result<(), AllocError>
-        ensures { OnOk result (KeepsMeaning self.old self.new) }
+        ensures keeps { OnOk result (KeepsEnd self.old self.new) }
+        ensures begins { OnOk result (BeginsLine kind self.old self.new) }
     {
         self.levels.push(kind)?;
         self.level_start = directive.span.start;
@@ -329,6 +339,7 @@ impl<'a> Meaning<'a> {
     /// Takes in the number of a token. It is less than the greatest one that is read.
     fn take_code(&mut self, lexeme: Lexeme, number: Lexeme) -> Result<(), AllocError>
         ensures symbols { OnOk result (KeepsSymbols self.old.symbols self.new.symbols) }
+        ensures lines { OnOk result (KeepsLines self.old self.new) }
         ensures end { OnOk result (TakesEnd (Statement.Code lexeme number ∷ []) self.old self.new) }
     {
         let Some(symbol) = self.symbols.find(lexeme) else {
@@ -477,6 +488,7 @@ impl<'a> Meaning<'a> {
             self.new.symbols) }
         ensures end { OnOk result (self.new.end ≡ self.old.end) }
         ensures faults { OnOk result (vec_len self.old.faults ≤ vec_len self.new.faults) }
+        ensures lines { OnOk result (KeepsLines self.old self.new) }
     {
         let (Some(one), Some(other)) = (self.symbols.find(symbol), self.symbols.find(text)) else {
             return Ok(());
@@ -498,6 +510,7 @@ impl<'a> Meaning<'a> {
         ensures one { OnOk result (BecomeOne self.old.symbols self.new.symbols one other) }
         ensures end { OnOk result (self.new.end ≡ self.old.end) }
         ensures faults { OnOk result (vec_len self.old.faults ≤ vec_len self.new.faults) }
+        ensures lines { OnOk result (KeepsLines self.old self.new) }
     {
         self.symbols.pair(one, other)?;
         self.set_class(other, self.class(one));
@@ -524,7 +537,8 @@ impl<'a> Meaning<'a> {
 
     /// Puts a symbol into the precedence line in hand.
     fn take_in_level(&mut self, lexeme: Lexeme) -> Result<(), AllocError>
-        ensures { OnOk result (KeepsMeaning self.old self.new) }
+        ensures keeps { OnOk result (KeepsEnd self.old self.new) }
+        ensures puts { OnOk result (PutsInLine lexeme self.old self.new) }
     {
         let level = self.levels.len();
         let span = Span::new(self.level_start, lexeme.span.end);
@@ -532,24 +546,24 @@ impl<'a> Meaning<'a> {
         let Some(number) = self.symbols.find(lexeme) else {
             return Ok(());
         };
-        let mut has_level = false;
-        if let Some(symbol) = self.symbols.list.get_mut(number) {
-            has_level = symbol.level.is_some();
-            if !has_level {
-                symbol.level = Some((level, span));
-            }
+        if self.line(number).is_some() {
+            return self.tell(FaultKind::LevelTwice, span);
         }
-        if has_level {
-            self.tell(FaultKind::LevelTwice, span)?;
-        }
+        self.lines.insert(number, (level, span))?;
         Ok(())
+    }
+
+    /// The precedence line in which a symbol stands by this name, and where.
+    pub(crate) fn line(&self, number: usize) -> Option<(usize, Span)>
+        ensures { result ≡ get nat_cmp self.now.lines number }
+    {
+        self.lines.get(&number).copied()
     }
 
     /// Where a symbol stands in a precedence line behind one in which its other name stands.
     fn second_level(&self, number: usize) -> Option<Span> {
-        let partner = self.symbols.list.get(self.symbols.partner(number)?)?;
-        let (_, here) = self.symbols.list.get(number)?.level?;
-        let (_, there) = partner.level?;
+        let (_, there) = self.line(self.symbols.partner(number)?)?;
+        let (_, here) = self.line(number)?;
         if there.end < here.end {
             Some(here)
         } else {
@@ -610,7 +624,7 @@ impl<'a> Meaning<'a> {
         match self.symbols.list.get(number) {
             Some(symbol) => {
                 symbol.declared.is_some()
-                    || symbol.level.is_some()
+                    || self.line(number).is_some()
                     || self.symbols.partner(number).is_some()
                     || symbol.is_used
             }
@@ -691,6 +705,7 @@ impl<'a> Meaning<'a> {
         ensures taken { OnOk result (TakesSome contents.now.statements.items self.old.symbols
             self.new.symbols) }
         ensures end { OnOk result (HasEndBy contents.now.statements.items self.new) }
+        ensures lines { OnOk result (TakesLines contents.now.statements.items self.old self.new) }
     {
         self.take_statements(contents.statements.as_slice())?;
         self.leave_out_reductions()?;
@@ -710,6 +725,7 @@ impl<'a> Meaning<'a> {
         ensures symbols { KeepsSymbols self.old.symbols self.new.symbols }
         ensures end { self.new.end ≡ option_or self.old.end (end_by_name self.old.symbols) }
         ensures faults { self.new.faults ≡ self.old.faults }
+        ensures lines { KeepsLines self.old self.new }
     {
         if self.end.is_some() {
             return;

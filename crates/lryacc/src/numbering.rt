@@ -392,14 +392,13 @@ impl<'m, 'a> Numbering<'m, 'a> {
 
     /// The level of a token, by either of its names.
     fn level(&self, number: usize) -> Option<usize>
-        ensures { result ≡ line_of self.now.meaning.now.symbols number }
+        ensures { result ≡ line_of self.now.meaning.now number }
     {
-        let symbol = self.known(number)?;
-        let level = match symbol.level {
-            Some(level) => Some(level),
-            None => self.known(self.meaning.symbols.partner(number)?)?.level,
+        let line = match self.meaning.line(number) {
+            Some(line) => line,
+            None => self.meaning.line(self.meaning.symbols.partner(number)?)?,
         };
-        Some(level?.0)
+        Some(line.0)
     }
 
     /// How the tokens of a level group.

@@ -37,8 +37,6 @@ pub(crate) struct Symbol {
     pub(crate) tag: Option<(Span, Span)>,
     /// The number by which its lexer calls it: that of a character, or where the file gives it one.
     pub(crate) code: Option<u64>,
-    /// The precedence line that it stands in, counted from 1, and the line up to where it is named there.
-    pub(crate) level: Option<(usize, Span)>,
     /// Whether a body has it.
     pub(crate) is_used: bool,
     /// Whether `%start` names it.
@@ -57,7 +55,6 @@ impl Symbol {
                 LexemeKind::Character(byte) => Some(u64::from(byte)),
                 _ => None,
             },
-            level: None,
             is_used: false,
             is_start: false,
         }

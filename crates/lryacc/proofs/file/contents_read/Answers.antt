@@ -1,3 +1,5 @@
+use Rattle.std.proofs.Common.{[]}
+use Rattle.lryacc.proofs.LinesHeld.{no-lines}
 use Rattle.lryacc.proofs.NamesOfOne.{apart-kept, partnered-none}
 use Rattle.lryacc.proofs.file.contents_read.Goals as goal
 
@@ -9,3 +11,8 @@ pub grammar_read-requires-clause-partnered : goal.grammar_read-requires-clause-p
 grammar_read-requires-clause-partnered c =
     let statements = c.args.contents.now.statements.items in
     c.in_ok-take.ensures.taken.partnered (partnered-none statements c.in_ok-meaning.meaning.symbols c.in_ok-meaning.ensures.single)
+
+pub grammar_read-requires-clause-lines : goal.grammar_read-requires-clause-lines
+grammar_read-requires-clause-lines c =
+    let new = c.in_ok-meaning.ensures in
+    c.in_ok-take.ensures.lines.lines [] (no-lines c.in_ok-meaning.meaning new.levels new.lines)

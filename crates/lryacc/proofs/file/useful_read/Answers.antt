@@ -1,6 +1,7 @@
 use Rattle.std.proofs.Common.{◌≡◌, ℕ, zero, suc, ◌<◌, List, [], ◌∷◌, length, vec_len, refl, ap, arith}
 use Rattle.lryacc.specs.NamedSymbols.{names_in}
 use Rattle.lryacc.proofs.EndsTaken.{has-end}
+use Rattle.lryacc.proofs.LinesHeld.{has-line, in-line}
 use Rattle.lryacc.proofs.NamesOfOne.{named-in}
 use Rattle.lryacc.proofs.file.useful_read.Goals as goal
 
@@ -39,6 +40,9 @@ returns-clause-bodies c =
           starts = refl;
           precedences = refl;
           end = has-end c.args.meaning.now c.args.contents.now c.args.whole c.requires.faults c.requires.end;
+          lines = c.requires.lines.levels;
+          in_line = in-line c.args.contents.now.statements.items c.args.meaning.now c.requires.partnered c.requires.lines;
+          has_line = has-line c.args.contents.now.statements.items c.args.meaning.now c.requires.partnered c.requires.lines;
           one = λ lexeme other number e d. named-in c.args.text.now c.args.dialect c.args.contents.now.statements.items c.args.meaning.now.symbols c.requires.text c.requires.dialect c.requires.apart c.requires.partnered lexeme other number e d;
         };
         productions = c.requires.productions;

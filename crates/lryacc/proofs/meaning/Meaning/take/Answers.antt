@@ -1,8 +1,10 @@
 use Rattle.std.proofs.Common.{List, subst}
 use Rattle.lryacc.specs.declared.contents.Statement.{Statement}
 use Rattle.lryacc.specs.EndTokens.{TakesEnd}
+use Rattle.lryacc.specs.LinesTaken.{TakesLines}
 use Rattle.lryacc.specs.NamedSymbols.{TakesSome}
-use Rattle.lryacc.proofs.EndsTaken.{end-found, end-kept, meaning-again, takes_end_rest}
+use Rattle.lryacc.proofs.EndsTaken.{end-found, end-kept, lines-again, meaning-again, takes_end_rest}
+use Rattle.lryacc.proofs.LinesHeld.{takes_lines_rest}
 use Rattle.lryacc.proofs.NamesOfOne.{kept-again, ok-then, takes_rest}
 use Rattle.lryacc.proofs.meaning.Meaning.take.Goals as goal
 
@@ -36,3 +38,27 @@ returns-in-Grmtools-clause-end c =
     let found = end-found all c.args.self.now c.warn_of_precedences.new.self c.find_end.new.self before c.requires c.find_end.ensures.symbols.names c.find_end.ensures.end c.find_end.ensures.faults in
     let told = meaning-again c.in_ok-tell_symbols.ensures c.in_ok-tell_starts.ensures in
     ok-then c.tell_unknown.result (λ unknown. end-kept all (meaning-again told unknown) found) c.tell_unknown.ensures
+
+pub returns-in-Bison-clause-lines : goal.returns-in-Bison-clause-lines
+returns-in-Bison-clause-lines c =
+    let all = c.args.contents.now.statements.items in
+    let some = subst (λ (xs : List Statement). TakesLines xs c.args.self.now c.take_statements.new.self) c.as_slice.ensures.value c.in_ok-take_statements.ensures.lines in
+    let before = meaning-again c.in_ok-leave_out_reductions.ensures (meaning-again c.take_bodies.ensures c.in_ok-warn_of_precedences.ensures) in
+    let told = meaning-again c.in_ok-tell_symbols.ensures c.in_ok-tell_starts.ensures in
+    let found = c.find_end.ensures in
+    let names = kept-again before.symbols (kept-again found.symbols told.symbols) in
+    let lines = lines-again before.lines (lines-again found.lines told.lines) in
+    takes_lines_rest all some names.names lines
+
+pub returns-in-Grmtools-clause-lines : goal.returns-in-Grmtools-clause-lines
+returns-in-Grmtools-clause-lines c =
+    let all = c.args.contents.now.statements.items in
+    let some = subst (λ (xs : List Statement). TakesLines xs c.args.self.now c.take_statements.new.self) c.as_slice.ensures.value c.in_ok-take_statements.ensures.lines in
+    let before = meaning-again c.in_ok-leave_out_reductions.ensures (meaning-again c.take_bodies.ensures c.in_ok-warn_of_precedences.ensures) in
+    let told = meaning-again c.in_ok-tell_symbols.ensures c.in_ok-tell_starts.ensures in
+    let found = c.find_end.ensures in
+    let names = kept-again before.symbols (kept-again found.symbols told.symbols) in
+    let lines = lines-again before.lines (lines-again found.lines told.lines) in
+    ok-then c.tell_unknown.result
+    (λ unknown. let kept = kept-again names unknown.symbols in takes_lines_rest all some kept.names (lines-again lines unknown.lines))
+    c.tell_unknown.ensures

@@ -1,6 +1,9 @@
-use Rattle.std.proofs.Common.{ap}
+use Rattle.std.proofs.Common.{◌≡◌, [], ◌∷◌, ap, false, inl, inr, refl, subst, sym}
+use Rattle.lryacc.specs.declared.contents.Statement.{Statement}
+use Rattle.lryacc.specs.LinesTaken.{TakesLines}
+use Rattle.lryacc.proofs.LinesHeld.{begins, puts, takes_in_line, takes_level, takes_no_line}
 use Rattle.lryacc.proofs.EndsTaken.{is_code, takes_no_end}
-use Rattle.lryacc.proofs.NamesOfOne.{ok-then, takes_other}
+use Rattle.lryacc.proofs.NamesOfOne.{ok-both, ok-then, takes_other}
 use Rattle.lryacc.proofs.meaning.Meaning.take_statement.Goals as goal
 
 pub returns-in-Token-clause-taken : goal.returns-in-Token-clause-taken
@@ -16,16 +19,16 @@ pub returns-in-Rule-clause-end : goal.returns-in-Rule-clause-end
 returns-in-Rule-clause-end c = ok-then c.take_rule_name.result (λ keeps. takes_no_end _ (ap is_code c.in-Rule.is) keeps.end keeps.faults) c.take_rule_name.ensures
 
 pub returns-in-Level-clause-taken : goal.returns-in-Level-clause-taken
-returns-in-Level-clause-taken c = ok-then c.begin_level.result (λ keeps. takes_other _ keeps.symbols) c.begin_level.ensures
+returns-in-Level-clause-taken c = ok-then c.begin_level.result (λ keeps. takes_other _ keeps.symbols) c.begin_level.ensures.keeps
 
 pub returns-in-Level-clause-end : goal.returns-in-Level-clause-end
-returns-in-Level-clause-end c = ok-then c.begin_level.result (λ keeps. takes_no_end _ (ap is_code c.in-Level.is) keeps.end keeps.faults) c.begin_level.ensures
+returns-in-Level-clause-end c = ok-then c.begin_level.result (λ keeps. takes_no_end _ (ap is_code c.in-Level.is) keeps.end keeps.faults) c.begin_level.ensures.keeps
 
 pub returns-in-InLevel-clause-taken : goal.returns-in-InLevel-clause-taken
-returns-in-InLevel-clause-taken c = ok-then c.take_in_level.result (λ keeps. takes_other _ keeps.symbols) c.take_in_level.ensures
+returns-in-InLevel-clause-taken c = ok-then c.take_in_level.result (λ keeps. takes_other _ keeps.symbols) c.take_in_level.ensures.keeps
 
 pub returns-in-InLevel-clause-end : goal.returns-in-InLevel-clause-end
-returns-in-InLevel-clause-end c = ok-then c.take_in_level.result (λ keeps. takes_no_end _ (ap is_code c.in-InLevel.is) keeps.end keeps.faults) c.take_in_level.ensures
+returns-in-InLevel-clause-end c = ok-then c.take_in_level.result (λ keeps. takes_no_end _ (ap is_code c.in-InLevel.is) keeps.end keeps.faults) c.take_in_level.ensures.keeps
 
 pub returns-in-Tagged-clause-taken : goal.returns-in-Tagged-clause-taken
 returns-in-Tagged-clause-taken c = ok-then c.take_tag.result (λ keeps. takes_other _ keeps.symbols) c.take_tag.ensures
@@ -69,3 +72,75 @@ pub returns-in_ok-self-in-ExpectReduceReduce-clause-end : goal.returns-in_ok-sel
 returns-in_ok-self-in-ExpectReduceReduce-clause-end c =
     let keeps = c.in_ok-self-in-ExpectReduceReduce.ensures.keeps in
     takes_no_end _ (ap is_code c.in-ExpectReduceReduce.is) keeps.end keeps.faults
+
+pub returns-in-Token-clause-lines : goal.returns-in-Token-clause-lines
+returns-in-Token-clause-lines c = ok-then c.take_token.result (λ keeps. takes_no_line _ (ap begins c.in-Token.is) (ap puts c.in-Token.is) keeps.symbols.names keeps.lines) c.take_token.ensures
+
+pub returns-in-Rule-clause-lines : goal.returns-in-Rule-clause-lines
+returns-in-Rule-clause-lines c = ok-then c.take_rule_name.result (λ keeps. takes_no_line _ (ap begins c.in-Rule.is) (ap puts c.in-Rule.is) keeps.symbols.names keeps.lines) c.take_rule_name.ensures
+
+pub returns-in-Tagged-clause-lines : goal.returns-in-Tagged-clause-lines
+returns-in-Tagged-clause-lines c = ok-then c.take_tag.result (λ keeps. takes_no_line _ (ap begins c.in-Tagged.is) (ap puts c.in-Tagged.is) keeps.symbols.names keeps.lines) c.take_tag.ensures
+
+pub returns-in-LeftSide-clause-lines : goal.returns-in-LeftSide-clause-lines
+returns-in-LeftSide-clause-lines c = ok-then c.take_class.result (λ keeps. takes_no_line _ (ap begins c.in-LeftSide.is) (ap puts c.in-LeftSide.is) keeps.symbols.names keeps.lines) c.take_class.ensures
+
+pub returns-in-NamedPrecedence-clause-lines : goal.returns-in-NamedPrecedence-clause-lines
+returns-in-NamedPrecedence-clause-lines c = ok-then c.take_class-in-NamedPrecedence.result (λ keeps. takes_no_line _ (ap begins c.in-NamedPrecedence.is) (ap puts c.in-NamedPrecedence.is) keeps.symbols.names keeps.lines) c.take_class-in-NamedPrecedence.ensures
+
+pub returns-in-Start-clause-lines : goal.returns-in-Start-clause-lines
+returns-in-Start-clause-lines c = ok-then c.take_start.result (λ keeps. takes_no_line _ (ap begins c.in-Start.is) (ap puts c.in-Start.is) keeps.symbols.names keeps.lines) c.take_start.ensures
+
+pub returns-in-Code-clause-lines : goal.returns-in-Code-clause-lines
+returns-in-Code-clause-lines c =
+    ok-both c.take_code.result (λ symbols lines. takes_no_line _ (ap begins c.in-Code.is) (ap puts c.in-Code.is) symbols.names lines) c.take_code.ensures.symbols c.take_code.ensures.lines
+
+pub returns-in-Alias-clause-lines : goal.returns-in-Alias-clause-lines
+returns-in-Alias-clause-lines c =
+    ok-both c.take_alias.result (λ taken lines. takes_no_line _ (ap begins c.in-Alias.is) (ap puts c.in-Alias.is) taken.names lines) c.take_alias.ensures.taken c.take_alias.ensures.lines
+
+pub returns-in_ok-self-in-ExpectShiftReduce-clause-lines : goal.returns-in_ok-self-in-ExpectShiftReduce-clause-lines
+returns-in_ok-self-in-ExpectShiftReduce-clause-lines c =
+    let keeps = c.in_ok-self-in-ExpectShiftReduce.ensures.keeps in
+    takes_no_line _ (ap begins c.in-ExpectShiftReduce.is) (ap puts c.in-ExpectShiftReduce.is) keeps.symbols.names record { levels = keeps.lines.levels; lines = keeps.lines.lines }
+
+pub returns-in_ok-self-in-ExpectReduceReduce-clause-lines : goal.returns-in_ok-self-in-ExpectReduceReduce-clause-lines
+returns-in_ok-self-in-ExpectReduceReduce-clause-lines c =
+    let keeps = c.in_ok-self-in-ExpectReduceReduce.ensures.keeps in
+    takes_no_line _ (ap begins c.in-ExpectReduceReduce.is) (ap puts c.in-ExpectReduceReduce.is) keeps.symbols.names record { levels = keeps.lines.levels; lines = keeps.lines.lines }
+
+pub returns-in-Level-clause-lines : goal.returns-in-Level-clause-lines
+returns-in-Level-clause-lines c =
+    let old = c.args.self.now in
+    let new = c.begin_level.new.self in
+    ok-both c.begin_level.result
+    (λ keeps begun. subst (λ (s : Statement). TakesLines (s ∷ []) old new) (sym c.in-Level.is) (takes_level c.in-Level.kind c.in-Level.directive keeps.symbols.names begun))
+    c.begin_level.ensures.keeps c.begin_level.ensures.begins
+
+pub returns-in-InLevel-clause-lines : goal.returns-in-InLevel-clause-lines
+returns-in-InLevel-clause-lines c =
+    let old = c.args.self.now in
+    let new = c.take_in_level.new.self in
+    ok-both c.take_in_level.result
+    (λ keeps here. subst (λ (s : Statement). TakesLines (s ∷ []) old new) (sym c.in-InLevel.is) (takes_in_line c.in-InLevel.symbol keeps.symbols.names here))
+    c.take_in_level.ensures.keeps c.take_in_level.ensures.puts
+
+pub returns-in-DefaultPrecedence-clause-lines : goal.returns-in-DefaultPrecedence-clause-lines
+returns-in-DefaultPrecedence-clause-lines c =
+    takes_no_line _ (ap begins c.in-DefaultPrecedence.is) (ap puts c.in-DefaultPrecedence.is)
+    record { text = refl; dialect = refl; words = refl; characters = refl }
+    record { levels = refl; lines = refl }
+
+pub returns-in-Glr-clause-lines : goal.returns-in-Glr-clause-lines
+returns-in-Glr-clause-lines c =
+    takes_no_line _ (ap begins c.in-Glr.is) (ap puts c.in-Glr.is)
+    record { text = refl; dialect = refl; words = refl; characters = refl }
+    record { levels = refl; lines = refl }
+
+pub returns-in-Mention-clause-lines : goal.returns-in-Mention-clause-lines
+returns-in-Mention-clause-lines c =
+    let no_level : begins c.args.statement ≡ false = elim c.in-Mention.is [ inl h ↦ ap begins h.1 | inr h ↦ ap begins h.1 ] in
+    let no_symbol : puts c.args.statement ≡ false = elim c.in-Mention.is [ inl h ↦ ap puts h.1 | inr h ↦ ap puts h.1 ] in
+    takes_no_line _ no_level no_symbol
+    record { text = refl; dialect = refl; words = refl; characters = refl }
+    record { levels = refl; lines = refl }

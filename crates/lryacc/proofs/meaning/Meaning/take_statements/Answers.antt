@@ -3,7 +3,9 @@ use Rattle.std.proofs.lemmas.List.{take_all, take_more}
 use Rattle.std.proofs.lemmas.List.Elements.{Contains-get_or}
 use Rattle.lryacc.specs.declared.contents.Statement.{Statement}
 use Rattle.lryacc.specs.EndTokens.{TakesEnd}
+use Rattle.lryacc.specs.LinesTaken.{TakesLines}
 use Rattle.lryacc.proofs.EndsTaken.{takes_more_end, takes_none}
+use Rattle.lryacc.proofs.LinesHeld.{takes_more_lines, takes_no_lines}
 use Rattle.lryacc.proofs.NamesOfOne.{takes_more}
 use Rattle.lryacc.proofs.meaning.Meaning.take_statements.Goals as goal
 
@@ -14,6 +16,7 @@ loop-statement-init c = record {
     partnered = λ h. h;
   };
   end = takes_none c.args.self.now;
+  lines = takes_no_lines c.args.self.now;
 }
 
 pub loop-statement-preserved : goal.loop-statement-preserved
@@ -26,8 +29,13 @@ loop-statement-preserved c =
     record {
       taken = takes_more all _ (Contains-get_or all index _ below) so_far.taken one.taken;
       end = takes_more_end _ _ _ _ _ _ (take_more all index _ below) so_far.end one.taken.names one.end;
+      lines = takes_more_lines _ _ _ (take_more all index _ below) so_far.lines one.lines;
     }
 
 pub returns-clause-end : goal.returns-clause-end
 returns-clause-end c =
     subst (λ (xs : List Statement). TakesEnd xs c.args.self.now c.loop-statement.self) (take_all _ _ c.loop-statement-test.false) c.loop-statement.invariant.end
+
+pub returns-clause-lines : goal.returns-clause-lines
+returns-clause-lines c =
+    subst (λ (xs : List Statement). TakesLines xs c.args.self.now c.loop-statement.self) (take_all _ _ c.loop-statement-test.false) c.loop-statement.invariant.lines

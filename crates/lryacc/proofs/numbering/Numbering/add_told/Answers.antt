@@ -27,7 +27,7 @@ returns c =
               precedence = c.precedence-precedence.result;
               here = c.in_ok-token.ensures.precedence;
               is =
-                  subst (λ (m : Meaning). IsOfLines m.levels.items (line_of m.symbols c.in-Some.number) c.precedence-precedence.result)
+                  subst (λ (m : Meaning). IsOfLines m.levels.items (line_of m c.in-Some.number) c.precedence-precedence.result)
                   (sym added.meaning) c.precedence-precedence.ensures;
             };
           })
