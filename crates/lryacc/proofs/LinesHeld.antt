@@ -17,7 +17,7 @@ use Rattle.lryacc.specs.declared.meaning.Meaning.{Meaning}
 use Rattle.lryacc.specs.declared.places.Span.{Span}
 use Rattle.lryacc.specs.EndTokens.{KeepsLines}
 use Rattle.lryacc.specs.Levels.{IsInLine, levels_of, line_of, own_line}
-use Rattle.lryacc.specs.LinesTaken.{BeginsLine, HasLine, HasLines, PutsInLine, TakesLines}
+use Rattle.lryacc.specs.LinesTaken.{BeginsLine, StandsInLine, HasLines, PutsInLine, TakesLines}
 use Rattle.lryacc.specs.NamedSymbols.{ArePartnered, KeepsNames, earlier, first_name, number_of, partner_in, symbol_number}
 use Rattle.lryacc.proofs.NamesOfOne.{names-turned, number-kept}
 
@@ -60,7 +60,7 @@ levels-other so_far statement other =
     sym (levels-append so_far (statement ∷ []) ∙ ap (λ (ks : List LevelKind). levels_of so_far ++ ks) (no-level statement other) ∙ append-nil (levels_of so_far))
 
 -- a symbol that was put into a line among some declarations, and one behind them that puts none there
-some-other : (so_far : List Statement) (statement : Statement) (old new : Meaning) → puts statement ≡ false → KeepsNames old.symbols new.symbols → ((number line : ℕ) → own_line old number ≡ Some line → own_line new number ≡ Some line) → HasLines so_far old → (number : ℕ) (symbol : Lexeme) → Contains (so_far ++ statement ∷ []) (says.InLevel symbol) → number_of new.symbols symbol ≡ Some number → HasLine new number
+some-other : (so_far : List Statement) (statement : Statement) (old new : Meaning) → puts statement ≡ false → KeepsNames old.symbols new.symbols → ((number line : ℕ) → own_line old number ≡ Some line → own_line new number ≡ Some line) → HasLines so_far old → (number : ℕ) (symbol : Lexeme) → Contains (so_far ++ statement ∷ []) (says.InLevel symbol) → number_of new.symbols symbol ≡ Some number → StandsInLine new number
 some-other so_far statement old new other keeps first h number symbol is named = elim (Contains-push_cases so_far statement (says.InLevel symbol) is) [
   | inl k ↦
       let was = h.some number symbol k (number-kept new.symbols old.symbols (names-turned keeps) symbol number named) in

@@ -44,10 +44,10 @@ with_numbers (number ∷ numbers) [] = []
 with_numbers (Some number ∷ numbers) (x ∷ xs) = x ∷ with_numbers numbers xs
 with_numbers (None ∷ numbers) (x ∷ xs) = with_numbers numbers xs
 
--- the second grammar is the first one, out of which what is useless was taken. By the least set with each productive rule and the
--- least one with each rule that is reached, a rule stays, and has a new number, where it is reached, with its name and its place,
--- and a production where it is useful, with its symbols and its places; all in their order. The tokens are the same. Where nothing
--- is told as useless, all stay
+-- the second grammar is the first one, out of which what is useless was taken. By the least set with each productive rule and
+-- the least one with each rule that is reached, a rule stays, and has a new number, where it is reached, with its name and its
+-- place, and a production where it is useful, with its symbols and its places; all in their order. The tokens are the same. Where
+-- nothing is told as useless, all stay
 pub record IsWithout (useless : Useless) (whole kept : FileGrammar) : Type 0 where
   pub numbers : List (Option ℕ)
   pub in_order : AreInOrder numbers

@@ -9,8 +9,8 @@ use Rattle.lryacc.specs.Levels.{IsInLine, levels_of, own_line}
 use Rattle.lryacc.specs.NamedSymbols.{number_of}
 
 -- a symbol stands in a line by this name
-abbrev pub HasLine : Meaning → ℕ → Type 0
-HasLine meaning number = (line : ℕ) × (own_line meaning number ≡ Some line)
+abbrev pub StandsInLine : Meaning → ℕ → Type 0
+StandsInLine meaning number = (line : ℕ) × (own_line meaning number ≡ Some line)
 
 -- the lines are those that some declarations begin, and a symbol stands in one by a name where one of them puts it there
 pub record HasLines (statements : List Statement) (meaning : Meaning) : Type 0 where
@@ -18,7 +18,7 @@ pub record HasLines (statements : List Statement) (meaning : Meaning) : Type 0 w
   pub given : (number line : ℕ) → own_line meaning number ≡ Some line
       → IsInLine statements (number_of meaning.symbols) number line
   pub some : (number : ℕ) (symbol : Lexeme) → Contains statements (says.InLevel symbol)
-      → number_of meaning.symbols symbol ≡ Some number → HasLine meaning number
+      → number_of meaning.symbols symbol ≡ Some number → StandsInLine meaning number
 
 -- more declarations are taken in
 pub record TakesLines (statements : List Statement) (old new : Meaning) : Type 0 where
@@ -36,6 +36,6 @@ pub record PutsInLine (symbol : Lexeme) (old new : Meaning) : Type 0 where
   pub given : (number line : ℕ) → own_line new number ≡ Some line
       → (own_line old number ≡ Some line)
       ⊎ ((number_of old.symbols symbol ≡ Some number) × (line ≡ length old.levels.items))
-  pub some : (number : ℕ) → number_of old.symbols symbol ≡ Some number → HasLine new number
+  pub some : (number : ℕ) → number_of old.symbols symbol ≡ Some number → StandsInLine new number
   pub first : (number line : ℕ) → own_line old number ≡ Some line
       → own_line new number ≡ Some line

@@ -123,7 +123,8 @@ fn fault_at(kind: FaultKind, start: usize, end: usize) -> Fault {
 fn step(text: &[u8], at: usize, within: Within, dialect: Dialect) -> Result<Option<Within>, Fault>
     requires { at < length text.now }
     ensures on { IfOk result (λ next. IfSome next (λ next. (from : ℕ)
-        → IsGapUpTo dialect text.now from at within → IsGapUpTo dialect text.now from (at + 1) next)) }
+        → IsGapUpTo dialect text.now from at within
+        → IsGapUpTo dialect text.now from (at + 1) next)) }
     ensures ends { IfOk result (λ next. IfNone next (within ≡ Within.Gap)) }
 {
     let byte = text[at];
