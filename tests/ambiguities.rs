@@ -26,7 +26,7 @@ const WITH_FIRST: &str = "0 s s 2 1";
 const WITH_SECOND: &str = "s s 2 1 0";
 
 /// The moves that the words tell: `s` is a shift, and a number a reduction by that production.
-fn moves_told<T: IndexStorage>(alloc: Global, words: &str) -> Result<Vec<Move<T>>, Fail> {
+pub fn moves_told<T: IndexStorage>(alloc: Global, words: &str) -> Result<Vec<Move<T>>, Fail> {
     let mut moves = Vec::new(alloc);
     for word in words.split_ascii_whitespace() {
         moves.push(match word.parse::<usize>() {

@@ -8,6 +8,7 @@ mod fixtures;
 mod forms;
 mod grammars;
 mod graphs;
+mod losses;
 mod machines;
 mod reasons;
 mod tables;

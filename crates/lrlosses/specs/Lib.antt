@@ -1,0 +1,6 @@
+-- sentences that the machine of a table rejects, and where
+pub mod Losses
+-- how the code stores them
+pub mod StoredLosses
+-- the machine on its way through a text
+pub mod Walks
