@@ -12,7 +12,7 @@ use Rattle.std.specs.Ordering.{nat_cmp, is_eq}
 use Rattle.std.proofs.lemmas.List.{length-map, length_push, map-append}
 use Rattle.lrgrammar.specs.declared.grammar.Precedence.{Precedence}
 use Rattle.lryacc.specs.declared.numbering.Numbering.{Numbering}
-use Rattle.lryacc.specs.BodyProductions.{Keeps}
+use Rattle.lryacc.specs.BodyProductions.{IsActionRule, Keeps}
 use Rattle.lryacc.specs.NamedSymbols.{Names, IsRuleOf, IsTokenOf}
 use Rattle.lryacc.specs.Numbered.{AddsNumbers, AreNumbered, IsNumbered}
 
@@ -111,12 +111,20 @@ token-more a rules tokens precedences starts number token keeps levels (inr h) =
   is = elim h.is [ inl first ↦ inl first | inr named ↦ inr (keeps token (codes "$end") named) ];
 }
 
+pub action-more : (a : Names) (rules tokens : List (List ℕ)) (precedences : List (Option Precedence)) (starts : List ℕ) (start rule : ℕ) → Keeps a.rules rules → Keeps a.starts starts → IsActionRule a start rule → IsActionRule (with_more a rules tokens precedences starts) start rule
+action-more a rules tokens precedences starts start rule keeps keeps_starts h = record {
+  place = keeps_starts rule start h.place;
+  text = h.text;
+  here = keeps rule h.text h.here;
+  is = h.is;
+}
+
 -- rules and tokens that were numbered stay so where others are added
 pub numbered-more : (a : Names) (rules tokens : List (List ℕ)) (precedences : List (Option Precedence)) (starts : List ℕ) (r t s : ℕ → Option ℕ) → Keeps a.rules rules → Keeps a.tokens tokens → Keeps a.precedences precedences → Keeps a.starts starts → (length a.starts ≡ length a.rules → length starts ≡ length rules) → AreNumbered a r t s → AreNumbered (with_more a rules tokens precedences starts) r t s
 numbered-more a rules tokens precedences starts r t s keeps_rules keeps_tokens keeps_levels keeps_starts placed h = record {
   of_rules = λ number rule e. rule-more a rules tokens precedences starts number rule keeps_rules (h.of_rules number rule e);
   of_tokens = λ number token e. token-more a rules tokens precedences starts number token keeps_tokens keeps_levels (h.of_tokens number token e);
-  of_actions = λ start rule e. keeps_starts rule start (h.of_actions start rule e);
+  of_actions = λ start rule e. action-more a rules tokens precedences starts start rule keeps_rules keeps_starts (h.of_actions start rule e);
   placed = placed h.placed;
   accept = keeps_rules 0 (codes "$accept") h.accept;
 }
@@ -142,11 +150,11 @@ numbered-rule a r r' t s number rule puts is h = record {
 }
 
 -- a rule is that of an action
-pub numbered-action : (a : Names) (r t s s' : ℕ → Option ℕ) (start rule : ℕ) → ((q : ℕ) → s' q ≡ cond (is_at (nat_cmp start) q) (Some rule) (s q)) → slice_get a.starts rule ≡ Some start → AreNumbered a r t s → AreNumbered a r t s'
+pub numbered-action : (a : Names) (r t s s' : ℕ → Option ℕ) (start rule : ℕ) → ((q : ℕ) → s' q ≡ cond (is_at (nat_cmp start) q) (Some rule) (s q)) → IsActionRule a start rule → AreNumbered a r t s → AreNumbered a r t s'
 numbered-action a r t s s' start rule puts is h = record {
   of_rules = h.of_rules;
   of_tokens = h.of_tokens;
-  of_actions = all-put (λ q v. slice_get a.starts v ≡ Some q) s s' start rule puts is h.of_actions;
+  of_actions = all-put (IsActionRule a) s s' start rule puts is h.of_actions;
   placed = h.placed;
   accept = h.accept;
 }

@@ -1,5 +1,5 @@
 -- the productions of the bodies of a file
-use Rattle.std.specs.Prelude.{◌≡◌, ℕ, ◌-◌, ◌++◌, Bool, true, false, cond, List, [], ◌∷◌, Option, None, Some, codes, length, nat_eq, slice_get}
+use Rattle.std.specs.Prelude.{◌≡◌, ℕ, ◌-◌, ◌⊎◌, ◌++◌, Bool, true, false, cond, List, [], ◌∷◌, Option, None, Some, codes, decimal, length, nat_eq, slice_get}
 use Rattle.lrgrammar.specs.declared.grammar.PartProd.{PartProd}
 use Rattle.lrgrammar.specs.declared.grammar.PartSymbol.{PartSymbol}
 use Rattle.lrgrammar.specs.declared.grammar.PartSymbol.TheVariants.{Rule, Token}
@@ -34,9 +34,22 @@ symbol_parts body =
     cond (is_action_part (slice_get body.parts.items (length body.parts.items - 1)))
     (parts_before_last body) body.parts.items
 
--- the rule of an action: the one that stands where it does
+-- the name of the rule of an action, which no name of a file is: `@` where its value is used, and else `$@`, before a number
+abbrev pub IsActionName : List ℕ → Type 0
+IsActionName text =
+    (number : ℕ)
+    × ((text ≡ codes "@" ++ decimal number) ⊎ (text ≡ codes "$@" ++ decimal number))
+
+-- the rule of an action that begins at a place: it stands there, and has a name of such rules
+pub record IsActionRule (names : Names) (start rule : ℕ) : Type 0 where
+  pub place : slice_get names.starts rule ≡ Some start
+  pub text : List ℕ
+  pub here : slice_get names.rules rule ≡ Some text
+  pub is : IsActionName text
+
+-- the rule of an action, which no other action has, and no name of the file
 abbrev pub IsRuleOfAction : Names → Lexeme → ℕ → Type 0
-IsRuleOfAction names action rule = slice_get names.starts rule ≡ Some action.span.start
+IsRuleOfAction names action rule = IsActionRule names action.span.start rule
 
 -- the symbol of an action
 abbrev pub IsOfAction : Names → Lexeme → PartSymbol → Type 0

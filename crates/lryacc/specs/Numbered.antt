@@ -3,15 +3,15 @@ use Rattle.std.specs.Prelude.{◌≡◌, ℕ, length, Option, Some, codes, slice
 use Rattle.std.specs.BTreeMap.{get}
 use Rattle.std.specs.Ordering.{nat_cmp}
 use Rattle.lryacc.specs.declared.numbering.Numbering.{Numbering}
+use Rattle.lryacc.specs.BodyProductions.{IsActionRule}
 use Rattle.lryacc.specs.NamedSymbols.{IsRuleOf, IsTokenOf, Names, names_in}
 
--- each rule and each token that a number has is that of the symbol of that number; that of an action stands where it does; rule 0 is
--- `$accept`
+-- each rule and each token that a number has is that of the symbol of that number, or that of the action that begins there; rule 0
+-- is `$accept`
 pub record AreNumbered (names : Names) (rules tokens actions : ℕ → Option ℕ) : Type 0 where
   pub of_rules : (number rule : ℕ) → rules number ≡ Some rule → IsRuleOf names number rule
   pub of_tokens : (number token : ℕ) → tokens number ≡ Some token → IsTokenOf names number token
-  pub of_actions : (start rule : ℕ) → actions start ≡ Some rule
-      → slice_get names.starts rule ≡ Some start
+  pub of_actions : (start rule : ℕ) → actions start ≡ Some rule → IsActionRule names start rule
   pub placed : length names.starts ≡ length names.rules
   pub accept : slice_get names.rules 0 ≡ Some (codes "$accept")
 

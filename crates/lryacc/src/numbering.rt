@@ -7,7 +7,7 @@ ghost use Rattle.lryacc.specs.ProductionPlaces.{Adds, ArePlaced, IsPlaced, actio
 ghost use Rattle.lryacc.specs.ProductionPlaces.{file_places, parts_before_last, start_rules_of};
 ghost use Rattle.lryacc.specs.BodyProductions.{AddsProduction, AddsProductions, AreOfActions, AreOfBodies, AreOfBody};
 ghost use Rattle.lryacc.specs.BodyProductions.{AreMarks, AreOfFile, AreRelated, IsEmptyProduction, IsMark, IsMarked, IsMarkName, IsOfPart, IsOfPartBefore, IsOfStart};
-ghost use Rattle.lryacc.specs.BodyProductions.{IsMarkOf, IsRuleOfAction, Keeps, is_one, start_symbols_of, symbol_parts};
+ghost use Rattle.lryacc.specs.BodyProductions.{IsActionName, IsMarkOf, IsRuleOfAction, Keeps, is_one, start_symbols_of, symbol_parts};
 ghost use Rattle.lryacc.specs.NamedSymbols.{IsNamed, IsTokenText, NamesRule, name_of, names_in};
 ghost use Rattle.lryacc.specs.Numbered.{AddsNumbers, IsNumbered, names_of};
 
@@ -347,13 +347,23 @@ impl<'m, 'a> Numbering<'m, 'a> {
         Ok(())
     }
 
-    /// Adds the rule that an action is. Its name begins with `@` where its value is used, and else with `$@`.
+    /// The name of the rule that an action is. It begins with `@` where its value is used, and else with `$@`.
+    fn action_name(&self, is_used: bool) -> Result<String, AllocError>
+        ensures { IfOk result (λ name. IsActionName (string_bytes name)) }
+    {
+        let number = self.actions.len().saturating_add(1);
+        if is_used {
+            format!(in self.allocator(); "@{number}")
+        } else {
+            format!(in self.allocator(); "$@{number}")
+        }
+    }
+
+    /// Adds the rule that an action is.
     fn add_action(&mut self, action: Lexeme, is_used: bool) -> Result<(), AllocError>
         ensures { OnOk result (AddsNumbers self.old self.new) }
     {
-        let number = self.actions.len().saturating_add(1);
-        let mark = if is_used { "@" } else { "$@" };
-        let name = format!(in self.allocator(); "{mark}{number}")?;
+        let name = self.action_name(is_used)?;
         let rule = self.grammar.add_rule(name, action.span)?;
         self.actions.insert(action.span.start, rule)?;
         Ok(())
@@ -696,8 +706,8 @@ impl<'m, 'a> Numbering<'m, 'a> {
         requires { IsNumbered self.now }
         ensures { IfOk result (IsRuleOfAction (names_of self.now) action) }
     {
-        match self.actions.get(&action.span.start).copied() {
-            Some(rule) => Ok(rule),
+        match self.actions.get(&action.span.start) {
+            Some(rule) => Ok(*rule),
             None => Err(NoProductions::Undefined(action.span)),
         }
     }
