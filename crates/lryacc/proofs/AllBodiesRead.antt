@@ -35,9 +35,9 @@ no_separator_at None none = tt
 no_separator_at (Some lexeme) none = (no_mark_kind lexeme.kind none).1
 
 -- over lexemes that are no delimiters no body is added
-over_more : (lexemes : List Lexeme) (dialect : Dialect) (bodies : List Alternative) (from more : ℕ) → delimiters_before lexemes (from + more) ≡ delimiters_before lexemes from → AreBodiesUpTo lexemes dialect from bodies → AreBodiesUpTo lexemes dialect (from + more) bodies
-over_more lexemes dialect bodies from zero same read = let e : from + 0 ≡ from = omega arith in rw e read
-over_more lexemes dialect bodies from (suc more) same read =
+over_more : (text : List ℕ) (lexemes : List Lexeme) (dialect : Dialect) (bodies : List Alternative) (from more : ℕ) → delimiters_before lexemes (from + more) ≡ delimiters_before lexemes from → AreBodiesUpTo text lexemes dialect from bodies → AreBodiesUpTo text lexemes dialect (from + more) bodies
+over_more text lexemes dialect bodies from zero same read = let e : from + 0 ≡ from = omega arith in rw e read
+over_more text lexemes dialect bodies from (suc more) same read =
     let e : from + suc more ≡ from + more + 1 = omega arith in
     let total : delimiters_before lexemes (from + more + 1) ≡ delimiters_before lexemes from =
     subst (λ (n : ℕ). delimiters_before lexemes n ≡ delimiters_before lexemes from) e same in
@@ -45,19 +45,19 @@ over_more lexemes dialect bodies from (suc more) same read =
     omega (arith, total, count-more lexemes from more, count-next lexemes (from + more)) in
     let none : delimiter_at (slice_get lexemes (from + more)) ≡ 0 =
     omega (arith, total, inner, count-next lexemes (from + more)) in
-    rw e (behind_other (over_more lexemes dialect bodies from more inner read) (no_mark_at (slice_get lexemes (from + more)) none))
+    rw e (behind_other (over_more text lexemes dialect bodies from more inner read) (no_mark_at (slice_get lexemes (from + more)) none))
 
-pub over_none : (lexemes : List Lexeme) (dialect : Dialect) (bodies : List Alternative) (from to : ℕ) → from ≤ to → delimiters_before lexemes to ≡ delimiters_before lexemes from → AreBodiesUpTo lexemes dialect from bodies → AreBodiesUpTo lexemes dialect to bodies
-over_none lexemes dialect bodies from to on same read =
+pub over_none : (text : List ℕ) (lexemes : List Lexeme) (dialect : Dialect) (bodies : List Alternative) (from to : ℕ) → from ≤ to → delimiters_before lexemes to ≡ delimiters_before lexemes from → AreBodiesUpTo text lexemes dialect from bodies → AreBodiesUpTo text lexemes dialect to bodies
+over_none text lexemes dialect bodies from to on same read =
     let e : from + (to - from) ≡ to = omega arith in
     let counts : delimiters_before lexemes (from + (to - from)) ≡ delimiters_before lexemes from =
     subst (λ (n : ℕ). delimiters_before lexemes n ≡ delimiters_before lexemes from) (sym e) same in
-    subst (λ (n : ℕ). AreBodiesUpTo lexemes dialect n bodies) e
-    (over_more lexemes dialect bodies from (to - from) counts read)
+    subst (λ (n : ℕ). AreBodiesUpTo text lexemes dialect n bodies) e
+    (over_more text lexemes dialect bodies from (to - from) counts read)
 
 -- the bodies that a reader has are the same ones
 moved : (old new : Reader) (at at' : ℕ) → IsSameFile old new → at' ≡ at → AreReadUpTo old at → AreReadUpTo new at'
-moved old new at at' file same read = rw (file.lexemes, file.dialect, file.bodies, same) read
+moved old new at at' file same read = rw (file.text, file.lexemes, file.dialect, file.bodies, same) read
 
 -- it goes over no delimiter
 pub reads_over : (old new : Reader) → PassesNoDelimiter old new → AreReadUpTo old old.at → AreReadUpTo new new.at
@@ -65,7 +65,7 @@ reads_over old new over read =
     let same : delimiters_before old.lexemes.now new.at ≡ delimiters_before old.lexemes.now old.at =
     subst (λ (xs : List Lexeme). delimiters_before xs new.at ≡ delimiters_before old.lexemes.now old.at) over.file.lexemes over.count in
     moved old new new.at new.at over.file refl
-    (over_none old.lexemes.now old.dialect old.contents.alternatives.items old.at new.at over.on same read)
+    (over_none old.text.now old.lexemes.now old.dialect old.contents.alternatives.items old.at new.at over.on same read)
 
 -- it takes the name of a rule
 pub reads_name : (old new : Reader) (name : Lexeme) → TakesKind old new kind.RuleName name → AreReadUpTo old old.at → AreReadUpTo new new.at
@@ -84,6 +84,7 @@ reads_mark old new mark k taken read =
 -- the bodies of a rule are read
 pub reads_rule : (old named now colon new : Reader) (name mark : Lexeme) → TakesKind old named kind.RuleName name → PassesNoDelimiter named now → TakesKind now colon kind.Colon mark → ReadsAlternatives colon new → ReadsBodies 1 old new
 reads_rule old named now colon new name mark taken over taken_colon alternatives = record {
+  text = alternatives.text ∙ (taken_colon.passes.file.text ∙ (over.file.text ∙ taken.passes.file.text));
   lexemes = alternatives.lexemes ∙ (taken_colon.passes.file.lexemes ∙ (over.file.lexemes ∙ taken.passes.file.lexemes));
   dialect = alternatives.dialect ∙ (taken_colon.passes.file.dialect ∙ (over.file.dialect ∙ taken.passes.file.dialect));
   on = omega (arith, taken.passes.at, over.on, taken_colon.passes.at, alternatives.on);
@@ -95,6 +96,7 @@ reads_rule old named now colon new name mark taken over taken_colon alternatives
 -- the reader stays before them
 pub alternatives_still : (old now new : Reader) → Stays old now → ReadsAlternatives now new → ReadsAlternatives old new
 alternatives_still old now new stays alternatives = record {
+  text = alternatives.text ∙ stays.file.text;
   lexemes = alternatives.lexemes ∙ stays.file.lexemes;
   dialect = alternatives.dialect ∙ stays.file.dialect;
   on = omega (arith, stays.at, alternatives.on);
@@ -104,6 +106,7 @@ alternatives_still old now new stays alternatives = record {
 -- no delimiter stands behind them
 pub bodies_over : (least : ℕ) (old now new : Reader) → ReadsBodies least old now → PassesNoDelimiter now new → ReadsBodies least old new
 bodies_over least old now new bodies over = record {
+  text = over.file.text ∙ bodies.text;
   lexemes = over.file.lexemes ∙ bodies.lexemes;
   dialect = over.file.dialect ∙ bodies.dialect;
   on = omega (arith, bodies.on, over.on);
@@ -113,6 +116,7 @@ bodies_over least old now new bodies over = record {
 -- no bodies are read
 pub bodies_none : (least : ℕ) (old new : Reader) → PassesNoDelimiter old new → least + old.at ≤ new.at → ReadsBodies least old new
 bodies_none least old new over on = record {
+  text = over.file.text;
   lexemes = over.file.lexemes;
   dialect = over.file.dialect;
   on = on;
@@ -122,6 +126,7 @@ bodies_none least old new over on = record {
 -- bodies are read, and then others
 pub bodies_again : (least more : ℕ) (old now new : Reader) → ReadsBodies least old now → ReadsBodies more now new → ReadsBodies (least + more) old new
 bodies_again least more old now new one other = record {
+  text = other.text ∙ one.text;
   lexemes = other.lexemes ∙ one.lexemes;
   dialect = other.dialect ∙ one.dialect;
   on = omega (arith, one.on, other.on);
@@ -131,6 +136,7 @@ bodies_again least more old now new one other = record {
 -- all are read where nothing stands behind them, or a `%%`
 pub bodies_all : (least : ℕ) (old new : Reader) → ReadsBodies least old new → IfSome (slice_get new.lexemes.now new.at) (λ lexeme. is_separator lexeme.kind ≡ true) → ReadsAll old new
 bodies_all least old new bodies ends = record {
+  text = bodies.text;
   lexemes = bodies.lexemes;
   dialect = bodies.dialect;
   read = λ read. record { to = new.at; read = bodies.read read; ends = ends };
@@ -152,9 +158,10 @@ bodies_end least old new bodies behind =
 -- the reader stays before that, and adds none behind
 pub all_still : (old now far new : Reader) → Stays old now → ReadsAll now far → IsSameFile far new → ReadsAll old new
 all_still old now far new stays all file = record {
+  text = file.text ∙ (all.text ∙ stays.file.text);
   lexemes = file.lexemes ∙ (all.lexemes ∙ stays.file.lexemes);
   dialect = file.dialect ∙ (all.dialect ∙ stays.file.dialect);
-  read = λ read. rw (file.lexemes, file.dialect, file.bodies) (all.read (moved old now old.at now.at stays.file stays.at read));
+  read = λ read. rw (file.text, file.lexemes, file.dialect, file.bodies) (all.read (moved old now old.at now.at stays.file stays.at read));
 }
 
 -- a `|` is taken, which is a lexeme
@@ -176,17 +183,17 @@ reads_body old new rule begins added read =
     let behind = begins.behind in
     let before : old.at - 1 ≡ behind.before = omega (arith, behind.next) in
     let next = behind.next in
-    let start : AreBodiesUpTo lexemes old.dialect behind.before old.contents.alternatives.items = rw before at read in
+    let start : AreBodiesUpTo old.text.now lexemes old.dialect behind.before old.contents.alternatives.items = rw before at read in
     let first = added.read in
-    let here = subst (λ (n : ℕ). IsReadFrom lexemes old.dialect n added.body) next first in
-    let more : AreBodiesUpTo lexemes old.dialect (behind.before + 1) (old.contents.alternatives.items ++ added.body ∷ []) =
+    let here = subst (λ (n : ℕ). IsReadFrom old.text.now lexemes old.dialect n added.body) next first in
+    let more : AreBodiesUpTo old.text.now lexemes old.dialect (behind.before + 1) (old.contents.alternatives.items ++ added.body ∷ []) =
     behind_mark behind.mark added.body start behind.here behind.is here in
-    let more_here : AreBodiesUpTo lexemes old.dialect old.at (old.contents.alternatives.items ++ added.body ∷ []) =
+    let more_here : AreBodiesUpTo old.text.now lexemes old.dialect old.at (old.contents.alternatives.items ++ added.body ∷ []) =
     rw next more in
     let same : delimiters_before lexemes new.at ≡ delimiters_before lexemes old.at =
     subst (λ (xs : List Lexeme). delimiters_before xs new.at ≡ delimiters_before lexemes old.at) added.lexemes added.count in
-    rw (added.lexemes, added.dialect, added.bodies)
-    (over_none lexemes old.dialect (old.contents.alternatives.items ++ added.body ∷ []) old.at new.at added.on same more_here)
+    rw (added.text, added.lexemes, added.dialect, added.bodies)
+    (over_none old.text.now lexemes old.dialect (old.contents.alternatives.items ++ added.body ∷ []) old.at new.at added.on same more_here)
 
 -- and then a `|` is taken
 pub reads_bar : (old new : Reader) (bar : Lexeme) → TakesBar old new bar → AreReadUpTo old old.at → AreReadUpTo new (new.at - 1)
@@ -215,7 +222,7 @@ reads_none old new reaches begins none =
       first = λ place nearer.
           no_separator_at (slice_get lexemes place) (none_between lexemes 0 place before.at (omega arith) nearer same);
     } in
-    rw (taken.passes.file.lexemes, over.file.lexemes, taken.passes.file.dialect, over.file.dialect, taken.passes.file.bodies, over.file.bodies, none, taken.passes.at)
+    rw (taken.passes.file.text, over.file.text, taken.passes.file.lexemes, over.file.lexemes, taken.passes.file.dialect, over.file.dialect, taken.passes.file.bodies, over.file.bodies, none, taken.passes.at)
     (first_rule behind)
 
 -- where no fault was told, what was read is there, and the reader stays
@@ -225,21 +232,23 @@ settled now new P (Err halt.Fault) told is same file whole = absurd (omega (arit
 settled now new P (Err halt.Memory) told is none file whole = absurd none
 
 -- the bodies of a file are read from its beginning on
-pub file_all : (old head begun far new : Reader) → PassesNoDelimiter old head → ReachesRules head begun → ReadsAll begun far → IsSameFile far new → old.at ≡ 0 → old.contents.alternatives.items ≡ [] → AreAllBodies old.lexemes.now old.dialect new.contents.alternatives.items
+pub file_all : (old head begun far new : Reader) → PassesNoDelimiter old head → ReachesRules head begun → ReadsAll begun far → IsSameFile far new → old.at ≡ 0 → old.contents.alternatives.items ≡ [] → AreAllBodies old.text.now old.lexemes.now old.dialect new.contents.alternatives.items
 file_all old head begun far new over reaches all file begins none =
     let from_old : ReachesRules old begun = record {
       before = reaches.before;
       over = over_again over reaches.over;
       taken = reaches.taken;
     } in
-    let read : AreAllBodies far.lexemes.now far.dialect far.contents.alternatives.items =
+    let read : AreAllBodies far.text.now far.lexemes.now far.dialect far.contents.alternatives.items =
     all.read (reads_none old begun from_old begins none) in
     let taken = from_old.taken.taken in
+    let text : far.text.now ≡ old.text.now =
+    all.text ∙ (taken.passes.file.text ∙ from_old.over.file.text) in
     let lexemes : far.lexemes.now ≡ old.lexemes.now =
     all.lexemes ∙ (taken.passes.file.lexemes ∙ from_old.over.file.lexemes) in
     let dialect : far.dialect ≡ old.dialect =
     all.dialect ∙ (taken.passes.file.dialect ∙ from_old.over.file.dialect) in
-    rw (sym lexemes, sym dialect, file.bodies) read
+    rw (sym text, sym lexemes, sym dialect, file.bodies) read
 
 -- a fact of an `Ok`
 pub on_ok : {T E : Type 0} (r : Result T E) (P : Type 0) → P → OnOk r P

@@ -12,41 +12,44 @@ use Rattle.lryacc.specs.declared.lexemes.LexemeKind.{LexemeKind}
 use Rattle.lryacc.specs.declared.lexemes.LexemeKind.TheVariants as kind
 use Rattle.lryacc.specs.declared.reader.Reader.{Reader}
 use Rattle.lryacc.specs.declared.rules.Body.{Body}
-use Rattle.lryacc.specs.Bodies.{AddsBody, BeginsBody, IsBody, IsRuleBefore, IsSameFile, Passes, PassesNoDelimiter, ReadsBehind, ReadsOn, SkipsKind, Stays, GoesOn, TakesAnySymbol, TakesBar, TakesKind, is_action, is_aside, is_mark, is_part, is_rule_name, is_symbol}
-use Rattle.lryacc.specs.Bodies.IsBody.{begins, symbol, action, aside, named}
+use Rattle.lryacc.specs.Bodies.{AddsBody, BeginsBody, IsBody, IsRuleBefore, IsSameFile, Passes, PassesNoDelimiter, ReadsBehind, ReadsOn, SkipsKind, Stays, GoesOn, TakesBar, TakesKind, TakesPrecedence, is_action, is_aside, is_mark, is_part, is_prec, is_rule_name, is_symbol}
+use Rattle.lryacc.specs.Bodies.IsBody.{begins, symbol, action, aside, directive as other_directive, prec as named}
 use Rattle.lryacc.specs.Delimiters.{delimiter_at, delimiter_of, delimiters_before}
 use Rattle.lryacc.proofs.DelimitersPassed.{count-next, rule_behind, rule_named, rule_over}
 
 -- it is the same body
-pub IsBody-same : (lexemes : List Lexeme) (from at at' : ℕ) (ps ps' : List BodyPart) → at' ≡ at → ps' ≡ ps → IsBody lexemes from at ps → IsBody lexemes from at' ps'
-IsBody-same lexemes from at at' ps ps' p q b =
-    subst (λ (n : ℕ). IsBody lexemes from n ps') (sym p) (subst (λ (xs : List BodyPart). IsBody lexemes from at xs) (sym q) b)
+pub IsBody-same : (text : List ℕ) (lexemes : List Lexeme) (from at at' : ℕ) (ps ps' : List BodyPart) (n n' : Option Lexeme) → at' ≡ at → ps' ≡ ps → n' ≡ n → IsBody text lexemes from at ps n → IsBody text lexemes from at' ps' n'
+IsBody-same text lexemes from at at' ps ps' n n' p q r b = rw (p, q, r) b
 
 -- a symbol is read
-pub IsBody-symbol : (lexemes : List Lexeme) (from at at' : ℕ) (ps ps' : List BodyPart) (lexeme : Lexeme) → at' ≡ at + 1 → ps' ≡ ps ++ part.Symbol lexeme ∷ [] → slice_get lexemes at ≡ Some lexeme → is_symbol lexeme.kind ≡ true → IsBody lexemes from at ps → IsBody lexemes from at' ps'
-IsBody-symbol lexemes from at at' ps ps' lexeme p q here is b =
-    IsBody-same lexemes from (at + 1) at' (ps ++ part.Symbol lexeme ∷ []) ps' p q (symbol lexeme b here is)
+pub IsBody-symbol : (text : List ℕ) (lexemes : List Lexeme) (from at at' : ℕ) (ps ps' : List BodyPart) (n n' : Option Lexeme) (lexeme : Lexeme) → at' ≡ at + 1 → ps' ≡ ps ++ part.Symbol lexeme ∷ [] → n' ≡ n → slice_get lexemes at ≡ Some lexeme → is_symbol lexeme.kind ≡ true → IsBody text lexemes from at ps n → IsBody text lexemes from at' ps' n'
+IsBody-symbol text lexemes from at at' ps ps' n n' lexeme p q r here is b =
+    IsBody-same text lexemes from (at + 1) at' (ps ++ part.Symbol lexeme ∷ []) ps' n n' p q r (symbol lexeme b here is)
 
 -- an action is read
-pub IsBody-action : (lexemes : List Lexeme) (from at at' : ℕ) (ps ps' : List BodyPart) (lexeme : Lexeme) (name : Option Lexeme) → at' ≡ at + 1 → ps' ≡ ps ++ part.Action lexeme name ∷ [] → slice_get lexemes at ≡ Some lexeme → is_action lexeme.kind ≡ true → IsBody lexemes from at ps → IsBody lexemes from at' ps'
-IsBody-action lexemes from at at' ps ps' lexeme name p q here is b =
-    IsBody-same lexemes from (at + 1) at' (ps ++ part.Action lexeme name ∷ []) ps' p q (action lexeme name b here is)
+pub IsBody-action : (text : List ℕ) (lexemes : List Lexeme) (from at at' : ℕ) (ps ps' : List BodyPart) (n n' : Option Lexeme) (lexeme : Lexeme) (name : Option Lexeme) → at' ≡ at + 1 → ps' ≡ ps ++ part.Action lexeme name ∷ [] → n' ≡ n → slice_get lexemes at ≡ Some lexeme → is_action lexeme.kind ≡ true → IsBody text lexemes from at ps n → IsBody text lexemes from at' ps' n'
+IsBody-action text lexemes from at at' ps ps' n n' lexeme name p q r here is b =
+    IsBody-same text lexemes from (at + 1) at' (ps ++ part.Action lexeme name ∷ []) ps' n n' p q r (action lexeme name b here is)
 
 -- something is passed over
-pub IsBody-aside : (lexemes : List Lexeme) (from at at' : ℕ) (ps ps' : List BodyPart) (lexeme : Lexeme) → at' ≡ at + 1 → ps' ≡ ps → slice_get lexemes at ≡ Some lexeme → is_aside lexeme.kind ≡ true → IsBody lexemes from at ps → IsBody lexemes from at' ps'
-IsBody-aside lexemes from at at' ps ps' lexeme p q here is b =
-    IsBody-same lexemes from (at + 1) at' ps ps' p q (aside lexeme b here is)
+pub IsBody-aside : (text : List ℕ) (lexemes : List Lexeme) (from at at' : ℕ) (ps : List BodyPart) (n : Option Lexeme) (lexeme : Lexeme) → at' ≡ at + 1 → slice_get lexemes at ≡ Some lexeme → is_aside lexeme.kind ≡ true → IsBody text lexemes from at ps n → IsBody text lexemes from at' ps n
+IsBody-aside text lexemes from at at' ps n lexeme p here is b = rw p (aside lexeme b here is)
+
+-- a directive is read
+pub IsBody-directive : (text : List ℕ) (lexemes : List Lexeme) (from at at' : ℕ) (ps : List BodyPart) (n : Option Lexeme) (lexeme : Lexeme) → at' ≡ at + 1 → slice_get lexemes at ≡ Some lexeme → lexeme.kind ≡ kind.Directive → is_prec text lexeme ≡ false → IsBody text lexemes from at ps n → IsBody text lexemes from at' ps n
+IsBody-directive text lexemes from at at' ps n lexeme p here is other b = rw p (other_directive lexeme b here is other)
 
 -- the same, where only the kind is known
-pub IsBody-skips : (lexemes : List Lexeme) (from at at' : ℕ) (ps : List BodyPart) (k : LexemeKind) (found : Option Lexeme) → at' ≡ at + 1 → slice_get lexemes at ≡ found → option_map (λ (lexeme : Lexeme). lexeme.kind) found ≡ Some k → is_aside k ≡ true → IsBody lexemes from at ps → IsBody lexemes from at' ps
-IsBody-skips lexemes from at at' ps k None p here is passed b = cc
-IsBody-skips lexemes from at at' ps k (Some lexeme) p here is passed b =
+pub IsBody-skips : (text : List ℕ) (lexemes : List Lexeme) (from at at' : ℕ) (ps : List BodyPart) (n : Option Lexeme) (k : LexemeKind) (found : Option Lexeme) → at' ≡ at + 1 → slice_get lexemes at ≡ found → option_map (λ (lexeme : Lexeme). lexeme.kind) found ≡ Some k → is_aside k ≡ true → IsBody text lexemes from at ps n → IsBody text lexemes from at' ps n
+IsBody-skips text lexemes from at at' ps n k None p here is passed b = cc
+IsBody-skips text lexemes from at at' ps n k (Some lexeme) p here is passed b =
     let same : lexeme.kind ≡ k = cc in
-    IsBody-aside lexemes from at at' ps ps lexeme p refl here (ap is_aside same ∙ passed) b
+    IsBody-aside text lexemes from at at' ps n lexeme p here (ap is_aside same ∙ passed) b
 
 -- the same file, twice
 pub IsSameFile-again : {old now new : Reader} → IsSameFile old now → IsSameFile now new → IsSameFile old new
 IsSameFile-again one other = record {
+  text = other.text ∙ one.text;
   lexemes = other.lexemes ∙ one.lexemes;
   dialect = other.dialect ∙ one.dialect;
   bodies = other.bodies ∙ one.bodies;
@@ -61,7 +64,7 @@ ReadsOn-aside {old} {now} {new} {before} {after} k found read passes here is no_
   parts = λ from so_far.
       let there : slice_get old.lexemes.now now.at ≡ found =
       subst (λ (xs : List Lexeme). slice_get xs now.at ≡ found) read.file.lexemes here in
-      IsBody-skips old.lexemes.now from now.at new.at after.parts.items k found passes.at there is no_part (read.parts from so_far);
+      IsBody-skips old.text.now old.lexemes.now from now.at new.at after.parts.items after.precedence k found passes.at there is no_part (read.parts from so_far);
 }
 
 ReadsOn-stays : {old now new : Reader} {before after : Body} → ReadsOn old now before after → Stays now new → ReadsOn old new before after
@@ -69,7 +72,7 @@ ReadsOn-stays {old} {now} {new} {before} {after} read stays = record {
   file = IsSameFile-again read.file stays.file;
   on = omega (arith, read.on, stays.at);
   parts = λ from so_far.
-      IsBody-same old.lexemes.now from now.at new.at after.parts.items after.parts.items stays.at refl (read.parts from so_far);
+      IsBody-same old.text.now old.lexemes.now from now.at new.at after.parts.items after.parts.items after.precedence after.precedence stays.at refl refl (read.parts from so_far);
 }
 
 -- a name in brackets may stand behind a part
@@ -91,61 +94,71 @@ ReadsOn-passes {old} {new} body lexeme passes here no_part = record {
   file = passes.file;
   on = omega (arith, passes.at);
   parts = λ from so_far.
-      IsBody-aside old.lexemes.now from old.at new.at body.parts.items body.parts.items lexeme passes.at refl here no_part so_far;
+      IsBody-aside old.text.now old.lexemes.now from old.at new.at body.parts.items body.precedence lexeme passes.at here no_part so_far;
 }
 
 -- nothing stands behind a directive
 pub ReadsBehind-stays : {old new : Reader} → Stays old new → ReadsBehind old new
 ReadsBehind-stays {old} {new} stays = record {
   on = omega (arith, stays.at);
-  parts = λ from at ps directive so_far here is next.
-      IsBody-aside old.lexemes.now from at new.at ps ps directive (stays.at ∙ next) refl here (ap is_aside is) so_far;
-}
-
--- a symbol stands behind a directive
-pub ReadsBehind-symbol : {old new : Reader} → TakesAnySymbol old new → ReadsBehind old new
-ReadsBehind-symbol {old} {new} any = record {
-  on = omega (arith, any.taken.passes.at);
-  parts = λ from at ps directive so_far here is next.
-      let there : slice_get old.lexemes.now (at + 1) ≡ Some any.lexeme =
-      subst (λ (n : ℕ). slice_get old.lexemes.now n ≡ Some any.lexeme) next any.taken.here in
-      let behind : new.at ≡ at + 1 + 1 = any.taken.passes.at ∙ ap (λ (n : ℕ). n + 1) next in
-      IsBody-same old.lexemes.now from (at + 1 + 1) new.at ps ps behind refl (named directive any.lexeme so_far here is there any.taken.is);
+  parts = λ from at ps n directive so_far here is other next.
+      IsBody-directive old.text.now old.lexemes.now from at new.at ps n directive (stays.at ∙ next) here is other so_far;
 }
 
 -- a lexeme of another kind stands behind a directive
 pub ReadsBehind-skips : {old new : Reader} (k : LexemeKind) → SkipsKind old new k → is_aside k ≡ true → ReadsBehind old new
 ReadsBehind-skips {old} {new} k skips no_part = record {
   on = omega (arith, skips.passes.at);
-  parts = λ from at ps directive so_far here is next.
-      IsBody-skips old.lexemes.now from old.at new.at ps k (slice_get old.lexemes.now old.at) skips.passes.at refl skips.here no_part
-      (IsBody-aside old.lexemes.now from at old.at ps ps directive next refl here (ap is_aside is) so_far);
+  parts = λ from at ps n directive so_far here is other next.
+      IsBody-skips old.text.now old.lexemes.now from old.at new.at ps n k (slice_get old.lexemes.now old.at) skips.passes.at refl skips.here no_part
+      (IsBody-directive old.text.now old.lexemes.now from at old.at ps n directive next here is other so_far);
 }
 
 -- the same, where it is taken; and the reader stays there
 pub ReadsBehind-takes : {old now new : Reader} {lexeme : Lexeme} (k : LexemeKind) → TakesKind old now k lexeme → Stays now new → is_aside k ≡ true → ReadsBehind old new
 ReadsBehind-takes {old} {now} {new} {lexeme} k takes stays no_part = record {
   on = omega (arith, takes.passes.at, stays.at);
-  parts = λ from at ps directive so_far here is next.
-      IsBody-aside old.lexemes.now from old.at new.at ps ps lexeme (stays.at ∙ takes.passes.at) refl takes.here (ap is_aside takes.is ∙ no_part)
-      (IsBody-aside old.lexemes.now from at old.at ps ps directive next refl here (ap is_aside is) so_far);
+  parts = λ from at ps n directive so_far here is other next.
+      IsBody-aside old.text.now old.lexemes.now from old.at new.at ps n lexeme (stays.at ∙ takes.passes.at) takes.here (ap is_aside takes.is ∙ no_part)
+      (IsBody-directive old.text.now old.lexemes.now from at old.at ps n directive next here is other so_far);
 }
 
 -- a directive stands in the body, and what stands behind it
-pub ReadsOn-directive : {old now new : Reader} (before after : Body) (directive : Lexeme) → Passes old now → ReadsBehind now new → IsSameFile now new → slice_get old.lexemes.now old.at ≡ Some directive → directive.kind ≡ kind.Directive → after.parts.items ≡ before.parts.items → ReadsOn old new before after
-ReadsOn-directive {old} {now} {new} before after directive passes behind file here is same = record {
+pub ReadsOn-directive : {old now new : Reader} (before after : Body) (directive : Lexeme) → Passes old now → ReadsBehind now new → IsSameFile now new → slice_get old.lexemes.now old.at ≡ Some directive → directive.kind ≡ kind.Directive → is_prec now.text.now directive ≡ false → after.parts.items ≡ before.parts.items → after.precedence ≡ before.precedence → ReadsOn old new before after
+ReadsOn-directive {old} {now} {new} before after directive passes behind file here is other same same_precedence = record {
   file = IsSameFile-again passes.file file;
   on = omega (arith, passes.at, behind.on);
   parts = λ from so_far.
       let e = passes.file.lexemes in
-      let before_it : IsBody now.lexemes.now from old.at before.parts.items =
-      subst (λ (xs : List Lexeme). IsBody xs from old.at before.parts.items) (sym e) so_far in
+      let t = passes.file.text in
+      let before_it : IsBody now.text.now now.lexemes.now from old.at before.parts.items before.precedence =
+      rw (t, e) so_far in
       let there : slice_get now.lexemes.now old.at ≡ Some directive =
       subst (λ (xs : List Lexeme). slice_get xs old.at ≡ Some directive) (sym e) here in
-      let read : IsBody now.lexemes.now from new.at before.parts.items =
-      behind.parts from old.at before.parts.items directive before_it there is passes.at in
-      IsBody-same old.lexemes.now from new.at new.at before.parts.items after.parts.items refl same
-      (subst (λ (xs : List Lexeme). IsBody xs from new.at before.parts.items) e read);
+      let read : IsBody now.text.now now.lexemes.now from new.at before.parts.items before.precedence =
+      behind.parts from old.at before.parts.items before.precedence directive before_it there is other passes.at in
+      let read_old : IsBody old.text.now old.lexemes.now from new.at before.parts.items before.precedence =
+      rw (sym t, sym e) read in
+      IsBody-same old.text.now old.lexemes.now from new.at new.at before.parts.items after.parts.items before.precedence after.precedence refl same same_precedence read_old;
+}
+
+-- `%prec` stands in the body, and a symbol behind it
+pub ReadsOn-precedence : {old now new : Reader} (before reached after : Body) (directive : Lexeme) → Passes old now → TakesPrecedence now new reached after → IsSameFile now new → slice_get old.lexemes.now old.at ≡ Some directive → directive.kind ≡ kind.Directive → is_prec now.text.now directive ≡ true → after.parts.items ≡ before.parts.items → reached.precedence ≡ before.precedence → ReadsOn old new before after
+ReadsOn-precedence {old} {now} {new} before reached after directive passes takes file here is is_one same kept = record {
+  file = IsSameFile-again passes.file file;
+  on = omega (arith, passes.at, takes.taken.passes.at);
+  parts = λ from so_far.
+      let none : before.precedence ≡ None = sym kept ∙ takes.none in
+      let so_far_none : IsBody old.text.now old.lexemes.now from old.at before.parts.items None =
+      subst (λ (n : Option Lexeme). IsBody old.text.now old.lexemes.now from old.at before.parts.items n) none so_far in
+      let there : slice_get old.lexemes.now (old.at + 1) ≡ Some takes.lexeme =
+      subst (λ (n : ℕ). slice_get old.lexemes.now n ≡ Some takes.lexeme) passes.at
+      (subst (λ (xs : List Lexeme). slice_get xs now.at ≡ Some takes.lexeme) passes.file.lexemes takes.taken.here) in
+      let behind : new.at ≡ old.at + 1 + 1 = takes.taken.passes.at ∙ ap (λ (n : ℕ). n + 1) passes.at in
+      let prec_here : is_prec old.text.now directive ≡ true =
+      subst (λ (xs : List ℕ). is_prec xs directive ≡ true) passes.file.text is_one in
+      IsBody-same old.text.now old.lexemes.now from (old.at + 1 + 1) new.at before.parts.items after.parts.items (Some takes.lexeme) after.precedence behind same takes.is
+      (named directive takes.lexeme so_far_none here is prec_here there takes.taken.is);
 }
 
 -- the `=` before an action is passed over, or ends the body
@@ -154,6 +167,7 @@ GoesOn-equals old new body lexeme (Ok true) bison here is passes = ReadsOn-passe
 GoesOn-equals old new body lexeme (Ok false) bison here is stays = record {
   reader = stays;
   parts = refl;
+  precedence = refl;
   is = ap (λ (d : Dialect). is_part d lexeme.kind) bison ∙ ap (is_part dialect.Bison) is;
 }
 GoesOn-equals old new body lexeme (Err halt) bison here is none = tt
@@ -191,20 +205,23 @@ count_same lexemes from at lexeme here none same =
     let no : delimiter_at (slice_get lexemes at) ≡ 0 = ap delimiter_at here ∙ none in
     omega (arith, count-next lexemes at)
 
-pub body_counts : (lexemes : List Lexeme) (from to : ℕ) (parts : List BodyPart) → IsBody lexemes from to parts → (from ≤ to) × (delimiters_before lexemes to ≡ delimiters_before lexemes from)
-body_counts lexemes from _ _ begins = (omega arith, refl)
-body_counts lexemes from _ _ (symbol {at} {parts} lexeme body here is) =
-    let so_far = body_counts lexemes from at parts body in
+pub body_counts : (text : List ℕ) (lexemes : List Lexeme) (from to : ℕ) (parts : List BodyPart) (n : Option Lexeme) → IsBody text lexemes from to parts n → (from ≤ to) × (delimiters_before lexemes to ≡ delimiters_before lexemes from)
+body_counts text lexemes from _ _ _ begins = (omega arith, refl)
+body_counts text lexemes from _ _ _ (symbol {at} {parts} {precedence} lexeme body here is) =
+    let so_far = body_counts text lexemes from at parts precedence body in
     (omega (arith, so_far.0), count_same lexemes from at lexeme here (no_delimiter_kind lexeme.kind is) so_far.1)
-body_counts lexemes from _ _ (action {at} {parts} lexeme name body here is) =
-    let so_far = body_counts lexemes from at parts body in
+body_counts text lexemes from _ _ _ (action {at} {parts} {precedence} lexeme name body here is) =
+    let so_far = body_counts text lexemes from at parts precedence body in
     (omega (arith, so_far.0), count_same lexemes from at lexeme here (no_delimiter_action lexeme.kind is) so_far.1)
-body_counts lexemes from _ _ (aside {at} {parts} lexeme body here is) =
-    let so_far = body_counts lexemes from at parts body in
+body_counts text lexemes from _ _ _ (aside {at} {parts} {precedence} lexeme body here is) =
+    let so_far = body_counts text lexemes from at parts precedence body in
     (omega (arith, so_far.0), count_same lexemes from at lexeme here (no_delimiter_aside lexeme.kind is) so_far.1)
-body_counts lexemes from _ _ (named {at} {parts} directive lexeme body here is there is_too) =
-    let so_far = body_counts lexemes from at parts body in
-    let next = count_same lexemes from at directive here (ap delimiter_of is) so_far.1 in
+body_counts text lexemes from _ _ _ (other_directive {at} {parts} {precedence} lexeme body here is other) =
+    let so_far = body_counts text lexemes from at parts precedence body in
+    (omega (arith, so_far.0), count_same lexemes from at lexeme here (ap delimiter_of is) so_far.1)
+body_counts text lexemes from _ _ _ (named {at} {parts} found lexeme body here is is_one there is_too) =
+    let so_far = body_counts text lexemes from at parts None body in
+    let next = count_same lexemes from at found here (ap delimiter_of is) so_far.1 in
     (omega (arith, so_far.0), count_same lexemes from (at + 1) lexeme there (no_delimiter_kind lexeme.kind is_too) next)
 
 -- no delimiter is passed, twice

@@ -21,36 +21,38 @@ pub record IsBehindFirst (lexemes : List Lexeme) (at : ℕ) : Type 0 where
       → IfSome (slice_get lexemes place) (λ lexeme. is_separator lexeme.kind ≡ false)
 
 -- the bodies that begin before a place among the rules, in their order
-pub data AreBodiesUpTo (lexemes : List Lexeme) (dialect : Dialect) : ℕ → List Alternative
-    → Type 0 where
+pub data AreBodiesUpTo (text : List ℕ) (lexemes : List Lexeme) (dialect : Dialect)
+    : ℕ → List Alternative → Type 0 where
   -- right behind the first `%%` there are none
-  begins : {at : ℕ} → IsBehindFirst lexemes at → AreBodiesUpTo lexemes dialect at []
+  begins : {at : ℕ} → IsBehindFirst lexemes at → AreBodiesUpTo text lexemes dialect at []
   -- right behind each `:` and `|` there is one more
   mark : {at : ℕ} {bodies : List Alternative} (lexeme : Lexeme) (body : Alternative)
-      → AreBodiesUpTo lexemes dialect at bodies
+      → AreBodiesUpTo text lexemes dialect at bodies
       → slice_get lexemes at ≡ Some lexeme → is_mark lexeme.kind ≡ true
-      → IsReadFrom lexemes dialect (at + 1) body
-      → AreBodiesUpTo lexemes dialect (at + 1) (bodies ++ body ∷ [])
+      → IsReadFrom text lexemes dialect (at + 1) body
+      → AreBodiesUpTo text lexemes dialect (at + 1) (bodies ++ body ∷ [])
   -- behind each other lexeme but a second `%%` there is none
-  other : {at : ℕ} {bodies : List Alternative} → AreBodiesUpTo lexemes dialect at bodies
+  other : {at : ℕ} {bodies : List Alternative} → AreBodiesUpTo text lexemes dialect at bodies
       → IfSome (slice_get lexemes at) (λ lexeme.
       (is_mark lexeme.kind ≡ false) × (is_separator lexeme.kind ≡ false))
-      → AreBodiesUpTo lexemes dialect (at + 1) bodies
+      → AreBodiesUpTo text lexemes dialect (at + 1) bodies
 
 -- all bodies of a file, in their order: those that begin before the second `%%`, or before the end of the file
-pub record AreAllBodies (lexemes : List Lexeme) (dialect : Dialect) (bodies : List Alternative)
-    : Type 0 where
+pub record AreAllBodies (text : List ℕ) (lexemes : List Lexeme) (dialect : Dialect)
+    (bodies : List Alternative) : Type 0 where
   pub to : ℕ
-  pub read : AreBodiesUpTo lexemes dialect to bodies
+  pub read : AreBodiesUpTo text lexemes dialect to bodies
   pub ends : IfSome (slice_get lexemes to) (λ lexeme. is_separator lexeme.kind ≡ true)
 
 -- the bodies that the reader has are those up to a place
 abbrev pub AreReadUpTo : Reader → ℕ → Type 0
 AreReadUpTo reader at =
-    AreBodiesUpTo reader.lexemes.now reader.dialect at reader.contents.alternatives.items
+    AreBodiesUpTo reader.text.now reader.lexemes.now reader.dialect at
+    reader.contents.alternatives.items
 
 -- the reader goes over so many lexemes at least, and adds the bodies that begin there
 pub record ReadsBodies (least : ℕ) (old new : Reader) : Type 0 where
+  pub text : new.text.now ≡ old.text.now
   pub lexemes : new.lexemes.now ≡ old.lexemes.now
   pub dialect : new.dialect ≡ old.dialect
   pub on : least + old.at ≤ new.at
@@ -58,6 +60,7 @@ pub record ReadsBodies (least : ℕ) (old new : Reader) : Type 0 where
 
 -- the same, from right behind the mark of the first one
 pub record ReadsAlternatives (old new : Reader) : Type 0 where
+  pub text : new.text.now ≡ old.text.now
   pub lexemes : new.lexemes.now ≡ old.lexemes.now
   pub dialect : new.dialect ≡ old.dialect
   pub on : old.at ≤ new.at
@@ -76,10 +79,11 @@ pub record ReachesRules (old new : Reader) : Type 0 where
 
 -- the reader has all bodies of a file, if it had those up to where it was
 pub record ReadsAll (old new : Reader) : Type 0 where
+  pub text : new.text.now ≡ old.text.now
   pub lexemes : new.lexemes.now ≡ old.lexemes.now
   pub dialect : new.dialect ≡ old.dialect
   pub read : AreReadUpTo old old.at
-      → AreAllBodies new.lexemes.now new.dialect new.contents.alternatives.items
+      → AreAllBodies new.text.now new.lexemes.now new.dialect new.contents.alternatives.items
 
 -- the reader goes on behind what was read, and stays where no fault stopped it
 abbrev pub Settles : {T : Type 0} → Result T Halt → Reader → Reader → Type 0

@@ -1,6 +1,7 @@
 -- the bodies of a file, as they stand among its lexemes
-use Rattle.std.specs.Prelude.{◌≡◌, ℕ, ◌+◌, ◌<◌, ◌≤◌, Bool, true, false, List, [], ◌∷◌, ◌++◌, Option, Some, IfSome, slice_get, vec_len}
+use Rattle.std.specs.Prelude.{◌≡◌, ℕ, ◌+◌, ◌<◌, ◌≤◌, Bool, true, false, List, [], ◌∷◌, ◌++◌, Option, None, Some, IfSome, codes, slice_get, vec_len}
 use Rattle.std.specs.Option.{option_map}
+use Rattle.std.specs.Str.{bytes_eq}
 use Rattle.lryacc.specs.declared.contents.Alternative.{Alternative}
 use Rattle.lryacc.specs.declared.contents.BodyPart.{BodyPart}
 use Rattle.lryacc.specs.declared.contents.BodyPart.TheVariants as part
@@ -14,6 +15,7 @@ use Rattle.lryacc.specs.declared.lexemes.LexemeKind.TheVariants as kind
 use Rattle.lryacc.specs.declared.reader.Reader.{Reader}
 use Rattle.lryacc.specs.declared.rules.Body.{Body}
 use Rattle.lryacc.specs.Delimiters.{delimiter_at, delimiter_of, delimiters_before}
+use Rattle.lryacc.specs.NamedSymbols.{text_at}
 
 -- symbols: names, characters and texts, and for grmtools names in quotes
 abbrev pub is_symbol : LexemeKind → Bool
@@ -29,12 +31,11 @@ is_action kind.Action = true
 is_action kind.Predicate = true
 is_action _ = false
 
--- what stands among the parts of a body, and is none itself
+-- what stands among the parts of a body, and is neither one itself nor a directive
 abbrev pub is_aside : LexemeKind → Bool
 is_aside kind.BracketName = true
 is_aside kind.Tag = true
 is_aside kind.Equals = true
-is_aside kind.Directive = true
 is_aside kind.Number = true
 is_aside _ = false
 
@@ -50,32 +51,51 @@ is_part Grmtools kind.QuotedName = true
 is_part Grmtools kind.Action = true
 is_part _ _ = false
 
--- the lexemes from one place on, up to another, are those of a body, which has these parts
-pub data IsBody (lexemes : List Lexeme) (from : ℕ) : ℕ → List BodyPart → Type 0 where
+-- whether a directive is `%prec`
+abbrev pub is_prec : List ℕ → Lexeme → Bool
+is_prec text directive = bytes_eq (text_at text directive.span) (codes "%prec")
+
+-- the lexemes from one place on, up to another, are those of a body, which has these parts, and this symbol for its precedence
+pub data IsBody (text : List ℕ) (lexemes : List Lexeme) (from : ℕ)
+    : ℕ → List BodyPart → Option Lexeme → Type 0 where
   -- nothing was read
-  begins : IsBody lexemes from from []
+  begins : IsBody text lexemes from from [] None
   -- a symbol is a part
-  symbol : {at : ℕ} {parts : List BodyPart} (lexeme : Lexeme) → IsBody lexemes from at parts
+  symbol : {at : ℕ} {parts : List BodyPart} {precedence : Option Lexeme} (lexeme : Lexeme)
+      → IsBody text lexemes from at parts precedence
       → slice_get lexemes at ≡ Some lexeme → is_symbol lexeme.kind ≡ true
-      → IsBody lexemes from (at + 1) (parts ++ part.Symbol lexeme ∷ [])
+      → IsBody text lexemes from (at + 1) (parts ++ part.Symbol lexeme ∷ []) precedence
   -- so is code
-  action : {at : ℕ} {parts : List BodyPart} (lexeme : Lexeme) (name : Option Lexeme)
-      → IsBody lexemes from at parts
+  action : {at : ℕ} {parts : List BodyPart} {precedence : Option Lexeme} (lexeme : Lexeme)
+      (name : Option Lexeme) → IsBody text lexemes from at parts precedence
       → slice_get lexemes at ≡ Some lexeme → is_action lexeme.kind ≡ true
-      → IsBody lexemes from (at + 1) (parts ++ part.Action lexeme name ∷ [])
-  -- names in brackets, tags, `=`, numbers and directives are not
-  aside : {at : ℕ} {parts : List BodyPart} (lexeme : Lexeme) → IsBody lexemes from at parts
+      → IsBody text lexemes from (at + 1) (parts ++ part.Action lexeme name ∷ []) precedence
+  -- names in brackets, tags, `=` and numbers are not
+  aside : {at : ℕ} {parts : List BodyPart} {precedence : Option Lexeme} (lexeme : Lexeme)
+      → IsBody text lexemes from at parts precedence
       → slice_get lexemes at ≡ Some lexeme → is_aside lexeme.kind ≡ true
-      → IsBody lexemes from (at + 1) parts
-  -- nor is the symbol right behind a directive
-  named : {at : ℕ} {parts : List BodyPart} (directive lexeme : Lexeme)
-      → IsBody lexemes from at parts
-      → slice_get lexemes at ≡ Some directive → directive.kind ≡ kind.Directive
-      → slice_get lexemes (at + 1) ≡ Some lexeme → is_symbol lexeme.kind ≡ true
-      → IsBody lexemes from (at + 1 + 1) parts
+      → IsBody text lexemes from (at + 1) parts precedence
+  -- nor are directives other than `%prec`
+  directive : {at : ℕ} {parts : List BodyPart} {precedence : Option Lexeme} (lexeme : Lexeme)
+      → IsBody text lexemes from at parts precedence
+      → slice_get lexemes at ≡ Some lexeme → lexeme.kind ≡ kind.Directive
+      → is_prec text lexeme ≡ false → IsBody text lexemes from (at + 1) parts precedence
+  -- nor is `%prec`, which stands there once at most, and the symbol right behind it, which is that of the precedence
+  prec : {at : ℕ} {parts : List BodyPart} (lexeme symbol : Lexeme)
+      → IsBody text lexemes from at parts None
+      → slice_get lexemes at ≡ Some lexeme → lexeme.kind ≡ kind.Directive
+      → is_prec text lexeme ≡ true
+      → slice_get lexemes (at + 1) ≡ Some symbol → is_symbol symbol.kind ≡ true
+      → IsBody text lexemes from (at + 1 + 1) parts (Some symbol)
+
+-- the lexemes that a reader goes over, from one place on up to another, are those of the body in hand
+abbrev pub IsBodyUpTo : Reader → ℕ → ℕ → Body → Type 0
+IsBodyUpTo reader from at body =
+    IsBody reader.text.now reader.lexemes.now from at body.parts.items body.precedence
 
 -- the file is the same, and so are the bodies that were read of it; faults that were told stay so
 pub record IsSameFile (old new : Reader) : Type 0 where
+  pub text : new.text.now ≡ old.text.now
   pub lexemes : new.lexemes.now ≡ old.lexemes.now
   pub dialect : new.dialect ≡ old.dialect
   pub bodies : new.contents.alternatives.items ≡ old.contents.alternatives.items
@@ -137,13 +157,13 @@ pub record TakesSymbol (old new : Reader) (lexeme : Lexeme) : Type 0 where
 pub record ReadsOn (old new : Reader) (before after : Body) : Type 0 where
   pub file : IsSameFile old new
   pub on : old.at < new.at
-  pub parts : (from : ℕ) → IsBody old.lexemes.now from old.at before.parts.items
-      → IsBody old.lexemes.now from new.at after.parts.items
+  pub parts : (from : ℕ) → IsBodyUpTo old from old.at before → IsBodyUpTo old from new.at after
 
 -- the body ends before a lexeme
 pub record StopsAt (old new : Reader) (before after : Body) (lexeme : Lexeme) : Type 0 where
   pub reader : Stays old new
   pub parts : after.parts.items ≡ before.parts.items
+  pub precedence : after.precedence ≡ before.precedence
   pub is : is_part old.dialect lexeme.kind ≡ false
 
 -- whether the body goes on
@@ -151,23 +171,25 @@ abbrev pub GoesOn : Reader → Reader → Body → Body → Lexeme → Bool → 
 GoesOn old new before after lexeme true = ReadsOn old new before after
 GoesOn old new before after lexeme false = StopsAt old new before after lexeme
 
--- the reader takes a symbol, whichever it is
-pub record TakesAnySymbol (old new : Reader) : Type 0 where
+-- the reader takes the symbol behind the one `%prec` of a body
+pub record TakesPrecedence (old new : Reader) (before after : Body) : Type 0 where
   pub lexeme : Lexeme
   pub taken : TakesSymbol old new lexeme
+  pub none : before.precedence ≡ None
+  pub is : after.precedence ≡ Some lexeme
 
--- the reader goes over what belongs to a directive of a body, if anything does
+-- the reader goes over what belongs to another directive of a body, if anything does
 pub record ReadsBehind (old new : Reader) : Type 0 where
   pub on : old.at < new.at + 1
-  pub parts : (from at : ℕ) (parts : List BodyPart) (directive : Lexeme)
-      → IsBody old.lexemes.now from at parts
+  pub parts : (from at : ℕ) (parts : List BodyPart) (precedence : Option Lexeme)
+      (directive : Lexeme) → IsBody old.text.now old.lexemes.now from at parts precedence
       → slice_get old.lexemes.now at ≡ Some directive → directive.kind ≡ kind.Directive
-      → old.at ≡ at + 1 → IsBody old.lexemes.now from new.at parts
+      → is_prec old.text.now directive ≡ false
+      → old.at ≡ at + 1 → IsBody old.text.now old.lexemes.now from new.at parts precedence
 
 -- the reader goes over the rest of a body
 pub record ReadsBody (old new : Reader) (before after : Body) : Type 0 where
-  pub parts : (from : ℕ) → IsBody old.lexemes.now from old.at before.parts.items
-      → IsBody old.lexemes.now from new.at after.parts.items
+  pub parts : (from : ℕ) → IsBodyUpTo old from old.at before → IsBodyUpTo old from new.at after
   pub ends : IfSome (slice_get old.lexemes.now new.at) (λ lexeme.
       is_part old.dialect lexeme.kind ≡ false)
 
@@ -210,33 +232,36 @@ pub record TakesBar (old new : Reader) (bar : Lexeme) : Type 0 where
   pub over : PassesNoDelimiter old before
   pub taken : TakesKind before new kind.Bar bar
 
--- a body that was read from a place on: its rule is the one whose name stands last before that, and its parts are the symbols
--- and the actions among the lexemes that follow one another up to the end of the file, or up to one with which no body of the
--- dialect goes on
-pub record IsReadFrom (lexemes : List Lexeme) (dialect : Dialect) (from : ℕ) (body : Alternative)
-    : Type 0 where
+-- a body that was read from a place on: its rule is the one whose name stands last before that, its parts are the symbols and
+-- the actions among the lexemes that follow one another up to the end of the file, or up to one with which no body of the
+-- dialect goes on, and the symbol of its precedence is the one behind `%prec` there
+pub record IsReadFrom (text : List ℕ) (lexemes : List Lexeme) (dialect : Dialect) (from : ℕ)
+    (body : Alternative) : Type 0 where
   pub rule : IsRuleBefore lexemes from body.rule
   pub to : ℕ
-  pub parts : IsBody lexemes from to body.parts.items
+  pub parts : IsBody text lexemes from to body.parts.items body.precedence
   pub ends : IfSome (slice_get lexemes to) (λ lexeme. is_part dialect lexeme.kind ≡ false)
 
--- a body of a rule with these parts is added to what was read
-pub record EndsBody (old new : Reader) (rule : Lexeme) (parts : List BodyPart) : Type 0 where
+-- the body in hand is added to what was read, as one of a rule
+pub record EndsBody (old new : Reader) (rule : Lexeme) (read : Body) : Type 0 where
+  pub text : new.text.now ≡ old.text.now
   pub lexemes : new.lexemes.now ≡ old.lexemes.now
   pub dialect : new.dialect ≡ old.dialect
   pub at : new.at ≡ old.at
   pub body : Alternative
   pub rule_is : body.rule ≡ rule
-  pub parts_are : body.parts.items ≡ parts
+  pub parts_are : body.parts.items ≡ read.parts.items
+  pub precedence_is : body.precedence ≡ read.precedence
   pub bodies : new.contents.alternatives.items ≡ old.contents.alternatives.items ++ body ∷ []
 
 -- a body of a rule is read here, and added to what was read; the reader goes over no delimiter
 pub record AddsBody (old new : Reader) (rule : Lexeme) : Type 0 where
+  pub text : new.text.now ≡ old.text.now
   pub lexemes : new.lexemes.now ≡ old.lexemes.now
   pub dialect : new.dialect ≡ old.dialect
   pub on : old.at ≤ new.at
   pub count : delimiters_read new ≡ delimiters_read old
   pub body : Alternative
   pub rule_is : body.rule ≡ rule
-  pub read : IsReadFrom old.lexemes.now old.dialect old.at body
+  pub read : IsReadFrom old.text.now old.lexemes.now old.dialect old.at body
   pub bodies : new.contents.alternatives.items ≡ old.contents.alternatives.items ++ body ∷ []

@@ -78,7 +78,7 @@ pub record AreBodiesRead (text : List ℕ) (dialect : Dialect) (bodies : List Al
     : Type 0 where
   pub lexemes : List Lexeme
   pub of_text : AreAllLexemesOf text dialect lexemes
-  pub all : AreAllBodies lexemes dialect bodies
+  pub all : AreAllBodies text lexemes dialect bodies
 
 -- if a text comes to a grammar, these are its bodies
 abbrev pub AreBodiesOf : List ℕ → Dialect → List Alternative → FileRead → Type 0

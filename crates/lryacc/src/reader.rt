@@ -3,6 +3,7 @@
 ghost use Rattle.std.specs.Prelude.{◌≡◌, ◌<◌, ◌==◌, [], IfErr, IfOk, IfSome, MatchOption, MatchBool, OnErr, OnOk, slice_get, vec_len};
 ghost use Rattle.std.specs.Option.{option_map};
 ghost use Rattle.lryacc.specs.Bodies.{IsSameFile, IsTold, Passes, SkipsKind, Stays, TakesKind, TakesSymbol};
+ghost use Rattle.lryacc.specs.NamedSymbols.{text_at};
 
 use crate::contents::{Contents, Statement};
 use crate::dialects::Dialect;
@@ -30,6 +31,7 @@ impl<'a> Reader<'a> {
         lexemes: &'a [Lexeme],
         faults: Vec<Fault>,
     ) -> Reader<'a>
+        ensures text { result.text.now ≡ text.now }
         ensures lexemes { result.lexemes.now ≡ lexemes.now }
         ensures dialect { result.dialect ≡ dialect }
         ensures begins { result.at ≡ 0 }
@@ -171,7 +173,9 @@ impl<'a> Reader<'a> {
     }
 
     /// The bytes of a lexeme.
-    pub(crate) fn bytes(&self, lexeme: Lexeme) -> &'a [u8] {
+    pub(crate) fn bytes(&self, lexeme: Lexeme) -> &'a [u8]
+        ensures { result.now ≡ text_at self.now.text.now lexeme.span }
+    {
         let text = self.text;
         text.get(lexeme.span.start..lexeme.span.end).unwrap_or(b"")
     }

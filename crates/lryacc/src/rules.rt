@@ -1,10 +1,10 @@
 //! Rules, and the file as a whole.
 
-ghost use Rattle.std.specs.Prelude.{◌≡◌, ◌<◌, ◌≤◌, true, [], ◌∷◌, ◌++◌, IfErr, IfOk, IfSome, IsSome, MatchBool, MatchOption, OnOk, slice_get, vec_len};
+ghost use Rattle.std.specs.Prelude.{◌≡◌, ◌<◌, ◌≤◌, true, false, [], ◌∷◌, ◌++◌, IfErr, IfOk, IfSome, IsSome, MatchBool, MatchOption, None, OnOk, slice_get, vec_len};
 ghost use Rattle.lryacc.specs.AllBodies.{AreAllBodies, ReachesRules, ReadsAll, ReadsAlternatives, ReadsBodies, Settles, TakesSeparator};
 ghost use Rattle.lryacc.specs.AllLexemes.{is_separator};
 ghost use Rattle.lryacc.specs.Bodies.{AddsBody, BeginsBody, EndsBody, GoesOn, IsSameFile, IsTold, IsWhole, Passes, PassesNoDelimiter};
-ghost use Rattle.lryacc.specs.Bodies.{ReadsBehind, ReadsBody, ReadsOn, Stays, TakesAnySymbol, TakesBar, is_action, is_symbol};
+ghost use Rattle.lryacc.specs.Bodies.{ReadsBehind, ReadsBody, ReadsOn, Stays, TakesBar, TakesPrecedence, is_action, is_prec, is_symbol};
 
 use crate::contents::{Alternative, BodyPart, Statement};
 use crate::dialects::Dialect;
@@ -58,7 +58,8 @@ fn is_before_rules(form: Form) -> bool {
 impl Body {
     /// Nothing was read.
     fn new(alloc: Global) -> Body
-        ensures { result.parts.items ≡ [] }
+        ensures parts { result.parts.items ≡ [] }
+        ensures precedence { result.precedence ≡ None }
     {
         Body {
             parts: Vec::new(alloc),
@@ -72,7 +73,8 @@ impl Body {
 
     /// Has the body reach to the end of a lexeme.
     fn reach(&mut self, lexeme: Lexeme)
-        ensures { self.new.parts.items ≡ self.old.parts.items }
+        ensures parts { self.new.parts.items ≡ self.old.parts.items }
+        ensures precedence { self.new.precedence ≡ self.old.precedence }
     {
         let start = match self.span {
             Some(span) => span.start,
@@ -83,7 +85,8 @@ impl Body {
 
     /// Adds a part.
     pub(crate) fn add(&mut self, part: BodyPart, lexeme: Lexeme) -> Result<(), AllocError>
-        ensures { OnOk result (self.new.parts.items ≡ self.old.parts.items ++ part ∷ []) }
+        ensures parts { OnOk result (self.new.parts.items ≡ self.old.parts.items ++ part ∷ []) }
+        ensures precedence { self.new.precedence ≡ self.old.precedence }
     {
         self.reach(lexeme);
         self.parts.push(part)?;
@@ -102,6 +105,7 @@ impl Body {
     fn alternative(self, rule: Lexeme, mark: Lexeme) -> Alternative
         ensures rule { result.rule ≡ rule }
         ensures parts { result.parts.items ≡ self.parts.items }
+        ensures precedence { result.precedence ≡ self.precedence }
     {
         let Body {
             parts,
@@ -128,7 +132,7 @@ impl<'a> Reader<'a> {
             → 0 < vec_len self.new.contents.alternatives) }
         ensures faults { vec_len self.old.contents.faults ≤ vec_len self.new.contents.faults }
         ensures read { OnOk result (IsWhole self.new
-            → AreAllBodies self.old.lexemes.now self.old.dialect
+            → AreAllBodies self.old.text.now self.old.lexemes.now self.old.dialect
             self.new.contents.alternatives.items) }
     {
         self.pass_header()?;
@@ -483,8 +487,19 @@ impl<'a> Reader<'a> {
     {
         self.pass();
         body.reach(directive);
+        if self.is_precedence(directive) {
+            self.body_precedence(body)?;
+            return Ok(());
+        }
         self.body_directive(body, form, directive)?;
         Ok(())
+    }
+
+    /// Whether a directive is `%prec`.
+    fn is_precedence(&self, directive: Lexeme) -> bool
+        ensures { result ≡ is_prec self.now.text.now directive }
+    {
+        self.bytes(directive) == b"%prec".as_slice()
     }
 
     /// What stands behind a directive that may stand in a body; None for any other lexeme.
@@ -602,21 +617,18 @@ impl<'a> Reader<'a> {
         Ok(true)
     }
 
-    /// Reads what stands behind a directive of a body.
+    /// Reads what stands behind a directive of a body other than `%prec`.
     fn body_directive(&mut self, body: &mut Body, form: Form, directive: Lexeme) -> Result<(), Halt>
         ensures file { IsSameFile self.old self.new }
         ensures told { IfErr result (λ halt. IsTold halt self.new) }
         ensures parts { OnOk result (body.new.parts.items ≡ body.old.parts.items) }
+        ensures precedence { OnOk result (body.new.precedence ≡ body.old.precedence) }
         ensures read { OnOk result (ReadsBehind self.old self.new) }
     {
         match form {
             Form::Empty => {
                 self.only(body.empty.is_none(), directive)?;
                 body.empty = Some(directive.span);
-                Ok(())
-            }
-            Form::Precedence => {
-                self.body_precedence(body)?;
                 Ok(())
             }
             Form::BodyTag => {
@@ -643,7 +655,7 @@ impl<'a> Reader<'a> {
         ensures file { IsSameFile self.old self.new }
         ensures told { IfErr result (λ halt. IsTold halt self.new) }
         ensures parts { OnOk result (body.new.parts.items ≡ body.old.parts.items) }
-        ensures taken { OnOk result (TakesAnySymbol self.old self.new) }
+        ensures taken { OnOk result (TakesPrecedence self.old self.new body.old body.new) }
     {
         let symbol = self.want_symbol()?;
         self.only(body.precedence.is_none(), symbol)?;
@@ -655,6 +667,7 @@ impl<'a> Reader<'a> {
 
     /// Stops at a lexeme of which a body has one at most, unless it is the first one.
     fn only(&mut self, is_first: bool, lexeme: Lexeme) -> Result<(), Halt>
+        ensures first { OnOk result (is_first ≡ true) }
         ensures stays { Stays self.old self.new }
         ensures told { IfErr result (λ halt. IsTold halt self.new) }
     {
@@ -668,7 +681,7 @@ impl<'a> Reader<'a> {
     /// Adds the body to the contents.
     fn end_body(&mut self, rule: Lexeme, mark: Lexeme, body: Body) -> Result<(), AllocError>
         ensures faults { vec_len self.old.contents.faults ≤ vec_len self.new.contents.faults }
-        ensures ended { OnOk result (EndsBody self.old self.new rule body.parts.items) }
+        ensures ended { OnOk result (EndsBody self.old self.new rule body) }
     {
         let misplaced = body.misplaced_empty();
         self.add_alternative(body.alternative(rule, mark))?;
@@ -683,6 +696,7 @@ impl<'a> Reader<'a> {
         ensures added { OnOk result (self.new.contents.alternatives.items
             ≡ self.old.contents.alternatives.items ++ alternative ∷ []) }
         ensures faults { self.new.contents.faults ≡ self.old.contents.faults }
+        ensures text { self.new.text.now ≡ self.old.text.now }
         ensures lexemes { self.new.lexemes.now ≡ self.old.lexemes.now }
         ensures dialect { self.new.dialect ≡ self.old.dialect }
         ensures at { self.new.at ≡ self.old.at }

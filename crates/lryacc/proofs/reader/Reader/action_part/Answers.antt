@@ -10,6 +10,6 @@ returns-clause-read c =
       file = passes.file;
       on = omega (arith, passes.at);
       parts = λ from so_far.
-          IsBody-action _ _ _ _ _ _ c.args.lexeme c.take-name.result passes.at c.in_ok-add.ensures c.requires.here c.requires.is so_far;
+          IsBody-action _ _ _ _ _ _ _ _ _ c.args.lexeme c.take-name.result passes.at c.in_ok-add.ensures.parts c.in_ok-add.ensures.precedence c.requires.here c.requires.is so_far;
     }
     c.take-name.result c.take-name.ensures

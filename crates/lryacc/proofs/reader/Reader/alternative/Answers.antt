@@ -1,4 +1,4 @@
-use Rattle.std.proofs.Common.{List, [], ◌∷◌, ◌++◌, refl, ap, sym, subst, arith, ◌∙◌}
+use Rattle.std.proofs.Common.{List, None, [], ◌∷◌, ◌++◌, refl, ap, sym, subst, arith, ◌∙◌}
 use Rattle.lryacc.specs.declared.contents.Alternative.{Alternative}
 use Rattle.lryacc.specs.declared.lexemes.Lexeme.{Lexeme}
 use Rattle.lryacc.specs.Bodies.{IsBody, IsRuleBefore}
@@ -11,11 +11,13 @@ returns-clause-added c =
     let old = c.args.self.now in
     let added = c.in_ok-end_body.ensures.ended in
     let read = c.in_ok-parts.ensures.read in
+    let text = old.text.now in
     let lexemes = old.lexemes.now in
-    let first : IsBody lexemes old.at old.at c.new-body.result.parts.items =
-    IsBody-same lexemes old.at old.at old.at [] c.new-body.result.parts.items refl c.new-body.ensures begins in
-    let counts = body_counts lexemes old.at c.parts.new.self.at c.parts.new.body.parts.items (read.parts old.at first) in
+    let first : IsBody text lexemes old.at old.at c.new-body.result.parts.items c.new-body.result.precedence =
+    IsBody-same text lexemes old.at old.at old.at [] c.new-body.result.parts.items None c.new-body.result.precedence refl c.new-body.ensures.parts c.new-body.ensures.precedence begins in
+    let counts = body_counts text lexemes old.at c.parts.new.self.at c.parts.new.body.parts.items c.parts.new.body.precedence (read.parts old.at first) in
     record {
+      text = added.text ∙ c.parts.ensures.file.text;
       lexemes = added.lexemes ∙ c.parts.ensures.file.lexemes;
       on = omega (arith, counts.0, added.at);
       count = alternative-count old c.parts.new.self c.end_body.new.self c.parts.ensures.file.lexemes added.lexemes added.at counts.1;
@@ -25,7 +27,7 @@ returns-clause-added c =
       read = record {
         rule = subst (λ (name : Lexeme). IsRuleBefore lexemes old.at name) (sym added.rule_is) c.requires.rule_is;
         to = c.parts.new.self.at;
-        parts = IsBody-same lexemes old.at c.parts.new.self.at c.parts.new.self.at c.parts.new.body.parts.items added.body.parts.items refl added.parts_are (read.parts old.at first);
+        parts = IsBody-same text lexemes old.at c.parts.new.self.at c.parts.new.self.at c.parts.new.body.parts.items added.body.parts.items c.parts.new.body.precedence added.body.precedence refl added.parts_are added.precedence_is (read.parts old.at first);
         ends = read.ends;
       };
       bodies =

@@ -10,6 +10,7 @@ loop-turn-preserved c =
     let taken = c.in-Some.ensures in
     let file = bar_file c.alternative.new.self c.bar.new.self c.in-Some.bar taken in
     record {
+      text = file.text ∙ (added.text ∙ so_far.text);
       lexemes = file.lexemes ∙ (added.lexemes ∙ so_far.lexemes);
       dialect = file.dialect ∙ (added.dialect ∙ so_far.dialect);
       faults = omega (arith, so_far.faults, c.alternative.ensures.faults, file.faults);
@@ -26,6 +27,7 @@ returns-in-None-clause-read c =
     let added = c.in_ok-alternative.ensures.added in
     let over = c.in-None.ensures in
     record {
+      text = over.file.text ∙ (added.text ∙ so_far.text);
       lexemes = over.file.lexemes ∙ (added.lexemes ∙ so_far.lexemes);
       dialect = over.file.dialect ∙ (added.dialect ∙ so_far.dialect);
       on = omega (arith, so_far.on, added.on, over.on);

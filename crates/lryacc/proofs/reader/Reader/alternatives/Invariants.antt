@@ -5,6 +5,7 @@ use Rattle.lryacc.proofs.reader.Reader.alternatives.Given as goal
 
 abbrev pub invariant-loop-turn : goal.invariant-loop-turn
 invariant-loop-turn l = record {
+  text : l.self.text.now ≡ l.initial.self.text.now;
   lexemes : l.self.lexemes.now ≡ l.initial.self.lexemes.now;
   dialect : l.self.dialect ≡ l.initial.self.dialect;
   faults : vec_len l.initial.self.contents.faults ≤ vec_len l.self.contents.faults;

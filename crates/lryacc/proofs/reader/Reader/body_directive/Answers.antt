@@ -1,13 +1,10 @@
 use Rattle.std.proofs.Common.{refl}
 use Rattle.lryacc.specs.declared.lexemes.LexemeKind.TheVariants as kind
-use Rattle.lryacc.proofs.BodiesRead.{ReadsBehind-skips, ReadsBehind-stays, ReadsBehind-symbol, ReadsBehind-takes}
+use Rattle.lryacc.proofs.BodiesRead.{ReadsBehind-skips, ReadsBehind-stays, ReadsBehind-takes}
 use Rattle.lryacc.proofs.reader.Reader.body_directive.Goals as goal
 
 pub returns-in_ok-only-in-Empty-clause-read : goal.returns-in_ok-only-in-Empty-clause-read
 returns-in_ok-only-in-Empty-clause-read c = ReadsBehind-stays c.only.ensures.stays
-
-pub returns-in_ok-body_precedence-in-Precedence-clause-read : goal.returns-in_ok-body_precedence-in-Precedence-clause-read
-returns-in_ok-body_precedence-in-Precedence-clause-read c = ReadsBehind-symbol c.in_ok-body_precedence-in-Precedence.ensures.taken
 
 pub returns-in_ok-only-in-BodyTag-clause-read : goal.returns-in_ok-only-in-BodyTag-clause-read
 returns-in_ok-only-in-BodyTag-clause-read c =

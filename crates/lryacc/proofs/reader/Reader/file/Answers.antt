@@ -9,7 +9,7 @@ returns-clause-read c =
     let told = c.tell_no_rules.ensures.file.faults in
     on_ok c.tell_no_rules.result
     (IsWhole c.tell_no_rules.new.self
-    → AreAllBodies c.args.self.now.lexemes.now c.args.self.now.dialect c.tell_no_rules.new.self.contents.alternatives.items)
+    → AreAllBodies c.args.self.now.text.now c.args.self.now.lexemes.now c.args.self.now.dialect c.tell_no_rules.new.self.contents.alternatives.items)
     (λ whole.
     file_all c.args.self.now c.pass_header.new.self c.declarations.new.self c.rules.new.self c.tell_no_rules.new.self
     (c.in_ok-pass_header.ensures.over (omega (arith, whole, told, c.rules.ensures.faults, c.declarations.ensures.file.faults)))

@@ -9,7 +9,7 @@ returns-else-is_in_body-clause-read c =
       file = passes.file;
       on = omega (arith, passes.at);
       parts = λ from so_far.
-          IsBody-action _ _ _ _ _ _ c.args.lexeme None passes.at c.in_ok-add.ensures c.requires.here c.requires.is so_far;
+          IsBody-action _ _ _ _ _ _ _ _ _ c.args.lexeme None passes.at c.in_ok-add.ensures.parts c.in_ok-add.ensures.precedence c.requires.here c.requires.is so_far;
     }
 
 pub returns-in_ok-tell-clause-read : goal.returns-in_ok-tell-clause-read
@@ -19,6 +19,7 @@ returns-in_ok-tell-clause-read c =
     let at : c.tell.new.self.at ≡ c.args.self.now.at + 1 = told.at ∙ passes.at in
     record {
       file = record {
+        text = told.file.text ∙ passes.file.text;
         lexemes = told.file.lexemes ∙ passes.file.lexemes;
         dialect = told.file.dialect ∙ passes.file.dialect;
         bodies = told.file.bodies ∙ passes.file.bodies;
@@ -26,5 +27,5 @@ returns-in_ok-tell-clause-read c =
       };
       on = omega (arith, at);
       parts = λ from so_far.
-          IsBody-action _ _ _ _ _ _ c.args.lexeme None at c.in_ok-add.ensures c.requires.here c.requires.is so_far;
+          IsBody-action _ _ _ _ _ _ _ _ _ c.args.lexeme None at c.in_ok-add.ensures.parts c.in_ok-add.ensures.precedence c.requires.here c.requires.is so_far;
     }

@@ -1,12 +1,12 @@
 use Rattle.std.proofs.Common.{ℕ, ◌-◌, length}
-use Rattle.lryacc.specs.Bodies.{IsBody, IsSameFile}
+use Rattle.lryacc.specs.Bodies.{IsBodyUpTo, IsSameFile}
 use Rattle.lryacc.proofs.reader.Reader.parts.Given as goal
 
 abbrev pub invariant-loop-lexeme : goal.invariant-loop-lexeme
 invariant-loop-lexeme l = record {
   file : IsSameFile l.initial.self l.self;
-  parts : (from : ℕ) → IsBody l.initial.self.lexemes.now from l.initial.self.at l.initial.body.parts.items
-      → IsBody l.initial.self.lexemes.now from l.self.at l.body.parts.items;
+  parts : (from : ℕ) → IsBodyUpTo l.initial.self from l.initial.self.at l.initial.body
+      → IsBodyUpTo l.initial.self from l.self.at l.body;
 }
 
 abbrev pub decreases-loop-lexeme : goal.decreases-loop-lexeme
