@@ -1,5 +1,5 @@
 -- rules and tokens are numbered
-use Rattle.std.proofs.Common.{◌≡◌, ℕ, zero, suc, ◌<◌, List, [], ◌∷◌, ◌++◌, get_or, length, map, Bool, true, false, cond, Option, None, Some, slice_get, refl, ap, sym, ◌∙◌, subst, inl, inr, codes, arith}
+use Rattle.std.proofs.Common.{◌≡◌, ℕ, zero, suc, ◌+◌, ◌*◌, ◌<◌, List, [], ◌∷◌, ◌++◌, get_or, length, map, Bool, true, false, cond, Option, None, Some, slice_get, refl, ap, sym, ◌∙◌, subst, inl, inr, codes, arith}
 use Rattle.std.specs.BTreeMap.{IsEmpty, get, is_at}
 use Rattle.std.specs.Map.{lookup}
 use Rattle.std.specs.BTreeMap.{BTreeMap}
@@ -12,9 +12,10 @@ use Rattle.std.specs.Ordering.{nat_cmp, is_eq}
 use Rattle.std.proofs.lemmas.List.{length-map, length_push, map-append}
 use Rattle.lrgrammar.specs.declared.grammar.Precedence.{Precedence}
 use Rattle.lryacc.specs.declared.numbering.Numbering.{Numbering}
+use Rattle.lryacc.specs.BodyPrecedences.{HasLevel}
 use Rattle.lryacc.specs.BodyProductions.{IsActionRule, Keeps}
 use Rattle.lryacc.specs.NamedSymbols.{Names, IsRuleOf, IsTokenOf}
-use Rattle.lryacc.specs.Numbered.{AddsNumbers, AreNumbered, IsNumbered}
+use Rattle.lryacc.specs.Numbered.{AddsNumbers, AreLevelled, AreNumbered, IsLevelled, IsNumbered}
 
 -- what a list has it has behind more
 pub has-more : {A : Type 0} (xs ys : List A) (n : ℕ) (x : A) → slice_get xs n ≡ Some x → slice_get (xs ++ ys) n ≡ Some x
@@ -179,12 +180,45 @@ numbered-none a r t s no_rule no_token no_action placed accept = record {
   accept = accept;
 }
 
+-- tokens keep their levels where others are added
+pub levelled-more : (old new : List (Option Precedence)) (below : ℕ → Option ℕ) (without : Option ℕ) → Keeps old new → AreLevelled old below without → AreLevelled new below without
+levelled-more old new below without keeps h = record {
+  of_below = λ before token e.
+      let one = h.of_below before token e in
+      record { precedence = one.precedence; here = keeps token (Some one.precedence) one.here; is = one.is };
+  of_without = λ token e. keeps token None (h.of_without token e);
+}
+
+-- a token is below a line
+pub levelled-below : (all : List (Option Precedence)) (below below' : ℕ → Option ℕ) (without : Option ℕ) (before token : ℕ) → ((q : ℕ) → below' q ≡ cond (is_at (nat_cmp before) q) (Some token) (below q)) → HasLevel all (before * 2 + 1) token → AreLevelled all below without → AreLevelled all below' without
+levelled-below all below below' without before token puts is h = record {
+  of_below = all-put (λ n t. HasLevel all (n * 2 + 1) t) below below' before token puts is h.of_below;
+  of_without = h.of_without;
+}
+
+-- a token is without a level
+pub levelled-without : (all : List (Option Precedence)) (below : ℕ → Option ℕ) (without : Option ℕ) (token : ℕ) → slice_get all token ≡ Some None → AreLevelled all below without → AreLevelled all below (Some token)
+levelled-without all below without token is h = record {
+  of_below = h.of_below;
+  of_without = λ other e.
+      let same : token ≡ other = same_Some token other e in
+      subst (λ (n : ℕ). slice_get all n ≡ Some None) same is;
+}
+
+-- none has a level
+pub levelled-none : (all : List (Option Precedence)) (below : BTreeMap ℕ ℕ) → IsEmpty below → AreLevelled all (get nat_cmp below) None
+levelled-none all below none = record {
+  of_below = λ before token e. none-at below before token none e;
+  of_without = λ token e. absurd (cc);
+}
+
 -- nothing was added
 pub adds_none : {old new : Numbering} → new ≡ old → AddsNumbers old new
 adds_none same = record {
   meaning = ap (λ (n : Numbering). n.meaning.now) same;
   contents = ap (λ (n : Numbering). n.contents.now) same;
   numbered = λ h. subst IsNumbered (sym same) h;
+  levelled = λ h. subst IsLevelled (sym same) h;
 }
 
 -- more is added, and then more
@@ -193,4 +227,5 @@ adds_again one other = record {
   meaning = other.meaning ∙ one.meaning;
   contents = other.contents ∙ one.contents;
   numbered = λ h. other.numbered (one.numbered h);
+  levelled = λ h. other.levelled (one.levelled h);
 }

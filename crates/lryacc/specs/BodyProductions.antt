@@ -8,6 +8,7 @@ use Rattle.lryacc.specs.declared.contents.BodyPart.{BodyPart}
 use Rattle.lryacc.specs.declared.contents.BodyPart.TheVariants as part
 use Rattle.lryacc.specs.declared.lexemes.Lexeme.{Lexeme}
 use Rattle.lryacc.specs.declared.productions.Productions.{Productions}
+use Rattle.lryacc.specs.BodyPrecedences.{IsPrecedence}
 use Rattle.lryacc.specs.NamedSymbols.{IsNamed, IsTextOf, Names, name_of}
 use Rattle.lryacc.specs.ProductionPlaces.{parts_before_last}
 
@@ -65,6 +66,7 @@ IsOfPart names (part.Action action name) symbol = IsOfAction names action symbol
 pub record IsEmptyProduction (names : Names) (action : Lexeme) (prod : PartProd) : Type 0 where
   pub rule : IsRuleOfAction names action prod.rule
   pub symbols : prod.symbols.items ≡ []
+  pub precedence : prod.precedence ≡ None
 
 -- the empty production of a part before the end of a body, if that is an action
 abbrev pub IsOfPartBefore : Names → BodyPart → List PartProd → Type 0
@@ -77,7 +79,7 @@ abbrev pub AreOfActions : Names → List BodyPart → List PartProd → Type 0
 AreOfActions names = AreMade (IsOfPartBefore names)
 
 -- the productions of a body: those of the actions before its last part, and then its own, which has the rule that stands before
--- the colon, and a symbol for each part
+-- the colon, a symbol for each part, and its precedence
 pub record AreOfBody (names : Names) (body : Alternative) (prods : List PartProd) : Type 0 where
   pub of_actions : List PartProd
   pub own : PartProd
@@ -85,6 +87,7 @@ pub record AreOfBody (names : Names) (body : Alternative) (prods : List PartProd
   pub actions : AreOfActions names (parts_before_last body) of_actions
   pub rule : IsNamed names body.rule (Rule own.rule)
   pub symbols : AreRelated (IsOfPart names) (symbol_parts body) own.symbols.items
+  pub precedence : IsPrecedence names body.precedence body.parts.items own.precedence
 
 -- the productions of bodies, in their order
 abbrev pub AreOfBodies : Names → List Alternative → List PartProd → Type 0
@@ -118,6 +121,7 @@ pub record IsMarked (names : Names) (start : Lexeme) (mark : Option ℕ) (prod :
   pub symbol : PartSymbol
   pub named : IsNamed names start symbol
   pub symbols : prod.symbols.items ≡ start_symbols_of symbol mark
+  pub precedence : prod.precedence ≡ None
 
 -- the production of a start rule, which may be the only one
 pub record IsOfStart (names : Names) (only : Bool) (start : Lexeme) (prod : PartProd)

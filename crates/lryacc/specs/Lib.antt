@@ -66,6 +66,8 @@ pub mod NamedSymbols
 pub mod EndTokens
 -- which lines symbols stand in
 pub mod LinesTaken
+-- which tokens bodies name for their precedences
+pub mod BodyPrecedences
 -- the productions of bodies
 pub mod BodyProductions
 -- the numbers of rules and tokens

@@ -228,6 +228,8 @@ pub record Names : Type 0 where
   pub line : ℕ → Option ℕ
   -- by token
   pub precedences : List (Option Precedence)
+  -- whether bodies without `%prec` have a precedence
+  pub has_default : Bool
 
 -- those of a file whose names have their meaning
 abbrev pub names_in : Meaning → Contents → FileGrammar → Names
@@ -245,6 +247,7 @@ names_in meaning contents file =
       lines = meaning.levels.items;
       line = line_of meaning;
       precedences = map (λ token. token.precedence) file.parts.tokens.items;
+      has_default = meaning.has_default_precedence;
     }
 
 -- a name whose bytes that are not ASCII, and its backslashes, are written by their numbers

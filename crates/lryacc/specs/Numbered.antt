@@ -1,8 +1,10 @@
 -- the rules and tokens that were numbered so far
-use Rattle.std.specs.Prelude.{◌≡◌, ℕ, length, Option, Some, codes, slice_get}
+use Rattle.std.specs.Prelude.{◌≡◌, ℕ, ◌+◌, ◌*◌, length, List, Option, None, Some, codes, slice_get}
 use Rattle.std.specs.BTreeMap.{get}
 use Rattle.std.specs.Ordering.{nat_cmp}
+use Rattle.lrgrammar.specs.declared.grammar.Precedence.{Precedence}
 use Rattle.lryacc.specs.declared.numbering.Numbering.{Numbering}
+use Rattle.lryacc.specs.BodyPrecedences.{HasLevel}
 use Rattle.lryacc.specs.BodyProductions.{IsActionRule}
 use Rattle.lryacc.specs.NamedSymbols.{IsRuleOf, IsTokenOf, Names, names_in}
 
@@ -26,8 +28,22 @@ IsNumbered numbering =
     AreNumbered (names_of numbering) (get nat_cmp numbering.rules) (get nat_cmp numbering.tokens)
     (get nat_cmp numbering.actions)
 
+-- the token below each line has its level, and the one without a level has none; lines go by how many begin before them
+pub record AreLevelled (precedences : List (Option Precedence)) (below : ℕ → Option ℕ)
+    (without : Option ℕ) : Type 0 where
+  pub of_below : (before token : ℕ) → below before ≡ Some token
+      → HasLevel precedences (before * 2 + 1) token
+  pub of_without : (token : ℕ) → without ≡ Some token → slice_get precedences token ≡ Some None
+
+-- the same of all that was numbered
+abbrev pub IsLevelled : Numbering → Type 0
+IsLevelled numbering =
+    AreLevelled (names_of numbering).precedences (get nat_cmp numbering.below)
+    numbering.without_level
+
 -- rules and tokens are added
 pub record AddsNumbers (old new : Numbering) : Type 0 where
   pub meaning : new.meaning.now ≡ old.meaning.now
   pub contents : new.contents.now ≡ old.contents.now
   pub numbered : IsNumbered old → IsNumbered new
+  pub levelled : IsLevelled old → IsLevelled new

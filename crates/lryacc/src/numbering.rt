@@ -1,15 +1,17 @@
 //! The parts of the grammar of a file, with their places.
 
-ghost use Rattle.std.specs.Prelude.{◌≡◌, ◌-◌, true, [], ◌∷◌, ◌++◌, Some, codes, map, flat_map, length, slice_get, string_bytes};
-ghost use Rattle.std.specs.Prelude.{IfOk, OnOk, IfSome, IsSomeAnd};
+ghost use Rattle.std.specs.Prelude.{◌≡◌, ◌+◌, ◌-◌, ◌*◌, true, [], ◌∷◌, ◌++◌, Some, codes, map, flat_map, length, slice_get, string_bytes};
+ghost use Rattle.std.specs.Prelude.{IfOk, OnOk, IfSome, IsSomeAnd, MatchOption, None};
 ghost use Rattle.lryacc.specs.Levels.{IsOfLines, group_of, line_of};
 ghost use Rattle.lryacc.specs.ProductionPlaces.{Adds, ArePlaced, IsPlaced, action_place, action_places, body_places};
 ghost use Rattle.lryacc.specs.ProductionPlaces.{file_places, parts_before_last, start_rules_of};
+ghost use Rattle.lryacc.specs.BodyPrecedences.{IsBelowOf, IsInNoPrecedenceLine, IsInPrecedenceLine, IsLastToken, IsLastWith};
+ghost use Rattle.lryacc.specs.BodyPrecedences.{IsPrecedence, IsPrecedenceBy, IsPrecedenceWithout, is_precedence};
 ghost use Rattle.lryacc.specs.BodyProductions.{AddsProduction, AddsProductions, AreOfActions, AreOfBodies, AreOfBody};
 ghost use Rattle.lryacc.specs.BodyProductions.{AreMarks, AreOfFile, AreRelated, IsEmptyProduction, IsMark, IsMarked, IsMarkName, IsOfPart, IsOfPartBefore, IsOfStart};
 ghost use Rattle.lryacc.specs.BodyProductions.{IsActionName, IsMarkOf, IsRuleOfAction, Keeps, is_one, start_symbols_of, symbol_parts};
 ghost use Rattle.lryacc.specs.NamedSymbols.{IsNamed, IsTokenText, NamesRule, name_of, names_in};
-ghost use Rattle.lryacc.specs.Numbered.{AddsNumbers, IsNumbered, names_of};
+ghost use Rattle.lryacc.specs.Numbered.{AddsNumbers, IsLevelled, IsNumbered, names_of};
 
 mod token_places;
 
@@ -142,10 +144,10 @@ struct Numbering<'m, 'a> {
     /// The numbers of rules and tokens, by the number of their symbol.
     rules: BTreeMap<usize, usize>,
     tokens: BTreeMap<usize, usize>,
-    /// The token that stands below those of a `%precedence` line, by the number of the line.
+    /// The token that stands below those of a `%precedence` line, by how many lines begin before that.
     below: BTreeMap<usize, usize>,
-    /// A token without a level.
-    without_level: usize,
+    /// A token without a level, where productions without `%prec` have no precedence.
+    without_level: Option<usize>,
     /// The rules that actions before the ends of bodies are, by where these begin.
     actions: BTreeMap<usize, usize>,
     /// The rules and tokens themselves, with no production.
@@ -189,6 +191,23 @@ fn kind_of(kind: LevelKind) -> AssocKind
         LevelKind::Right => AssocKind::Right,
         LevelKind::Nonassoc | LevelKind::Precedence => AssocKind::Nonassoc,
     }
+}
+
+/// Whether a line is one of `%precedence`.
+fn is_of_precedence(kind: LevelKind) -> bool
+    ensures { result ≡ is_precedence kind }
+{
+    match kind {
+        LevelKind::Precedence => true,
+        LevelKind::Left | LevelKind::Right | LevelKind::Nonassoc => false,
+    }
+}
+
+/// The level below that of the tokens of a line, before which so many lines begin.
+fn level_below(before: usize) -> Option<u64>
+    ensures { IfSome result (λ level. level ≡ before * 2 + 1) }
+{
+    (before as u64).checked_mul(2)?.checked_add(1)
 }
 
 /// Whether a symbol is a rule even where no colon stands behind it.
@@ -257,6 +276,7 @@ impl<'m, 'a> Numbering<'m, 'a> {
         ensures meaning { IfOk result (λ numbering. numbering.meaning.now ≡ meaning.now) }
         ensures contents { IfOk result (λ numbering. numbering.contents.now ≡ contents.now) }
         ensures numbered { IfOk result IsNumbered }
+        ensures levelled { IfOk result IsLevelled }
     {
         let mut grammar = FileGrammar::empty(alloc);
         let _ = grammar.add_rule(String::from_str(alloc, "$accept")?, nowhere())?;
@@ -266,7 +286,7 @@ impl<'m, 'a> Numbering<'m, 'a> {
             rules: BTreeMap::new(alloc),
             tokens: BTreeMap::new(alloc),
             below: BTreeMap::new(alloc),
-            without_level: UNDEFINED,
+            without_level: None,
             actions: BTreeMap::new(alloc),
             grammar,
         })
@@ -587,41 +607,62 @@ impl<'m, 'a> Numbering<'m, 'a> {
     {
         for at in 0..self.meaning.levels.len() {
             if matches!(self.meaning.levels.get(at), Some(LevelKind::Precedence)) {
-                self.add_token_below(at.saturating_add(1))?;
+                self.add_token_below(at)?;
             }
         }
         Ok(())
     }
 
-    /// Adds a token below those of a level.
+    /// Adds a token below those of a line, before which so many lines begin.
     #[tactic(auto, using(crate::proofs::Numbered::adds_again, crate::proofs::Numbered::adds_none))]
-    fn add_token_below(&mut self, level: usize) -> Result<(), AllocError>
+    fn add_token_below(&mut self, before: usize) -> Result<(), AllocError>
         ensures { OnOk result (AddsNumbers self.old self.new) }
     {
-        let name = format!(in self.allocator(); "%precedence {level}")?;
-        let precedence = Precedence {
-            level: (level as u64).saturating_mul(2).saturating_sub(1),
-            kind: AssocKind::Nonassoc,
+        let Some(level) = level_below(before) else {
+            return Ok(());
         };
-        let token = self.add_token(name, Some(precedence))?;
-        self.below.insert(level, token)?;
+        let number = before.saturating_add(1);
+        let name = format!(in self.allocator(); "%precedence {number}")?;
+        let kind = AssocKind::Nonassoc;
+        let token = self.add_token(name, Some(Precedence { level, kind }))?;
+        self.below.insert(before, token)?;
         Ok(())
     }
 
-    /// Adds a token without a level, where productions without `%prec` have no precedence, and the unknown token has a level.
+    /// Finds a token without a level, where productions without `%prec` have no precedence.
     #[tactic(auto, using(crate::proofs::Numbered::adds_again, crate::proofs::Numbered::adds_none))]
     fn add_without_level(&mut self) -> Result<(), AllocError>
         ensures { OnOk result (AddsNumbers self.old self.new) }
     {
-        let has_level = match self.grammar.parts.tokens.get(UNDEFINED) {
-            Some(token) => token.precedence.is_some(),
-            None => false,
-        };
-        if has_level && !self.meaning.has_default_precedence {
-            let name = String::from_str(self.allocator(), "%no-default-prec")?;
-            self.without_level = self.add_token(name, None)?;
+        if self.meaning.has_default_precedence {
+            return Ok(());
         }
+        self.without_level = Some(self.token_without_level()?);
         Ok(())
+    }
+
+    /// A token without a level: the unknown one, or one that is added where that has a level.
+    #[tactic(auto, using(crate::proofs::Numbered::adds_again, crate::proofs::Numbered::adds_none))]
+    fn token_without_level(&mut self) -> Result<usize, AllocError>
+        ensures added { OnOk result (AddsNumbers self.old self.new) }
+        ensures without { IfOk result (λ token.
+            slice_get (names_of self.new).precedences token ≡ Some None) }
+    {
+        if self.is_without_level(UNDEFINED) {
+            return Ok(UNDEFINED);
+        }
+        let name = String::from_str(self.allocator(), "%no-default-prec")?;
+        self.add_token(name, None)
+    }
+
+    /// Whether a token has no level.
+    fn is_without_level(&self, number: usize) -> bool
+        ensures { result ≡ true → slice_get (names_of self.now).precedences number ≡ Some None }
+    {
+        match self.grammar.parts.tokens.get(number) {
+            Some(token) => token.precedence.is_none(),
+            None => false,
+        }
     }
 
     /// The token of that name.
@@ -688,6 +729,17 @@ impl<'m, 'a> Numbering<'m, 'a> {
             return Some(PartSymbol::Token(0));
         }
         Some(PartSymbol::Token(*self.tokens.get(&number)?))
+    }
+
+    /// The token that a lexeme names.
+    fn token(&self, lexeme: Lexeme) -> Option<usize>
+        ensures { IsNumbered self.now → IfSome result (λ token.
+            IsNamed (names_of self.now) lexeme (PartSymbol.Token token)) }
+    {
+        match self.symbol(lexeme) {
+            Some(PartSymbol::Token(token)) => Some(token),
+            _ => None,
+        }
     }
 
     /// The rule before a colon.
@@ -792,39 +844,109 @@ impl<'m, 'a> Numbering<'m, 'a> {
         Ok(body)
     }
 
-    /// The last token of a body.
-    fn last_token(&self, alternative: &Alternative) -> Option<Lexeme> {
-        for part in alternative.parts.iter().rev() {
-            if let BodyPart::Symbol(lexeme) = part {
-                if let Some(PartSymbol::Token(_)) = self.symbol(*lexeme) {
-                    return Some(*lexeme);
-                }
-            }
+    /// The lexeme of the last token of a body.
+    fn last_token(&self, alternative: &Alternative) -> Result<Option<Lexeme>, NoProductions>
+        requires { IsNumbered self.now }
+        ensures { IfOk result (IsLastToken (names_of self.now) alternative.now.parts.items) }
+    {
+        let mut last = None;
+        for part in &alternative.parts {
+            last = self.token_or(*part, last)?;
         }
-        None
+        Ok(last)
     }
 
-    /// The token below the `%precedence` line in which a token stands.
-    fn below_of(&self, token: Lexeme) -> Option<usize> {
-        let number = self.meaning.find(token)?;
-        self.below.get(&self.level(number)?).copied()
-    }
-
-    /// The token that the production of a body names for its precedence, where that is not simply its last one. Where it
-    /// would have that of a `%precedence` line, it names the token below.
-    fn named_precedence(&self, alternative: &Alternative) -> Option<usize> {
-        let Some(token) = alternative.precedence else {
-            if !self.meaning.has_default_precedence {
-                return Some(self.without_level);
-            }
-            return self.below_of(self.last_token(alternative)?);
+    /// The lexeme of a part, if that is a token, and else that of the last token before it.
+    fn token_or(
+        &self,
+        part: BodyPart,
+        last: Option<Lexeme>,
+    ) -> Result<Option<Lexeme>, NoProductions>
+        requires { IsNumbered self.now }
+        ensures { IfOk result (IsLastWith (names_of self.now) part last) }
+    {
+        let BodyPart::Symbol(lexeme) = part else {
+            return Ok(last);
         };
-        match self.below_of(token) {
-            Some(below) => Some(below),
-            None => match self.symbol(token) {
-                Some(PartSymbol::Token(token)) => Some(token),
-                _ => None,
-            },
+        match self.symbol(lexeme) {
+            Some(PartSymbol::Token(_)) => Ok(Some(lexeme)),
+            Some(PartSymbol::Rule(_)) => Ok(last),
+            None => Err(NoProductions::Undefined(lexeme.span)),
+        }
+    }
+
+    /// How many lines begin before the `%precedence` line in which a symbol stands; None where it stands in no such line.
+    fn lines_before(&self, symbol: Lexeme) -> Option<usize>
+        ensures { MatchOption result (IsInNoPrecedenceLine (names_of self.now) symbol)
+            (IsInPrecedenceLine (names_of self.now) symbol) }
+    {
+        let number = self.meaning.find(symbol)?;
+        let line = self.level(number)?;
+        let before = line.checked_sub(1)?;
+        let kind = self.meaning.levels.get(before).copied()?;
+        if is_of_precedence(kind) {
+            Some(before)
+        } else {
+            None
+        }
+    }
+
+    /// The token below the `%precedence` line in which a symbol stands; None where it stands in no such line.
+    fn below_of(&self, symbol: Lexeme) -> Result<Option<usize>, NoProductions>
+        requires { IsLevelled self.now }
+        ensures { IfOk result (IsBelowOf (names_of self.now) symbol) }
+    {
+        let Some(before) = self.lines_before(symbol) else {
+            return Ok(None);
+        };
+        match self.below.get(&before) {
+            Some(token) => Ok(Some(*token)),
+            None => Err(NoProductions::Undefined(symbol.span)),
+        }
+    }
+
+    /// The token that a body names by `%prec`. Where that is of a `%precedence` line, it is the one below.
+    fn precedence_by(&self, name: Lexeme) -> Result<usize, NoProductions>
+        requires numbered { IsNumbered self.now }
+        requires levelled { IsLevelled self.now }
+        ensures { IfOk result (IsPrecedenceBy (names_of self.now) name) }
+    {
+        match (self.below_of(name)?, self.token(name)) {
+            (Some(below), _) => Ok(below),
+            (None, Some(token)) => Ok(token),
+            (None, None) => Err(NoProductions::Undefined(name.span)),
+        }
+    }
+
+    /// The token that a body without `%prec` names for its precedence, where that is not simply its last one.
+    fn precedence_without(&self, alternative: &Alternative) -> Result<Option<usize>, NoProductions>
+        requires numbered { IsNumbered self.now }
+        requires levelled { IsLevelled self.now }
+        ensures { IfOk result (IsPrecedenceWithout (names_of self.now)
+            alternative.now.parts.items) }
+    {
+        if self.meaning.has_default_precedence {
+            return match self.last_token(alternative)? {
+                Some(last) => Ok(self.below_of(last)?),
+                None => Ok(None),
+            };
+        }
+        match self.without_level {
+            Some(token) => Ok(Some(token)),
+            None => Err(NoProductions::Undefined(alternative.span)),
+        }
+    }
+
+    /// The token that the production of a body names for its precedence, where that is not simply its last one.
+    fn named_precedence(&self, alternative: &Alternative) -> Result<Option<usize>, NoProductions>
+        requires numbered { IsNumbered self.now }
+        requires levelled { IsLevelled self.now }
+        ensures { IfOk result (IsPrecedence (names_of self.now) alternative.now.precedence
+            alternative.now.parts.items) }
+    {
+        match alternative.precedence {
+            Some(name) => Ok(Some(self.precedence_by(name)?)),
+            None => self.precedence_without(alternative),
         }
     }
 
@@ -834,7 +956,8 @@ impl<'m, 'a> Numbering<'m, 'a> {
         productions: &mut Productions,
         alternative: &Alternative,
     ) -> Result<(), NoProductions>
-        requires { IsNumbered self.now }
+        requires numbered { IsNumbered self.now }
+        requires levelled { IsLevelled self.now }
         ensures places { OnOk result (Adds productions.old productions.new
             (body_places alternative.now)) }
         ensures added { OnOk result (AddsProductions productions.old productions.new
@@ -845,7 +968,7 @@ impl<'m, 'a> Numbering<'m, 'a> {
         let prod = PartProd {
             rule: self.rule_of(alternative.rule)?,
             symbols,
-            precedence: self.named_precedence(alternative),
+            precedence: self.named_precedence(alternative)?,
         };
         productions.add(prod, alternative.span, places)?;
         Ok(())
@@ -857,7 +980,8 @@ impl<'m, 'a> Numbering<'m, 'a> {
         productions: &mut Productions,
         alternatives: &[Alternative],
     ) -> Result<(), NoProductions>
-        requires { IsNumbered self.now }
+        requires numbered { IsNumbered self.now }
+        requires levelled { IsLevelled self.now }
         ensures places { OnOk result (Adds productions.old productions.new
             (flat_map body_places alternatives.now)) }
         ensures added { OnOk result (AddsProductions productions.old productions.new
@@ -922,6 +1046,7 @@ impl<'m, 'a> Numbering<'m, 'a> {
         alternatives: &[Alternative],
     ) -> Result<Productions, NoProductions>
         requires numbered { IsNumbered self.now }
+        requires levelled { IsLevelled self.now }
         requires marks { AreMarks (names_of self.now) (is_one starts.now) starts.now marks.now }
         ensures productions { IfOk result (λ all. AreOfFile (names_of self.now) starts.now
             alternatives.now all.prods.items) }

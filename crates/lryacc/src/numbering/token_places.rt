@@ -112,14 +112,6 @@ impl<'m, 'a> Numbering<'m, 'a> {
         Ok(places)
     }
 
-    /// The token that a lexeme names.
-    fn token(&self, lexeme: Lexeme) -> Option<usize> {
-        match self.symbol(lexeme) {
-            Some(PartSymbol::Token(token)) => Some(token),
-            _ => None,
-        }
-    }
-
     /// Adds where declarations have tokens. For grmtools, tokens of bodies are no declarations, and those stand before the rules.
     fn add_declared(
         &self,

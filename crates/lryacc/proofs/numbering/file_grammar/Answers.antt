@@ -12,6 +12,9 @@ use Rattle.lryacc.proofs.numbering.file_grammar.Goals as goal
 pub productions-requires-clause-numbered : goal.productions-requires-clause-numbered
 productions-requires-clause-numbered c = c.in_ok-marks.ensures.added.numbered c.in_ok-numbering.ensures.numbered
 
+pub productions-requires-clause-levelled : goal.productions-requires-clause-levelled
+productions-requires-clause-levelled c = c.in_ok-marks.ensures.added.levelled c.in_ok-numbering.ensures.levelled
+
 pub returns-clause-productions : goal.returns-clause-productions
 returns-clause-productions c =
     let now = c.add_symbols.new.self in

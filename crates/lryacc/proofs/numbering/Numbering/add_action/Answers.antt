@@ -1,11 +1,13 @@
-use Rattle.std.proofs.Common.{◌≡◌, ◌∙◌, ap, refl, arith, length, map, slice_get, string_bytes}
+use Rattle.std.proofs.Common.{◌≡◌, ◌∙◌, ap, refl, subst, sym, arith, length, map, slice_get, string_bytes}
+use Rattle.std.specs.BTreeMap.{get}
+use Rattle.std.specs.Ordering.{nat_cmp}
 use Rattle.std.specs.declared.alloc.Global.{Global}
 use Rattle.std.specs.declared.string.String.{String}
 use Rattle.std.specs.declared.vec.Vec.{Vec}
 use Rattle.std.proofs.lemmas.List.{length-map}
 use Rattle.lrgrammar.specs.declared.grammar.PartToken.{PartToken}
 use Rattle.lryacc.specs.declared.places.Span.{Span}
-use Rattle.lryacc.specs.Numbered.{names_of}
+use Rattle.lryacc.specs.Numbered.{AreLevelled, names_of}
 use Rattle.lryacc.proofs.Numbered.{lengths-more, numbered-action, numbered-more, map-added, map-more, with_more}
 use Rattle.lryacc.proofs.numbering.Numbering.add_action.Goals as goal
 
@@ -42,4 +44,7 @@ returns c =
           (map-more start old.rule_places.items new.rule_places.items c.args.action.span added.places)
           (lengths-more start rule_name old.rule_places.items new.rule_places.items old.parts.rules.items new.parts.rules.items c.args.action.span c.in_ok-name.name added.places added.rules)
           h);
+      levelled = λ h.
+          subst (λ (ts : Vec PartToken Global). AreLevelled (map (λ (token : PartToken). token.precedence) ts.items) (get nat_cmp c.args.self.now.below) c.args.self.now.without_level)
+          (sym added.tokens) h;
     }

@@ -8,7 +8,7 @@ returns-clause-added c =
     let own : PartProd = record {
       rule = c.in_ok-rule_of.field-0;
       symbols = c.in_ok-symbols.field-0.symbols;
-      precedence = c.named_precedence.result;
+      precedence = c.in_ok-named_precedence.field-0;
     } in
     let empty = c.in_ok-add_empty_productions.ensures.added in
     record {
@@ -24,5 +24,6 @@ returns-clause-added c =
         actions = empty.are;
         rule = c.in_ok-rule_of.ensures;
         symbols = c.in_ok-symbols.ensures;
+        precedence = c.in_ok-named_precedence.ensures;
       };
     }

@@ -20,4 +20,5 @@ returns c =
             is = inr (c.in_ok-token.ensures.number ∙ ap Some c.in_ok-name.ensures.ok);
           })
           (added.numbered h);
+      levelled = added.levelled;
     }

@@ -1,11 +1,13 @@
 use Rattle.std.proofs.Common.{◌∙◌, ◌<◌, arith, ap, sym, refl, subst, map, List, ℕ, slice_get, string_bytes}
+use Rattle.std.specs.BTreeMap.{get}
+use Rattle.std.specs.Ordering.{nat_cmp}
 use Rattle.std.specs.declared.alloc.Global.{Global}
 use Rattle.std.specs.declared.string.String.{String}
 use Rattle.std.specs.declared.vec.Vec.{Vec}
 use Rattle.lrgrammar.specs.declared.grammar.PartToken.{PartToken}
 use Rattle.lryacc.specs.declared.places.Span.{Span}
 use Rattle.lryacc.specs.NamedSymbols.{IsTextOf}
-use Rattle.lryacc.specs.Numbered.{names_of}
+use Rattle.lryacc.specs.Numbered.{AreLevelled, names_of}
 use Rattle.std.proofs.lemmas.List.{length-map}
 use Rattle.lryacc.proofs.Numbered.{some-first, lengths-more, numbered-rule, numbered-more, map-added, map-more, with_more}
 use Rattle.lryacc.proofs.numbering.Numbering.add_rule_of.Goals as goal
@@ -44,4 +46,7 @@ returns c =
           (map-more start old.rule_places.items new.rule_places.items c.args.place added.places)
           (lengths-more start rule_name old.rule_places.items new.rule_places.items old.parts.rules.items new.parts.rules.items c.args.place c.in_ok-text.text added.places added.rules)
           h);
+      levelled = λ h.
+          subst (λ (ts : Vec PartToken Global). AreLevelled (map (λ (token : PartToken). token.precedence) ts.items) (get nat_cmp c.args.self.now.below) c.args.self.now.without_level)
+          (sym added.tokens) h;
     }

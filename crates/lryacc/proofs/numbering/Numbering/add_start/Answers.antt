@@ -10,5 +10,6 @@ returns-clause-added c = record {
     symbol = c.in_ok-symbol.symbol;
     named = c.in_ok-symbol.ensures;
     symbols = c.in_ok-symbols.ensures;
+    precedence = refl;
   };
 }

@@ -32,4 +32,5 @@ returns c =
             };
           })
           (added.numbered h);
+      levelled = added.levelled;
     }

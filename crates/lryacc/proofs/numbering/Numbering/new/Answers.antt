@@ -2,7 +2,7 @@ use Rattle.std.proofs.Common.{◌≡◌, ◌∙◌, ◌++◌, ◌∷◌, [], ap,
 use Rattle.std.specs.declared.alloc.Global.{Global}
 use Rattle.std.specs.declared.string.String.{String}
 use Rattle.lryacc.specs.declared.places.Span.{Span}
-use Rattle.lryacc.proofs.Numbered.{numbered-none}
+use Rattle.lryacc.proofs.Numbered.{levelled-none, numbered-none}
 use Rattle.lryacc.proofs.numbering.Numbering.new.Goals as goal
 
 pub returns-clause-numbered : goal.returns-clause-numbered
@@ -17,3 +17,6 @@ returns-clause-numbered c =
     let many = ap (λ (spans : List Span). length (map start spans)) places ∙ sym (ap (λ (names : List (String Global)). length (map name names)) rules) in
     let first = ap (λ (names : List (String Global)). slice_get (map name names) 0) rules ∙ ap Some c.in_ok-from_str.ensures.ok in
     numbered-none _ c.new.result c.new-2.result c.new-4.result c.new.ensures.empty c.new-2.ensures.empty c.new-4.ensures.empty many first
+
+pub returns-clause-levelled : goal.returns-clause-levelled
+returns-clause-levelled c = levelled-none _ c.new-3.result c.new-3.ensures.empty
