@@ -20,6 +20,7 @@ use Rattle.lryacc.proofs.NamesOfOne.{kept-again, names-turned, number-kept, numb
 -- lines are kept, and then again
 pub lines-again : {old now new : Meaning} → KeepsLines old now → KeepsLines now new → KeepsLines old new
 lines-again one other = record {
+  has_default = other.has_default ∙ one.has_default;
   levels = other.levels ∙ one.levels;
   lines = other.lines ∙ one.lines;
 }

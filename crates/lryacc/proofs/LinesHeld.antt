@@ -16,7 +16,7 @@ use Rattle.lryacc.specs.declared.lexemes.Lexeme.{Lexeme}
 use Rattle.lryacc.specs.declared.meaning.Meaning.{Meaning}
 use Rattle.lryacc.specs.declared.places.Span.{Span}
 use Rattle.lryacc.specs.EndTokens.{KeepsLines}
-use Rattle.lryacc.specs.Levels.{IsInLine, levels_of, line_of, own_line}
+use Rattle.lryacc.specs.Levels.{IsInLine, has_default_after, levels_of, line_of, own_line}
 use Rattle.lryacc.specs.LinesTaken.{BeginsLine, StandsInLine, HasLines, PutsInLine, TakesLines}
 use Rattle.lryacc.specs.NamedSymbols.{ArePartnered, KeepsNames, earlier, first_name, number_of, partner_in, symbol_number}
 use Rattle.lryacc.proofs.NamesOfOne.{names-turned, number-kept}
@@ -26,6 +26,12 @@ levels-append : (xs ys : List Statement) → levels_of (xs ++ ys) ≡ levels_of 
 levels-append [] ys = refl
 levels-append (says.Level kind directive ∷ xs) ys = ap (λ (ks : List LevelKind). kind ∷ ks) (levels-append xs ys)
 levels-append (_ ∷ xs) ys = levels-append xs ys
+
+-- what declarations say of bodies without `%prec`, and then others
+default-append : (before : Bool) (xs ys : List Statement) → has_default_after before (xs ++ ys) ≡ has_default_after (has_default_after before xs) ys
+default-append before [] ys = refl
+default-append before (says.DefaultPrecedence is_on ∷ xs) ys = default-append is_on xs ys
+default-append before (_ ∷ xs) ys = default-append before xs ys
 
 -- the same lines are those of the same symbols
 own-same : (old new : Meaning) → new.lines ≡ old.lines → (number : ℕ) → own_line new number ≡ own_line old number
@@ -42,7 +48,7 @@ longer some last old new keeps number line h = record {
   line_is = h.line_is;
 }
 
--- whether a declaration begins a line, and whether it puts a symbol into one
+-- whether a declaration begins a line, whether it puts a symbol into one, and whether it decides of bodies without `%prec`
 abbrev pub begins : Statement → Bool
 begins (says.Level kind directive) = true
 begins _ = false
@@ -50,6 +56,18 @@ begins _ = false
 abbrev pub puts : Statement → Bool
 puts (says.InLevel symbol) = true
 puts _ = false
+
+abbrev pub decides : Statement → Bool
+decides (says.DefaultPrecedence is_on) = true
+decides _ = false
+
+no-default : (before : Bool) (statement : Statement) → decides statement ≡ false → has_default_after before (statement ∷ []) ≡ before
+no-default before (says.DefaultPrecedence is_on) other = absurd (false≢true (sym other))
+no-default before _ other = refl
+
+default-other : (so_far : List Statement) (statement : Statement) → decides statement ≡ false → has_default_after true so_far ≡ has_default_after true (so_far ++ statement ∷ [])
+default-other so_far statement other =
+    sym (default-append true so_far (statement ∷ []) ∙ no-default (has_default_after true so_far) statement other)
 
 no-level : (statement : Statement) → begins statement ≡ false → levels_of (statement ∷ []) ≡ []
 no-level (says.Level kind directive) other = absurd (false≢true (sym other))
@@ -69,14 +87,28 @@ some-other so_far statement old new other keeps first h number symbol is named =
 ]
 
 -- a declaration that says nothing of lines
-pub takes_no_line : (statement : Statement) {old new : Meaning} → begins statement ≡ false → puts statement ≡ false → KeepsNames old.symbols new.symbols → KeepsLines old new → TakesLines (statement ∷ []) old new
-takes_no_line statement {old} {new} no_level no_symbol keeps lines =
+pub takes_no_line : (statement : Statement) {old new : Meaning} → begins statement ≡ false → puts statement ≡ false → decides statement ≡ false → KeepsNames old.symbols new.symbols → KeepsLines old new → TakesLines (statement ∷ []) old new
+takes_no_line statement {old} {new} no_level no_symbol no_decision keeps lines =
     let own = own-same old new lines.lines in
     record {
       lines = λ so_far h. record {
         levels = ap (λ levels. levels.items) lines.levels ∙ h.levels ∙ levels-other so_far statement no_level;
+        has_default = lines.has_default ∙ h.has_default ∙ default-other so_far statement no_decision;
         given = λ number line e. longer so_far statement old new keeps number line (h.given number line (sym (own number) ∙ e));
         some = some-other so_far statement old new no_symbol keeps (λ number line e. own number ∙ e) h;
+      };
+    }
+
+-- one that decides of bodies without `%prec`
+pub takes_default : (is_on : Bool) {old new : Meaning} → KeepsNames old.symbols new.symbols → new.levels ≡ old.levels → new.lines ≡ old.lines → new.has_default_precedence ≡ is_on → TakesLines (says.DefaultPrecedence is_on ∷ []) old new
+takes_default is_on {old} {new} keeps levels lines decided =
+    let own = own-same old new lines in
+    record {
+      lines = λ so_far h. record {
+        levels = ap (λ levels. levels.items) levels ∙ h.levels ∙ levels-other so_far (says.DefaultPrecedence is_on) refl;
+        has_default = decided ∙ sym (default-append true so_far (says.DefaultPrecedence is_on ∷ []));
+        given = λ number line e. longer so_far (says.DefaultPrecedence is_on) old new keeps number line (h.given number line (sym (own number) ∙ e));
+        some = some-other so_far (says.DefaultPrecedence is_on) old new refl keeps (λ number line e. own number ∙ e) h;
       };
     }
 
@@ -87,6 +119,7 @@ takes_level kind directive {old} {new} keeps begun =
     record {
       lines = λ so_far h. record {
         levels = begun.levels ∙ ap (λ (ks : List LevelKind). ks ++ kind ∷ []) h.levels ∙ sym (levels-append so_far (says.Level kind directive ∷ []));
+        has_default = begun.has_default ∙ h.has_default ∙ default-other so_far (says.Level kind directive) refl;
         given = λ number line e. longer so_far (says.Level kind directive) old new keeps number line (h.given number line (sym (own number) ∙ e));
         some = some-other so_far (says.Level kind directive) old new refl keeps (λ number line e. own number ∙ e) h;
       };
@@ -97,6 +130,7 @@ pub takes_in_line : (lexeme : Lexeme) {old new : Meaning} → KeepsNames old.sym
 takes_in_line lexeme {old} {new} keeps here = record {
   lines = λ so_far h. record {
     levels = ap (λ levels. levels.items) here.levels ∙ h.levels ∙ levels-other so_far (says.InLevel lexeme) refl;
+    has_default = here.has_default ∙ h.has_default ∙ default-other so_far (says.InLevel lexeme) refl;
     given = λ number line e. elim (here.given number line e) [
       | inl o ↦ longer so_far (says.InLevel lexeme) old new keeps number line (h.given number line o)
       | inr k ↦ record {
@@ -138,6 +172,7 @@ lines-kept statements old new keeps lines h =
     let own = own-same old new lines.lines in
     record {
       levels = ap (λ levels. levels.items) lines.levels ∙ h.levels;
+      has_default = lines.has_default ∙ h.has_default;
       given = λ number line e.
           let was = h.given number line (sym (own number) ∙ e) in
           record { before = was.before; symbol = was.symbol; behind = was.behind; is = was.is; same = number-kept old.symbols new.symbols keeps was.symbol number was.same; line_is = was.line_is };
@@ -153,11 +188,12 @@ takes_lines_rest statements {old} {now} {new} takes keeps lines = record {
 }
 
 -- at first no line is there
-pub no-lines : (meaning : Meaning) → meaning.levels.items ≡ [] → IsEmpty meaning.lines → HasLines [] meaning
-no-lines meaning none empty =
+pub no-lines : (meaning : Meaning) → meaning.levels.items ≡ [] → IsEmpty meaning.lines → meaning.has_default_precedence ≡ true → HasLines [] meaning
+no-lines meaning none empty has_default =
     let own : (number : ℕ) → own_line meaning number ≡ None = λ number. ap (λ found. option_map (λ (place : ℕ × Span). place.0) found) (ap (lookup (is_at (nat_cmp number))) empty) in
     record {
       levels = none;
+      has_default = has_default;
       given = λ number line e. let no : None ≡ Some line = sym (own number) ∙ e in absurd (cc);
       some = λ number symbol is named. let no : is.0 < 0 = is.1 in absurd (omega arith);
     }
@@ -170,6 +206,7 @@ puts_again lexeme old new number line lines named is =
     let own = own-same old new lines.lines in
     record {
       levels = lines.levels;
+      has_default = lines.has_default;
       given = λ n l e. inl (sym (own n) ∙ e);
       some = λ n e.
           let same : number ≡ n = same_Some number n (sym named ∙ e) in

@@ -73,8 +73,9 @@ pub record KeepsEnd (old new : Meaning) : Type 0 where
   pub end : new.end ≡ old.end
   pub faults : vec_len old.faults ≤ vec_len new.faults
 
--- precedence lines are the same, and so is which symbols stand in them
+-- precedence lines are the same, and so is which symbols stand in them, and whether bodies without `%prec` have a precedence
 pub record KeepsLines (old new : Meaning) : Type 0 where
+  pub has_default : new.has_default_precedence ≡ old.has_default_precedence
   pub levels : new.levels ≡ old.levels
   pub lines : new.lines ≡ old.lines
 

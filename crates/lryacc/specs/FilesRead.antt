@@ -1,5 +1,5 @@
 -- what the grammar of a file comes from
-use Rattle.std.specs.Prelude.{◌≡◌, ℕ, ◌<◌, ◌⊎◌, List, [], Some, Contains, codes, map, length, slice_get, string_bytes}
+use Rattle.std.specs.Prelude.{◌≡◌, ℕ, ◌<◌, ◌⊎◌, true, List, [], Some, Contains, codes, map, length, slice_get, string_bytes}
 use Rattle.lryacc.specs.declared.contents.Alternative.{Alternative}
 use Rattle.lryacc.specs.declared.contents.Statement.{Statement}
 use Rattle.lryacc.specs.declared.contents.Statement.TheVariants as says
@@ -17,13 +17,13 @@ use Rattle.lryacc.specs.BodyProductions.{AreOfFile}
 use Rattle.lryacc.specs.EndTokens.{HasEnd}
 use Rattle.lryacc.specs.Headers.{HoldsHeader}
 use Rattle.lryacc.specs.KeptProductions.{IsWithout}
-use Rattle.lryacc.specs.Levels.{IsInLine, levels_of}
+use Rattle.lryacc.specs.Levels.{IsInLine, has_default_after, levels_of}
 use Rattle.lryacc.specs.NamedSymbols.{NameOne, Names}
 use Rattle.lryacc.specs.ProductionPlaces.{file_places, start_rules_of}
 
 -- the names of a file of this text and dialect, with these declarations and bodies, and of the rules, of which the first is
 -- `$accept`, and the tokens of a grammar of it: lexemes of one number name one symbol, the end token is what declarations
--- say, and so are the precedence lines of symbols
+-- say, and so are the precedence lines of symbols, and whether bodies without `%prec` have a precedence
 pub record AreNamesOf (text : List ℕ) (dialect : Dialect) (statements : List Statement)
     (bodies : List Alternative) (file : FileGrammar) (names : Names) : Type 0 where
   pub text_is : names.text ≡ text
@@ -37,6 +37,7 @@ pub record AreNamesOf (text : List ℕ) (dialect : Dialect) (statements : List S
   pub precedences : names.precedences ≡ map (λ token. token.precedence) file.parts.tokens.items
   pub end : HasEnd names
   pub lines : names.lines ≡ levels_of statements
+  pub has_default : names.has_default ≡ has_default_after true statements
   pub in_line : (lexeme : Lexeme) (number line : ℕ) → names.number lexeme ≡ Some number
       → names.line number ≡ Some line → IsInLine statements names.number number line
   pub has_line : (lexeme : Lexeme) (number : ℕ) → Contains statements (says.InLevel lexeme)

@@ -1,5 +1,5 @@
 -- the precedence lines of a file, and the precedences of its tokens
-use Rattle.std.specs.Prelude.{◌≡◌, ℕ, ◌-◌, ◌*◌, List, [], ◌∷◌, ◌++◌, Option, IfSome, None, Some, length, slice_get}
+use Rattle.std.specs.Prelude.{◌≡◌, ℕ, ◌-◌, ◌*◌, Bool, List, [], ◌∷◌, ◌++◌, Option, IfSome, None, Some, length, slice_get}
 use Rattle.std.specs.BTreeMap.{get}
 use Rattle.std.specs.Option.{option_map, option_and_then, option_or}
 use Rattle.std.specs.Ordering.{nat_cmp}
@@ -28,6 +28,14 @@ abbrev pub levels_of : List Statement → List LevelKind
 levels_of [] = []
 levels_of (says.Level kind directive ∷ statements) = kind ∷ levels_of statements
 levels_of (_ ∷ statements) = levels_of statements
+
+-- whether bodies without `%prec` have a precedence behind some declarations, if they had one before these: the last one that says
+-- so decides
+abbrev pub has_default_after : Bool → List Statement → Bool
+has_default_after before [] = before
+has_default_after before (says.DefaultPrecedence is_on ∷ statements) =
+    has_default_after is_on statements
+has_default_after before (_ ∷ statements) = has_default_after before statements
 
 -- a declaration puts the symbol of that number into a precedence line, the last one that begins before it
 pub record IsInLine (statements : List Statement) (number_of : Lexeme → Option ℕ)

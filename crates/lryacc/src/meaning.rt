@@ -83,6 +83,7 @@ impl<'a> Meaning<'a> {
         ensures end { IfOk result (λ meaning. meaning.end ≡ None) }
         ensures levels { IfOk result (λ meaning. meaning.levels.items ≡ []) }
         ensures lines { IfOk result (λ meaning. IsEmpty meaning.lines) }
+        ensures has_default { IfOk result (λ meaning. meaning.has_default_precedence ≡ true) }
     {
         let symbols = Symbols::of(alloc, text, dialect, contents)?;
         Ok(Meaning {

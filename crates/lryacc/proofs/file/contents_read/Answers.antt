@@ -15,4 +15,4 @@ grammar_read-requires-clause-partnered c =
 pub grammar_read-requires-clause-lines : goal.grammar_read-requires-clause-lines
 grammar_read-requires-clause-lines c =
     let new = c.in_ok-meaning.ensures in
-    c.in_ok-take.ensures.lines.lines [] (no-lines c.in_ok-meaning.meaning new.levels new.lines)
+    c.in_ok-take.ensures.lines.lines [] (no-lines c.in_ok-meaning.meaning new.levels new.lines new.has_default)

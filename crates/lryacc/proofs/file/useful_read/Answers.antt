@@ -41,6 +41,7 @@ returns-clause-bodies c =
           precedences = refl;
           end = has-end c.args.meaning.now c.args.contents.now c.args.whole c.requires.faults c.requires.end;
           lines = c.requires.lines.levels;
+          has_default = c.requires.lines.has_default;
           in_line = in-line c.args.contents.now.statements.items c.args.meaning.now c.requires.partnered c.requires.lines;
           has_line = has-line c.args.contents.now.statements.items c.args.meaning.now c.requires.partnered c.requires.lines;
           one = λ lexeme other number e d. named-in c.args.text.now c.args.dialect c.args.contents.now.statements.items c.args.meaning.now.symbols c.requires.text c.requires.dialect c.requires.apart c.requires.partnered lexeme other number e d;

@@ -1,7 +1,8 @@
 use Rattle.std.proofs.Common.{◌≡◌, [], ◌∷◌, ap, false, inl, inr, refl, subst, sym}
 use Rattle.lryacc.specs.declared.contents.Statement.{Statement}
+use Rattle.lryacc.specs.declared.meaning.Meaning.{Meaning}
 use Rattle.lryacc.specs.LinesTaken.{TakesLines}
-use Rattle.lryacc.proofs.LinesHeld.{begins, puts, takes_in_line, takes_level, takes_no_line}
+use Rattle.lryacc.proofs.LinesHeld.{begins, decides, puts, takes_default, takes_in_line, takes_level, takes_no_line}
 use Rattle.lryacc.proofs.EndsTaken.{is_code, takes_no_end}
 use Rattle.lryacc.proofs.NamesOfOne.{ok-both, ok-then, takes_other}
 use Rattle.lryacc.proofs.meaning.Meaning.take_statement.Goals as goal
@@ -74,40 +75,40 @@ returns-in_ok-self-in-ExpectReduceReduce-clause-end c =
     takes_no_end _ (ap is_code c.in-ExpectReduceReduce.is) keeps.end keeps.faults
 
 pub returns-in-Token-clause-lines : goal.returns-in-Token-clause-lines
-returns-in-Token-clause-lines c = ok-then c.take_token.result (λ keeps. takes_no_line _ (ap begins c.in-Token.is) (ap puts c.in-Token.is) keeps.symbols.names keeps.lines) c.take_token.ensures
+returns-in-Token-clause-lines c = ok-then c.take_token.result (λ keeps. takes_no_line _ (ap begins c.in-Token.is) (ap puts c.in-Token.is) (ap decides c.in-Token.is) keeps.symbols.names keeps.lines) c.take_token.ensures
 
 pub returns-in-Rule-clause-lines : goal.returns-in-Rule-clause-lines
-returns-in-Rule-clause-lines c = ok-then c.take_rule_name.result (λ keeps. takes_no_line _ (ap begins c.in-Rule.is) (ap puts c.in-Rule.is) keeps.symbols.names keeps.lines) c.take_rule_name.ensures
+returns-in-Rule-clause-lines c = ok-then c.take_rule_name.result (λ keeps. takes_no_line _ (ap begins c.in-Rule.is) (ap puts c.in-Rule.is) (ap decides c.in-Rule.is) keeps.symbols.names keeps.lines) c.take_rule_name.ensures
 
 pub returns-in-Tagged-clause-lines : goal.returns-in-Tagged-clause-lines
-returns-in-Tagged-clause-lines c = ok-then c.take_tag.result (λ keeps. takes_no_line _ (ap begins c.in-Tagged.is) (ap puts c.in-Tagged.is) keeps.symbols.names keeps.lines) c.take_tag.ensures
+returns-in-Tagged-clause-lines c = ok-then c.take_tag.result (λ keeps. takes_no_line _ (ap begins c.in-Tagged.is) (ap puts c.in-Tagged.is) (ap decides c.in-Tagged.is) keeps.symbols.names keeps.lines) c.take_tag.ensures
 
 pub returns-in-LeftSide-clause-lines : goal.returns-in-LeftSide-clause-lines
-returns-in-LeftSide-clause-lines c = ok-then c.take_class.result (λ keeps. takes_no_line _ (ap begins c.in-LeftSide.is) (ap puts c.in-LeftSide.is) keeps.symbols.names keeps.lines) c.take_class.ensures
+returns-in-LeftSide-clause-lines c = ok-then c.take_class.result (λ keeps. takes_no_line _ (ap begins c.in-LeftSide.is) (ap puts c.in-LeftSide.is) (ap decides c.in-LeftSide.is) keeps.symbols.names keeps.lines) c.take_class.ensures
 
 pub returns-in-NamedPrecedence-clause-lines : goal.returns-in-NamedPrecedence-clause-lines
-returns-in-NamedPrecedence-clause-lines c = ok-then c.take_class-in-NamedPrecedence.result (λ keeps. takes_no_line _ (ap begins c.in-NamedPrecedence.is) (ap puts c.in-NamedPrecedence.is) keeps.symbols.names keeps.lines) c.take_class-in-NamedPrecedence.ensures
+returns-in-NamedPrecedence-clause-lines c = ok-then c.take_class-in-NamedPrecedence.result (λ keeps. takes_no_line _ (ap begins c.in-NamedPrecedence.is) (ap puts c.in-NamedPrecedence.is) (ap decides c.in-NamedPrecedence.is) keeps.symbols.names keeps.lines) c.take_class-in-NamedPrecedence.ensures
 
 pub returns-in-Start-clause-lines : goal.returns-in-Start-clause-lines
-returns-in-Start-clause-lines c = ok-then c.take_start.result (λ keeps. takes_no_line _ (ap begins c.in-Start.is) (ap puts c.in-Start.is) keeps.symbols.names keeps.lines) c.take_start.ensures
+returns-in-Start-clause-lines c = ok-then c.take_start.result (λ keeps. takes_no_line _ (ap begins c.in-Start.is) (ap puts c.in-Start.is) (ap decides c.in-Start.is) keeps.symbols.names keeps.lines) c.take_start.ensures
 
 pub returns-in-Code-clause-lines : goal.returns-in-Code-clause-lines
 returns-in-Code-clause-lines c =
-    ok-both c.take_code.result (λ symbols lines. takes_no_line _ (ap begins c.in-Code.is) (ap puts c.in-Code.is) symbols.names lines) c.take_code.ensures.symbols c.take_code.ensures.lines
+    ok-both c.take_code.result (λ symbols lines. takes_no_line _ (ap begins c.in-Code.is) (ap puts c.in-Code.is) (ap decides c.in-Code.is) symbols.names lines) c.take_code.ensures.symbols c.take_code.ensures.lines
 
 pub returns-in-Alias-clause-lines : goal.returns-in-Alias-clause-lines
 returns-in-Alias-clause-lines c =
-    ok-both c.take_alias.result (λ taken lines. takes_no_line _ (ap begins c.in-Alias.is) (ap puts c.in-Alias.is) taken.names lines) c.take_alias.ensures.taken c.take_alias.ensures.lines
+    ok-both c.take_alias.result (λ taken lines. takes_no_line _ (ap begins c.in-Alias.is) (ap puts c.in-Alias.is) (ap decides c.in-Alias.is) taken.names lines) c.take_alias.ensures.taken c.take_alias.ensures.lines
 
 pub returns-in_ok-self-in-ExpectShiftReduce-clause-lines : goal.returns-in_ok-self-in-ExpectShiftReduce-clause-lines
 returns-in_ok-self-in-ExpectShiftReduce-clause-lines c =
     let keeps = c.in_ok-self-in-ExpectShiftReduce.ensures.keeps in
-    takes_no_line _ (ap begins c.in-ExpectShiftReduce.is) (ap puts c.in-ExpectShiftReduce.is) keeps.symbols.names record { levels = keeps.lines.levels; lines = keeps.lines.lines }
+    takes_no_line _ (ap begins c.in-ExpectShiftReduce.is) (ap puts c.in-ExpectShiftReduce.is) (ap decides c.in-ExpectShiftReduce.is) keeps.symbols.names record { has_default = keeps.lines.has_default; levels = keeps.lines.levels; lines = keeps.lines.lines }
 
 pub returns-in_ok-self-in-ExpectReduceReduce-clause-lines : goal.returns-in_ok-self-in-ExpectReduceReduce-clause-lines
 returns-in_ok-self-in-ExpectReduceReduce-clause-lines c =
     let keeps = c.in_ok-self-in-ExpectReduceReduce.ensures.keeps in
-    takes_no_line _ (ap begins c.in-ExpectReduceReduce.is) (ap puts c.in-ExpectReduceReduce.is) keeps.symbols.names record { levels = keeps.lines.levels; lines = keeps.lines.lines }
+    takes_no_line _ (ap begins c.in-ExpectReduceReduce.is) (ap puts c.in-ExpectReduceReduce.is) (ap decides c.in-ExpectReduceReduce.is) keeps.symbols.names record { has_default = keeps.lines.has_default; levels = keeps.lines.levels; lines = keeps.lines.lines }
 
 pub returns-in-Level-clause-lines : goal.returns-in-Level-clause-lines
 returns-in-Level-clause-lines c =
@@ -127,20 +128,22 @@ returns-in-InLevel-clause-lines c =
 
 pub returns-in-DefaultPrecedence-clause-lines : goal.returns-in-DefaultPrecedence-clause-lines
 returns-in-DefaultPrecedence-clause-lines c =
-    takes_no_line _ (ap begins c.in-DefaultPrecedence.is) (ap puts c.in-DefaultPrecedence.is)
-    record { text = refl; dialect = refl; words = refl; characters = refl }
-    record { levels = refl; lines = refl }
+    let old = c.args.self.now in
+    let new : Meaning = record old { has_default_precedence = c.in-DefaultPrecedence.is_on } in
+    subst (λ (s : Statement). TakesLines (s ∷ []) old new) (sym c.in-DefaultPrecedence.is)
+    (takes_default c.in-DefaultPrecedence.is_on record { text = refl; dialect = refl; words = refl; characters = refl } refl refl refl)
 
 pub returns-in-Glr-clause-lines : goal.returns-in-Glr-clause-lines
 returns-in-Glr-clause-lines c =
-    takes_no_line _ (ap begins c.in-Glr.is) (ap puts c.in-Glr.is)
+    takes_no_line _ (ap begins c.in-Glr.is) (ap puts c.in-Glr.is) (ap decides c.in-Glr.is)
     record { text = refl; dialect = refl; words = refl; characters = refl }
-    record { levels = refl; lines = refl }
+    record { has_default = refl; levels = refl; lines = refl }
 
 pub returns-in-Mention-clause-lines : goal.returns-in-Mention-clause-lines
 returns-in-Mention-clause-lines c =
     let no_level : begins c.args.statement ≡ false = elim c.in-Mention.is [ inl h ↦ ap begins h.1 | inr h ↦ ap begins h.1 ] in
     let no_symbol : puts c.args.statement ≡ false = elim c.in-Mention.is [ inl h ↦ ap puts h.1 | inr h ↦ ap puts h.1 ] in
-    takes_no_line _ no_level no_symbol
+    let no_decision : decides c.args.statement ≡ false = elim c.in-Mention.is [ inl h ↦ ap decides h.1 | inr h ↦ ap decides h.1 ] in
+    takes_no_line _ no_level no_symbol no_decision
     record { text = refl; dialect = refl; words = refl; characters = refl }
-    record { levels = refl; lines = refl }
+    record { has_default = refl; levels = refl; lines = refl }
