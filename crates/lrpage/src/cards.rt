@@ -1,7 +1,8 @@
 //! Conflicts, each as a card that opens.
 
+ghost use Rattle.std.specs.Prelude.{◌≡◌, true};
 ghost use Rattle.std.specs.Option.{ForSome};
-ghost use Rattle.lrshown.specs.Ambiguities.{AreShown, IsShown};
+ghost use Rattle.lrshown.specs.Ambiguities.{AreShown, IsShown, is_of};
 
 use crate::pages::{Card, Page, add_count};
 use crate::symbols::DOT;
@@ -58,9 +59,10 @@ impl<T: IndexStorage> Page<'_, T> {
         }
     }
 
-    /// Adds that the grammar is ambiguous, which that text shows.
-    fn add_proved_tag(&self, page: &mut Text, _text: &Ambiguity)
+    /// Adds that the grammar is ambiguous at an entry, which that text shows.
+    fn add_proved_tag(&self, page: &mut Text, _entry: &Entry, _text: &Ambiguity)
         requires proved { IsShown self.now.found.now.grm _text.now }
+        requires own { is_of _text.now _entry.now ≡ true }
     {
         page.add(" <span class=\"tag marked\">ambiguous (proved)</span>");
     }
@@ -71,7 +73,9 @@ impl<T: IndexStorage> Page<'_, T> {
             (λ a. IsShown self.now.found.now.grm a.value) }
     {
         match &evidence.ambiguity {
-            Some(text) if evidence.has_own_sentence() => self.add_proved_tag(page, text),
+            Some(text) if text.is_of(&evidence.entry) => {
+                self.add_proved_tag(page, &evidence.entry, text);
+            }
             _ if self.steps > 0 => {
                 page.add(" <span class=\"tag\">not known to be ambiguous</span>");
             }

@@ -1,5 +1,5 @@
 -- the entries of a table's lists of conflicts, in one list
-use Rattle.std.specs.Prelude.{ℕ, List, map, ◌++◌, Option, None, Some}
+use Rattle.std.specs.Prelude.{◌≡◌, ℕ, List, map, ◌++◌, Option, None, Some}
 use Rattle.lrspec.specs.tables.Table.{Lists}
 use Rattle.lrverdicts.specs.declared.conflicts.Entry.{Entry}
 
@@ -18,6 +18,12 @@ reduction_listing e = (e.0, e.1, Some e.2, e.3)
 -- the shift/reduce conflicts, and then the reduce/reduce ones
 abbrev pub listed : Lists → List Listing
 listed c = map shift_listing c.shift_reduce ++ map reduction_listing c.reduce_reduce
+
+-- the same meets at both entries in the same state, perhaps at another token
+pub record MeetsLike (e f : Entry) : Type 0 where
+  pub state : e.state ≡ f.state
+  pub production : e.production ≡ f.production
+  pub other : e.other ≡ f.other
 
 -- what an entry tells, without its place
 abbrev pub told : Entry → Listing

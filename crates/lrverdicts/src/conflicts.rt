@@ -3,7 +3,7 @@
 ghost use Rattle.std.specs.Prelude.{◌≡◌, ◌++◌, map, Contains, IsTrue, IfOk, OnOk};
 ghost use Rattle.std.specs.List.Sorted.{IsPermutation};
 ghost use Rattle.lrspec.specs.tables.Table.{lists_of};
-ghost use Rattle.lrverdicts.specs.Listed.{Listing, told, listed, shift_listing, reduction_listing};
+ghost use Rattle.lrverdicts.specs.Listed.{Listing, MeetsLike, told, listed, shift_listing, reduction_listing};
 ghost use Rattle.lrrows.specs.StoredLists.{stored_shift_reduce, stored_reduce_reduce};
 
 use lrcells::statetable::{Conflicts, StateTable};
@@ -29,7 +29,10 @@ pub struct Entry {
 
 impl Entry {
     /// Whether the same meets in the same state, perhaps at another token.
-    pub fn meets_like(&self, entry: &Entry) -> bool {
+    pub fn meets_like(&self, entry: &Entry) -> bool
+        ensures like { IsTrue result → MeetsLike self.now entry.now }
+        ensures unlike { MeetsLike self.now entry.now → IsTrue result }
+    {
         self.state == entry.state
             && self.production == entry.production
             && self.other == entry.other
