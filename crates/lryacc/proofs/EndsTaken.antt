@@ -13,7 +13,7 @@ use Rattle.lryacc.specs.declared.lexemes.Lexeme.{Lexeme}
 use Rattle.lryacc.specs.declared.meaning.Meaning.{Meaning}
 use Rattle.lryacc.specs.declared.numbering.FileGrammar.{FileGrammar}
 use Rattle.lryacc.specs.declared.symbols.Symbols.{Symbols}
-use Rattle.lryacc.specs.EndTokens.{KeepsLines, HasEnd, HasEndBy, HasSome, IsEndByName, IsGivenEnd, IsGivenEndBy, IsGivenZeroBy, KeepsMeaning, TakesEnd, end_by_name, for_bison, written_number}
+use Rattle.lryacc.specs.EndTokens.{KeepsLines, HasEnd, HasEndBy, HasSome, IsEndByName, IsGivenEnd, IsGivenEndBy, IsGivenZeroBy, KeepsMeaning, KeepsSaid, KeepsTables, TakesEnd, end_by_name, for_bison, written_number}
 use Rattle.lryacc.specs.NamedSymbols.{KeepsNames, KeepsSymbols, Name, Names, first_name, names_in, number_in, number_of, text_at}
 use Rattle.lryacc.proofs.NamesOfOne.{kept-again, names-turned, number-kept, number-same}
 
@@ -25,6 +25,30 @@ lines-again one other = record {
   lines = other.lines ∙ one.lines;
 }
 
+-- so is what is known of starts and of expected conflicts
+pub said-again : {old now new : Meaning} → KeepsSaid old now → KeepsSaid now new → KeepsSaid old new
+said-again one other = record {
+  expected = record {
+    expected = other.expected.expected ∙ one.expected.expected;
+    reductions = other.expected.reductions ∙ one.expected.reductions;
+    generalized = other.expected.generalized ∙ one.expected.generalized;
+  };
+  starts = other.starts ∙ one.starts;
+  started = other.started ∙ one.started;
+}
+
+-- names, the end token and lines are among all of it
+pub tables : {old new : Meaning} → KeepsMeaning old new → KeepsTables old new
+tables keeps = record { symbols = keeps.symbols; end = keeps.end; faults = keeps.faults; lines = keeps.lines }
+
+pub tables-again : {old now new : Meaning} → KeepsTables old now → KeepsTables now new → KeepsTables old new
+tables-again one other = record {
+  symbols = kept-again one.symbols other.symbols;
+  end = other.end ∙ one.end;
+  faults = omega (arith, one.faults, other.faults);
+  lines = lines-again one.lines other.lines;
+}
+
 -- more is kept
 pub meaning-again : {old now new : Meaning} → KeepsMeaning old now → KeepsMeaning now new → KeepsMeaning old new
 meaning-again one other = record {
@@ -32,6 +56,7 @@ meaning-again one other = record {
   end = other.end ∙ one.end;
   faults = omega (arith, one.faults, other.faults);
   lines = lines-again one.lines other.lines;
+  said = said-again one.said other.said;
 }
 
 -- a symbol that has the value 0 has it where names stay the same
@@ -173,7 +198,7 @@ module _ (some more : List Statement) (statement : Statement) (old now new : Mea
   }
 
 -- nothing is said of symbols any more
-pub takes_end_rest : (statements : List Statement) {old now new : Meaning} → TakesEnd statements old now → KeepsMeaning now new → TakesEnd statements old new
+pub takes_end_rest : (statements : List Statement) {old now new : Meaning} → TakesEnd statements old now → KeepsTables now new → TakesEnd statements old new
 takes_end_rest statements {old} {now} {new} takes keeps = record {
   given = λ end e. elim (takes.given end (sym keeps.end ∙ e)) [ inl o ↦ inl o | inr g ↦ inr (given-kept statements now new keeps.symbols.names end g) ];
   some = λ n h. elim (takes.some n (given-kept statements new now (names-turned keeps.symbols.names) n h)) [

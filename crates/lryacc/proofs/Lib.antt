@@ -1,8 +1,8 @@
 -- productions that are added, faults by their places, sets of rules, what stays of a grammar, delimiters that are passed, bodies
 -- that are read, and all of them, names of rules among lexemes, lexemes that are found one after another, gaps, code, also of
 -- Rust, tags and types that are read byte by byte, digits and escapes, bytes and parts in quotes, texts of characters, rules and
--- tokens that are numbered, productions of bodies, names of one symbol, the end token, precedence lines, the tokens before start
--- rules, and the least sets of rules
+-- tokens that are numbered, productions of bodies, names of one symbol, the end token, precedence lines, start symbols and
+-- expected conflicts, the tokens before start rules, and the least sets of rules
 pub mod AddedProductions
 pub mod MapsOfFaults
 pub mod UsefulLemmas
@@ -27,5 +27,6 @@ pub mod ProductionsAdded
 pub mod NamesOfOne
 pub mod EndsTaken
 pub mod LinesHeld
+pub mod SaidHeld
 pub mod MarksAdded
 pub mod LeastSets

@@ -60,7 +60,7 @@ equal_from_is_eq Less e = absurd (false≢true e)
 equal_from_is_eq Equal e = refl
 equal_from_is_eq Greater e = absurd (false≢true e)
 
-same_key : (key q : ℕ) → is_at (nat_cmp key) q ≡ true → key ≡ q
+pub same_key : (key q : ℕ) → is_at (nat_cmp key) q ≡ true → key ≡ q
 same_key key q e = exact_unsigned key q (equal_from_is_eq (nat_cmp key q) e)
 
 put-at : (P : ℕ → ℕ → Type 0) (old new : ℕ → Option ℕ) (key value q v : ℕ) (at : Bool) → is_at (nat_cmp key) q ≡ at → new q ≡ cond at (Some value) (old q) → P key value → ((q v : ℕ) → old q ≡ Some v → P q v) → new q ≡ Some v → P q v

@@ -79,12 +79,32 @@ pub record KeepsLines (old new : Meaning) : Type 0 where
   pub levels : new.levels ≡ old.levels
   pub lines : new.lines ≡ old.lines
 
+-- what is known of expected conflicts is the same
+pub record KeepsExpected (old new : Meaning) : Type 0 where
+  pub expected : new.expected ≡ old.expected
+  pub reductions : new.expected_reductions ≡ old.expected_reductions
+  pub generalized : new.is_glr ≡ old.is_glr
+
+-- so are the start symbols
+pub record KeepsSaid (old new : Meaning) : Type 0 where
+  pub expected : KeepsExpected old new
+  pub starts : new.starts ≡ old.starts
+  pub started : new.started ≡ old.started
+
+-- names, the end token and precedence lines are the same, and no fault is taken back
+pub record KeepsTables (old new : Meaning) : Type 0 where
+  pub symbols : KeepsSymbols old.symbols new.symbols
+  pub end : new.end ≡ old.end
+  pub faults : vec_len old.faults ≤ vec_len new.faults
+  pub lines : KeepsLines old new
+
 -- all of this is the same
 pub record KeepsMeaning (old new : Meaning) : Type 0 where
   pub symbols : KeepsSymbols old.symbols new.symbols
   pub end : new.end ≡ old.end
   pub faults : vec_len old.faults ≤ vec_len new.faults
   pub lines : KeepsLines old new
+  pub said : KeepsSaid old new
 
 -- one of some declarations gives the symbol of that number the value 0
 abbrev pub IsGivenZeroBy : List Statement → Meaning → ℕ → Type 0

@@ -15,11 +15,13 @@ use Rattle.lryacc.specs.AllBodies.{AreAllBodies}
 use Rattle.lryacc.specs.AllLexemes.{AreAllLexemesOf}
 use Rattle.lryacc.specs.BodyProductions.{AreOfFile}
 use Rattle.lryacc.specs.EndTokens.{HasEnd}
+use Rattle.lryacc.specs.ExpectedConflicts.{AreExpected}
 use Rattle.lryacc.specs.Headers.{HoldsHeader}
 use Rattle.lryacc.specs.KeptProductions.{IsWithout}
 use Rattle.lryacc.specs.Levels.{IsInLine, has_default_after, levels_of}
 use Rattle.lryacc.specs.NamedSymbols.{NameOne, Names}
 use Rattle.lryacc.specs.ProductionPlaces.{file_places, start_rules_of}
+use Rattle.lryacc.specs.StartSymbols.{AreStarts}
 
 -- the names of a file of this text and dialect, with these declarations and bodies, and of the rules, of which the first is
 -- `$accept`, and the tokens of a grammar of it: lexemes of one number name one symbol, the end token is what declarations
@@ -68,10 +70,12 @@ abbrev pub HasNoGrammar : FileRead → Type 0
 HasNoGrammar (Grammar file expected warnings) = ⊥
 HasNoGrammar (Faults faults) = Unit {0}
 
--- if a file comes to a grammar, it is that of its bodies
+-- if a file comes to a grammar, it is that of its bodies, with the start symbols that declarations name and the numbers of
+-- conflicts that they expect
 abbrev pub HasBodies : List ℕ → Dialect → List Statement → List Alternative → FileRead → Type 0
 HasBodies text dialect statements bodies (Grammar file expected warnings) =
     (starts : List Lexeme) × IsGrammarOf text dialect statements starts bodies file warnings.items
+    × AreStarts text dialect statements starts × AreExpected text dialect statements expected
 HasBodies text dialect statements bodies (Faults faults) = Unit {0}
 
 -- the bodies of a text: all that stand among all its lexemes

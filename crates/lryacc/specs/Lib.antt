@@ -64,6 +64,12 @@ pub mod AllLexemes
 pub mod NamedSymbols
 -- which symbol is the end token
 pub mod EndTokens
+-- the start symbols
+pub mod StartSymbols
+-- how many conflicts are expected
+pub mod ExpectedConflicts
+-- start symbols and expected conflicts, while declarations are taken in
+pub mod SaidTaken
 -- which lines symbols stand in
 pub mod LinesTaken
 -- which tokens bodies name for their precedences

@@ -7,6 +7,7 @@ ghost use Rattle.lryacc.specs.FilesRead.{AreBodiesRead, ComesTo, HasBodies, HasN
 ghost use Rattle.lryacc.specs.LinesTaken.{HasLines};
 ghost use Rattle.lryacc.specs.NamedSymbols.{AreApart, ArePartnered, names_in};
 ghost use Rattle.lryacc.specs.ProductionPlaces.{IsPlaced, file_places, start_rules_of};
+ghost use Rattle.lryacc.specs.SaidTaken.{AreSaid};
 ghost use Rattle.lryacc.specs.Spans.{IsInside};
 ghost use Rattle.lryacc.specs.Told.{HasFaults, HasPlaces, told};
 
@@ -125,6 +126,7 @@ fn grammar_read(
     requires faults { vec_len meaning.old.faults ≡ 0 }
     requires end { HasEndBy contents.now.statements.items meaning.old }
     requires lines { HasLines contents.now.statements.items meaning.old }
+    requires said { AreSaid contents.now.statements.items meaning.old }
     ensures inside { IfOk result (λ read. All (λ fault. IsInside fault.span text.now) (told read)) }
     ensures faults { IfOk result HasFaults }
     ensures placed { IfOk result HasPlaces }
@@ -158,6 +160,7 @@ fn useful_read(
     requires faults { vec_len meaning.old.faults ≡ 0 }
     requires end { HasEndBy contents.now.statements.items meaning.old }
     requires lines { HasLines contents.now.statements.items meaning.old }
+    requires said { AreSaid contents.now.statements.items meaning.old }
     requires places { whole.production_places.items
         ≡ file_places meaning.old.starts.items contents.now.alternatives.items }
     requires placed { IsPlaced whole }
@@ -173,10 +176,11 @@ fn useful_read(
         contents.now.alternatives.items) }
 {
     let (grammar, useless) = without_useless(alloc, whole)?;
+    let expected = meaning.expected;
     meaning.tell_useless(dialect, contents, &useless)?;
     if !meaning.faults.is_empty() {
         return faults_read(alloc, text, meaning.faults.as_slice());
     }
     let warnings = in_order(alloc, text, meaning.warnings.as_slice())?;
-    Ok(FileRead::Grammar(grammar, meaning.expected, warnings))
+    Ok(FileRead::Grammar(grammar, expected, warnings))
 }

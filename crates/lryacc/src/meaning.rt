@@ -4,7 +4,8 @@ ghost use Rattle.std.specs.Prelude.{◌≡◌, ◌+◌, ◌<◌, ◌≤◌, [], 
 ghost use Rattle.std.specs.BTreeMap.{IsEmpty, get};
 ghost use Rattle.std.specs.Ordering.{nat_cmp};
 ghost use Rattle.std.specs.Option.{option_map, option_or};
-ghost use Rattle.lryacc.specs.EndTokens.{HasEndBy, KeepsEnd, KeepsLines, KeepsMeaning, TakesEnd, end_by_name, written_number};
+ghost use Rattle.lryacc.specs.EndTokens.{HasEndBy, KeepsEnd, KeepsExpected, KeepsLines, KeepsMeaning, KeepsSaid, KeepsTables, TakesEnd, end_by_name, written_number};
+ghost use Rattle.lryacc.specs.SaidTaken.{HasSaid, IsSaid, LeavesOutReductions, TakesSaid, TakesStart};
 ghost use Rattle.lryacc.specs.LinesTaken.{BeginsLine, PutsInLine, TakesLines};
 ghost use Rattle.lryacc.specs.NamedSymbols.{AreApart, BecomeOne, KeepsSymbols, TakesOne, TakesSome, first_name, partner_in, symbol_number, text_at};
 ghost use Rattle.lryacc.specs.declared.contents.Statement.{Statement};
@@ -18,7 +19,7 @@ use crate::places::Span;
 use crate::symbols::{Class, Symbol, Symbols};
 use crate::useful::Useless;
 use std::alloc::{AllocError, Global};
-use std::collections::BTreeMap;
+use std::collections::{BTreeMap, BTreeSet};
 
 /// The greatest number that is read, which no token has for its code.
 const GREATEST: u64 = 2_147_483_647;
@@ -54,6 +55,8 @@ pub(crate) struct Meaning<'a> {
     level_start: usize,
     /// The symbols behind `%start`, each once.
     pub(crate) starts: Vec<Lexeme>,
+    /// Their numbers.
+    started: BTreeSet<usize>,
     /// The first symbol with code 0: the end token.
     pub(crate) end: Option<usize>,
     /// Whether productions without `%prec` have the precedence of their last token.
@@ -84,6 +87,7 @@ impl<'a> Meaning<'a> {
         ensures levels { IfOk result (λ meaning. meaning.levels.items ≡ []) }
         ensures lines { IfOk result (λ meaning. IsEmpty meaning.lines) }
         ensures has_default { IfOk result (λ meaning. meaning.has_default_precedence ≡ true) }
+        ensures said { IfOk result (HasSaid []) }
     {
         let symbols = Symbols::of(alloc, text, dialect, contents)?;
         Ok(Meaning {
@@ -92,6 +96,7 @@ impl<'a> Meaning<'a> {
             lines: BTreeMap::new(alloc),
             level_start: 0,
             starts: Vec::new(alloc),
+            started: BTreeSet::new(alloc),
             end: None,
             has_default_precedence: true,
             expected: Expected::default(),
@@ -196,6 +201,7 @@ impl<'a> Meaning<'a> {
         ensures taken { OnOk result (TakesSome statements.now self.old.symbols self.new.symbols) }
         ensures end { OnOk result (TakesEnd statements.now self.old self.new) }
         ensures lines { OnOk result (TakesLines statements.now self.old self.new) }
+        ensures said { OnOk result (TakesSaid statements.now self.old self.new) }
     {
         for statement in statements {
             self.take_statement(*statement)?;
@@ -205,7 +211,8 @@ impl<'a> Meaning<'a> {
 
     /// Leaves out what `%expect-rr` says where Bison does: it holds for generalized parsers alone.
     fn leave_out_reductions(&mut self) -> Result<(), AllocError>
-        ensures { OnOk result (KeepsMeaning self.old self.new) }
+        ensures keeps { OnOk result (KeepsTables self.old self.new) }
+        ensures left_out { OnOk result (LeavesOutReductions self.old self.new) }
     {
         let is_read = self.is_glr || self.symbols.dialect == Dialect::Grmtools;
         if let (Some(number), false) = (self.expected_reductions, is_read) {
@@ -220,6 +227,7 @@ impl<'a> Meaning<'a> {
         ensures taken { OnOk result (TakesOne statement self.old.symbols self.new.symbols) }
         ensures end { OnOk result (TakesEnd (statement ∷ []) self.old self.new) }
         ensures lines { OnOk result (TakesLines (statement ∷ []) self.old self.new) }
+        ensures said { OnOk result (TakesSaid (statement ∷ []) self.old self.new) }
     {
         match statement {
             Statement::Token(symbol) => self.take_token(symbol),
@@ -261,6 +269,7 @@ impl<'a> Meaning<'a> {
     fn begin_level(&mut self, kind: LevelKind, directive: Lexeme) -> Result<(), AllocError>
         ensures keeps { OnOk result (KeepsEnd self.old self.new) }
         ensures begins { OnOk result (BeginsLine kind self.old self.new) }
+        ensures said { OnOk result (KeepsSaid self.old self.new) }
     {
         self.levels.push(kind)?;
         self.level_start = directive.span.start;
@@ -309,21 +318,26 @@ impl<'a> Meaning<'a> {
 
     /// Takes in that a symbol is a start rule, and warns where it was one before.
     fn take_start(&mut self, lexeme: Lexeme) -> Result<(), AllocError>
-        ensures { OnOk result (KeepsMeaning self.old self.new) }
+        ensures keeps { OnOk result (KeepsTables self.old self.new) }
+        ensures expected { OnOk result (KeepsExpected self.old self.new) }
+        ensures taken { OnOk result (TakesStart lexeme self.old self.new) }
     {
         let Some(number) = self.symbols.find(lexeme) else {
-            return Ok(());
+            return self.tell(FaultKind::Undefined, lexeme.span);
         };
-        let mut is_start = false;
-        if let Some(symbol) = self.symbols.list.get_mut(number) {
-            is_start = symbol.is_start;
-            symbol.is_start = true;
-        }
-        if is_start {
+        if !self.started.insert(number)? {
             return self.warn(FaultKind::StartTwice, lexeme.span);
         }
         self.starts.push(lexeme)?;
         Ok(())
+    }
+
+    /// Whether a lexeme names a start symbol.
+    pub(crate) fn is_start(&self, lexeme: Lexeme) -> bool {
+        match self.symbols.find(lexeme) {
+            Some(number) => self.started.contains(&number),
+            None => false,
+        }
     }
 
     /// Takes in that a symbol is declared a rule.
@@ -341,6 +355,7 @@ impl<'a> Meaning<'a> {
     fn take_code(&mut self, lexeme: Lexeme, number: Lexeme) -> Result<(), AllocError>
         ensures symbols { OnOk result (KeepsSymbols self.old.symbols self.new.symbols) }
         ensures lines { OnOk result (KeepsLines self.old self.new) }
+        ensures said { OnOk result (KeepsSaid self.old self.new) }
         ensures end { OnOk result (TakesEnd (Statement.Code lexeme number ∷ []) self.old self.new) }
     {
         let Some(symbol) = self.symbols.find(lexeme) else {
@@ -490,6 +505,7 @@ impl<'a> Meaning<'a> {
         ensures end { OnOk result (self.new.end ≡ self.old.end) }
         ensures faults { OnOk result (vec_len self.old.faults ≤ vec_len self.new.faults) }
         ensures lines { OnOk result (KeepsLines self.old self.new) }
+        ensures said { OnOk result (KeepsSaid self.old self.new) }
     {
         let (Some(one), Some(other)) = (self.symbols.find(symbol), self.symbols.find(text)) else {
             return Ok(());
@@ -512,6 +528,7 @@ impl<'a> Meaning<'a> {
         ensures end { OnOk result (self.new.end ≡ self.old.end) }
         ensures faults { OnOk result (vec_len self.old.faults ≤ vec_len self.new.faults) }
         ensures lines { OnOk result (KeepsLines self.old self.new) }
+        ensures said { OnOk result (KeepsSaid self.old self.new) }
     {
         self.symbols.pair(one, other)?;
         self.set_class(other, self.class(one));
@@ -540,6 +557,7 @@ impl<'a> Meaning<'a> {
     fn take_in_level(&mut self, lexeme: Lexeme) -> Result<(), AllocError>
         ensures keeps { OnOk result (KeepsEnd self.old self.new) }
         ensures puts { OnOk result (PutsInLine lexeme self.old self.new) }
+        ensures said { OnOk result (KeepsSaid self.old self.new) }
     {
         let level = self.levels.len();
         let span = Span::new(self.level_start, lexeme.span.end);
@@ -707,6 +725,7 @@ impl<'a> Meaning<'a> {
             self.new.symbols) }
         ensures end { OnOk result (HasEndBy contents.now.statements.items self.new) }
         ensures lines { OnOk result (TakesLines contents.now.statements.items self.old self.new) }
+        ensures said { OnOk result (IsSaid contents.now.statements.items self.old self.new) }
     {
         self.take_statements(contents.statements.as_slice())?;
         self.leave_out_reductions()?;
@@ -727,6 +746,7 @@ impl<'a> Meaning<'a> {
         ensures end { self.new.end ≡ option_or self.old.end (end_by_name self.old.symbols) }
         ensures faults { self.new.faults ≡ self.old.faults }
         ensures lines { KeepsLines self.old self.new }
+        ensures said { KeepsSaid self.old self.new }
     {
         if self.end.is_some() {
             return;

@@ -211,10 +211,10 @@ fn level_below(before: usize) -> Option<u64>
 }
 
 /// Whether a symbol is a rule even where no colon stands behind it.
-fn is_bare_rule(symbol: &Symbol) -> bool {
+fn is_bare_rule(symbol: &Symbol, is_start: bool) -> bool {
     match symbol.class {
         Class::Rule => true,
-        Class::Unknown => symbol.is_start,
+        Class::Unknown => is_start,
         Class::Token => false,
     }
 }
@@ -410,7 +410,9 @@ impl<'m, 'a> Numbering<'m, 'a> {
         ensures { OnOk result (AddsNumbers self.old self.new) }
     {
         match self.symbol_named(name) {
-            Some(symbol) if is_bare_rule(&symbol) => self.add_rule_of(name, symbol.mention.span),
+            Some(symbol) if is_bare_rule(&symbol, self.meaning.is_start(name)) => {
+                self.add_rule_of(name, symbol.mention.span)
+            }
             _ => Ok(()),
         }
     }

@@ -39,8 +39,6 @@ pub(crate) struct Symbol {
     pub(crate) code: Option<u64>,
     /// Whether a body has it.
     pub(crate) is_used: bool,
-    /// Whether `%start` names it.
-    pub(crate) is_start: bool,
 }
 
 impl Symbol {
@@ -56,7 +54,6 @@ impl Symbol {
                 _ => None,
             },
             is_used: false,
-            is_start: false,
         }
     }
 

@@ -1,4 +1,4 @@
-use Rattle.std.proofs.Common.{[]}
+use Rattle.std.proofs.Common.{◌≡◌, [], arith, vec_len}
 use Rattle.lryacc.proofs.LinesHeld.{no-lines}
 use Rattle.lryacc.proofs.NamesOfOne.{apart-kept, partnered-none}
 use Rattle.lryacc.proofs.file.contents_read.Goals as goal
@@ -16,3 +16,9 @@ pub grammar_read-requires-clause-lines : goal.grammar_read-requires-clause-lines
 grammar_read-requires-clause-lines c =
     let new = c.in_ok-meaning.ensures in
     c.in_ok-take.ensures.lines.lines [] (no-lines c.in_ok-meaning.meaning new.levels new.lines new.has_default)
+
+pub grammar_read-requires-clause-said : goal.grammar_read-requires-clause-said
+grammar_read-requires-clause-said c =
+    let new = c.in_ok-meaning.ensures in
+    let none : vec_len c.take.new.self.faults ≡ 0 = grind arith in
+    c.in_ok-take.ensures.said none new.apart new.said

@@ -3,6 +3,7 @@ use Rattle.lryacc.specs.NamedSymbols.{names_in}
 use Rattle.lryacc.proofs.EndsTaken.{has-end}
 use Rattle.lryacc.proofs.LinesHeld.{has-line, in-line}
 use Rattle.lryacc.proofs.NamesOfOne.{named-in}
+use Rattle.lryacc.proofs.SaidHeld.{said-of}
 use Rattle.lryacc.proofs.file.useful_read.Goals as goal
 
 empty : {A : Type 0} (xs : List A) → length xs ≡ 0 → xs ≡ []
@@ -22,7 +23,8 @@ returns-clause-bodies c =
     let bodies = c.args.contents.now.alternatives in
     let useless = c.in_ok-grammar.useless in
     let warnings = c.in_ok-warnings.warnings in
-    let told = c.as_slice-2.result.now in (
+    let told = c.as_slice-2.result.now in
+    let said = said-of c.args.text.now c.args.dialect c.args.contents.now.statements.items c.args.meaning.now c.requires.text c.requires.dialect c.requires.said in (
       c.args.meaning.now.starts.items,
       record {
         some = omega (arith, c.requires.some, bodies.ok.0);
@@ -64,4 +66,6 @@ returns-clause-bodies c =
             let no_production : vec_len useless.productions ≡ 0 = c.in_ok-tell_useless.ensures.productions none in
             empty useless.productions.items (omega (arith, useless.productions.ok.0));
       },
+      said.0,
+      said.1,
     )

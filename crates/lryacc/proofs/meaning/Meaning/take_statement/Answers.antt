@@ -1,10 +1,12 @@
-use Rattle.std.proofs.Common.{◌≡◌, [], ◌∷◌, ap, false, inl, inr, refl, subst, sym}
+use Rattle.std.proofs.Common.{◌≡◌, [], ◌∷◌, ap, arith, false, true, inl, inr, refl, subst, sym}
 use Rattle.lryacc.specs.declared.contents.Statement.{Statement}
 use Rattle.lryacc.specs.declared.meaning.Meaning.{Meaning}
 use Rattle.lryacc.specs.LinesTaken.{TakesLines}
 use Rattle.lryacc.proofs.LinesHeld.{begins, decides, puts, takes_default, takes_in_line, takes_level, takes_no_line}
+use Rattle.lryacc.specs.SaidTaken.{TakesSaid}
 use Rattle.lryacc.proofs.EndsTaken.{is_code, takes_no_end}
 use Rattle.lryacc.proofs.NamesOfOne.{ok-both, ok-then, takes_other}
+use Rattle.lryacc.proofs.SaidHeld.{ok-three, speaks, takes_glr, takes_reduce_by, takes_shift_by, takes_start, takes_unsaid}
 use Rattle.lryacc.proofs.meaning.Meaning.take_statement.Goals as goal
 
 pub returns-in-Token-clause-taken : goal.returns-in-Token-clause-taken
@@ -50,10 +52,10 @@ pub returns-in-NamedPrecedence-clause-end : goal.returns-in-NamedPrecedence-clau
 returns-in-NamedPrecedence-clause-end c = ok-then c.take_class-in-NamedPrecedence.result (λ keeps. takes_no_end _ (ap is_code c.in-NamedPrecedence.is) keeps.end keeps.faults) c.take_class-in-NamedPrecedence.ensures
 
 pub returns-in-Start-clause-taken : goal.returns-in-Start-clause-taken
-returns-in-Start-clause-taken c = ok-then c.take_start.result (λ keeps. takes_other _ keeps.symbols) c.take_start.ensures
+returns-in-Start-clause-taken c = ok-then c.take_start.result (λ keeps. takes_other _ keeps.symbols) c.take_start.ensures.keeps
 
 pub returns-in-Start-clause-end : goal.returns-in-Start-clause-end
-returns-in-Start-clause-end c = ok-then c.take_start.result (λ keeps. takes_no_end _ (ap is_code c.in-Start.is) keeps.end keeps.faults) c.take_start.ensures
+returns-in-Start-clause-end c = ok-then c.take_start.result (λ keeps. takes_no_end _ (ap is_code c.in-Start.is) keeps.end keeps.faults) c.take_start.ensures.keeps
 
 pub returns-in-Code-clause-taken : goal.returns-in-Code-clause-taken
 returns-in-Code-clause-taken c = ok-then c.take_code.result (λ keeps. takes_other _ keeps) c.take_code.ensures.symbols
@@ -90,7 +92,7 @@ pub returns-in-NamedPrecedence-clause-lines : goal.returns-in-NamedPrecedence-cl
 returns-in-NamedPrecedence-clause-lines c = ok-then c.take_class-in-NamedPrecedence.result (λ keeps. takes_no_line _ (ap begins c.in-NamedPrecedence.is) (ap puts c.in-NamedPrecedence.is) (ap decides c.in-NamedPrecedence.is) keeps.symbols.names keeps.lines) c.take_class-in-NamedPrecedence.ensures
 
 pub returns-in-Start-clause-lines : goal.returns-in-Start-clause-lines
-returns-in-Start-clause-lines c = ok-then c.take_start.result (λ keeps. takes_no_line _ (ap begins c.in-Start.is) (ap puts c.in-Start.is) (ap decides c.in-Start.is) keeps.symbols.names keeps.lines) c.take_start.ensures
+returns-in-Start-clause-lines c = ok-then c.take_start.result (λ keeps. takes_no_line _ (ap begins c.in-Start.is) (ap puts c.in-Start.is) (ap decides c.in-Start.is) keeps.symbols.names keeps.lines) c.take_start.ensures.keeps
 
 pub returns-in-Code-clause-lines : goal.returns-in-Code-clause-lines
 returns-in-Code-clause-lines c =
@@ -147,3 +149,74 @@ returns-in-Mention-clause-lines c =
     takes_no_line _ no_level no_symbol no_decision
     record { text = refl; dialect = refl; words = refl; characters = refl }
     record { has_default = refl; levels = refl; lines = refl }
+
+pub returns-in-Token-clause-said : goal.returns-in-Token-clause-said
+returns-in-Token-clause-said c = ok-then c.take_token.result (λ keeps. takes_unsaid _ (ap speaks c.in-Token.is) keeps.symbols.names keeps.said keeps.faults) c.take_token.ensures
+
+pub returns-in-Rule-clause-said : goal.returns-in-Rule-clause-said
+returns-in-Rule-clause-said c = ok-then c.take_rule_name.result (λ keeps. takes_unsaid _ (ap speaks c.in-Rule.is) keeps.symbols.names keeps.said keeps.faults) c.take_rule_name.ensures
+
+pub returns-in-Tagged-clause-said : goal.returns-in-Tagged-clause-said
+returns-in-Tagged-clause-said c = ok-then c.take_tag.result (λ keeps. takes_unsaid _ (ap speaks c.in-Tagged.is) keeps.symbols.names keeps.said keeps.faults) c.take_tag.ensures
+
+pub returns-in-LeftSide-clause-said : goal.returns-in-LeftSide-clause-said
+returns-in-LeftSide-clause-said c = ok-then c.take_class.result (λ keeps. takes_unsaid _ (ap speaks c.in-LeftSide.is) keeps.symbols.names keeps.said keeps.faults) c.take_class.ensures
+
+pub returns-in-NamedPrecedence-clause-said : goal.returns-in-NamedPrecedence-clause-said
+returns-in-NamedPrecedence-clause-said c = ok-then c.take_class-in-NamedPrecedence.result (λ keeps. takes_unsaid _ (ap speaks c.in-NamedPrecedence.is) keeps.symbols.names keeps.said keeps.faults) c.take_class-in-NamedPrecedence.ensures
+
+pub returns-in-Level-clause-said : goal.returns-in-Level-clause-said
+returns-in-Level-clause-said c =
+    ok-both c.begin_level.result (λ keeps said. takes_unsaid _ (ap speaks c.in-Level.is) keeps.symbols.names said keeps.faults) c.begin_level.ensures.keeps c.begin_level.ensures.said
+
+pub returns-in-InLevel-clause-said : goal.returns-in-InLevel-clause-said
+returns-in-InLevel-clause-said c =
+    ok-both c.take_in_level.result (λ keeps said. takes_unsaid _ (ap speaks c.in-InLevel.is) keeps.symbols.names said keeps.faults) c.take_in_level.ensures.keeps c.take_in_level.ensures.said
+
+pub returns-in-Code-clause-said : goal.returns-in-Code-clause-said
+returns-in-Code-clause-said c =
+    let call = c.take_code.ensures in
+    ok-three c.take_code.result (λ symbols end said. takes_unsaid _ (ap speaks c.in-Code.is) symbols.names said end.faults) call.symbols call.end call.said
+
+pub returns-in-Alias-clause-said : goal.returns-in-Alias-clause-said
+returns-in-Alias-clause-said c =
+    let call = c.take_alias.ensures in
+    ok-three c.take_alias.result (λ taken faults said. takes_unsaid _ (ap speaks c.in-Alias.is) taken.names said faults) call.taken call.faults call.said
+
+pub returns-in-Start-clause-said : goal.returns-in-Start-clause-said
+returns-in-Start-clause-said c =
+    let call = c.take_start.ensures in
+    let old = c.args.self.now in
+    let new = c.take_start.new.self in
+    ok-three c.take_start.result
+    (λ keeps expected taken. subst (λ (s : Statement). TakesSaid (s ∷ []) old new) (sym c.in-Start.is) (takes_start c.in-Start.symbol keeps expected taken))
+    call.keeps call.expected call.taken
+
+pub returns-in_ok-self-in-ExpectShiftReduce-clause-said : goal.returns-in_ok-self-in-ExpectShiftReduce-clause-said
+returns-in_ok-self-in-ExpectShiftReduce-clause-said c =
+    let read = c.in_ok-self-in-ExpectShiftReduce.ensures in
+    takes_shift_by c.args.statement c.in-ExpectShiftReduce.number c.in-ExpectShiftReduce.is read.keeps read.value
+
+pub returns-in_ok-self-in-ExpectReduceReduce-clause-said : goal.returns-in_ok-self-in-ExpectReduceReduce-clause-said
+returns-in_ok-self-in-ExpectReduceReduce-clause-said c =
+    let read = c.in_ok-self-in-ExpectReduceReduce.ensures in
+    takes_reduce_by c.args.statement c.in-ExpectReduceReduce.number c.in-ExpectReduceReduce.is read.keeps read.value
+
+pub returns-in-Glr-clause-said : goal.returns-in-Glr-clause-said
+returns-in-Glr-clause-said c =
+    subst (λ (s : Statement). TakesSaid (s ∷ []) c.args.self.now (record c.args.self.now { is_glr = true })) (sym c.in-Glr.is) (takes_glr c.args.self.now)
+
+pub returns-in-DefaultPrecedence-clause-said : goal.returns-in-DefaultPrecedence-clause-said
+returns-in-DefaultPrecedence-clause-said c =
+    takes_unsaid _ (ap speaks c.in-DefaultPrecedence.is)
+    record { text = refl; dialect = refl; words = refl; characters = refl }
+    record { expected = record { expected = refl; reductions = refl; generalized = refl }; starts = refl; started = refl }
+    (omega arith)
+
+pub returns-in-Mention-clause-said : goal.returns-in-Mention-clause-said
+returns-in-Mention-clause-said c =
+    let silent : speaks c.args.statement ≡ false = elim c.in-Mention.is [ inl h ↦ ap speaks h.1 | inr h ↦ ap speaks h.1 ] in
+    takes_unsaid _ silent
+    record { text = refl; dialect = refl; words = refl; characters = refl }
+    record { expected = record { expected = refl; reductions = refl; generalized = refl }; starts = refl; started = refl }
+    (omega arith)

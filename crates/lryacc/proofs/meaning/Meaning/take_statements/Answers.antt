@@ -4,9 +4,11 @@ use Rattle.std.proofs.lemmas.List.Elements.{Contains-get_or}
 use Rattle.lryacc.specs.declared.contents.Statement.{Statement}
 use Rattle.lryacc.specs.EndTokens.{TakesEnd}
 use Rattle.lryacc.specs.LinesTaken.{TakesLines}
+use Rattle.lryacc.specs.SaidTaken.{TakesSaid}
 use Rattle.lryacc.proofs.EndsTaken.{takes_more_end, takes_none}
 use Rattle.lryacc.proofs.LinesHeld.{takes_more_lines, takes_no_lines}
 use Rattle.lryacc.proofs.NamesOfOne.{takes_more}
+use Rattle.lryacc.proofs.SaidHeld.{takes_more_said, takes_none_said}
 use Rattle.lryacc.proofs.meaning.Meaning.take_statements.Goals as goal
 
 pub loop-statement-init : goal.loop-statement-init
@@ -17,6 +19,7 @@ loop-statement-init c = record {
   };
   end = takes_none c.args.self.now;
   lines = takes_no_lines c.args.self.now;
+  said = takes_none_said c.args.self.now;
 }
 
 pub loop-statement-preserved : goal.loop-statement-preserved
@@ -30,6 +33,7 @@ loop-statement-preserved c =
       taken = takes_more all _ (Contains-get_or all index _ below) so_far.taken one.taken;
       end = takes_more_end _ _ _ _ _ _ (take_more all index _ below) so_far.end one.taken.names one.end;
       lines = takes_more_lines _ _ _ (take_more all index _ below) so_far.lines one.lines;
+      said = takes_more_said _ _ _ (take_more all index _ below) so_far.taken.names so_far.said one.said;
     }
 
 pub returns-clause-end : goal.returns-clause-end
@@ -39,3 +43,7 @@ returns-clause-end c =
 pub returns-clause-lines : goal.returns-clause-lines
 returns-clause-lines c =
     subst (λ (xs : List Statement). TakesLines xs c.args.self.now c.loop-statement.self) (take_all _ _ c.loop-statement-test.false) c.loop-statement.invariant.lines
+
+pub returns-clause-said : goal.returns-clause-said
+returns-clause-said c =
+    subst (λ (xs : List Statement). TakesSaid xs c.args.self.now c.loop-statement.self) (take_all _ _ c.loop-statement-test.false) c.loop-statement.invariant.said
