@@ -1,5 +1,5 @@
 -- productions that are added, faults by their places, sets of rules, what stays of a grammar, delimiters that are passed, bodies
--- that are read, and all of them, names of rules among lexemes, lexemes that are found one after another, gaps, code, also of
+-- that are read, and all of them, names of rules among lexemes, lexemes that are found one after another, gaps and their ends, headers, code, also of
 -- Rust, tags and types that are read byte by byte, digits and escapes, bytes and parts in quotes, texts of characters, rules and
 -- tokens that are numbered, productions of bodies, names of one symbol, the end token, precedence lines, start symbols and
 -- expected conflicts, the tokens before start rules, and the least sets of rules
@@ -14,6 +14,8 @@ pub mod AllBodiesRead
 pub mod RuleNames
 pub mod Scanning
 pub mod GapsByBytes
+pub mod GapEnds
+pub mod HeadersFound
 pub mod Escapes
 pub mod BytesInQuotes
 pub mod PartsInQuotes

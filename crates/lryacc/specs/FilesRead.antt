@@ -1,5 +1,5 @@
 -- what the grammar of a file comes from
-use Rattle.std.specs.Prelude.{◌≡◌, ℕ, ◌<◌, ◌⊎◌, true, List, [], Some, Contains, codes, map, length, slice_get, string_bytes}
+use Rattle.std.specs.Prelude.{◌≡◌, ℕ, ◌<◌, true, List, [], Some, Contains, codes, map, length, slice_get, string_bytes}
 use Rattle.lryacc.specs.declared.contents.Alternative.{Alternative}
 use Rattle.lryacc.specs.declared.contents.Statement.{Statement}
 use Rattle.lryacc.specs.declared.contents.Statement.TheVariants as says
@@ -16,7 +16,7 @@ use Rattle.lryacc.specs.AllLexemes.{AreAllLexemesOf}
 use Rattle.lryacc.specs.BodyProductions.{AreOfFile}
 use Rattle.lryacc.specs.EndTokens.{HasEnd}
 use Rattle.lryacc.specs.ExpectedConflicts.{AreExpected}
-use Rattle.lryacc.specs.Headers.{HoldsHeader}
+use Rattle.lryacc.specs.Headers.{IsReadAs}
 use Rattle.lryacc.specs.KeptProductions.{IsWithout}
 use Rattle.lryacc.specs.Levels.{IsInLine, has_default_after, levels_of}
 use Rattle.lryacc.specs.NamedSymbols.{NameOne, Names}
@@ -93,7 +93,7 @@ AreBodiesOf text dialect bodies (Faults faults) = Unit {0}
 -- what a text comes to that is taken for one of a dialect: it is read as one, or as one of grmtools where it says so
 pub record ComesTo (text : List ℕ) (taken : Dialect) (read : FileRead) : Type 0 where
   pub dialect : Dialect
-  pub is : (dialect ≡ taken) ⊎ HoldsHeader text
+  pub is : IsReadAs text taken dialect
   pub statements : List Statement
   pub bodies : List Alternative
   pub are_read : AreBodiesOf text dialect bodies read

@@ -2,7 +2,7 @@
 
 ghost use Rattle.std.specs.Prelude.{◌≡◌, ℕ, ◌+◌, ◌<◌, ◌≤◌, length, slice_index, IfNone, IfOk, IfSome, IsTrue};
 ghost use Rattle.lryacc.specs.Gaps.{IsGap, IsLineMark, is_blank};
-ghost use Rattle.lryacc.specs.GapsRead.{BeginsGap, IsGapUpTo};
+ghost use Rattle.lryacc.specs.GapsRead.{BeginsGap, EndsGap, IsGapUpTo, IsLeft, IsLeftBehind, IsNoGap};
 
 use crate::dialects::Dialect;
 use crate::faults::{Fault, FaultKind};
@@ -103,7 +103,8 @@ fn is_line_mark(text: &[u8], at: usize) -> bool
 fn begun(text: &[u8], at: usize, byte: u8, dialect: Dialect) -> Option<Within>
     requires inside { at ≤ length text.now }
     requires byte { slice_index text.now at ≡ byte }
-    ensures { IfSome result (BeginsGap dialect text.now at) }
+    ensures begins { IfSome result (BeginsGap dialect text.now at) }
+    ensures no_gap { IfNone result (dialect ≡ Dialect.Grmtools → IsNoGap byte) }
 {
     match byte {
         b'/' => Some(Within::Slash(at)),
@@ -126,6 +127,8 @@ fn step(text: &[u8], at: usize, within: Within, dialect: Dialect) -> Result<Opti
         → IsGapUpTo dialect text.now from at within
         → IsGapUpTo dialect text.now from (at + 1) next)) }
     ensures ends { IfOk result (λ next. IfNone next (within ≡ Within.Gap)) }
+    ensures left { dialect ≡ Dialect.Grmtools → (end : ℕ) → EndsGap text.now end
+        → IsLeft text.now end at within → IsLeftBehind text.now end at result }
 {
     let byte = text[at];
     Ok(Some(match within {
@@ -146,6 +149,8 @@ pub(crate) fn gap_end(text: &[u8], from: usize, dialect: Dialect) -> Result<usiz
     ensures from { IfOk result (λ end. from ≤ end) }
     ensures inside { IfOk result (λ end. end ≤ length text.now) }
     ensures gap { IfOk result (IsGap dialect text.now from) }
+    ensures only { dialect ≡ Dialect.Grmtools → (end : ℕ)
+        → IsGap Dialect.Grmtools text.now from end → EndsGap text.now end → result ≡ Ok end }
 {
     let mut within = Within::Gap;
     for at in from..text.len() {

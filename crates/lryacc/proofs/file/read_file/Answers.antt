@@ -1,0 +1,34 @@
+use Rattle.std.proofs.Common.{◌≡◌, ℕ, List, IfOk, Ok, Err, Result, Bool, true, ◌==◌, arith, vec_len}
+use Rattle.lryacc.specs.declared.contents.Alternative.{Alternative}
+use Rattle.lryacc.specs.declared.dialects.Dialect.{Dialect}
+use Rattle.lryacc.specs.declared.file.FileRead.{FileRead}
+use Rattle.lryacc.specs.declared.file.FileRead.TheVariants.{Grammar, Faults}
+use Rattle.lryacc.specs.FilesRead.{AreBodiesOf, AreBodiesRead}
+use Rattle.lryacc.proofs.file.read_file.Goals as goal
+
+-- what holds of all that comes of a call holds in other words
+each-ok : {A E : Type 0} (P Q : A → Type 0) (r : Result A E) → ((a : A) → P a → Q a) → IfOk r P → IfOk r Q
+each-ok P Q (Ok a) f p = f a p
+each-ok P Q (Err e) f p = p
+
+bodies-of : (text : List ℕ) (dialect : Dialect) (bodies : List Alternative) (read : FileRead) → AreBodiesRead text dialect bodies → AreBodiesOf text dialect bodies read
+bodies-of text dialect bodies (Grammar file expected warnings) h = h
+bodies-of text dialect bodies (Faults faults) h = tt
+
+none-told : (n : ℕ) (is : Bool) → is ≡ (n == 0) → is ≡ true → n ≡ 0
+none-told n is same empty = grind arith
+
+pub returns-clause-bodies : goal.returns-clause-bodies
+returns-clause-bodies c =
+    let contents = c.in_ok-contents.contents in
+    let none = none-told (vec_len contents.faults) c.is_empty.result c.is_empty.ensures c.if-not-is_empty.false in
+    each-ok _ _ c.contents_read.result
+    (λ read has. record {
+      dialect = c.dialect_of-dialect.result;
+      is = c.dialect_of-dialect.ensures;
+      statements = contents.statements.items;
+      bodies = contents.alternatives.items;
+      are_read = bodies-of c.args.text.now c.dialect_of-dialect.result contents.alternatives.items read (c.in_ok-contents.ensures.read none);
+      has = has;
+    })
+    c.contents_read.ensures.bodies
