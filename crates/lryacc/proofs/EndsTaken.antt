@@ -4,6 +4,7 @@ use Rattle.std.proofs.lemmas.Bool.{false≢true}
 use Rattle.std.proofs.lemmas.List.Elements.{Contains-append_left, Contains-push, Contains-push_cases}
 use Rattle.std.proofs.lemmas.Option.{same_Some}
 use Rattle.std.specs.Option.{option_map, option_or}
+use Rattle.lrgrammar.specs.declared.grammar.PartSymbol.{PartSymbol}
 use Rattle.lryacc.specs.declared.contents.Contents.{Contents}
 use Rattle.lryacc.specs.declared.contents.Statement.{Statement}
 use Rattle.lryacc.specs.declared.contents.Statement.TheVariants as says
@@ -265,9 +266,9 @@ end-kept statements {old} {new} keeps h = record {
 
 -- ---- of a file
 
-module _ (meaning : Meaning) (contents : Contents) (file : FileGrammar) where
+module _ (meaning : Meaning) (contents : Contents) (symbol : ℕ → Option PartSymbol) (file : FileGrammar) where
   abbrev names : Names
-  names = names_in meaning contents file
+  names = names_in meaning contents symbol file
 
   abbrev first : ℕ → ℕ
   first = first_name meaning.symbols

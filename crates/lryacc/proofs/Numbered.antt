@@ -14,8 +14,11 @@ use Rattle.lrgrammar.specs.declared.grammar.Precedence.{Precedence}
 use Rattle.lryacc.specs.declared.numbering.Numbering.{Numbering}
 use Rattle.lryacc.specs.BodyPrecedences.{HasLevel}
 use Rattle.lryacc.specs.BodyProductions.{IsActionRule, Keeps}
-use Rattle.lryacc.specs.NamedSymbols.{Names, IsRuleOf, IsTokenOf}
-use Rattle.lryacc.specs.Numbered.{AddsNumbers, AreLevelled, AreNumbered, IsLevelled, IsNumbered}
+use Rattle.lrgrammar.specs.declared.grammar.PartSymbol.{PartSymbol}
+use Rattle.lrgrammar.specs.declared.grammar.PartSymbol.TheVariants.{Rule, Token}
+use Rattle.std.specs.Option.{option_map, option_or}
+use Rattle.lryacc.specs.NamedSymbols.{AreOneEach, Names, IsRuleOf, IsTokenOf}
+use Rattle.lryacc.specs.Numbered.{AddsNumbers, AreBefore, AreLevelled, AreNumbered, AreOwn, GivesToken, IsLevelled, IsNumbered, names_of, symbol_by}
 
 -- what a list has it has behind more
 pub has-more : {A : Type 0} (xs ys : List A) (n : ℕ) (x : A) → slice_get xs n ≡ Some x → slice_get (xs ++ ys) n ≡ Some x
@@ -79,12 +82,32 @@ pub all-put : (P : ℕ → ℕ → Type 0) (old new : ℕ → Option ℕ) (key v
 all-put P old new key value puts put there q v e =
     put-at P old new key value q v (is_at (nat_cmp key) q) refl (puts q) put there e
 
--- names with more rules and tokens
-abbrev pub with_more : Names → List (List ℕ) → List (List ℕ) → List (Option Precedence) → List ℕ → Names
-with_more a rules tokens precedences starts = record a { rules = rules; tokens = tokens; precedences = precedences; starts = starts }
+-- what is put in is that of no other
+pub own-put : (old new : ℕ → Option ℕ) (key value : ℕ) → ((q : ℕ) → new q ≡ cond (is_at (nat_cmp key) q) (Some value) (old q)) → AreBefore old value → AreOwn old → AreOwn new
+own-put old new key value puts before own = λ q other v e d.
+    let key_alone : (p : ℕ) → new p ≡ Some value → key ≡ p =
+    λ p f. all-put (λ n w. w ≡ value → key ≡ n) old new key value puts (λ _. refl)
+    (λ n w g same. let less : w < value = before n w g in absurd (omega arith)) p value f refl in
+    let others : (n w : ℕ) → old n ≡ Some w → (p : ℕ) → new p ≡ Some w → n ≡ p =
+    λ n w g p f. all-put (λ m u. u ≡ w → n ≡ m) old new key value puts
+    (λ same. let less : w < value = before n w g in absurd (omega arith))
+    (λ m u k same. own n m w g (k ∙ ap Some same)) p w f refl in
+    all-put (λ n w. (p : ℕ) → new p ≡ Some w → n ≡ p) old new key value puts key_alone others q v e other d
 
-pub rule-more : (a : Names) (rules tokens : List (List ℕ)) (precedences : List (Option Precedence)) (starts : List ℕ) (number rule : ℕ) → Keeps a.rules rules → IsRuleOf a number rule → IsRuleOf (with_more a rules tokens precedences starts) number rule
-rule-more a rules tokens precedences starts number rule keeps h = record {
+-- a place at which a list has something is within it
+pub place-within : {A : Type 0} (xs : List A) (n : ℕ) (x : A) → slice_get xs n ≡ Some x → n < length xs
+place-within [] n x e = absurd (cc)
+place-within (y ∷ xs) zero x e = omega arith
+place-within (y ∷ xs) (suc n) x e =
+    let less = place-within xs n x e in
+    omega (arith, less)
+
+-- names with more rules and tokens
+abbrev pub with_more : Names → List (List ℕ) → List (List ℕ) → List (Option Precedence) → List ℕ → (ℕ → Option PartSymbol) → Names
+with_more a rules tokens precedences starts symbol = record a { rules = rules; tokens = tokens; precedences = precedences; starts = starts; symbol = symbol }
+
+pub rule-more : (a : Names) (rules tokens : List (List ℕ)) (precedences : List (Option Precedence)) (starts : List ℕ) (symbol : ℕ → Option PartSymbol) (number rule : ℕ) → Keeps a.rules rules → IsRuleOf a number rule → IsRuleOf (with_more a rules tokens precedences starts symbol) number rule
+rule-more a rules tokens precedences starts symbol number rule keeps h = record {
   is_rule = h.is_rule;
   behind = h.behind;
   name = h.name;
@@ -94,8 +117,8 @@ rule-more a rules tokens precedences starts number rule keeps h = record {
   is = h.is;
 }
 
-pub token-more : (a : Names) (rules tokens : List (List ℕ)) (precedences : List (Option Precedence)) (starts : List ℕ) (number token : ℕ) → Keeps a.tokens tokens → Keeps a.precedences precedences → IsTokenOf a number token → IsTokenOf (with_more a rules tokens precedences starts) number token
-token-more a rules tokens precedences starts number token keeps levels (inl h) = inl record {
+pub token-more : (a : Names) (rules tokens : List (List ℕ)) (precedences : List (Option Precedence)) (starts : List ℕ) (symbol : ℕ → Option PartSymbol) (number token : ℕ) → Keeps a.tokens tokens → Keeps a.precedences precedences → IsTokenOf a number token → IsTokenOf (with_more a rules tokens precedences starts symbol) number token
+token-more a rules tokens precedences starts symbol number token keeps levels (inl h) = inl record {
   name = h.name;
   same = h.same;
   text = h.text;
@@ -107,13 +130,13 @@ token-more a rules tokens precedences starts number token keeps levels (inl h) =
     is = h.precedence.is;
   };
 }
-token-more a rules tokens precedences starts number token keeps levels (inr h) = inr record {
+token-more a rules tokens precedences starts symbol number token keeps levels (inr h) = inr record {
   end = h.end;
-  is = elim h.is [ inl first ↦ inl first | inr named ↦ inr (keeps token (codes "$end") named) ];
+  is = keeps token (codes "$end") h.is;
 }
 
-pub action-more : (a : Names) (rules tokens : List (List ℕ)) (precedences : List (Option Precedence)) (starts : List ℕ) (start rule : ℕ) → Keeps a.rules rules → Keeps a.starts starts → IsActionRule a start rule → IsActionRule (with_more a rules tokens precedences starts) start rule
-action-more a rules tokens precedences starts start rule keeps keeps_starts h = record {
+pub action-more : (a : Names) (rules tokens : List (List ℕ)) (precedences : List (Option Precedence)) (starts : List ℕ) (symbol : ℕ → Option PartSymbol) (start rule : ℕ) → Keeps a.rules rules → Keeps a.starts starts → IsActionRule a start rule → IsActionRule (with_more a rules tokens precedences starts symbol) start rule
+action-more a rules tokens precedences starts symbol start rule keeps keeps_starts h = record {
   place = keeps_starts rule start h.place;
   text = h.text;
   here = keeps rule h.text h.here;
@@ -121,30 +144,56 @@ action-more a rules tokens precedences starts start rule keeps keeps_starts h = 
 }
 
 -- rules and tokens that were numbered stay so where others are added
-pub numbered-more : (a : Names) (rules tokens : List (List ℕ)) (precedences : List (Option Precedence)) (starts : List ℕ) (r t s : ℕ → Option ℕ) → Keeps a.rules rules → Keeps a.tokens tokens → Keeps a.precedences precedences → Keeps a.starts starts → (length a.starts ≡ length a.rules → length starts ≡ length rules) → AreNumbered a r t s → AreNumbered (with_more a rules tokens precedences starts) r t s
-numbered-more a rules tokens precedences starts r t s keeps_rules keeps_tokens keeps_levels keeps_starts placed h = record {
-  of_rules = λ number rule e. rule-more a rules tokens precedences starts number rule keeps_rules (h.of_rules number rule e);
-  of_tokens = λ number token e. token-more a rules tokens precedences starts number token keeps_tokens keeps_levels (h.of_tokens number token e);
-  of_actions = λ start rule e. action-more a rules tokens precedences starts start rule keeps_rules keeps_starts (h.of_actions start rule e);
+pub numbered-more : (a : Names) (rules tokens : List (List ℕ)) (precedences : List (Option Precedence)) (starts : List ℕ) (symbol : ℕ → Option PartSymbol) (r t s : ℕ → Option ℕ) → Keeps a.rules rules → Keeps a.tokens tokens → Keeps a.precedences precedences → Keeps a.starts starts → (length a.starts ≡ length a.rules → length starts ≡ length rules) → AreNumbered a r t s → AreNumbered (with_more a rules tokens precedences starts symbol) r t s
+numbered-more a rules tokens precedences starts symbol r t s keeps_rules keeps_tokens keeps_levels keeps_starts placed h = record {
+  of_rules = λ number rule e. rule-more a rules tokens precedences starts symbol number rule keeps_rules (h.of_rules number rule e);
+  of_tokens = λ number token e. token-more a rules tokens precedences starts symbol number token keeps_tokens keeps_levels (h.of_tokens number token e);
+  rules_apart = h.rules_apart;
+  tokens_apart = h.tokens_apart;
+  of_actions = λ start rule e. action-more a rules tokens precedences starts symbol start rule keeps_rules keeps_starts (h.of_actions start rule e);
   placed = placed h.placed;
   accept = keeps_rules 0 (codes "$accept") h.accept;
 }
 
+-- rules and tokens of numbers stand in the grammar
+pub rules-before : (a : Names) (r t s : ℕ → Option ℕ) (next : ℕ) → length a.rules ≡ next → AreNumbered a r t s → AreBefore r next
+rules-before a r t s next is h = λ number rule e.
+    let of = h.of_rules number rule e in
+    let within = place-within a.rules rule of.text of.here in
+    omega (arith, within, is)
+
+token-within : (a : Names) (number token : ℕ) → IsTokenOf a number token → token < length a.tokens
+token-within a number token (inl h) = place-within a.tokens token h.text h.here
+token-within a number token (inr h) = place-within a.tokens token (codes "$end") h.is
+
+pub tokens-before : (a : Names) (r t s : ℕ → Option ℕ) (next : ℕ) → next ≡ length a.tokens → AreNumbered a r t s → AreBefore t next
+tokens-before a r t s next is h = λ number token e.
+    let within = token-within a number token (h.of_tokens number token e) in
+    omega (arith, within, is)
+
 -- a token has a number
-pub numbered-token : (a : Names) (r t t' s : ℕ → Option ℕ) (number token : ℕ) → ((q : ℕ) → t' q ≡ cond (is_at (nat_cmp number) q) (Some token) (t q)) → IsTokenOf a number token → AreNumbered a r t s → AreNumbered a r t' s
-numbered-token a r t t' s number token puts is h = record {
-  of_rules = h.of_rules;
-  of_tokens = all-put (IsTokenOf a) t t' number token puts is h.of_tokens;
-  of_actions = h.of_actions;
-  placed = h.placed;
-  accept = h.accept;
-}
+pub numbered-token : (a : Names) (symbol : ℕ → Option PartSymbol) (r t t' s : ℕ → Option ℕ) (number token : ℕ) → ((q : ℕ) → t' q ≡ cond (is_at (nat_cmp number) q) (Some token) (t q)) → IsTokenOf a number token → AreBefore t token → AreNumbered a r t s → AreNumbered (with_more a a.rules a.tokens a.precedences a.starts symbol) r t' s
+numbered-token a symbol r t t' s number token puts is before h =
+    let now = with_more a a.rules a.tokens a.precedences a.starts symbol in
+    let kept = numbered-more a a.rules a.tokens a.precedences a.starts symbol r t s (λ _ _ e. e) (λ _ _ e. e) (λ _ _ e. e) (λ _ _ e. e) (λ e. e) h in
+    let own = token-more a a.rules a.tokens a.precedences a.starts symbol number token (λ _ _ e. e) (λ _ _ e. e) is in
+    record {
+      of_rules = kept.of_rules;
+      of_tokens = all-put (IsTokenOf now) t t' number token puts own kept.of_tokens;
+      rules_apart = h.rules_apart;
+      tokens_apart = own-put t t' number token puts before h.tokens_apart;
+      of_actions = kept.of_actions;
+      placed = h.placed;
+      accept = h.accept;
+    }
 
 -- a rule has a number
-pub numbered-rule : (a : Names) (r r' t s : ℕ → Option ℕ) (number rule : ℕ) → ((q : ℕ) → r' q ≡ cond (is_at (nat_cmp number) q) (Some rule) (r q)) → IsRuleOf a number rule → AreNumbered a r t s → AreNumbered a r' t s
-numbered-rule a r r' t s number rule puts is h = record {
+pub numbered-rule : (a : Names) (r r' t s : ℕ → Option ℕ) (number rule : ℕ) → ((q : ℕ) → r' q ≡ cond (is_at (nat_cmp number) q) (Some rule) (r q)) → IsRuleOf a number rule → AreBefore r rule → AreNumbered a r t s → AreNumbered a r' t s
+numbered-rule a r r' t s number rule puts is before h = record {
   of_rules = all-put (IsRuleOf a) r r' number rule puts is h.of_rules;
   of_tokens = h.of_tokens;
+  rules_apart = own-put r r' number rule puts before h.rules_apart;
+  tokens_apart = h.tokens_apart;
   of_actions = h.of_actions;
   placed = h.placed;
   accept = h.accept;
@@ -155,10 +204,39 @@ pub numbered-action : (a : Names) (r t s s' : ℕ → Option ℕ) (start rule : 
 numbered-action a r t s s' start rule puts is h = record {
   of_rules = h.of_rules;
   of_tokens = h.of_tokens;
+  rules_apart = h.rules_apart;
+  tokens_apart = h.tokens_apart;
   of_actions = all-put (IsActionRule a) s s' start rule puts is h.of_actions;
   placed = h.placed;
   accept = h.accept;
 }
+
+-- ---- the symbols of numbers
+
+pub rule_symbol : (r t : ℕ → Option ℕ) (number rule : ℕ) → r number ≡ Some rule → symbol_by r t number ≡ Some (Rule rule)
+rule_symbol r t number rule is = ap (λ own. option_or (option_map Rule own) (option_map Token (t number))) is
+
+pub token_symbol : (r t : ℕ → Option ℕ) (number token : ℕ) → r number ≡ None → t number ≡ Some token → symbol_by r t number ≡ Some (Token token)
+token_symbol r t number token none is =
+    ap (λ own. option_or (option_map Rule own) (option_map Token (t number))) none ∙ ap (option_map Token) is
+
+one-by : (r t : ℕ → Option ℕ) (n m : ℕ) (symbol : PartSymbol) (a b c d : Option ℕ) → AreOwn r → AreOwn t → r n ≡ a → r m ≡ b → t n ≡ c → t m ≡ d → option_or (option_map Rule a) (option_map Token c) ≡ Some symbol → option_or (option_map Rule b) (option_map Token d) ≡ Some symbol → n ≡ m
+one-by r t n m symbol (Some x) (Some y) c d rules tokens e f g h p q =
+    let same : x ≡ y = cc in
+    rules n m y (e ∙ ap Some same) f
+one-by r t n m symbol (Some x) None c None rules tokens e f g h p q = absurd (cc)
+one-by r t n m symbol (Some x) None c (Some y) rules tokens e f g h p q = absurd (cc)
+one-by r t n m symbol None (Some y) None d rules tokens e f g h p q = absurd (cc)
+one-by r t n m symbol None (Some y) (Some x) d rules tokens e f g h p q = absurd (cc)
+one-by r t n m symbol None None None d rules tokens e f g h p q = absurd (cc)
+one-by r t n m symbol None None (Some x) None rules tokens e f g h p q = absurd (cc)
+one-by r t n m symbol None None (Some x) (Some y) rules tokens e f g h p q =
+    let same : x ≡ y = cc in
+    tokens n m y (g ∙ ap Some same) h
+
+-- each is that of one number
+pub one-each : (r t : ℕ → Option ℕ) → AreOwn r → AreOwn t → AreOneEach (symbol_by r t)
+one-each r t rules tokens = λ n m symbol e d. one-by r t n m symbol (r n) (r m) (t n) (t m) rules tokens refl refl refl refl e d
 
 -- a list that has a first element is not empty
 pub some-first : {A : Type 0} (xs : List A) (x : A) → slice_get xs 0 ≡ Some x → 0 < length xs
@@ -175,6 +253,8 @@ pub numbered-none : (a : Names) (r t s : BTreeMap ℕ ℕ) → IsEmpty r → IsE
 numbered-none a r t s no_rule no_token no_action placed accept = record {
   of_rules = λ number rule e. none-at r number rule no_rule e;
   of_tokens = λ number token e. none-at t number token no_token e;
+  rules_apart = λ number other rule e d. none-at r number rule no_rule e;
+  tokens_apart = λ number other token e d. none-at t number token no_token e;
   of_actions = λ start rule e. none-at s start rule no_action e;
   placed = placed;
   accept = accept;
@@ -228,4 +308,15 @@ adds_again one other = record {
   contents = other.contents ∙ one.contents;
   numbered = λ h. other.numbered (one.numbered h);
   levelled = λ h. other.levelled (one.levelled h);
+}
+
+-- a token is added, and given to a symbol
+pub gives-next : (old now new : Numbering) (number token : ℕ) → AddsNumbers old now → now.tokens ≡ old.tokens → token ≡ length (names_of old).tokens → IsTokenOf (names_of now) number token → GivesToken now new number token → AddsNumbers old new
+gives-next old now new number token added same last is gives = record {
+  meaning = gives.meaning ∙ added.meaning;
+  contents = gives.contents ∙ added.contents;
+  numbered = λ h.
+      let before : AreBefore (get nat_cmp old.tokens) token = tokens-before (names_of old) _ _ _ token last h in
+      gives.numbered is (subst (λ (m : BTreeMap ℕ ℕ). AreBefore (get nat_cmp m) token) (sym same) before) (added.numbered h);
+  levelled = λ h. gives.levelled (added.levelled h);
 }

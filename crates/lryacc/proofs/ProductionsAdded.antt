@@ -1,8 +1,9 @@
 -- productions of bodies are added
-use Rattle.std.proofs.Common.{◌≡◌, List, [], ◌∷◌, ◌++◌, map, flat_map, refl, ap, sym, ◌∙◌, subst, arith}
+use Rattle.std.proofs.Common.{◌≡◌, ℕ, List, [], ◌∷◌, ◌++◌, map, flat_map, refl, ap, sym, ◌∙◌, subst, arith}
 use Rattle.std.proofs.lemmas.Grind.{flat_map-append}
 use Rattle.std.proofs.lemmas.List.{append-nil, append_assoc, length-append, map-append}
 use Rattle.lrgrammar.specs.declared.grammar.PartProd.{PartProd}
+use Rattle.lrgrammar.specs.declared.grammar.PartSymbol.{PartSymbol}
 use Rattle.lryacc.specs.declared.contents.BodyPart.TheVariants as part
 use Rattle.lryacc.specs.declared.contents.Contents.{Contents}
 use Rattle.lryacc.specs.declared.lexemes.Lexeme.{Lexeme}
@@ -83,5 +84,5 @@ places-made f old now new xs xs' x more one other =
     (places-again old now new (flat_map f xs) (f x) one other)
 
 -- the names of a grammar are those of its rules and tokens
-pub names-same : (m m' : Meaning) (c c' : Contents) (f f' : FileGrammar) → m' ≡ m → c' ≡ c → f'.parts.rules.items ≡ f.parts.rules.items → f'.parts.tokens.items ≡ f.parts.tokens.items → f'.rule_places.items ≡ f.rule_places.items → names_in m c f ≡ names_in m' c' f'
-names-same m m' c c' f f' same said rules tokens places = rw (same, said, rules, tokens, places) refl
+pub names-same : (m m' : Meaning) (c c' : Contents) (symbol : ℕ → Option PartSymbol) (f f' : FileGrammar) → m' ≡ m → c' ≡ c → f'.parts.rules.items ≡ f.parts.rules.items → f'.parts.tokens.items ≡ f.parts.tokens.items → f'.rule_places.items ≡ f.rule_places.items → names_in m c symbol f ≡ names_in m' c' symbol f'
+names-same m m' c c' symbol f f' same said rules tokens places = rw (same, said, rules, tokens, places) refl

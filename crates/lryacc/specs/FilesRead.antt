@@ -19,13 +19,13 @@ use Rattle.lryacc.specs.ExpectedConflicts.{AreExpected}
 use Rattle.lryacc.specs.Headers.{IsReadAs}
 use Rattle.lryacc.specs.KeptProductions.{IsWithout}
 use Rattle.lryacc.specs.Levels.{IsInLine, has_default_after, levels_of}
-use Rattle.lryacc.specs.NamedSymbols.{NameOne, Names}
+use Rattle.lryacc.specs.NamedSymbols.{AreOneEach, NameOne, Names}
 use Rattle.lryacc.specs.ProductionPlaces.{file_places, start_rules_of}
 use Rattle.lryacc.specs.StartSymbols.{AreStarts}
 
 -- the names of a file of this text and dialect, with these declarations and bodies, and of the rules, of which the first is
--- `$accept`, and the tokens of a grammar of it: lexemes of one number name one symbol, the end token is what declarations
--- say, and so are the precedence lines of symbols, and whether bodies without `%prec` have a precedence
+-- `$accept`, and the tokens of a grammar of it: lexemes of one number name one symbol, and no others do; the end token is what
+-- declarations say, and so are the precedence lines of symbols, and whether bodies without `%prec` have a precedence
 pub record AreNamesOf (text : List ℕ) (dialect : Dialect) (statements : List Statement)
     (bodies : List Alternative) (file : FileGrammar) (names : Names) : Type 0 where
   pub text_is : names.text ≡ text
@@ -46,6 +46,7 @@ pub record AreNamesOf (text : List ℕ) (dialect : Dialect) (statements : List S
       → names.number lexeme ≡ Some number → (line : ℕ) × (names.line number ≡ Some line)
   pub one : (lexeme other : Lexeme) (number : ℕ) → names.number lexeme ≡ Some number
       → names.number other ≡ Some number → NameOne text dialect statements lexeme other
+  pub one_each : AreOneEach names.symbol
 
 -- a grammar has the bodies of a file, of which there is at least one: it is one with a production for each start rule and each
 -- body, which have the rules and the symbols that the lexemes name, without those that are useless; where a file for Bison has no

@@ -14,6 +14,8 @@ pub mod PlacedProductions
 pub mod KeptProductions
 -- the beginning of a file of grmtools
 pub mod Headers
+-- the productions of what a file says
+pub mod FileProductions
 -- what the grammar of a file comes from
 pub mod FilesRead
 -- what stands around bodies

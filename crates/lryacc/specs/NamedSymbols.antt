@@ -217,6 +217,8 @@ pub record Names : Type 0 where
   pub bodies : List Alternative
   -- the symbol that a lexeme names
   pub number : Lexeme → Option ℕ
+  -- the rule or token of a grammar that the symbol of a number is
+  pub symbol : ℕ → Option PartSymbol
   -- the end token
   pub end : Option ℕ
   pub rules : List (List ℕ)
@@ -231,15 +233,16 @@ pub record Names : Type 0 where
   -- whether bodies without `%prec` have a precedence
   pub has_default : Bool
 
--- those of a file whose names have their meaning
-abbrev pub names_in : Meaning → Contents → FileGrammar → Names
-names_in meaning contents file =
+-- those of a file whose names have their meaning, and whose symbols are these
+abbrev pub names_in : Meaning → Contents → (ℕ → Option PartSymbol) → FileGrammar → Names
+names_in meaning contents symbol file =
     record {
       text = meaning.symbols.text.now;
       dialect = meaning.symbols.dialect;
       statements = contents.statements.items;
       bodies = contents.alternatives.items;
       number = symbol_number meaning.symbols;
+      symbol = symbol;
       end = option_map (first_name meaning.symbols) meaning.end;
       rules = map (λ name. string_bytes name) file.parts.rules.items;
       tokens = map (λ token. string_bytes token.name) file.parts.tokens.items;
@@ -330,10 +333,10 @@ pub record IsTokenNamed (names : Names) (number token : ℕ) : Type 0 where
   pub is : IsTokenText names.dialect name.kind (name_of names.text names.dialect name) text
   pub precedence : HasPrecedenceOf names number token
 
--- the end token is token 0, and may have a name that stands in no file
+-- the end token may have a name that stands in no file
 pub record IsEndToken (names : Names) (number token : ℕ) : Type 0 where
   pub end : names.end ≡ Some number
-  pub is : (token ≡ 0) ⊎ (slice_get names.tokens token ≡ Some (codes "$end"))
+  pub is : slice_get names.tokens token ≡ Some (codes "$end")
 
 -- a token is that of a symbol
 abbrev pub IsTokenOf : Names → ℕ → ℕ → Type 0
@@ -344,8 +347,15 @@ abbrev pub IsSymbolOf : Names → ℕ → PartSymbol → Type 0
 IsSymbolOf names number (Rule rule) = IsRuleOf names number rule
 IsSymbolOf names number (Token token) = IsTokenOf names number token
 
--- a lexeme names a rule or a token of a grammar, which stands there by a name of the same symbol
+-- each rule and each token of a grammar is the symbol of one number
+abbrev pub AreOneEach : (ℕ → Option PartSymbol) → Type 0
+AreOneEach symbol_of =
+    (number other : ℕ) (symbol : PartSymbol) → symbol_of number ≡ Some symbol
+    → symbol_of other ≡ Some symbol → number ≡ other
+
+-- a lexeme names the rule or token of a grammar that the symbol of its number is, which stands there by a name of that symbol
 pub record IsNamed (names : Names) (lexeme : Lexeme) (symbol : PartSymbol) : Type 0 where
   pub number : ℕ
   pub names_it : names.number lexeme ≡ Some number
+  pub is_it : names.symbol number ≡ Some symbol
   pub is : IsSymbolOf names number symbol

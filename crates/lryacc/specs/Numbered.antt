@@ -1,26 +1,50 @@
 -- the rules and tokens that were numbered so far
-use Rattle.std.specs.Prelude.{◌≡◌, ℕ, ◌+◌, ◌*◌, length, List, Option, None, Some, codes, slice_get}
+use Rattle.std.specs.Prelude.{◌≡◌, ℕ, ◌<◌, ◌+◌, ◌*◌, length, List, Option, None, Some, codes, slice_get}
 use Rattle.std.specs.BTreeMap.{get}
+use Rattle.std.specs.Option.{option_map, option_or}
 use Rattle.std.specs.Ordering.{nat_cmp}
+use Rattle.lrgrammar.specs.declared.grammar.PartSymbol.{PartSymbol}
+use Rattle.lrgrammar.specs.declared.grammar.PartSymbol.TheVariants.{Rule, Token}
 use Rattle.lrgrammar.specs.declared.grammar.Precedence.{Precedence}
 use Rattle.lryacc.specs.declared.numbering.Numbering.{Numbering}
 use Rattle.lryacc.specs.BodyPrecedences.{HasLevel}
 use Rattle.lryacc.specs.BodyProductions.{IsActionRule}
 use Rattle.lryacc.specs.NamedSymbols.{IsRuleOf, IsTokenOf, Names, names_in}
 
--- each rule and each token that a number has is that of the symbol of that number, or that of the action that begins there; rule 0
--- is `$accept`
+-- no two numbers have the same
+abbrev pub AreOwn : (ℕ → Option ℕ) → Type 0
+AreOwn of =
+    (number other value : ℕ) → of number ≡ Some value → of other ≡ Some value → number ≡ other
+
+-- what numbers have is less than that
+abbrev pub AreBefore : (ℕ → Option ℕ) → ℕ → Type 0
+AreBefore of next = (number value : ℕ) → of number ≡ Some value → value < next
+
+-- each rule and each token that a number has is that of the symbol of that number, and of no other, or that of the action that
+-- begins there; rule 0 is `$accept`
 pub record AreNumbered (names : Names) (rules tokens actions : ℕ → Option ℕ) : Type 0 where
   pub of_rules : (number rule : ℕ) → rules number ≡ Some rule → IsRuleOf names number rule
   pub of_tokens : (number token : ℕ) → tokens number ≡ Some token → IsTokenOf names number token
+  pub rules_apart : AreOwn rules
+  pub tokens_apart : AreOwn tokens
   pub of_actions : (start rule : ℕ) → actions start ≡ Some rule → IsActionRule names start rule
   pub placed : length names.starts ≡ length names.rules
   pub accept : slice_get names.rules 0 ≡ Some (codes "$accept")
 
+-- the rule or token that the symbol of a number is: its rule, if it has one
+abbrev pub symbol_by : (ℕ → Option ℕ) → (ℕ → Option ℕ) → ℕ → Option PartSymbol
+symbol_by rules tokens number =
+    option_or (option_map Rule (rules number)) (option_map Token (tokens number))
+
+-- the same of a numbering
+abbrev pub symbol_in : Numbering → ℕ → Option PartSymbol
+symbol_in numbering =
+    symbol_by (get nat_cmp numbering.rules) (get nat_cmp numbering.tokens)
+
 -- the names of a numbering
 abbrev pub names_of : Numbering → Names
 names_of numbering =
-    names_in numbering.meaning.now numbering.contents.now numbering.grammar
+    names_in numbering.meaning.now numbering.contents.now (symbol_in numbering) numbering.grammar
 
 -- the same of all that was numbered
 abbrev pub IsNumbered : Numbering → Type 0
@@ -46,4 +70,12 @@ pub record AddsNumbers (old new : Numbering) : Type 0 where
   pub meaning : new.meaning.now ≡ old.meaning.now
   pub contents : new.contents.now ≡ old.contents.now
   pub numbered : IsNumbered old → IsNumbered new
+  pub levelled : IsLevelled old → IsLevelled new
+
+-- a symbol is given a token, unless it has one
+pub record GivesToken (old new : Numbering) (number token : ℕ) : Type 0 where
+  pub meaning : new.meaning.now ≡ old.meaning.now
+  pub contents : new.contents.now ≡ old.contents.now
+  pub numbered : IsTokenOf (names_of old) number token → AreBefore (get nat_cmp old.tokens) token
+      → IsNumbered old → IsNumbered new
   pub levelled : IsLevelled old → IsLevelled new

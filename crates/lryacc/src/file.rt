@@ -1,12 +1,12 @@
 //! Reads a grammar file.
 
-ghost use Rattle.std.specs.Prelude.{◌≡◌, ◌<◌, All, IfOk, Some, codes, length, slice_get, vec_len};
-ghost use Rattle.lryacc.specs.BodyProductions.{AreOfFile};
+ghost use Rattle.std.specs.Prelude.{◌≡◌, ◌<◌, All, IfOk, length, vec_len};
 ghost use Rattle.lryacc.specs.EndTokens.{HasEndBy};
+ghost use Rattle.lryacc.specs.FileProductions.{HasProductions};
 ghost use Rattle.lryacc.specs.FilesRead.{AreBodiesRead, ComesTo, HasBodies, HasNoGrammar};
 ghost use Rattle.lryacc.specs.LinesTaken.{HasLines};
-ghost use Rattle.lryacc.specs.NamedSymbols.{AreApart, ArePartnered, names_in};
-ghost use Rattle.lryacc.specs.ProductionPlaces.{IsPlaced, file_places, start_rules_of};
+ghost use Rattle.lryacc.specs.NamedSymbols.{AreApart, ArePartnered};
+ghost use Rattle.lryacc.specs.ProductionPlaces.{IsPlaced, file_places};
 ghost use Rattle.lryacc.specs.SaidTaken.{AreSaid};
 ghost use Rattle.lryacc.specs.Spans.{IsInside};
 ghost use Rattle.lryacc.specs.Told.{HasFaults, HasPlaces, told};
@@ -164,11 +164,7 @@ fn useful_read(
     requires places { whole.production_places.items
         ≡ file_places meaning.old.starts.items contents.now.alternatives.items }
     requires placed { IsPlaced whole }
-    requires accept { slice_get (names_in meaning.old contents.now whole).rules 0
-        ≡ Some (codes "$accept") }
-    requires productions { AreOfFile (names_in meaning.old contents.now whole)
-        (start_rules_of meaning.old.starts.items contents.now.alternatives.items)
-        contents.now.alternatives.items whole.parts.prods.items }
+    requires productions { HasProductions meaning.old contents.now whole }
     ensures inside { IfOk result (λ read. All (λ fault. IsInside fault.span text.now) (told read)) }
     ensures faults { IfOk result HasFaults }
     ensures placed { IfOk result HasPlaces }

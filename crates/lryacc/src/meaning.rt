@@ -3,7 +3,7 @@
 ghost use Rattle.std.specs.Prelude.{◌≡◌, ◌+◌, ◌<◌, ◌≤◌, [], ◌∷◌, length, IfOk, MatchOption, OnOk, true, false, None, Some, vec_len};
 ghost use Rattle.std.specs.BTreeMap.{IsEmpty, get};
 ghost use Rattle.std.specs.Ordering.{nat_cmp};
-ghost use Rattle.std.specs.Option.{option_map, option_or};
+ghost use Rattle.std.specs.Option.{option_or};
 ghost use Rattle.lryacc.specs.EndTokens.{HasEndBy, KeepsEnd, KeepsExpected, KeepsLines, KeepsMeaning, KeepsSaid, KeepsTables, TakesEnd, end_by_name, written_number};
 ghost use Rattle.lryacc.specs.SaidTaken.{HasSaid, IsSaid, LeavesOutReductions, TakesSaid, TakesStart};
 ghost use Rattle.lryacc.specs.LinesTaken.{BeginsLine, PutsInLine, TakesLines};
@@ -791,17 +791,6 @@ impl<'a> Meaning<'a> {
         match self.symbols.list.get(number) {
             Some(symbol) => symbol.place(),
             None => 0,
-        }
-    }
-
-    /// Whether the symbol of that number, by the name by which bodies go, is the end token.
-    pub(crate) fn is_end(&self, number: usize) -> bool
-        ensures { result ≡ true → option_map (first_name self.now.symbols) self.now.end
-            ≡ Some number }
-    {
-        match self.end {
-            Some(end) => self.canonical(end) == number,
-            None => false,
         }
     }
 }

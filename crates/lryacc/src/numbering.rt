@@ -10,8 +10,9 @@ ghost use Rattle.lryacc.specs.BodyPrecedences.{IsPrecedence, IsPrecedenceBy, IsP
 ghost use Rattle.lryacc.specs.BodyProductions.{AddsProduction, AddsProductions, AreOfActions, AreOfBodies, AreOfBody};
 ghost use Rattle.lryacc.specs.BodyProductions.{AreMarks, AreOfFile, AreRelated, IsEmptyProduction, IsMark, IsMarked, IsMarkName, IsOfPart, IsOfPartBefore, IsOfStart};
 ghost use Rattle.lryacc.specs.BodyProductions.{IsActionName, IsMarkOf, IsRuleOfAction, Keeps, is_one, start_symbols_of, symbol_parts};
-ghost use Rattle.lryacc.specs.NamedSymbols.{IsNamed, IsTokenText, NamesRule, name_of, names_in};
-ghost use Rattle.lryacc.specs.Numbered.{AddsNumbers, IsLevelled, IsNumbered, names_of};
+ghost use Rattle.lryacc.specs.FileProductions.{HasProductions};
+ghost use Rattle.lryacc.specs.NamedSymbols.{IsNamed, IsTokenText, NamesRule, name_of};
+ghost use Rattle.lryacc.specs.Numbered.{AddsNumbers, GivesToken, IsLevelled, IsNumbered, names_of};
 
 mod token_places;
 
@@ -500,6 +501,8 @@ impl<'m, 'a> Numbering<'m, 'a> {
         ensures added { OnOk result (AddsNumbers self.old self.new) }
         ensures number { IfOk result (λ number.
             slice_get (names_of self.new).tokens number ≡ Some (string_bytes name)) }
+        ensures same_tokens { OnOk result (self.new.tokens ≡ self.old.tokens) }
+        ensures last { IfOk result (λ number. number ≡ length (names_of self.old).tokens) }
         ensures precedence { IfOk result (λ number.
             slice_get (names_of self.new).precedences number ≡ Some precedence) }
         ensures tokens { OnOk result ((names_of self.new).tokens
@@ -533,6 +536,16 @@ impl<'m, 'a> Numbering<'m, 'a> {
     {
         let name = String::from_str(self.allocator(), END)?;
         let token = self.add_token(name, self.precedence(number))?;
+        self.give_token(number, token)
+    }
+
+    /// Gives a symbol a token, unless it has one.
+    fn give_token(&mut self, number: usize, token: usize) -> Result<(), AllocError>
+        ensures { OnOk result (GivesToken self.old self.new number token) }
+    {
+        if self.tokens.get(&number).is_some() {
+            return Ok(());
+        }
         self.tokens.insert(number, token)?;
         Ok(())
     }
@@ -547,8 +560,7 @@ impl<'m, 'a> Numbering<'m, 'a> {
         let name = self.token_name(told)?;
         let precedence = self.precedence(number);
         let token = self.add_token(name, precedence)?;
-        self.tokens.insert(number, token)?;
-        Ok(())
+        self.give_token(number, token)
     }
 
     /// Adds the token of a symbol, or one of that name where there is no such symbol.
@@ -726,9 +738,6 @@ impl<'m, 'a> Numbering<'m, 'a> {
         let number = self.meaning.find(lexeme)?;
         if let Some(rule) = self.rules.get(&number) {
             return Some(PartSymbol::Rule(*rule));
-        }
-        if self.meaning.is_end(number) {
-            return Some(PartSymbol::Token(0));
         }
         Some(PartSymbol::Token(*self.tokens.get(&number)?))
     }
@@ -1087,11 +1096,7 @@ pub(crate) fn file_grammar(
     ensures places { IfOk result (λ file. file.production_places.items
         ≡ file_places meaning.now.starts.items contents.now.alternatives.items) }
     ensures placed { IfOk result IsPlaced }
-    ensures accept { IfOk result (λ file. slice_get (names_in meaning.now contents.now file).rules 0
-        ≡ Some (codes "$accept")) }
-    ensures productions { IfOk result (λ file. AreOfFile (names_in meaning.now contents.now file)
-        (start_rules_of meaning.now.starts.items contents.now.alternatives.items)
-        contents.now.alternatives.items file.parts.prods.items) }
+    ensures productions { IfOk result (HasProductions meaning.now contents.now) }
 {
     let alternatives = contents.alternatives.as_slice();
     let starts = start_rules(alloc, meaning, alternatives)?;

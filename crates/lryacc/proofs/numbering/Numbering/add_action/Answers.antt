@@ -30,14 +30,14 @@ returns c =
       meaning = refl;
       contents = refl;
       numbered = λ h.
-          numbered-action (with_more names rules tokens levels starts) _ _ _ _ c.args.action.span.start c.in_ok-rule.rule (λ q. c.in_ok-insert.ensures.updates.0 q)
+          numbered-action (with_more names rules tokens levels starts names.symbol) _ _ _ _ c.args.action.span.start c.in_ok-rule.rule (λ q. c.in_ok-insert.ensures.updates.0 q)
           (record {
             place = ap (slice_get starts) (number h.placed) ∙ map-added start old.rule_places.items new.rule_places.items c.args.action.span added.places;
             text = string_bytes c.in_ok-name.name;
             here = ap (slice_get rules) added.number ∙ map-added rule_name old.parts.rules.items new.parts.rules.items c.in_ok-name.name added.rules;
             is = c.in_ok-name.ensures;
           })
-          (numbered-more names rules tokens levels starts _ _ _
+          (numbered-more names rules tokens levels starts names.symbol _ _ _
           (map-more rule_name old.parts.rules.items new.parts.rules.items c.in_ok-name.name added.rules)
           (λ n x e. ap (λ (ts : Vec PartToken Global). slice_get (map token_name ts.items) n) added.tokens ∙ e)
           (λ n x e. ap (λ (ts : Vec PartToken Global). slice_get (map (λ (token : PartToken). token.precedence) ts.items) n) added.tokens ∙ e)

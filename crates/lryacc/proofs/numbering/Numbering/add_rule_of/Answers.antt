@@ -7,9 +7,9 @@ use Rattle.std.specs.declared.vec.Vec.{Vec}
 use Rattle.lrgrammar.specs.declared.grammar.PartToken.{PartToken}
 use Rattle.lryacc.specs.declared.places.Span.{Span}
 use Rattle.lryacc.specs.NamedSymbols.{IsTextOf}
-use Rattle.lryacc.specs.Numbered.{AreLevelled, names_of}
+use Rattle.lryacc.specs.Numbered.{AreLevelled, names_of, symbol_in}
 use Rattle.std.proofs.lemmas.List.{length-map}
-use Rattle.lryacc.proofs.Numbered.{some-first, lengths-more, numbered-rule, numbered-more, map-added, map-more, with_more}
+use Rattle.lryacc.proofs.Numbered.{rules-before, some-first, lengths-more, numbered-rule, numbered-more, map-added, map-more, with_more}
 use Rattle.lryacc.proofs.numbering.Numbering.add_rule_of.Goals as goal
 
 pub returns : goal.returns
@@ -25,11 +25,12 @@ returns c =
     let tokens = map token_name new.parts.tokens.items in
     let levels = map (λ (token : PartToken). token.precedence) new.parts.tokens.items in
     let starts = map start new.rule_places.items in
+    let symbol = symbol_in (record c.args.self.now { rules = c.insert.new.self }) in
     record {
       meaning = refl;
       contents = refl;
       numbered = λ h.
-          numbered-rule (with_more names rules tokens levels starts) _ _ _ _ c.in-Some.symbol c.in_ok-rule.rule (λ q. c.in_ok-insert.ensures.updates.0 q)
+          numbered-rule (with_more names rules tokens levels starts symbol) _ _ _ _ c.in-Some.symbol c.in_ok-rule.rule (λ q. c.in_ok-insert.ensures.updates.0 q)
           (record {
             is_rule = c.requires c.in-Some.symbol (sym c.find.ensures ∙ c.in-Some.is);
             behind = subst (λ (n : ℕ). 0 < n) (sym added.number) (omega (arith, some-first names.rules _ h.accept, length-map old.parts.rules.items rule_name));
@@ -39,7 +40,8 @@ returns c =
             here = ap (slice_get rules) added.number ∙ map-added rule_name old.parts.rules.items new.parts.rules.items c.in_ok-text.text added.rules;
             is = subst (λ (bytes : List ℕ). IsTextOf bytes (string_bytes c.in_ok-text.text)) c.name.ensures c.in_ok-text.ensures;
           })
-          (numbered-more names rules tokens levels starts _ _ _
+          (rules-before names _ _ _ c.in_ok-rule.rule (length-map old.parts.rules.items rule_name ∙ sym added.number) h)
+          (numbered-more names rules tokens levels starts symbol _ _ _
           (map-more rule_name old.parts.rules.items new.parts.rules.items c.in_ok-text.text added.rules)
           (λ n x e. ap (λ (ts : Vec PartToken Global). slice_get (map token_name ts.items) n) added.tokens ∙ e)
           (λ n x e. ap (λ (ts : Vec PartToken Global). slice_get (map (λ (token : PartToken). token.precedence) ts.items) n) added.tokens ∙ e)

@@ -17,7 +17,7 @@ returns-clause-added c =
       meaning = refl;
       contents = refl;
       numbered =
-          numbered-more names names.rules (map name_of_token tokens) (map level_of_token tokens) names.starts _ _ _ (λ _ _ h. h)
+          numbered-more names names.rules (map name_of_token tokens) (map level_of_token tokens) names.starts names.symbol _ _ _ (λ _ _ h. h)
           (map-more name_of_token old.grammar.parts.tokens.items tokens token c.in_ok-push.ensures.items)
           (map-more level_of_token old.grammar.parts.tokens.items tokens token c.in_ok-push.ensures.items)
           (λ _ _ h. h) (λ same. same);

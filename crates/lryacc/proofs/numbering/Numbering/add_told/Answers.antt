@@ -1,36 +1,34 @@
 use Rattle.std.proofs.Common.{◌∙◌, ap, inl, string_bytes, subst, sym}
 use Rattle.lryacc.specs.declared.meaning.Meaning.{Meaning}
 use Rattle.lryacc.specs.Levels.{IsOfLines, line_of}
-use Rattle.lryacc.specs.NamedSymbols.{IsTokenText, name_of, symbol_number}
+use Rattle.lryacc.specs.NamedSymbols.{IsTokenOf, IsTokenText, name_of, symbol_number}
 use Rattle.lryacc.specs.Numbered.{names_of}
-use Rattle.lryacc.proofs.Numbered.{numbered-token}
+use Rattle.lryacc.proofs.NamesOfOne.{ok-then}
+use Rattle.lryacc.proofs.Numbered.{gives-next}
 use Rattle.lryacc.proofs.numbering.Numbering.add_told.Goals as goal
 
 pub returns : goal.returns
 returns c =
     let added = c.in_ok-token.ensures.added in
+    let old = c.args.self.now in
     let now = c.add_token.new.self in
-    record {
-      meaning = added.meaning;
-      contents = added.contents;
-      numbered = λ h.
-          numbered-token (names_of now) _ _ _ _ c.in-Some.number c.in_ok-token.token (λ q. c.in_ok-insert.ensures.updates.0 q)
-          (inl record {
-            name = c.args.told;
-            same = ap (λ (m : Meaning). symbol_number m.symbols c.args.told) added.meaning ∙ sym c.find.ensures ∙ c.in-Some.is;
-            text = string_bytes c.in_ok-name.name;
-            here = c.in_ok-token.ensures.number;
-            is =
-                subst (λ (m : Meaning). IsTokenText m.symbols.dialect c.args.told.kind (name_of m.symbols.text.now m.symbols.dialect c.args.told) (string_bytes c.in_ok-name.name))
-                (sym added.meaning) c.in_ok-name.ensures;
-            precedence = record {
-              precedence = c.precedence-precedence.result;
-              here = c.in_ok-token.ensures.precedence;
-              is =
-                  subst (λ (m : Meaning). IsOfLines m.levels.items (line_of m c.in-Some.number) c.precedence-precedence.result)
-                  (sym added.meaning) c.precedence-precedence.ensures;
-            };
-          })
-          (added.numbered h);
-      levelled = added.levelled;
-    }
+    let token = c.in_ok-token.token in
+    let number = c.in-Some.number in
+    let is : IsTokenOf (names_of now) number token =
+    inl record {
+      name = c.args.told;
+      same = ap (λ (m : Meaning). symbol_number m.symbols c.args.told) added.meaning ∙ sym c.find.ensures ∙ c.in-Some.is;
+      text = string_bytes c.in_ok-name.name;
+      here = c.in_ok-token.ensures.number;
+      is =
+          subst (λ (m : Meaning). IsTokenText m.symbols.dialect c.args.told.kind (name_of m.symbols.text.now m.symbols.dialect c.args.told) (string_bytes c.in_ok-name.name))
+          (sym added.meaning) c.in_ok-name.ensures;
+      precedence = record {
+        precedence = c.precedence-precedence.result;
+        here = c.in_ok-token.ensures.precedence;
+        is =
+            subst (λ (m : Meaning). IsOfLines m.levels.items (line_of m number) c.precedence-precedence.result)
+            (sym added.meaning) c.precedence-precedence.ensures;
+      };
+    } in
+    ok-then c.give_token.result (gives-next old now c.give_token.new.self number token added c.in_ok-token.ensures.same_tokens c.in_ok-token.ensures.last is) c.give_token.ensures

@@ -2,6 +2,7 @@ use Rattle.std.proofs.Common.{◌≡◌, ◌∙◌, Some, sym}
 use Rattle.std.specs.BTreeMap.{get}
 use Rattle.std.specs.Ordering.{nat_cmp}
 use Rattle.lryacc.specs.NamedSymbols.{symbol_number}
+use Rattle.lryacc.proofs.Numbered.{rule_symbol}
 use Rattle.lryacc.proofs.numbering.Numbering.symbol.Goals as goal
 
 pub returns-in-Some : goal.returns-in-Some
@@ -11,5 +12,6 @@ returns-in-Some c =
     λ h. record {
       number = c.in_ok-number.number;
       names_it = named;
+      is_it = rule_symbol (get nat_cmp c.args.self.now.rules) (get nat_cmp c.args.self.now.tokens) c.in_ok-number.number c.in-Some.rule.now there;
       is = h.of_rules c.in_ok-number.number c.in-Some.rule.now there;
     }
