@@ -1,5 +1,5 @@
 -- rules and tokens are numbered
-use Rattle.std.proofs.Common.{◌≡◌, ℕ, zero, suc, ◌+◌, ◌*◌, ◌<◌, List, [], ◌∷◌, ◌++◌, get_or, length, map, Bool, true, false, cond, Option, None, Some, slice_get, refl, ap, sym, ◌∙◌, subst, inl, inr, codes, arith}
+use Rattle.std.proofs.Common.{◌≡◌, ℕ, zero, suc, ◌+◌, ◌*◌, ◌<◌, List, [], ◌∷◌, ◌++◌, get_or, length, map, Bool, true, false, cond, Option, None, Some, is_some, slice_get, refl, ap, sym, ◌∙◌, subst, inl, inr, codes, string_bytes, arith}
 use Rattle.std.specs.BTreeMap.{IsEmpty, get, is_at}
 use Rattle.std.specs.Map.{lookup}
 use Rattle.std.specs.BTreeMap.{BTreeMap}
@@ -11,14 +11,16 @@ use Rattle.std.proofs.lemmas.Option.{same_Some}
 use Rattle.std.specs.Ordering.{nat_cmp, is_eq}
 use Rattle.std.proofs.lemmas.List.{length-map, length_push, map-append}
 use Rattle.lrgrammar.specs.declared.grammar.Precedence.{Precedence}
+use Rattle.lrgrammar.specs.declared.grammar.PartToken.{PartToken}
+use Rattle.lryacc.specs.declared.meaning.Meaning.{Meaning}
 use Rattle.lryacc.specs.declared.numbering.Numbering.{Numbering}
 use Rattle.lryacc.specs.BodyPrecedences.{HasLevel}
 use Rattle.lryacc.specs.BodyProductions.{IsActionRule, Keeps}
 use Rattle.lrgrammar.specs.declared.grammar.PartSymbol.{PartSymbol}
 use Rattle.lrgrammar.specs.declared.grammar.PartSymbol.TheVariants.{Rule, Token}
 use Rattle.std.specs.Option.{option_map, option_or}
-use Rattle.lryacc.specs.NamedSymbols.{AreOneEach, Names, IsRuleOf, IsTokenOf}
-use Rattle.lryacc.specs.Numbered.{AddsNumbers, AreBefore, AreLevelled, AreNumbered, AreOwn, GivesToken, IsLevelled, IsNumbered, names_of, symbol_by}
+use Rattle.lryacc.specs.NamedSymbols.{AreOneEach, HasEndToken, Names, IsRuleOf, IsTokenOf, first_name}
+use Rattle.lryacc.specs.Numbered.{AddsNumbers, AreBefore, AreLevelled, AreNumbered, AreOwn, BeginsWithEnd, GivesToken, IsEndFirst, IsLevelled, IsNumbered, names_of, symbol_by}
 
 -- what a list has it has behind more
 pub has-more : {A : Type 0} (xs ys : List A) (n : ℕ) (x : A) → slice_get xs n ≡ Some x → slice_get (xs ++ ys) n ≡ Some x
@@ -162,6 +164,10 @@ rules-before a r t s next is h = λ number rule e.
     let within = place-within a.rules rule of.text of.here in
     omega (arith, within, is)
 
+token-text : (a : Names) (number token : ℕ) → IsTokenOf a number token → (text : List ℕ) × (slice_get a.tokens token ≡ Some text)
+token-text a number token (inl h) = (h.text, h.here)
+token-text a number token (inr h) = (codes "$end", h.is)
+
 token-within : (a : Names) (number token : ℕ) → IsTokenOf a number token → token < length a.tokens
 token-within a number token (inl h) = place-within a.tokens token h.text h.here
 token-within a number token (inr h) = place-within a.tokens token (codes "$end") h.is
@@ -238,6 +244,80 @@ one-by r t n m symbol None None (Some x) (Some y) rules tokens e f g h p q =
 pub one-each : (r t : ℕ → Option ℕ) → AreOwn r → AreOwn t → AreOneEach (symbol_by r t)
 one-each r t rules tokens = λ n m symbol e d. one-by r t n m symbol (r n) (r m) (t n) (t m) rules tokens refl refl refl refl e d
 
+-- ---- token 0
+
+pub end-more : (a : Names) (rules tokens : List (List ℕ)) (precedences : List (Option Precedence)) (starts : List ℕ) (symbol : ℕ → Option PartSymbol) (t : ℕ → Option ℕ) → Keeps a.tokens tokens → IsEndFirst a t → IsEndFirst (with_more a rules tokens precedences starts symbol) t
+end-more a rules tokens precedences starts symbol t keeps h = record {
+  some = (h.some.0, keeps 0 h.some.0 h.some.1);
+  no_other = h.no_other;
+  given = h.given;
+  unnamed = λ none. keeps 0 (codes "$end") (h.unnamed none);
+}
+
+-- it has nothing
+pub none-some : (found : Option ℕ) → is_some found ≡ false → found ≡ None
+none-some None is = refl
+none-some (Some n) is = absurd (false≢true (sym is))
+
+-- what another number has stays
+stays : (t t' : ℕ → Option ℕ) (number token n v : ℕ) (at : Bool) → t number ≡ None → is_at (nat_cmp number) n ≡ at → t' n ≡ cond (is_at (nat_cmp number) n) (Some token) (t n) → t n ≡ Some v → t' n ≡ Some v
+stays t t' number token n v true none here puts is =
+    let same : number ≡ n = same_key number n here in
+    let no : None ≡ Some v = sym none ∙ ap t same ∙ is in
+    absurd (cc)
+stays t t' number token n v false none here puts is =
+    puts ∙ ap (λ b. cond b (Some token) (t n)) here ∙ is
+
+-- another symbol is given another token
+pub end-put : (a : Names) (symbol : ℕ → Option PartSymbol) (t t' : ℕ → Option ℕ) (number token : ℕ) → ((q : ℕ) → t' q ≡ cond (is_at (nat_cmp number) q) (Some token) (t q)) → t number ≡ None → 0 < token → IsEndFirst a t → IsEndFirst (with_more a a.rules a.tokens a.precedences a.starts symbol) t'
+end-put a symbol t t' number token puts none behind h = record {
+  some = h.some;
+  no_other = λ n e. all-put (λ q v. v ≡ 0 → a.end ≡ Some q) t t' number token puts
+      (λ same. absurd (omega (arith, same, behind)))
+      (λ q v d same. h.no_other q (d ∙ ap Some same)) n 0 e refl;
+  given = λ n e. stays t t' number token n 0 (is_at (nat_cmp number) n) none refl (puts n) (h.given n e);
+  unnamed = h.unnamed;
+}
+
+-- what the end of a file has
+first-of : (r t : ℕ → Option ℕ) (n token : ℕ) (own other : Option ℕ) → r n ≡ own → t n ≡ other → option_or (option_map Rule own) (option_map Token other) ≡ Some (Token token) → t n ≡ Some token
+first-of r t n token (Some x) other is of e = absurd (cc)
+first-of r t n token None None is of e = absurd (cc)
+first-of r t n token None (Some x) is of e =
+    let same : x ≡ token = cc in
+    of ∙ ap Some same
+
+pub token-by : (r t : ℕ → Option ℕ) (n token : ℕ) → symbol_by r t n ≡ Some (Token token) → t n ≡ Some token
+token-by r t n token e = first-of r t n token (r n) (t n) refl refl e
+
+pub has-end_token : (a : Names) (r t s : ℕ → Option ℕ) → a.symbol ≡ symbol_by r t → AreNumbered a r t s → IsEndFirst a t → HasEndToken a
+has-end_token a r t s is h first = record {
+  no_other = λ n e. first.no_other n (token-by r t n 0 (ap (λ f. f n) (sym is) ∙ e));
+  is_first = λ n token end e.
+      let one = token-by r t n token (ap (λ f. f n) (sym is) ∙ e) in
+      same_Some token 0 (sym one ∙ first.given n end);
+  named = λ n end. h.of_tokens n 0 (first.given n end);
+  unnamed = first.unnamed;
+}
+
+-- the first token is that of the end of the file
+pub end-given : (a : Names) (r t s : ℕ → Option ℕ) (number : ℕ) → a.end ≡ Some number → t number ≡ Some 0 → AreNumbered a r t s → IsEndFirst a t
+end-given a r t s number end is h = record {
+  some = token-text a number 0 (h.of_tokens number 0 is);
+  no_other = λ n e. end ∙ ap Some (h.tokens_apart number n 0 is e);
+  given = λ n e. ap t (same_Some n number (sym e ∙ end)) ∙ is;
+  unnamed = λ none. let no : None ≡ Some number = sym none ∙ end in absurd (cc);
+}
+
+-- or it has no symbol
+pub end-unnamed : (a : Names) (t : ℕ → Option ℕ) → a.end ≡ None → slice_get a.tokens 0 ≡ Some (codes "$end") → AreBefore t 0 → IsEndFirst a t
+end-unnamed a t none named before = record {
+  some = (codes "$end", named);
+  no_other = λ n e. let less : 0 < 0 = before n 0 e in absurd (omega arith);
+  given = λ n e. let no : None ≡ Some n = sym none ∙ e in absurd (cc);
+  unnamed = λ _. named;
+}
+
 -- a list that has a first element is not empty
 pub some-first : {A : Type 0} (xs : List A) (x : A) → slice_get xs 0 ≡ Some x → 0 < length xs
 some-first [] x e = absurd (cc)
@@ -299,6 +379,7 @@ adds_none same = record {
   contents = ap (λ (n : Numbering). n.contents.now) same;
   numbered = λ h. subst IsNumbered (sym same) h;
   levelled = λ h. subst IsLevelled (sym same) h;
+  end = λ h. subst BeginsWithEnd (sym same) h;
 }
 
 -- more is added, and then more
@@ -308,6 +389,7 @@ adds_again one other = record {
   contents = other.contents ∙ one.contents;
   numbered = λ h. other.numbered (one.numbered h);
   levelled = λ h. other.levelled (one.levelled h);
+  end = λ h. other.end (one.end h);
 }
 
 -- a token is added, and given to a symbol
@@ -319,4 +401,23 @@ gives-next old now new number token added same last is gives = record {
       let before : AreBefore (get nat_cmp old.tokens) token = tokens-before (names_of old) _ _ _ token last h in
       gives.numbered is (subst (λ (m : BTreeMap ℕ ℕ). AreBefore (get nat_cmp m) token) (sym same) before) (added.numbered h);
   levelled = λ h. gives.levelled (added.levelled h);
+  end = λ h.
+      let within = place-within (names_of old).tokens 0 h.some.0 h.some.1 in
+      gives.end (omega (arith, within, last)) (added.end h);
 }
+
+-- the first token is the one that is called `$end`, where the file has no end token
+pub end-first-unnamed : (old new : Numbering) (number : ℕ) (name : List ℕ) → AddsNumbers old new → old.grammar.parts.tokens.items ≡ [] → old.meaning.now.end ≡ None → new.tokens ≡ old.tokens → number ≡ length (names_of old).tokens → slice_get (names_of new).tokens number ≡ Some name → name ≡ codes "$end" → IsNumbered old → BeginsWithEnd new
+end-first-unnamed old new number name added empty none same last here is h =
+    let first : number ≡ 0 = last ∙ ap (λ (tokens : List PartToken). length (map (λ (token : PartToken). string_bytes token.name) tokens)) empty in
+    let before : AreBefore (get nat_cmp old.tokens) number = tokens-before (names_of old) (get nat_cmp old.rules) (get nat_cmp old.tokens) (get nat_cmp old.actions) number last h in
+    end-unnamed (names_of new) (get nat_cmp new.tokens)
+    (ap (λ (m : Meaning). option_map (first_name m.symbols) m.end) added.meaning ∙ ap (option_map (first_name old.meaning.now.symbols)) none)
+    (ap (slice_get (names_of new).tokens) (sym first) ∙ here ∙ ap Some is)
+    (subst (λ (m : BTreeMap ℕ ℕ). AreBefore (get nat_cmp m) 0) (sym same) (subst (AreBefore (get nat_cmp old.tokens)) first before))
+
+-- or that of the end of the file
+pub end-first-given : (old new : Numbering) (number : ℕ) → AddsNumbers old new → option_map (first_name old.meaning.now.symbols) old.meaning.now.end ≡ Some number → get nat_cmp new.tokens number ≡ Some 0 → IsNumbered old → BeginsWithEnd new
+end-first-given old new number added end is h =
+    end-given (names_of new) (get nat_cmp new.rules) (get nat_cmp new.tokens) (get nat_cmp new.actions) number
+    (ap (λ (m : Meaning). option_map (first_name m.symbols) m.end) added.meaning ∙ end) is (added.numbered h)

@@ -19,7 +19,7 @@ use Rattle.lryacc.specs.ExpectedConflicts.{AreExpected}
 use Rattle.lryacc.specs.Headers.{IsReadAs}
 use Rattle.lryacc.specs.KeptProductions.{IsWithout}
 use Rattle.lryacc.specs.Levels.{IsInLine, has_default_after, levels_of}
-use Rattle.lryacc.specs.NamedSymbols.{AreOneEach, NameOne, Names}
+use Rattle.lryacc.specs.NamedSymbols.{AreOneEach, HasEndToken, NameOne, Names}
 use Rattle.lryacc.specs.ProductionPlaces.{file_places, start_rules_of}
 use Rattle.lryacc.specs.StartSymbols.{AreStarts}
 
@@ -38,6 +38,7 @@ pub record AreNamesOf (text : List ℕ) (dialect : Dialect) (statements : List S
   pub starts : names.starts ≡ map (λ place. place.start) file.rule_places.items
   pub precedences : names.precedences ≡ map (λ token. token.precedence) file.parts.tokens.items
   pub end : HasEnd names
+  pub end_token : HasEndToken names
   pub lines : names.lines ≡ levels_of statements
   pub has_default : names.has_default ≡ has_default_after true statements
   pub in_line : (lexeme : Lexeme) (number line : ℕ) → names.number lexeme ≡ Some number

@@ -359,3 +359,12 @@ pub record IsNamed (names : Names) (lexeme : Lexeme) (symbol : PartSymbol) : Typ
   pub names_it : names.number lexeme ≡ Some number
   pub is_it : names.symbol number ≡ Some symbol
   pub is : IsSymbolOf names number symbol
+
+-- token 0 of a grammar is the end token: no other symbol is it, and it stands there by a name of the end, or is called `$end` where
+-- a file has none
+pub record HasEndToken (names : Names) : Type 0 where
+  pub no_other : (number : ℕ) → names.symbol number ≡ Some (Token 0) → names.end ≡ Some number
+  pub is_first : (number token : ℕ) → names.end ≡ Some number
+      → names.symbol number ≡ Some (Token token) → token ≡ 0
+  pub named : (number : ℕ) → names.end ≡ Some number → IsTokenOf names number 0
+  pub unnamed : names.end ≡ None → slice_get names.tokens 0 ≡ Some (codes "$end")

@@ -65,12 +65,24 @@ IsLevelled numbering =
     AreLevelled (names_of numbering).precedences (get nat_cmp numbering.below)
     numbering.without_level
 
+-- the end of a file has token 0, and no other number has it; where there is none, that is called `$end`
+pub record IsEndFirst (names : Names) (tokens : ℕ → Option ℕ) : Type 0 where
+  pub some : (text : List ℕ) × (slice_get names.tokens 0 ≡ Some text)
+  pub no_other : (number : ℕ) → tokens number ≡ Some 0 → names.end ≡ Some number
+  pub given : (number : ℕ) → names.end ≡ Some number → tokens number ≡ Some 0
+  pub unnamed : names.end ≡ None → slice_get names.tokens 0 ≡ Some (codes "$end")
+
+-- the same of a numbering
+abbrev pub BeginsWithEnd : Numbering → Type 0
+BeginsWithEnd numbering = IsEndFirst (names_of numbering) (get nat_cmp numbering.tokens)
+
 -- rules and tokens are added
 pub record AddsNumbers (old new : Numbering) : Type 0 where
   pub meaning : new.meaning.now ≡ old.meaning.now
   pub contents : new.contents.now ≡ old.contents.now
   pub numbered : IsNumbered old → IsNumbered new
   pub levelled : IsLevelled old → IsLevelled new
+  pub end : BeginsWithEnd old → BeginsWithEnd new
 
 -- a symbol is given a token, unless it has one
 pub record GivesToken (old new : Numbering) (number token : ℕ) : Type 0 where
@@ -79,3 +91,4 @@ pub record GivesToken (old new : Numbering) (number token : ℕ) : Type 0 where
   pub numbered : IsTokenOf (names_of old) number token → AreBefore (get nat_cmp old.tokens) token
       → IsNumbered old → IsNumbered new
   pub levelled : IsLevelled old → IsLevelled new
+  pub end : 0 < token → BeginsWithEnd old → BeginsWithEnd new

@@ -2,6 +2,8 @@
 
 ghost use Rattle.std.specs.Prelude.{◌≡◌, ◌+◌, ◌-◌, ◌*◌, true, [], ◌∷◌, ◌++◌, Some, codes, map, flat_map, length, slice_get, string_bytes};
 ghost use Rattle.std.specs.Prelude.{IfOk, OnOk, IfSome, IsSomeAnd, MatchOption, None};
+ghost use Rattle.std.specs.BTreeMap.{get};
+ghost use Rattle.std.specs.Ordering.{nat_cmp};
 ghost use Rattle.lryacc.specs.Levels.{IsOfLines, group_of, line_of};
 ghost use Rattle.lryacc.specs.ProductionPlaces.{Adds, ArePlaced, IsPlaced, action_place, action_places, body_places};
 ghost use Rattle.lryacc.specs.ProductionPlaces.{file_places, parts_before_last, start_rules_of};
@@ -12,7 +14,7 @@ ghost use Rattle.lryacc.specs.BodyProductions.{AreMarks, AreOfFile, AreRelated, 
 ghost use Rattle.lryacc.specs.BodyProductions.{IsActionName, IsMarkOf, IsRuleOfAction, Keeps, is_one, start_symbols_of, symbol_parts};
 ghost use Rattle.lryacc.specs.FileProductions.{HasProductions};
 ghost use Rattle.lryacc.specs.NamedSymbols.{IsNamed, IsTokenText, NamesRule, name_of};
-ghost use Rattle.lryacc.specs.Numbered.{AddsNumbers, GivesToken, IsLevelled, IsNumbered, names_of};
+ghost use Rattle.lryacc.specs.Numbered.{AddsNumbers, BeginsWithEnd, GivesToken, IsLevelled, IsNumbered, names_of};
 
 mod token_places;
 
@@ -52,6 +54,7 @@ impl FileGrammar {
     /// No parts.
     pub(crate) fn empty(alloc: Global) -> FileGrammar
         ensures rules { result.parts.rules.items ≡ [] }
+        ensures tokens { result.parts.tokens.items ≡ [] }
         ensures places { result.rule_places.items ≡ [] }
         ensures start { result.parts.start ≡ 0 }
     {
@@ -278,6 +281,7 @@ impl<'m, 'a> Numbering<'m, 'a> {
         ensures contents { IfOk result (λ numbering. numbering.contents.now ≡ contents.now) }
         ensures numbered { IfOk result IsNumbered }
         ensures levelled { IfOk result IsLevelled }
+        ensures tokens { IfOk result (λ numbering. numbering.grammar.parts.tokens.items ≡ []) }
     {
         let mut grammar = FileGrammar::empty(alloc);
         let _ = grammar.add_rule(String::from_str(alloc, "$accept")?, nowhere())?;
@@ -300,17 +304,28 @@ impl<'m, 'a> Numbering<'m, 'a> {
 
     /// Adds the tokens and the rules, and answers the tokens before the start rules.
     #[tactic(auto, using(crate::proofs::Numbered::adds_again, crate::proofs::Numbered::adds_none))]
-    fn add_symbols(&mut self, starts: &[Lexeme]) -> Result<Vec<usize>, AllocError>
+    fn add_symbols(&mut self, starts: &[Lexeme]) -> Result<Vec<usize>, NoProductions>
+        requires { self.old.grammar.parts.tokens.items ≡ [] }
         ensures added { OnOk result (AddsNumbers self.old self.new) }
+        ensures end { OnOk result (IsNumbered self.old → BeginsWithEnd self.new) }
         ensures marks { IfOk result (λ marks. AreMarks (names_of self.new) (is_one starts.now)
             starts.now marks.items) }
+    {
+        self.add_first_tokens()?;
+        self.add_others()?;
+        Ok(self.add_marks(starts)?)
+    }
+
+    /// Adds the other tokens, and the rules.
+    #[tactic(auto, using(crate::proofs::Numbered::adds_again, crate::proofs::Numbered::adds_none))]
+    fn add_others(&mut self) -> Result<(), AllocError>
+        ensures { OnOk result (AddsNumbers self.old self.new) }
     {
         self.add_tokens()?;
         self.add_tokens_below()?;
         self.add_without_level()?;
         self.add_rules()?;
-        self.add_bare_rules()?;
-        self.add_marks(starts)
+        self.add_bare_rules()
     }
 
     /// A symbol of the file.
@@ -539,11 +554,18 @@ impl<'m, 'a> Numbering<'m, 'a> {
         self.give_token(number, token)
     }
 
+    /// The token that a symbol was given.
+    fn token_given(&self, number: usize) -> Option<usize>
+        ensures { result ≡ get nat_cmp self.now.tokens number }
+    {
+        self.tokens.get(&number).copied()
+    }
+
     /// Gives a symbol a token, unless it has one.
     fn give_token(&mut self, number: usize, token: usize) -> Result<(), AllocError>
         ensures { OnOk result (GivesToken self.old self.new number token) }
     {
-        if self.tokens.get(&number).is_some() {
+        if self.token_given(number).is_some() {
             return Ok(());
         }
         self.tokens.insert(number, token)?;
@@ -563,6 +585,26 @@ impl<'m, 'a> Numbering<'m, 'a> {
         self.give_token(number, token)
     }
 
+    /// Adds the end token: that of the symbol that the file has for it, or one that is called `$end`. It is the first token.
+    fn add_end_token(&mut self) -> Result<(), NoProductions>
+        requires { self.old.grammar.parts.tokens.items ≡ [] }
+        ensures added { OnOk result (AddsNumbers self.old self.new) }
+        ensures end { OnOk result (IsNumbered self.old → BeginsWithEnd self.new) }
+    {
+        let Some(end) = self.meaning.end else {
+            let name = String::from_str(self.allocator(), END)?;
+            let _ = self.add_token(name, None)?;
+            return Ok(());
+        };
+        let number = self.meaning.canonical(end);
+        self.add_token_of(number)?;
+        if self.token_given(number) == Some(0) {
+            Ok(())
+        } else {
+            Err(NoProductions::Undefined(nowhere()))
+        }
+    }
+
     /// Adds the token of a symbol, or one of that name where there is no such symbol.
     #[tactic(auto, using(crate::proofs::Numbered::adds_again, crate::proofs::Numbered::adds_none))]
     fn add_token_or(&mut self, number: Option<usize>, name: &str) -> Result<(), AllocError>
@@ -578,12 +620,15 @@ impl<'m, 'a> Numbering<'m, 'a> {
 
     /// Adds the tokens that each grammar has: the end token, `error`, and one that stands in no body.
     #[tactic(auto, using(crate::proofs::Numbered::adds_again, crate::proofs::Numbered::adds_none))]
-    fn add_first_tokens(&mut self) -> Result<(), AllocError>
-        ensures { OnOk result (AddsNumbers self.old self.new) }
+    fn add_first_tokens(&mut self) -> Result<(), NoProductions>
+        requires { self.old.grammar.parts.tokens.items ≡ [] }
+        ensures added { OnOk result (AddsNumbers self.old self.new) }
+        ensures end { OnOk result (IsNumbered self.old → BeginsWithEnd self.new) }
     {
-        self.add_token_or(self.meaning.end, END)?;
+        self.add_end_token()?;
         self.add_token_or(self.meaning.symbols.find_name(b"error"), "error")?;
-        self.add_token_or(self.meaning.symbols.find_name(b"YYUNDEF"), "$undefined")
+        self.add_token_or(self.meaning.symbols.find_name(b"YYUNDEF"), "$undefined")?;
+        Ok(())
     }
 
     /// The symbols that are tokens, by their places in the file.
@@ -601,12 +646,11 @@ impl<'m, 'a> Numbering<'m, 'a> {
         Ok(ordered)
     }
 
-    /// Adds the tokens.
+    /// Adds the other tokens.
     #[tactic(auto, using(crate::proofs::Numbered::adds_again, crate::proofs::Numbered::adds_none))]
     fn add_tokens(&mut self) -> Result<(), AllocError>
         ensures { OnOk result (AddsNumbers self.old self.new) }
     {
-        self.add_first_tokens()?;
         let ordered = self.ordered_tokens()?;
         for number in ordered.values() {
             self.add_token_of(*number)?;

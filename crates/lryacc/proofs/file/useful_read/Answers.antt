@@ -42,6 +42,7 @@ returns-clause-bodies c =
           starts = refl;
           precedences = refl;
           end = has-end c.args.meaning.now c.args.contents.now c.requires.productions.symbol c.args.whole c.requires.faults c.requires.end;
+          end_token = c.requires.productions.end;
           lines = c.requires.lines.levels;
           has_default = c.requires.lines.has_default;
           in_line = in-line c.args.contents.now.statements.items c.args.meaning.now c.requires.partnered c.requires.lines;

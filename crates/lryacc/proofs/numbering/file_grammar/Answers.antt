@@ -1,12 +1,12 @@
-use Rattle.std.proofs.Common.{◌≡◌, List, Some, codes, slice_get, subst, sym, ◌∙◌}
+use Rattle.std.proofs.Common.{◌≡◌, List, refl, Some, codes, slice_get, subst, sym, ◌∙◌}
 use Rattle.lrgrammar.specs.declared.grammar.PartProd.{PartProd}
 use Rattle.lryacc.specs.declared.contents.Alternative.{Alternative}
 use Rattle.lryacc.specs.declared.lexemes.Lexeme.{Lexeme}
 use Rattle.lryacc.specs.BodyProductions.{AreOfFile}
-use Rattle.lryacc.specs.NamedSymbols.{Names, names_in}
+use Rattle.lryacc.specs.NamedSymbols.{HasEndToken, Names, names_in}
 use Rattle.lryacc.specs.Numbered.{names_of, symbol_in}
 use Rattle.lryacc.specs.ProductionPlaces.{start_rules_of}
-use Rattle.lryacc.proofs.Numbered.{one-each}
+use Rattle.lryacc.proofs.Numbered.{has-end_token, one-each}
 use Rattle.lryacc.proofs.ProductionsAdded.{names-same}
 use Rattle.lryacc.proofs.numbering.file_grammar.Goals as goal
 
@@ -37,5 +37,6 @@ returns-clause-productions c =
       symbol = symbol_in now;
       one_each = one-each _ _ numbered.rules_apart numbered.tokens_apart;
       accept = subst (λ (n : Names). slice_get n.rules 0 ≡ Some (codes "$accept")) same numbered.accept;
+      end = subst HasEndToken same (has-end_token names _ _ _ refl numbered (c.in_ok-marks.ensures.end c.in_ok-numbering.ensures.numbered));
       productions = subst (λ (n : Names). AreOfFile n (start_rules_of named c.args.contents.now.alternatives.items) c.args.contents.now.alternatives.items prods) same of_bodies;
     }

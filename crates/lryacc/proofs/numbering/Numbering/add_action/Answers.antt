@@ -8,7 +8,7 @@ use Rattle.std.proofs.lemmas.List.{length-map}
 use Rattle.lrgrammar.specs.declared.grammar.PartToken.{PartToken}
 use Rattle.lryacc.specs.declared.places.Span.{Span}
 use Rattle.lryacc.specs.Numbered.{AreLevelled, names_of}
-use Rattle.lryacc.proofs.Numbered.{lengths-more, numbered-action, numbered-more, map-added, map-more, with_more}
+use Rattle.lryacc.proofs.Numbered.{end-more, lengths-more, numbered-action, numbered-more, map-added, map-more, with_more}
 use Rattle.lryacc.proofs.numbering.Numbering.add_action.Goals as goal
 
 pub returns : goal.returns
@@ -47,4 +47,7 @@ returns c =
       levelled = λ h.
           subst (λ (ts : Vec PartToken Global). AreLevelled (map (λ (token : PartToken). token.precedence) ts.items) (get nat_cmp c.args.self.now.below) c.args.self.now.without_level)
           (sym added.tokens) h;
+      end =
+          end-more names rules tokens levels starts names.symbol _
+          (λ n x e. ap (λ (ts : Vec PartToken Global). slice_get (map token_name ts.items) n) added.tokens ∙ e);
     }

@@ -9,7 +9,7 @@ use Rattle.lryacc.specs.declared.places.Span.{Span}
 use Rattle.lryacc.specs.NamedSymbols.{IsTextOf}
 use Rattle.lryacc.specs.Numbered.{AreLevelled, names_of, symbol_in}
 use Rattle.std.proofs.lemmas.List.{length-map}
-use Rattle.lryacc.proofs.Numbered.{rules-before, some-first, lengths-more, numbered-rule, numbered-more, map-added, map-more, with_more}
+use Rattle.lryacc.proofs.Numbered.{end-more, rules-before, some-first, lengths-more, numbered-rule, numbered-more, map-added, map-more, with_more}
 use Rattle.lryacc.proofs.numbering.Numbering.add_rule_of.Goals as goal
 
 pub returns : goal.returns
@@ -51,4 +51,7 @@ returns c =
       levelled = λ h.
           subst (λ (ts : Vec PartToken Global). AreLevelled (map (λ (token : PartToken). token.precedence) ts.items) (get nat_cmp c.args.self.now.below) c.args.self.now.without_level)
           (sym added.tokens) h;
+      end =
+          end-more names rules tokens levels starts symbol _
+          (λ n x e. ap (λ (ts : Vec PartToken Global). slice_get (map token_name ts.items) n) added.tokens ∙ e);
     }

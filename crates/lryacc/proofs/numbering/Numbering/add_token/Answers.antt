@@ -2,7 +2,7 @@ use Rattle.std.proofs.Common.{◌≡◌, refl, ◌∙◌, ap, arith, length, str
 use Rattle.std.specs.Prelude.{slice_get, map}
 use Rattle.lrgrammar.specs.declared.grammar.PartToken.{PartToken}
 use Rattle.lryacc.specs.Numbered.{names_of}
-use Rattle.lryacc.proofs.Numbered.{levelled-more, map-added, map-more, numbered-more}
+use Rattle.lryacc.proofs.Numbered.{end-more, levelled-more, map-added, map-more, numbered-more}
 use Rattle.lryacc.proofs.numbering.Numbering.add_token.Goals as goal
 
 pub returns-clause-added : goal.returns-clause-added
@@ -24,6 +24,9 @@ returns-clause-added c =
       levelled =
           levelled-more names.precedences (map level_of_token tokens) _ _
           (map-more level_of_token old.grammar.parts.tokens.items tokens token c.in_ok-push.ensures.items);
+      end =
+          end-more names names.rules (map name_of_token tokens) (map level_of_token tokens) names.starts names.symbol _
+          (map-more name_of_token old.grammar.parts.tokens.items tokens token c.in_ok-push.ensures.items);
     }
 
 pub returns-clause-number : goal.returns-clause-number

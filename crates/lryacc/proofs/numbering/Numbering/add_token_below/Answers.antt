@@ -12,4 +12,5 @@ returns c =
           levelled-below _ _ _ _ c.args.before c.in_ok-token.token (λ q. c.in_ok-insert.ensures.updates.0 q)
           record { precedence = _; here = c.in_ok-token.ensures.precedence; is = c.in-Some.ensures }
           (added.levelled h);
+      end = added.end;
     }

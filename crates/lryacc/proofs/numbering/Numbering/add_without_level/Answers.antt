@@ -9,4 +9,5 @@ returns c =
       contents = added.contents;
       numbered = added.numbered;
       levelled = λ h. levelled-without _ _ _ _ c.in_ok-token_without_level.ensures.without (added.levelled h);
+      end = added.end;
     }
