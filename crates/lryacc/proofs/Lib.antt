@@ -27,6 +27,7 @@ pub mod RustCodeByBytes
 pub mod Numbered
 pub mod ProductionsAdded
 pub mod NamesOfOne
+pub mod AliasesTaken
 pub mod EndsTaken
 pub mod LinesHeld
 pub mod SaidHeld

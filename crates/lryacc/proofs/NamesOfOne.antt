@@ -132,6 +132,7 @@ partnered-kept statements old new keeps h =
     λ n m e. ap (λ ps. get nat_cmp ps n) (sym keeps.partners) ∙ e in
     record {
       by = λ n m e. declared-kept old new keeps.names statements n m (h.by n m (back n m e));
+      apart = λ n m e. h.apart n m (back n m e);
       both = λ n m e. ap (λ ps. get nat_cmp ps m) keeps.partners ∙ h.both n m (back n m e);
     }
 
@@ -144,6 +145,7 @@ no-partner s n m empty e =
 pub partnered-none : (statements : List Statement) (s : Symbols) → IsEmpty s.partners → ArePartnered statements s
 partnered-none statements s empty = record {
   by = λ n m e. no-partner s n m empty e;
+  apart = λ n m e. no-partner s n m empty e;
   both = λ n m e. no-partner s n m empty e;
 }
 
@@ -308,9 +310,21 @@ module _ (statements : List Statement) (old new : Symbols) (symbol alias : Lexem
         let there : partner_in old n ≡ Some m = sym (p.pairs.others n d c) ∙ f in
         p.pairs.others m (third n m one there p.no_first) (third n m other there p.no_second) ∙ h.both n m there
 
+    apart_which : (n m : ℕ) → Which n → partner_in new n ≡ Some m → n ≢ m
+    apart_which n m (is_one e) f = λ is.
+        let found : partner_in new one ≡ Some m = ap (partner_in new) (sym e) ∙ f in
+        let same : other ≡ m = same_Some other m (sym (p.pairs.first p.apart) ∙ found) in
+        p.apart (sym e ∙ is ∙ sym same)
+    apart_which n m (is_other e) f = λ is.
+        let found : partner_in new other ≡ Some m = ap (partner_in new) (sym e) ∙ f in
+        let same : one ≡ m = same_Some one m (sym p.pairs.second ∙ found) in
+        p.apart (same ∙ sym is ∙ e)
+    apart_which n m (is_third d c) f = h.apart n m (sym (p.pairs.others n d c) ∙ f)
+
     pub pair-partnered : ArePartnered statements new
     pair-partnered = record {
       by = λ n m e. by_which n m (which n) e;
+      apart = λ n m e. apart_which n m (which n) e;
       both = λ n m e. both_which n m (which n) e;
     }
 
@@ -404,3 +418,11 @@ pub named-in : (text : List ℕ) (dialect : Dialect) (statements : List Statemen
 named-in text dialect statements s is of apart partnered one other n e d =
     subst (λ (t : List ℕ). NameOne t dialect statements one other) is
     (subst (λ (l : Dialect). NameOne s.text.now l statements one other) of (named-one statements s apart partnered one other n e d))
+
+-- the same name has the same number
+pub by-name : (text : List ℕ) (dialect : Dialect) (s : Symbols) → s.text.now ≡ text → s.dialect ≡ dialect → (one other : Lexeme) → called text dialect one ≡ called text dialect other → symbol_number s one ≡ symbol_number s other
+by-name text dialect s is of one other e =
+    let here : called s.text.now s.dialect one ≡ called s.text.now s.dialect other =
+    subst (λ (t : List ℕ). called t s.dialect one ≡ called t s.dialect other) (sym is)
+    (subst (λ (d : Dialect). called text d one ≡ called text d other) (sym of) e) in
+    ap (λ name. option_map (first_name s) (number_in s name)) here

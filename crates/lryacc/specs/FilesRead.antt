@@ -11,6 +11,7 @@ use Rattle.lryacc.specs.declared.file.FileRead.TheVariants.{Grammar, Faults}
 use Rattle.lryacc.specs.declared.lexemes.Lexeme.{Lexeme}
 use Rattle.lryacc.specs.declared.numbering.FileGrammar.{FileGrammar}
 use Rattle.lryacc.specs.declared.useful.Useless.{Useless}
+use Rattle.lryacc.specs.Aliases.{AreHeeded}
 use Rattle.lryacc.specs.AllBodies.{AreAllBodies}
 use Rattle.lryacc.specs.AllLexemes.{AreAllLexemesOf}
 use Rattle.lryacc.specs.BodyProductions.{AreOfFile}
@@ -19,13 +20,14 @@ use Rattle.lryacc.specs.ExpectedConflicts.{AreExpected}
 use Rattle.lryacc.specs.Headers.{IsReadAs}
 use Rattle.lryacc.specs.KeptProductions.{IsWithout}
 use Rattle.lryacc.specs.Levels.{IsInLine, has_default_after, levels_of}
-use Rattle.lryacc.specs.NamedSymbols.{AreOneEach, HasEndToken, NameOne, Names}
+use Rattle.lryacc.specs.NamedSymbols.{AreOneEach, HasEndToken, NameOne, Names, called}
 use Rattle.lryacc.specs.ProductionPlaces.{file_places, start_rules_of}
 use Rattle.lryacc.specs.StartSymbols.{AreStarts}
 
 -- the names of a file of this text and dialect, with these declarations and bodies, and of the rules, of which the first is
--- `$accept`, and the tokens of a grammar of it: lexemes of one number name one symbol, and no others do; the end token is what
--- declarations say, and so are the precedence lines of symbols, and whether bodies without `%prec` have a precedence
+-- `$accept`, and the tokens of a grammar of it: lexemes have one number if and only if they are the same name, or two that a heeded
+-- declaration makes names of one symbol; each rule and each token is the symbol of one number; the end token is what declarations
+-- say, and so are the precedence lines of symbols, and whether bodies without `%prec` have a precedence
 pub record AreNamesOf (text : List ℕ) (dialect : Dialect) (statements : List Statement)
     (bodies : List Alternative) (file : FileGrammar) (names : Names) : Type 0 where
   pub text_is : names.text ≡ text
@@ -47,6 +49,10 @@ pub record AreNamesOf (text : List ℕ) (dialect : Dialect) (statements : List S
       → names.number lexeme ≡ Some number → (line : ℕ) × (names.line number ≡ Some line)
   pub one : (lexeme other : Lexeme) (number : ℕ) → names.number lexeme ≡ Some number
       → names.number other ≡ Some number → NameOne text dialect statements lexeme other
+  pub by_name : (lexeme other : Lexeme)
+      → called text dialect lexeme ≡ called text dialect other
+      → names.number lexeme ≡ names.number other
+  pub aliases : AreHeeded names
   pub one_each : AreOneEach names.symbol
 
 -- a grammar has the bodies of a file, of which there is at least one: it is one with a production for each start rule and each

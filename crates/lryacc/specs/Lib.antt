@@ -80,3 +80,5 @@ pub mod BodyPrecedences
 pub mod BodyProductions
 -- the numbers of rules and tokens
 pub mod Numbered
+-- which other names of symbols are heeded
+pub mod Aliases

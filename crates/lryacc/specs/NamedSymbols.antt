@@ -178,6 +178,7 @@ pub record IsDeclared (statements : List Statement) (symbols : Symbols) (number 
 pub record ArePartnered (statements : List Statement) (symbols : Symbols) : Type 0 where
   pub by : (number partner : ℕ) → partner_in symbols number ≡ Some partner
       → IsDeclared statements symbols number partner
+  pub apart : (number partner : ℕ) → partner_in symbols number ≡ Some partner → number ≢ partner
   pub both : (number partner : ℕ) → partner_in symbols number ≡ Some partner
       → partner_in symbols partner ≡ Some number
 

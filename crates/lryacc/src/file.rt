@@ -1,6 +1,7 @@
 //! Reads a grammar file.
 
 ghost use Rattle.std.specs.Prelude.{◌≡◌, ◌<◌, All, IfOk, length, vec_len};
+ghost use Rattle.lryacc.specs.Aliases.{AreSettled};
 ghost use Rattle.lryacc.specs.EndTokens.{HasEndBy};
 ghost use Rattle.lryacc.specs.FileProductions.{HasProductions};
 ghost use Rattle.lryacc.specs.FilesRead.{AreBodiesRead, ComesTo, HasBodies, HasNoGrammar};
@@ -127,6 +128,7 @@ fn grammar_read(
     requires end { HasEndBy contents.now.statements.items meaning.old }
     requires lines { HasLines contents.now.statements.items meaning.old }
     requires said { AreSaid contents.now.statements.items meaning.old }
+    requires aliases { AreSettled contents.now.statements.items meaning.old }
     ensures inside { IfOk result (λ read. All (λ fault. IsInside fault.span text.now) (told read)) }
     ensures faults { IfOk result HasFaults }
     ensures placed { IfOk result HasPlaces }
@@ -161,6 +163,7 @@ fn useful_read(
     requires end { HasEndBy contents.now.statements.items meaning.old }
     requires lines { HasLines contents.now.statements.items meaning.old }
     requires said { AreSaid contents.now.statements.items meaning.old }
+    requires aliases { AreSettled contents.now.statements.items meaning.old }
     requires places { whole.production_places.items
         ≡ file_places meaning.old.starts.items contents.now.alternatives.items }
     requires placed { IsPlaced whole }

@@ -4,6 +4,7 @@ ghost use Rattle.std.specs.Prelude.{◌≡◌, ◌+◌, ◌<◌, ◌≤◌, [], 
 ghost use Rattle.std.specs.BTreeMap.{IsEmpty, get};
 ghost use Rattle.std.specs.Ordering.{nat_cmp};
 ghost use Rattle.std.specs.Option.{option_or};
+ghost use Rattle.lryacc.specs.Aliases.{AreFree, HasText, IsSettled, TakesAliases};
 ghost use Rattle.lryacc.specs.EndTokens.{HasEndBy, KeepsEnd, KeepsExpected, KeepsLines, KeepsMeaning, KeepsSaid, KeepsTables, TakesEnd, end_by_name, written_number};
 ghost use Rattle.lryacc.specs.SaidTaken.{HasSaid, IsSaid, LeavesOutReductions, TakesSaid, TakesStart};
 ghost use Rattle.lryacc.specs.LinesTaken.{BeginsLine, PutsInLine, TakesLines};
@@ -202,6 +203,7 @@ impl<'a> Meaning<'a> {
         ensures end { OnOk result (TakesEnd statements.now self.old self.new) }
         ensures lines { OnOk result (TakesLines statements.now self.old self.new) }
         ensures said { OnOk result (TakesSaid statements.now self.old self.new) }
+        ensures aliases { OnOk result (TakesAliases statements.now self.old self.new) }
     {
         for statement in statements {
             self.take_statement(*statement)?;
@@ -228,6 +230,7 @@ impl<'a> Meaning<'a> {
         ensures end { OnOk result (TakesEnd (statement ∷ []) self.old self.new) }
         ensures lines { OnOk result (TakesLines (statement ∷ []) self.old self.new) }
         ensures said { OnOk result (TakesSaid (statement ∷ []) self.old self.new) }
+        ensures aliases { OnOk result (TakesAliases (statement ∷ []) self.old self.new) }
     {
         match statement {
             Statement::Token(symbol) => self.take_token(symbol),
@@ -506,6 +509,8 @@ impl<'a> Meaning<'a> {
         ensures faults { OnOk result (vec_len self.old.faults ≤ vec_len self.new.faults) }
         ensures lines { OnOk result (KeepsLines self.old self.new) }
         ensures said { OnOk result (KeepsSaid self.old self.new) }
+        ensures aliases { OnOk result (TakesAliases (Statement.Alias symbol text ∷ []) self.old
+            self.new) }
     {
         let (Some(one), Some(other)) = (self.symbols.find(symbol), self.symbols.find(text)) else {
             return Ok(());
@@ -513,13 +518,21 @@ impl<'a> Meaning<'a> {
         if self.class(one) == Class::Rule {
             return self.tell(FaultKind::NameOfRule, text.span);
         }
-        if !self.has_text(one) && self.symbols.partner(other).is_none() && one != other {
+        if self.can_pair(one, other) {
             return self.pair(one, other);
         }
         if self.symbols.partner(one) == Some(other) {
             return Ok(());
         }
         self.warn(FaultKind::SecondName, text.span)
+    }
+
+    /// Whether two names can become those of one symbol: neither has another one.
+    fn can_pair(&self, one: usize, other: usize) -> bool
+        ensures free { result ≡ true → AreFree self.now.symbols one other }
+        ensures settled { result ≡ false → IsSettled self.now.symbols one other }
+    {
+        !self.has_text(one) && self.symbols.partner(other).is_none() && one != other
     }
 
     /// Makes two names those of one symbol, which has the class of the first one.
@@ -537,7 +550,8 @@ impl<'a> Meaning<'a> {
 
     /// Whether a symbol has another name already, as `error` and `YYUNDEF` have for Bison.
     fn has_text(&self, number: usize) -> bool
-        ensures { result ≡ false → partner_in self.now.symbols number ≡ None }
+        ensures none { result ≡ false → partner_in self.now.symbols number ≡ None }
+        ensures some { result ≡ true → HasText self.now.symbols number }
     {
         let is_error = self.symbols.find_name(b"error") == Some(number);
         let is_undefined = self.symbols.find_name(b"YYUNDEF") == Some(number);
@@ -726,6 +740,7 @@ impl<'a> Meaning<'a> {
         ensures end { OnOk result (HasEndBy contents.now.statements.items self.new) }
         ensures lines { OnOk result (TakesLines contents.now.statements.items self.old self.new) }
         ensures said { OnOk result (IsSaid contents.now.statements.items self.old self.new) }
+        ensures aliases { OnOk result (TakesAliases contents.now.statements.items self.old self.new) }
     {
         self.take_statements(contents.statements.as_slice())?;
         self.leave_out_reductions()?;

@@ -1,4 +1,5 @@
 use Rattle.std.proofs.Common.{◌≡◌, [], arith, vec_len}
+use Rattle.lryacc.proofs.AliasesTaken.{no-aliases}
 use Rattle.lryacc.proofs.LinesHeld.{no-lines}
 use Rattle.lryacc.proofs.NamesOfOne.{apart-kept, partnered-none}
 use Rattle.lryacc.proofs.file.contents_read.Goals as goal
@@ -22,3 +23,7 @@ grammar_read-requires-clause-said c =
     let new = c.in_ok-meaning.ensures in
     let none : vec_len c.take.new.self.faults ≡ 0 = grind arith in
     c.in_ok-take.ensures.said none new.apart new.said
+
+pub grammar_read-requires-clause-aliases : goal.grammar_read-requires-clause-aliases
+grammar_read-requires-clause-aliases c =
+    c.in_ok-take.ensures.aliases.settled [] (no-aliases c.in_ok-meaning.meaning)

@@ -1,8 +1,9 @@
 use Rattle.std.proofs.Common.{◌≡◌, ℕ, zero, suc, ◌<◌, List, [], ◌∷◌, length, vec_len, refl, ap, arith}
 use Rattle.lryacc.specs.NamedSymbols.{names_in}
+use Rattle.lryacc.proofs.AliasesTaken.{all-heeded}
 use Rattle.lryacc.proofs.EndsTaken.{has-end}
 use Rattle.lryacc.proofs.LinesHeld.{has-line, in-line}
-use Rattle.lryacc.proofs.NamesOfOne.{named-in}
+use Rattle.lryacc.proofs.NamesOfOne.{by-name, named-in}
 use Rattle.lryacc.proofs.SaidHeld.{said-of}
 use Rattle.lryacc.proofs.file.useful_read.Goals as goal
 
@@ -48,6 +49,8 @@ returns-clause-bodies c =
           in_line = in-line c.args.contents.now.statements.items c.args.meaning.now c.requires.partnered c.requires.lines;
           has_line = has-line c.args.contents.now.statements.items c.args.meaning.now c.requires.partnered c.requires.lines;
           one = λ lexeme other number e d. named-in c.args.text.now c.args.dialect c.args.contents.now.statements.items c.args.meaning.now.symbols c.requires.text c.requires.dialect c.requires.apart c.requires.partnered lexeme other number e d;
+          by_name = λ lexeme other e. by-name c.args.text.now c.args.dialect c.args.meaning.now.symbols c.requires.text c.requires.dialect lexeme other e;
+          aliases = all-heeded c.args.meaning.now c.args.contents.now c.requires.productions.symbol c.args.whole c.requires.apart c.requires.partnered c.requires.faults c.requires.aliases;
           one_each = c.requires.productions.one_each;
         };
         productions = c.requires.productions.productions;

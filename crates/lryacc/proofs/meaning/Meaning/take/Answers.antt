@@ -1,9 +1,14 @@
 use Rattle.std.proofs.Common.{◌≡◌, List, [], ap, arith, subst, vec_len}
+use Rattle.std.specs.declared.alloc.Global.{Global}
+use Rattle.std.specs.declared.vec.Vec.{Vec}
 use Rattle.lryacc.specs.declared.contents.Statement.{Statement}
+use Rattle.lryacc.specs.declared.faults.Fault.{Fault}
+use Rattle.lryacc.specs.Aliases.{TakesAliases}
 use Rattle.lryacc.specs.EndTokens.{TakesEnd}
 use Rattle.lryacc.specs.LinesTaken.{TakesLines}
 use Rattle.lryacc.specs.NamedSymbols.{TakesSome}
 use Rattle.lryacc.specs.SaidTaken.{TakesSaid}
+use Rattle.lryacc.proofs.AliasesTaken.{takes_aliases_rest}
 use Rattle.lryacc.proofs.EndsTaken.{end-found, end-kept, lines-again, meaning-again, said-again, tables, tables-again, takes_end_rest}
 use Rattle.lryacc.proofs.LinesHeld.{takes_lines_rest}
 use Rattle.lryacc.proofs.NamesOfOne.{kept-again, ok-then, takes_rest}
@@ -95,4 +100,28 @@ returns-in-Grmtools-clause-said c =
     let names = kept-again before.symbols (kept-again found.symbols last.symbols) in
     are_said-kept all c.leave_out_reductions.new.self c.tell_unknown.new.self names.names (said-again before.said (said-again found.said last.said))
     (said-left all c.take_statements.new.self c.leave_out_reductions.new.self left.keeps.symbols.names left.left_out (some.said early apart [] start)))
+    c.tell_unknown.ensures
+
+pub returns-in-Bison-clause-aliases : goal.returns-in-Bison-clause-aliases
+returns-in-Bison-clause-aliases c =
+    let all = c.args.contents.now.statements.items in
+    let some = subst (λ (xs : List Statement). TakesAliases xs c.args.self.now c.take_statements.new.self) c.as_slice.ensures.value c.in_ok-take_statements.ensures.aliases in
+    let before = tables-again c.in_ok-leave_out_reductions.ensures.keeps (tables (meaning-again c.take_bodies.ensures c.in_ok-warn_of_precedences.ensures)) in
+    let told = meaning-again c.in_ok-tell_symbols.ensures c.in_ok-tell_starts.ensures in
+    let found = c.find_end.ensures in
+    let names = kept-again before.symbols (kept-again found.symbols told.symbols) in
+    let same = ap (λ (faults : Vec Fault Global). vec_len faults) found.faults in
+    takes_aliases_rest all some names (omega (arith, before.faults, same, told.faults))
+
+pub returns-in-Grmtools-clause-aliases : goal.returns-in-Grmtools-clause-aliases
+returns-in-Grmtools-clause-aliases c =
+    let all = c.args.contents.now.statements.items in
+    let some = subst (λ (xs : List Statement). TakesAliases xs c.args.self.now c.take_statements.new.self) c.as_slice.ensures.value c.in_ok-take_statements.ensures.aliases in
+    let before = tables-again c.in_ok-leave_out_reductions.ensures.keeps (tables (meaning-again c.take_bodies.ensures c.in_ok-warn_of_precedences.ensures)) in
+    let told = meaning-again c.in_ok-tell_symbols.ensures c.in_ok-tell_starts.ensures in
+    let found = c.find_end.ensures in
+    let names = kept-again before.symbols (kept-again found.symbols told.symbols) in
+    let same = ap (λ (faults : Vec Fault Global). vec_len faults) found.faults in
+    ok-then c.tell_unknown.result
+    (λ unknown. takes_aliases_rest all some (kept-again names unknown.symbols) (omega (arith, before.faults, same, told.faults, unknown.faults)))
     c.tell_unknown.ensures

@@ -1,7 +1,9 @@
 use Rattle.std.proofs.Common.{◌≡◌, [], ◌∷◌, ap, arith, false, true, inl, inr, refl, subst, sym}
 use Rattle.lryacc.specs.declared.contents.Statement.{Statement}
 use Rattle.lryacc.specs.declared.meaning.Meaning.{Meaning}
+use Rattle.lryacc.specs.Aliases.{TakesAliases}
 use Rattle.lryacc.specs.LinesTaken.{TakesLines}
+use Rattle.lryacc.proofs.AliasesTaken.{is_alias, takes_no_alias}
 use Rattle.lryacc.proofs.LinesHeld.{begins, decides, puts, takes_default, takes_in_line, takes_level, takes_no_line}
 use Rattle.lryacc.specs.SaidTaken.{TakesSaid}
 use Rattle.lryacc.proofs.EndsTaken.{is_code, takes_no_end}
@@ -219,4 +221,67 @@ returns-in-Mention-clause-said c =
     takes_unsaid _ silent
     record { text = refl; dialect = refl; words = refl; characters = refl }
     record { expected = record { expected = refl; reductions = refl; generalized = refl }; starts = refl; started = refl }
+    (omega arith)
+
+pub returns-in-Token-clause-aliases : goal.returns-in-Token-clause-aliases
+returns-in-Token-clause-aliases c = ok-then c.take_token.result (λ keeps. takes_no_alias _ (ap is_alias c.in-Token.is) keeps.symbols keeps.faults) c.take_token.ensures
+
+pub returns-in-Rule-clause-aliases : goal.returns-in-Rule-clause-aliases
+returns-in-Rule-clause-aliases c = ok-then c.take_rule_name.result (λ keeps. takes_no_alias _ (ap is_alias c.in-Rule.is) keeps.symbols keeps.faults) c.take_rule_name.ensures
+
+pub returns-in-Tagged-clause-aliases : goal.returns-in-Tagged-clause-aliases
+returns-in-Tagged-clause-aliases c = ok-then c.take_tag.result (λ keeps. takes_no_alias _ (ap is_alias c.in-Tagged.is) keeps.symbols keeps.faults) c.take_tag.ensures
+
+pub returns-in-LeftSide-clause-aliases : goal.returns-in-LeftSide-clause-aliases
+returns-in-LeftSide-clause-aliases c = ok-then c.take_class.result (λ keeps. takes_no_alias _ (ap is_alias c.in-LeftSide.is) keeps.symbols keeps.faults) c.take_class.ensures
+
+pub returns-in-NamedPrecedence-clause-aliases : goal.returns-in-NamedPrecedence-clause-aliases
+returns-in-NamedPrecedence-clause-aliases c = ok-then c.take_class-in-NamedPrecedence.result (λ keeps. takes_no_alias _ (ap is_alias c.in-NamedPrecedence.is) keeps.symbols keeps.faults) c.take_class-in-NamedPrecedence.ensures
+
+pub returns-in-Start-clause-aliases : goal.returns-in-Start-clause-aliases
+returns-in-Start-clause-aliases c = ok-then c.take_start.result (λ keeps. takes_no_alias _ (ap is_alias c.in-Start.is) keeps.symbols keeps.faults) c.take_start.ensures.keeps
+
+pub returns-in-Level-clause-aliases : goal.returns-in-Level-clause-aliases
+returns-in-Level-clause-aliases c = ok-then c.begin_level.result (λ keeps. takes_no_alias _ (ap is_alias c.in-Level.is) keeps.symbols keeps.faults) c.begin_level.ensures.keeps
+
+pub returns-in-InLevel-clause-aliases : goal.returns-in-InLevel-clause-aliases
+returns-in-InLevel-clause-aliases c = ok-then c.take_in_level.result (λ keeps. takes_no_alias _ (ap is_alias c.in-InLevel.is) keeps.symbols keeps.faults) c.take_in_level.ensures.keeps
+
+pub returns-in-Code-clause-aliases : goal.returns-in-Code-clause-aliases
+returns-in-Code-clause-aliases c =
+    ok-both c.take_code.result (λ symbols end. takes_no_alias _ (ap is_alias c.in-Code.is) symbols end.faults) c.take_code.ensures.symbols c.take_code.ensures.end
+
+pub returns-in-Alias-clause-aliases : goal.returns-in-Alias-clause-aliases
+returns-in-Alias-clause-aliases c =
+    let old = c.args.self.now in
+    let new = c.take_alias.new.self in
+    ok-then c.take_alias.result (λ aliases. subst (λ (s : Statement). TakesAliases (s ∷ []) old new) (sym c.in-Alias.is) aliases) c.take_alias.ensures.aliases
+
+pub returns-in_ok-self-in-ExpectShiftReduce-clause-aliases : goal.returns-in_ok-self-in-ExpectShiftReduce-clause-aliases
+returns-in_ok-self-in-ExpectShiftReduce-clause-aliases c =
+    let keeps = c.in_ok-self-in-ExpectShiftReduce.ensures.keeps in
+    takes_no_alias _ (ap is_alias c.in-ExpectShiftReduce.is) keeps.symbols keeps.faults
+
+pub returns-in_ok-self-in-ExpectReduceReduce-clause-aliases : goal.returns-in_ok-self-in-ExpectReduceReduce-clause-aliases
+returns-in_ok-self-in-ExpectReduceReduce-clause-aliases c =
+    let keeps = c.in_ok-self-in-ExpectReduceReduce.ensures.keeps in
+    takes_no_alias _ (ap is_alias c.in-ExpectReduceReduce.is) keeps.symbols keeps.faults
+
+pub returns-in-DefaultPrecedence-clause-aliases : goal.returns-in-DefaultPrecedence-clause-aliases
+returns-in-DefaultPrecedence-clause-aliases c =
+    takes_no_alias _ (ap is_alias c.in-DefaultPrecedence.is)
+    record { names = record { text = refl; dialect = refl; words = refl; characters = refl }; partners = refl }
+    (omega arith)
+
+pub returns-in-Glr-clause-aliases : goal.returns-in-Glr-clause-aliases
+returns-in-Glr-clause-aliases c =
+    takes_no_alias _ (ap is_alias c.in-Glr.is)
+    record { names = record { text = refl; dialect = refl; words = refl; characters = refl }; partners = refl }
+    (omega arith)
+
+pub returns-in-Mention-clause-aliases : goal.returns-in-Mention-clause-aliases
+returns-in-Mention-clause-aliases c =
+    let no_alias : is_alias c.args.statement ≡ false = elim c.in-Mention.is [ inl h ↦ ap is_alias h.1 | inr h ↦ ap is_alias h.1 ] in
+    takes_no_alias _ no_alias
+    record { names = record { text = refl; dialect = refl; words = refl; characters = refl }; partners = refl }
     (omega arith)
