@@ -1,5 +1,5 @@
 -- rules and tokens are numbered
-use Rattle.std.proofs.Common.{◌≡◌, ℕ, zero, suc, ◌+◌, ◌*◌, ◌<◌, List, [], ◌∷◌, ◌++◌, get_or, length, map, Bool, true, false, cond, Option, None, Some, is_some, slice_get, refl, ap, sym, ◌∙◌, subst, inl, inr, codes, string_bytes, arith}
+use Rattle.std.proofs.Common.{◌≡◌, ℕ, zero, suc, ◌+◌, ◌*◌, ◌<◌, List, [], ◌∷◌, ◌++◌, get_or, length, map, Contains, Bool, true, false, cond, Option, None, Some, is_some, slice_get, refl, ap, sym, ◌∙◌, subst, inl, inr, codes, string_bytes, arith}
 use Rattle.std.specs.BTreeMap.{IsEmpty, get, is_at}
 use Rattle.std.specs.Map.{lookup}
 use Rattle.std.specs.BTreeMap.{BTreeMap}
@@ -7,11 +7,15 @@ use Rattle.std.specs.declared.cmp.Ordering.{Ordering}
 use Rattle.std.specs.declared.cmp.Ordering.TheVariants.{Less, Equal, Greater}
 use Rattle.std.proofs.lemmas.Bool.{false≢true}
 use Rattle.std.proofs.lemmas.Map.Lookups.{exact_unsigned}
+use Rattle.std.proofs.lemmas.List.Elements.{Contains-push_cases}
 use Rattle.std.proofs.lemmas.Option.{same_Some}
 use Rattle.std.specs.Ordering.{nat_cmp, is_eq}
 use Rattle.std.proofs.lemmas.List.{length-map, length_push, map-append}
 use Rattle.lrgrammar.specs.declared.grammar.Precedence.{Precedence}
 use Rattle.lrgrammar.specs.declared.grammar.PartToken.{PartToken}
+use Rattle.lryacc.specs.declared.contents.Statement.{Statement}
+use Rattle.lryacc.specs.declared.contents.Statement.TheVariants as says
+use Rattle.lryacc.specs.declared.lexemes.Lexeme.{Lexeme}
 use Rattle.lryacc.specs.declared.meaning.Meaning.{Meaning}
 use Rattle.lryacc.specs.declared.numbering.Numbering.{Numbering}
 use Rattle.lryacc.specs.BodyPrecedences.{HasLevel}
@@ -19,8 +23,8 @@ use Rattle.lryacc.specs.BodyProductions.{IsActionRule, Keeps}
 use Rattle.lrgrammar.specs.declared.grammar.PartSymbol.{PartSymbol}
 use Rattle.lrgrammar.specs.declared.grammar.PartSymbol.TheVariants.{Rule, Token}
 use Rattle.std.specs.Option.{option_map, option_or}
-use Rattle.lryacc.specs.NamedSymbols.{AreOneEach, HasEndToken, Names, IsRuleOf, IsTokenOf, first_name}
-use Rattle.lryacc.specs.Numbered.{AddsNumbers, AreBefore, AreLevelled, AreNumbered, AreOwn, BeginsWithEnd, GivesToken, IsEndFirst, IsLevelled, IsNumbered, names_of, symbol_by}
+use Rattle.lryacc.specs.NamedSymbols.{AreOneEach, HasEndToken, Names, IsRuleOf, IsTokenOf, first_name, symbol_number}
+use Rattle.lryacc.specs.Numbered.{AddsNumbers, AreBefore, AreLevelled, AreNumbered, AreOwn, BeginsWithEnd, GivesToken, HasItsRule, HasRule, HaveRules, IsEndFirst, IsLevelled, IsNumbered, names_of, symbol_by}
 
 -- what a list has it has behind more
 pub has-more : {A : Type 0} (xs ys : List A) (n : ℕ) (x : A) → slice_get xs n ≡ Some x → slice_get (xs ++ ys) n ≡ Some x
@@ -260,7 +264,7 @@ none-some None is = refl
 none-some (Some n) is = absurd (false≢true (sym is))
 
 -- what another number has stays
-stays : (t t' : ℕ → Option ℕ) (number token n v : ℕ) (at : Bool) → t number ≡ None → is_at (nat_cmp number) n ≡ at → t' n ≡ cond (is_at (nat_cmp number) n) (Some token) (t n) → t n ≡ Some v → t' n ≡ Some v
+pub stays : (t t' : ℕ → Option ℕ) (number token n v : ℕ) (at : Bool) → t number ≡ None → is_at (nat_cmp number) n ≡ at → t' n ≡ cond (is_at (nat_cmp number) n) (Some token) (t n) → t n ≡ Some v → t' n ≡ Some v
 stays t t' number token n v true none here puts is =
     let same : number ≡ n = same_key number n here in
     let no : None ≡ Some v = sym none ∙ ap t same ∙ is in
@@ -380,6 +384,7 @@ adds_none same = record {
   numbered = λ h. subst IsNumbered (sym same) h;
   levelled = λ h. subst IsLevelled (sym same) h;
   end = λ h. subst BeginsWithEnd (sym same) h;
+  rules = λ number rule e. ap (λ (n : Numbering). get nat_cmp n.rules number) same ∙ e;
 }
 
 -- more is added, and then more
@@ -390,6 +395,7 @@ adds_again one other = record {
   numbered = λ h. other.numbered (one.numbered h);
   levelled = λ h. other.levelled (one.levelled h);
   end = λ h. other.end (one.end h);
+  rules = λ number rule e. other.rules number rule (one.rules number rule e);
 }
 
 -- a token is added, and given to a symbol
@@ -404,6 +410,7 @@ gives-next old now new number token added same last is gives = record {
   end = λ h.
       let within = place-within (names_of old).tokens 0 h.some.0 h.some.1 in
       gives.end (omega (arith, within, last)) (added.end h);
+  rules = λ n rule e. ap (λ (m : BTreeMap ℕ ℕ). get nat_cmp m n) gives.rules ∙ added.rules n rule e;
 }
 
 -- the first token is the one that is called `$end`, where the file has no end token
@@ -421,3 +428,38 @@ pub end-first-given : (old new : Numbering) (number : ℕ) → AddsNumbers old n
 end-first-given old new number added end is h =
     end-given (names_of new) (get nat_cmp new.rules) (get nat_cmp new.tokens) (get nat_cmp new.actions) number
     (ap (λ (m : Meaning). option_map (first_name m.symbols) m.end) added.meaning ∙ end) is (added.numbered h)
+
+-- ---- rules of declarations
+
+pub rule-kept : (old new : Numbering) (lexeme : Lexeme) → AddsNumbers old new → HasRule old lexeme → HasRule new lexeme
+rule-kept old new lexeme added h = λ number e.
+    let was = h number (ap (λ (m : Meaning). symbol_number m.symbols lexeme) (sym added.meaning) ∙ e) in
+    (was.0, added.rules number was.0 was.1)
+
+pub have_rules-kept : (statements : List Statement) (old new : Numbering) → AddsNumbers old new → HaveRules statements old → HaveRules statements new
+have_rules-kept statements old new added h = λ lexeme is. rule-kept old new lexeme added (h lexeme is)
+
+pub have-none : (numbering : Numbering) → HaveRules [] numbering
+have-none numbering = λ lexeme is. let no : is.0 < 0 = is.1 in absurd (omega arith)
+
+-- an element of a list is one of the same list
+pub among-same : (xs ys : List Statement) (x : Statement) → xs ≡ ys → Contains xs x → Contains ys x
+among-same xs ys x same among = subst (λ (zs : List Statement). Contains zs x) same among
+
+-- one declaration more
+pub have-more : (statements more : List Statement) (statement : Statement) (old new : Numbering) → more ≡ statements ++ statement ∷ [] → AddsNumbers old new → HasItsRule new statement → HaveRules statements old → HaveRules more new
+have-more statements more statement old new is added one h = λ lexeme among.
+    elim (Contains-push_cases statements statement (says.Rule lexeme) (subst (λ (xs : List Statement). Contains xs (says.Rule lexeme)) is among)) [
+      | inl k ↦ rule-kept old new lexeme added (h lexeme k)
+      | inr k ↦ one lexeme k
+    ]
+
+pub given-some : (found : Option ℕ) → is_some found ≡ true → (n : ℕ) × (found ≡ Some n)
+given-some None is = absurd (false≢true is)
+given-some (Some n) is = (n, refl)
+
+-- the symbols of declared rules are rules
+pub declared-rules : (numbering : Numbering) (statements : List Statement) → HaveRules statements numbering → (lexeme : Lexeme) (number : ℕ) → Contains statements (says.Rule lexeme) → (names_of numbering).number lexeme ≡ Some number → (rule : ℕ) × ((names_of numbering).symbol number ≡ Some (Rule rule))
+declared-rules numbering statements h lexeme number is named =
+    let has = h lexeme is number named in
+    (has.0, rule_symbol (get nat_cmp numbering.rules) (get nat_cmp numbering.tokens) number has.0 has.1)

@@ -5,7 +5,7 @@ use Rattle.lryacc.specs.declared.contents.Contents.{Contents}
 use Rattle.lryacc.specs.declared.meaning.Meaning.{Meaning}
 use Rattle.lryacc.specs.declared.numbering.FileGrammar.{FileGrammar}
 use Rattle.lryacc.specs.BodyProductions.{AreOfFile}
-use Rattle.lryacc.specs.NamedSymbols.{AreOneEach, HasEndToken, names_in}
+use Rattle.lryacc.specs.NamedSymbols.{AreDeclaredRules, AreOneEach, HasEndToken, names_in}
 use Rattle.lryacc.specs.ProductionPlaces.{start_rules_of}
 
 -- a grammar has the productions of a file whose names have their meaning, and each of its rules and tokens is one symbol; rule 0 is
@@ -15,6 +15,7 @@ pub record HasProductions (meaning : Meaning) (contents : Contents) (file : File
   pub symbol : ℕ → Option PartSymbol
   pub one_each : AreOneEach symbol
   pub accept : slice_get (names_in meaning contents symbol file).rules 0 ≡ Some (codes "$accept")
+  pub declared : AreDeclaredRules (names_in meaning contents symbol file)
   pub end : HasEndToken (names_in meaning contents symbol file)
   pub productions :
       AreOfFile (names_in meaning contents symbol file)

@@ -20,7 +20,7 @@ use Rattle.lryacc.specs.ExpectedConflicts.{AreExpected}
 use Rattle.lryacc.specs.Headers.{IsReadAs}
 use Rattle.lryacc.specs.KeptProductions.{IsWithout}
 use Rattle.lryacc.specs.Levels.{IsInLine, has_default_after, levels_of}
-use Rattle.lryacc.specs.NamedSymbols.{AreOneEach, HasEndToken, NameOne, Names, called}
+use Rattle.lryacc.specs.NamedSymbols.{AreDeclaredRules, AreOneEach, HasEndToken, NameOne, Names, called}
 use Rattle.lryacc.specs.ProductionPlaces.{file_places, start_rules_of}
 use Rattle.lryacc.specs.StartSymbols.{AreStarts}
 
@@ -53,6 +53,7 @@ pub record AreNamesOf (text : List ℕ) (dialect : Dialect) (statements : List S
       → called text dialect lexeme ≡ called text dialect other
       → names.number lexeme ≡ names.number other
   pub aliases : AreHeeded names
+  pub declared : AreDeclaredRules names
   pub one_each : AreOneEach names.symbol
 
 -- a grammar has the bodies of a file, of which there is at least one: it is one with a production for each start rule and each

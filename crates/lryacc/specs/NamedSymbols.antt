@@ -354,6 +354,12 @@ AreOneEach symbol_of =
     (number other : ℕ) (symbol : PartSymbol) → symbol_of number ≡ Some symbol
     → symbol_of other ≡ Some symbol → number ≡ other
 
+-- a symbol that is declared a rule is one
+abbrev pub AreDeclaredRules : Names → Type 0
+AreDeclaredRules names =
+    (lexeme : Lexeme) (number : ℕ) → Contains names.statements (says.Rule lexeme)
+    → names.number lexeme ≡ Some number → (rule : ℕ) × (names.symbol number ≡ Some (Rule rule))
+
 -- a lexeme names the rule or token of a grammar that the symbol of its number is, which stands there by a name of that symbol
 pub record IsNamed (names : Names) (lexeme : Lexeme) (symbol : PartSymbol) : Type 0 where
   pub number : ℕ

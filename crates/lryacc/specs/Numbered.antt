@@ -1,11 +1,14 @@
 -- the rules and tokens that were numbered so far
-use Rattle.std.specs.Prelude.{◌≡◌, ℕ, ◌<◌, ◌+◌, ◌*◌, length, List, Option, None, Some, codes, slice_get}
+use Rattle.std.specs.Prelude.{◌≡◌, ℕ, ◌<◌, ◌+◌, ◌*◌, length, List, Contains, Option, None, Some, codes, slice_get}
 use Rattle.std.specs.BTreeMap.{get}
 use Rattle.std.specs.Option.{option_map, option_or}
 use Rattle.std.specs.Ordering.{nat_cmp}
 use Rattle.lrgrammar.specs.declared.grammar.PartSymbol.{PartSymbol}
 use Rattle.lrgrammar.specs.declared.grammar.PartSymbol.TheVariants.{Rule, Token}
 use Rattle.lrgrammar.specs.declared.grammar.Precedence.{Precedence}
+use Rattle.lryacc.specs.declared.contents.Statement.{Statement}
+use Rattle.lryacc.specs.declared.contents.Statement.TheVariants as says
+use Rattle.lryacc.specs.declared.lexemes.Lexeme.{Lexeme}
 use Rattle.lryacc.specs.declared.numbering.Numbering.{Numbering}
 use Rattle.lryacc.specs.BodyPrecedences.{HasLevel}
 use Rattle.lryacc.specs.BodyProductions.{IsActionRule}
@@ -83,11 +86,30 @@ pub record AddsNumbers (old new : Numbering) : Type 0 where
   pub numbered : IsNumbered old → IsNumbered new
   pub levelled : IsLevelled old → IsLevelled new
   pub end : BeginsWithEnd old → BeginsWithEnd new
+  pub rules : (number rule : ℕ) → get nat_cmp old.rules number ≡ Some rule
+      → get nat_cmp new.rules number ≡ Some rule
+
+-- the symbol that a lexeme names has a rule
+abbrev pub HasRule : Numbering → Lexeme → Type 0
+HasRule numbering lexeme =
+    (number : ℕ) → (names_of numbering).number lexeme ≡ Some number
+    → (rule : ℕ) × (get nat_cmp numbering.rules number ≡ Some rule)
+
+-- it has one where a declaration says that it is a rule
+abbrev pub HasItsRule : Numbering → Statement → Type 0
+HasItsRule numbering statement =
+    (lexeme : Lexeme) → statement ≡ says.Rule lexeme → HasRule numbering lexeme
+
+-- the same of some declarations
+abbrev pub HaveRules : List Statement → Numbering → Type 0
+HaveRules statements numbering =
+    (lexeme : Lexeme) → Contains statements (says.Rule lexeme) → HasRule numbering lexeme
 
 -- a symbol is given a token, unless it has one
 pub record GivesToken (old new : Numbering) (number token : ℕ) : Type 0 where
   pub meaning : new.meaning.now ≡ old.meaning.now
   pub contents : new.contents.now ≡ old.contents.now
+  pub rules : new.rules ≡ old.rules
   pub numbered : IsTokenOf (names_of old) number token → AreBefore (get nat_cmp old.tokens) token
       → IsNumbered old → IsNumbered new
   pub levelled : IsLevelled old → IsLevelled new

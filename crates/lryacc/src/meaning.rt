@@ -740,7 +740,8 @@ impl<'a> Meaning<'a> {
         ensures end { OnOk result (HasEndBy contents.now.statements.items self.new) }
         ensures lines { OnOk result (TakesLines contents.now.statements.items self.old self.new) }
         ensures said { OnOk result (IsSaid contents.now.statements.items self.old self.new) }
-        ensures aliases { OnOk result (TakesAliases contents.now.statements.items self.old self.new) }
+        ensures aliases { OnOk result (TakesAliases contents.now.statements.items self.old
+            self.new) }
     {
         self.take_statements(contents.statements.as_slice())?;
         self.leave_out_reductions()?;

@@ -1,6 +1,6 @@
 //! The parts of the grammar of a file, with their places.
 
-ghost use Rattle.std.specs.Prelude.{◌≡◌, ◌+◌, ◌-◌, ◌*◌, true, [], ◌∷◌, ◌++◌, Some, codes, map, flat_map, length, slice_get, string_bytes};
+ghost use Rattle.std.specs.Prelude.{◌≡◌, ◌+◌, ◌-◌, ◌*◌, true, [], ◌∷◌, ◌++◌, Some, Contains, codes, map, flat_map, length, slice_get, string_bytes};
 ghost use Rattle.std.specs.Prelude.{IfOk, OnOk, IfSome, IsSomeAnd, MatchOption, None};
 ghost use Rattle.std.specs.BTreeMap.{get};
 ghost use Rattle.std.specs.Ordering.{nat_cmp};
@@ -14,7 +14,7 @@ ghost use Rattle.lryacc.specs.BodyProductions.{AreMarks, AreOfFile, AreRelated, 
 ghost use Rattle.lryacc.specs.BodyProductions.{IsActionName, IsMarkOf, IsRuleOfAction, Keeps, is_one, start_symbols_of, symbol_parts};
 ghost use Rattle.lryacc.specs.FileProductions.{HasProductions};
 ghost use Rattle.lryacc.specs.NamedSymbols.{IsNamed, IsTokenText, NamesRule, name_of};
-ghost use Rattle.lryacc.specs.Numbered.{AddsNumbers, BeginsWithEnd, GivesToken, IsLevelled, IsNumbered, names_of};
+ghost use Rattle.lryacc.specs.Numbered.{AddsNumbers, BeginsWithEnd, GivesToken, HasItsRule, HasRule, HaveRules, IsLevelled, IsNumbered, names_of};
 
 mod token_places;
 
@@ -308,6 +308,7 @@ impl<'m, 'a> Numbering<'m, 'a> {
         requires { self.old.grammar.parts.tokens.items ≡ [] }
         ensures added { OnOk result (AddsNumbers self.old self.new) }
         ensures end { OnOk result (IsNumbered self.old → BeginsWithEnd self.new) }
+        ensures have { OnOk result (HaveRules self.old.contents.now.statements.items self.new) }
         ensures marks { IfOk result (λ marks. AreMarks (names_of self.new) (is_one starts.now)
             starts.now marks.items) }
     {
@@ -319,7 +320,8 @@ impl<'m, 'a> Numbering<'m, 'a> {
     /// Adds the other tokens, and the rules.
     #[tactic(auto, using(crate::proofs::Numbered::adds_again, crate::proofs::Numbered::adds_none))]
     fn add_others(&mut self) -> Result<(), AllocError>
-        ensures { OnOk result (AddsNumbers self.old self.new) }
+        ensures added { OnOk result (AddsNumbers self.old self.new) }
+        ensures have { OnOk result (HaveRules self.old.contents.now.statements.items self.new) }
     {
         self.add_tokens()?;
         self.add_tokens_below()?;
@@ -335,15 +337,23 @@ impl<'m, 'a> Numbering<'m, 'a> {
         self.meaning.symbols.list.get(number).copied()
     }
 
+    /// The rule that a symbol was given.
+    fn rule_given(&self, number: usize) -> Option<usize>
+        ensures { result ≡ get nat_cmp self.now.rules number }
+    {
+        self.rules.get(&number).copied()
+    }
+
     /// Adds the rule of the symbol that a lexeme names, unless it is there.
     fn add_rule_of(&mut self, name: Lexeme, place: Span) -> Result<(), AllocError>
         requires { NamesRule (names_of self.old) name }
-        ensures { OnOk result (AddsNumbers self.old self.new) }
+        ensures added { OnOk result (AddsNumbers self.old self.new) }
+        ensures has { OnOk result (HasRule self.new name) }
     {
         let Some(symbol) = self.meaning.find(name) else {
             return Ok(());
         };
-        if self.rules.get(&symbol).is_some() {
+        if self.rule_given(symbol).is_some() {
             return Ok(());
         }
         let text = name_text(self.allocator(), self.meaning.symbols.name(name))?;
@@ -408,15 +418,41 @@ impl<'m, 'a> Numbering<'m, 'a> {
     /// Adds the rules that have no body, of symbols that are declared rules, or start symbols.
     #[tactic(auto, using(crate::proofs::Numbered::adds_again, crate::proofs::Numbered::adds_none))]
     fn add_bare_rules(&mut self) -> Result<(), AllocError>
-        ensures { OnOk result (AddsNumbers self.old self.new) }
+        ensures added { OnOk result (AddsNumbers self.old self.new) }
+        ensures have { OnOk result (HaveRules self.old.contents.now.statements.items self.new) }
     {
         let contents = self.contents;
         for statement in &contents.statements {
-            if let Statement::Rule(name) | Statement::Start(name) = statement {
-                self.add_bare_rule(*name)?;
-            }
+            self.add_bare(*statement)?;
         }
         Ok(())
+    }
+
+    /// Adds the rule that a declaration names, if it is one even where no colon stands behind it.
+    #[tactic(auto, using(crate::proofs::Numbered::adds_none))]
+    fn add_bare(&mut self, statement: Statement) -> Result<(), AllocError>
+        requires { Contains self.old.contents.now.statements.items statement }
+        ensures added { OnOk result (AddsNumbers self.old self.new) }
+        ensures has { OnOk result (HasItsRule self.new statement) }
+    {
+        match statement {
+            Statement::Rule(name) => self.add_declared_rule(name),
+            Statement::Start(name) => self.add_bare_rule(name),
+            _ => Ok(()),
+        }
+    }
+
+    /// Adds the rule of the symbol that a lexeme names, which is declared one.
+    fn add_declared_rule(&mut self, name: Lexeme) -> Result<(), AllocError>
+        requires { NamesRule (names_of self.old) name }
+        ensures added { OnOk result (AddsNumbers self.old self.new) }
+        ensures has { OnOk result (HasRule self.new name) }
+    {
+        let place = match self.symbol_named(name) {
+            Some(symbol) => symbol.mention.span,
+            None => name.span,
+        };
+        self.add_rule_of(name, place)
     }
 
     /// Adds the rule of the symbol that a lexeme names, if it is one even where no colon stands behind it.

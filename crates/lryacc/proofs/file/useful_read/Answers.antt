@@ -51,6 +51,7 @@ returns-clause-bodies c =
           one = λ lexeme other number e d. named-in c.args.text.now c.args.dialect c.args.contents.now.statements.items c.args.meaning.now.symbols c.requires.text c.requires.dialect c.requires.apart c.requires.partnered lexeme other number e d;
           by_name = λ lexeme other e. by-name c.args.text.now c.args.dialect c.args.meaning.now.symbols c.requires.text c.requires.dialect lexeme other e;
           aliases = all-heeded c.args.meaning.now c.args.contents.now c.requires.productions.symbol c.args.whole c.requires.apart c.requires.partnered c.requires.faults c.requires.aliases;
+          declared = c.requires.productions.declared;
           one_each = c.requires.productions.one_each;
         };
         productions = c.requires.productions.productions;

@@ -29,6 +29,7 @@ returns c =
     record {
       meaning = refl;
       contents = refl;
+      rules = λ _ _ e. e;
       numbered = λ h.
           numbered-action (with_more names rules tokens levels starts names.symbol) _ _ _ _ c.args.action.span.start c.in_ok-rule.rule (λ q. c.in_ok-insert.ensures.updates.0 q)
           (record {

@@ -1,5 +1,6 @@
-use Rattle.std.proofs.Common.{◌∙◌, ◌<◌, arith, ap, sym, refl, subst, map, List, ℕ, slice_get, string_bytes}
-use Rattle.std.specs.BTreeMap.{get}
+use Rattle.std.proofs.Common.{◌≡◌, None, Some, is_some, ◌∙◌, ◌<◌, arith, ap, sym, refl, subst, map, List, ℕ, slice_get, string_bytes}
+use Rattle.std.proofs.lemmas.Option.{same_Some}
+use Rattle.std.specs.BTreeMap.{get, is_at}
 use Rattle.std.specs.Ordering.{nat_cmp}
 use Rattle.std.specs.declared.alloc.Global.{Global}
 use Rattle.std.specs.declared.string.String.{String}
@@ -9,11 +10,11 @@ use Rattle.lryacc.specs.declared.places.Span.{Span}
 use Rattle.lryacc.specs.NamedSymbols.{IsTextOf}
 use Rattle.lryacc.specs.Numbered.{AreLevelled, names_of, symbol_in}
 use Rattle.std.proofs.lemmas.List.{length-map}
-use Rattle.lryacc.proofs.Numbered.{end-more, rules-before, some-first, lengths-more, numbered-rule, numbered-more, map-added, map-more, with_more}
+use Rattle.lryacc.proofs.Numbered.{end-more, given-some, none-some, stays, rules-before, some-first, lengths-more, numbered-rule, numbered-more, map-added, map-more, with_more}
 use Rattle.lryacc.proofs.numbering.Numbering.add_rule_of.Goals as goal
 
-pub returns : goal.returns
-returns c =
+pub returns-clause-added : goal.returns-clause-added
+returns-clause-added c =
     let rule_name = λ (name : String Global). string_bytes name in
     let token_name = λ (token : PartToken). string_bytes token.name in
     let start = λ (place : Span). place.start in
@@ -29,6 +30,10 @@ returns c =
     record {
       meaning = refl;
       contents = refl;
+      rules = λ n r e.
+          let none : get nat_cmp c.args.self.now.rules c.in-Some.symbol ≡ None =
+          none-some _ (ap is_some (sym c.rule_given.ensures) ∙ sym c.is_some.ensures ∙ c.if-is_some.false) in
+          stays (get nat_cmp c.args.self.now.rules) (get nat_cmp c.insert.new.self) c.in-Some.symbol c.in_ok-rule.rule n r (is_at (nat_cmp c.in-Some.symbol) n) none refl (c.in_ok-insert.ensures.updates.0 n) e;
       numbered = λ h.
           numbered-rule (with_more names rules tokens levels starts symbol) _ _ _ _ c.in-Some.symbol c.in_ok-rule.rule (λ q. c.in_ok-insert.ensures.updates.0 q)
           (record {
@@ -55,3 +60,19 @@ returns c =
           end-more names rules tokens levels starts symbol _
           (λ n x e. ap (λ (ts : Vec PartToken Global). slice_get (map token_name ts.items) n) added.tokens ∙ e);
     }
+
+pub returns-clause-has : goal.returns-clause-has
+returns-clause-has c = λ number e.
+    let same : c.in-Some.symbol ≡ number = same_Some c.in-Some.symbol number (sym c.in-Some.is ∙ c.find.ensures ∙ e) in
+    (c.in_ok-rule.rule, ap (get nat_cmp c.insert.new.self) (sym same) ∙ c.in_ok-insert.ensures.updates.1)
+
+pub returns-then-is_some-clause-has : goal.returns-then-is_some-clause-has
+returns-then-is_some-clause-has c = λ number e.
+    let same : c.in-Some.symbol ≡ number = same_Some c.in-Some.symbol number (sym c.in-Some.is ∙ c.find.ensures ∙ e) in
+    let rule = given-some _ (ap is_some (sym c.rule_given.ensures) ∙ sym c.is_some.ensures ∙ c.if-is_some.true) in
+    (rule.0, ap (get nat_cmp c.args.self.now.rules) (sym same) ∙ rule.1)
+
+pub returns-in_default-clause-has : goal.returns-in_default-clause-has
+returns-in_default-clause-has c = λ number e.
+    let no : None ≡ Some number = sym c.in_default.is ∙ c.find.ensures ∙ e in
+    absurd (cc)

@@ -16,6 +16,7 @@ returns-clause-added c =
     record {
       meaning = refl;
       contents = refl;
+      rules = λ _ _ e. e;
       numbered =
           numbered-more names names.rules (map name_of_token tokens) (map level_of_token tokens) names.starts names.symbol _ _ _ (λ _ _ h. h)
           (map-more name_of_token old.grammar.parts.tokens.items tokens token c.in_ok-push.ensures.items)

@@ -13,4 +13,5 @@ returns c =
           record { precedence = _; here = c.in_ok-token.ensures.precedence; is = c.in-Some.ensures }
           (added.levelled h);
       end = added.end;
+      rules = added.rules;
     }

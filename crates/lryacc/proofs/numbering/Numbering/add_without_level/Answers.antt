@@ -10,4 +10,5 @@ returns c =
       numbered = added.numbered;
       levelled = λ h. levelled-without _ _ _ _ c.in_ok-token_without_level.ensures.without (added.levelled h);
       end = added.end;
+      rules = added.rules;
     }

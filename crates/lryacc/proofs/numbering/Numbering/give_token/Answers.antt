@@ -9,6 +9,7 @@ pub returns : goal.returns
 returns c = record {
   meaning = refl;
   contents = refl;
+  rules = refl;
   numbered = λ is before h.
       numbered-token (names_of c.args.self.now) (symbol_in (record c.args.self.now { tokens = c.insert.new.self })) _ _ _ _ c.args.number c.args.token (λ q. c.in_ok-insert.ensures.updates.0 q) is before h;
   levelled = λ h. h;
