@@ -111,6 +111,9 @@ def check_after(known, told, entry, counts):
         least = known.shortest_rest(symbols, token, move)
         hold(len([*outlook["rest"], END]) == least, f"{outlook['rest']} is no shortest rest")
     counts["other tokens"] += token != conflict.token
+    if entry.by_one_step["lost"]:
+        texts.check_lost(told, entry.by_one_step, entry.by_one_step["lost"])
+        counts["lost"] += 1
 
 
 # Ambiguities.
@@ -228,17 +231,18 @@ def check_entry(known, told, entry, counts):
 
 def check_groups(told, alone):
     """Entries stand in the order of the file. Those in a row that meet alike in one state, where the table does the same, are
-    told together: with the text of the first token that has one, or rather of the first that has one of its own candidates, and
-    the list of the first token where that has none."""
+    told together: with the text of the first token that has one, or rather of the first that has one of its own candidates, the
+    list of the first token where that has none, and the lost text of the first that has one."""
     in_order = lambda key: (key[2][0], key[0], key[2][1] or 0, key[1])
     hold([*alone] == sorted(alone, key=in_order), f"the entries are out of order: {[*alone]}")
-    rows = groupby(alone.values(), lambda it: {**it, **dict.fromkeys(("tokens", "shift", "ambiguity", "after"))})
+    rows = groupby(alone.values(), lambda it: {**it, **dict.fromkeys(("tokens", "shift", "ambiguity", "after", "lost"))})
     for group, (_, row) in zip(told.grouped["conflicts"], rows, strict=True):
         row = [*row]
         hold(group["tokens"] == [token for it in row for token in it["tokens"]], f"{group['tokens']} are told together")
         known = sorted((it["ambiguity"] for it in row if it["ambiguity"]), key=lambda it: not it["own"])
-        wanted = next(iter(known), None), row[0]["after"]
-        hold((group["ambiguity"], group["after"]) == wanted, f"something else is told of {group['tokens']} together")
+        lost = next((it["lost"] for it in row if it["lost"]), None)
+        wanted = next(iter(known), None), row[0]["after"], lost
+        hold((group["ambiguity"], group["after"], group["lost"]) == wanted, f"something else is told of {group['tokens']} together")
 
 
 def by_key(drawn, told, file):

@@ -11,7 +11,9 @@ The grammar is the one that is told too. By other ways than the program's it is 
 - the dot stands where their moves part: by the reduction, and by the shift or the other reduction, at the token of the entry,
   and the symbols before it lead to the items of the entry's state;
 - where no text is told, the list of symbols has the input as a text, the items of each candidate stand in one another after
-  the list, and the rest makes a sentence of the input and follows from the items, from the token on.
+  the list, and the rest makes a sentence of the input and follows from the items, from the token on;
+- a text that is told to be lost is a sentence, and the machine of the table rejects it where it is said, behind the dot, which
+  stands before the token of the entry.
 
 And there are as many entries of each kind as are counted.
 """
@@ -25,10 +27,12 @@ from pathlib import Path
 
 import definitions
 import graphs
+import machine
 from sentences import MANY, Trees
 
 END = 0  # The number of `$end`, which is the first token.
 NO_TOKEN = "error"  # A token that stands in no text.
+MOST_STEPS = 10_000  # Of a run on a text that is told to be lost.
 
 
 class Wrong(Exception):
@@ -265,6 +269,23 @@ def check_outlooks(told, entry, after):
         check_outlook(told, entry, after, candidate, outlook)
 
 
+# Lost texts.
+
+
+def leaves(tree):
+    return 1 if isinstance(tree, int) else sum(map(leaves, tree[1]))
+
+
+def check_lost(told, entry, lost):
+    """The text is a sentence, and rejected where it is said; the dot stands before the token of the entry, and before that."""
+    text, dot, stop = [*told.symbols(lost["text"]), END], lost["dot"], lost["stop"]
+    hold(told.count([told.root], text) > 0, f"{lost['text']} is no sentence")
+    verdict, _, _, trees = machine.run(told.grammar, told.states, text, MOST_STEPS)
+    hold(verdict == "reject", f"{lost['text']} is not rejected: {verdict}")
+    hold(sum(map(leaves, trees)) == stop, f"{lost['text']} is not rejected at {stop}")
+    hold(dot <= stop and text[dot] in told.symbols(entry["tokens"]), f"the dot is at {dot}, and it is rejected at {stop}")
+
+
 # All of a file.
 
 OF_TEXTS = (check_count, check_trees, check_rule, check_parting)
@@ -278,6 +299,8 @@ def check_entry(told, entry):
         check(told, entry, entry["ambiguity"])
     for check in OF_LISTS if entry.get("after") else ():
         check(told, entry, entry["after"])
+    if entry.get("lost"):
+        check_lost(told, entry, entry["lost"])
     hold(entry["ambiguity"] or entry.get("after") or "winner" in entry, "nothing is told of a conflict")
 
 
@@ -372,6 +395,11 @@ SPOILT_LISTS = {
     "a token of a rest": (check_outlooks, lambda it: with_token(it["other"]["rest"])),
     "candidates the other way round": (check_outlooks, lambda it: it.update(reduce=it["other"], other=it["reduce"])),
 }
+SPOILT_LOSSES = {
+    "a token of a lost text": (check_lost, lambda it: with_token(it["text"])),
+    "where it stops": (check_lost, lambda it: it.update(stop=it["stop"] + 1)),
+    "its dot": (check_lost, lambda it: it.update(dot=it["stop"] + 1)),
+}
 
 
 def is_seen(check, told, entry, part):
@@ -386,7 +414,7 @@ def is_seen(check, told, entry, part):
 def spoil(told, counts):
     """Spoils what is told of each entry in each way, and counts how often that is seen, and how often not."""
     for entry in told.entries:
-        for name, ways in (("ambiguity", SPOILT_TEXTS), ("after", SPOILT_LISTS)):
+        for name, ways in (("ambiguity", SPOILT_TEXTS), ("after", SPOILT_LISTS), ("lost", SPOILT_LOSSES)):
             for way, (check, spoiling) in ways.items() if entry.get(name) else ():
                 part = copy.deepcopy(entry[name])
                 spoiling(part)

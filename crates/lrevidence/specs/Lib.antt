@@ -1,3 +1,4 @@
--- sentences with two trees, which part somewhere, and entries that a table lists
+-- sentences with two trees, which part somewhere, those that are rejected, and entries that a table lists
 pub mod Ambiguities
+pub mod Losses
 pub mod Entries

@@ -1,37 +1,45 @@
 //! Why there are conflicts.
 
-ghost use Rattle.std.specs.Prelude.{◌≡◌, ◌∷◌, [], ◌++◌, map, All, IfOk, IfSome, OnOk, MatchOption};
+ghost use Rattle.std.specs.Prelude.{◌≡◌, ◌∷◌, [], ◌++◌, map, All, IfOk, IfSome, OnOk, MatchOption, option_map};
 ghost use Rattle.lrspec.specs.merging.Graph.{IsGraphOf};
 ghost use Rattle.lrspec.specs.tables.Conflicts.{AreReductionsContested};
+ghost use Rattle.lrspec.specs.tables.Table.{IsTableFor};
 ghost use Rattle.lrconflicts.specs.Entries.{entry_of, IsListed};
 ghost use Rattle.lrreasons.specs.Numbers.{number_of};
 ghost use Rattle.lrevidence.specs.Entries.{AreListedIn};
 ghost use Rattle.lrevidence.specs.Ambiguities.{HasTwoTrees, IsProved, PartsAtEntry};
+ghost use Rattle.lrevidence.specs.Losses.{IsLostAt, IsLostAtEntry};
 
 use crate::ambiguities::ambiguity_at;
 use crate::conflicts::conflict_of;
 use crate::examples::Numbering;
+use crate::losses::loss_of;
 use lrfindings::{Entry, Findings, is_among};
 use lrgrammar::grammar::YaccGrammar;
 use lrreasons::{Conflict, Reasons};
 pub use lrshown::Evidence;
-use lrshown::{Ambiguity, Example};
+use lrshown::{Ambiguity, Example, Loss};
 use lrtable::StateGraph;
 use lryacc::FileGrammar;
 use std::alloc::{AllocError, Global};
 
-/// After what a conflict that the table lists is real.
+/// After what a conflict that the table lists is real, and a sentence that the parser rejects because of it, where that gives one.
 fn example_of(
     alloc: Global,
     reasons: &Reasons<'_>,
     numbering: Numbering<'_>,
+    found: &Findings<u32>,
     conflict: Conflict<u32>,
-) -> Result<Example, AllocError>
+) -> Result<(Example, Option<Loss>), AllocError>
     requires listed { IsListed reasons.now.grammar reasons.now.graph (entry_of number_of conflict) }
     requires contested { AreReductionsContested reasons.now.grammar reasons.now.graph }
+    requires table { IsTableFor found.now.grm found.now.table }
+    ensures lost { IfOk result (λ r. IfSome r.1 (IsLostAt found.now.grm found.now.table
+        conflict.state.0 conflict.token.0)) }
 {
     let example = reasons.example(conflict)?;
-    numbering.example(alloc, &example)
+    let loss = loss_of(alloc, found, conflict, &example)?;
+    Ok((numbering.example(alloc, &example)?, loss))
 }
 
 /// What is looked for.
@@ -75,26 +83,39 @@ impl Effort {
     }
 }
 
+/// A loss in a box, if there is one.
+fn boxed(alloc: Global, loss: Option<Loss>) -> Result<Option<Box<Loss>>, AllocError>
+    ensures { IfOk result (λ o. option_map (λ b. b.value) o ≡ loss) }
+{
+    match loss {
+        Some(loss) => Ok(Some(Box::new(alloc, loss)?)),
+        None => Ok(None),
+    }
+}
+
 /// What is known of an entry, where a search for a sentence with two trees takes so many steps, with an example or without.
 fn evidence_of(
     alloc: Global,
     reasons: &Reasons<'_>,
     numbering: Numbering<'_>,
-    listed: &[Entry],
+    found: &Findings<u32>,
     entry: Entry,
     steps: usize,
     has_example: bool,
 ) -> Result<Evidence, AllocError>
-    requires listed { AreListedIn reasons.now.grammar reasons.now.graph listed.now }
+    requires listed { AreListedIn reasons.now.grammar reasons.now.graph found.now.conflicts.items }
     requires contested { AreReductionsContested reasons.now.grammar reasons.now.graph }
+    requires table { IsTableFor found.now.grm found.now.table }
     ensures entry { IfOk result (λ e. e.entry ≡ entry) }
     ensures proved { IfOk result (IsProved reasons.now.grammar) }
     ensures parts { IfOk result (PartsAtEntry reasons.now.grammar reasons.now.graph) }
+    ensures lost { IfOk result (IsLostAtEntry found.now.grm found.now.table) }
 {
     let mut evidence = Evidence {
         entry,
         ambiguity: None,
         example: None,
+        loss: None,
         is_cut_off: false,
     };
     let Some(conflict) = conflict_of(entry) else {
@@ -106,9 +127,11 @@ fn evidence_of(
             None => evidence.is_cut_off = reasons.is_used_up(),
         }
     }
+    let listed = found.conflicts.as_slice();
     if has_example && evidence.ambiguity.is_none() && is_among(listed, &entry) {
-        let example = example_of(alloc, reasons, numbering, conflict)?;
+        let (example, loss) = example_of(alloc, reasons, numbering, found, conflict)?;
         evidence.example = Some(Box::new(alloc, example)?);
+        evidence.loss = boxed(alloc, loss)?;
     }
     Ok(evidence)
 }
@@ -118,26 +141,29 @@ fn push_evidence(
     list: &mut Vec<Evidence>,
     reasons: &Reasons<'_>,
     numbering: Numbering<'_>,
-    listed: &[Entry],
+    found: &Findings<u32>,
     entries: &[Entry],
     effort: Effort,
 ) -> Result<(), AllocError>
-    requires listed { AreListedIn reasons.now.grammar reasons.now.graph listed.now }
+    requires listed { AreListedIn reasons.now.grammar reasons.now.graph found.now.conflicts.items }
     requires contested { AreReductionsContested reasons.now.grammar reasons.now.graph }
+    requires table { IsTableFor found.now.grm found.now.table }
     requires proved { All (IsProved reasons.now.grammar) list.now.items }
     requires parts { All (PartsAtEntry reasons.now.grammar reasons.now.graph) list.now.items }
+    requires lost { All (IsLostAtEntry found.now.grm found.now.table) list.now.items }
     ensures entries { OnOk result (map (λ e. e.entry) list.new.items
         ≡ map (λ e. e.entry) list.old.items ++ entries.now) }
     ensures proved { OnOk result (All (IsProved reasons.now.grammar) list.new.items) }
     ensures parts { OnOk result
         (All (PartsAtEntry reasons.now.grammar reasons.now.graph) list.new.items) }
+    ensures lost { OnOk result (All (IsLostAtEntry found.now.grm found.now.table) list.new.items) }
 {
     let (alloc, steps) = (*list.allocator(), effort.steps);
     let mut count: usize = 0;
     for entry in entries {
         let counts = effort.counts(list.as_slice(), entry);
         let is_told = counts && count < effort.examples;
-        list.push(evidence_of(alloc, reasons, numbering, listed, *entry, steps, is_told)?)?;
+        list.push(evidence_of(alloc, reasons, numbering, found, *entry, steps, is_told)?)?;
         if counts {
             count = count.saturating_add(1);
         }
@@ -157,10 +183,12 @@ pub fn evidence_for(
     requires listed { IfSome found.now.graph (λ h.
         AreListedIn found.now.grm h found.now.conflicts.items) }
     requires contested { IfSome found.now.graph (AreReductionsContested found.now.grm) }
+    requires table { IsTableFor found.now.grm found.now.table }
     ensures entries { IfOk result (λ v. map (λ e. e.entry) v.items ≡ entries.now) }
     ensures proved { IfOk result (λ v. All (IsProved found.now.grm) v.items) }
     ensures parts { IfOk result (λ v. MatchOption found.now.graph (v.items ≡ [])
         (λ h. All (PartsAtEntry found.now.grm h) v.items)) }
+    ensures lost { IfOk result (λ v. All (IsLostAtEntry found.now.grm found.now.table) v.items) }
 {
     let (Some(graph), false) = (&found.graph, entries.is_empty()) else {
         return Ok(Vec::new(alloc));
@@ -169,8 +197,8 @@ pub fn evidence_for(
     let mut list = Vec::with_capacity(alloc, entries.len())?;
     let reasons = effort.reasons(grm, graph)?;
     reasons.allow(effort.work);
-    let (numbering, listed) = (Numbering { grm, file }, found.conflicts.as_slice());
-    push_evidence(&mut list, &reasons, numbering, listed, entries, effort)?;
+    let numbering = Numbering { grm, file };
+    push_evidence(&mut list, &reasons, numbering, found, entries, effort)?;
     Ok(list)
 }
 

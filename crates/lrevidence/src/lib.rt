@@ -1,15 +1,16 @@
-//! Why there are the conflicts of a grammar file: sentences with two trees, and after what a conflict is real, by the numbers that
-//! tokens, rules and productions have in the file.
+//! Why there are the conflicts of a grammar file: sentences with two trees, after what a conflict is real, and sentences that the
+//! parser rejects because of it, by the numbers that tokens, rules and productions have in the file.
 #![tactic(auto)]
 
 mod ambiguities;
 mod conflicts;
 mod evidence;
 mod examples;
+mod losses;
 
 pub use crate::evidence::{Effort, Evidence, evidence_for, find_ambiguity};
 pub use lrshown::{
-    Ambiguity, Example, Node, Outlook, Step, Tree, TwoTrees, Visit, body_of, candidates_of,
+    Ambiguity, Example, Loss, Node, Outlook, Step, Tree, TwoTrees, Visit, body_of, candidates_of,
     list_of, name_of_rule, names_of, names_of_tokens, node_name, rule_name, start_of, symbol_name,
     text_of, token_name, tree_words,
 };

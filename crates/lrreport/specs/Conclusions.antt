@@ -7,6 +7,7 @@ use Rattle.lrspec.specs.grammars.Grammar.{Grammar}
 use Rattle.lrspec.specs.merging.Graph.{Graph, IsGraphOf}
 use Rattle.lrspec.specs.tables.LrTables.{HasNoPrecedences}
 use Rattle.lrspec.specs.tables.Recognition.{IsUnambiguous}
+use Rattle.lrspec.specs.tables.Table.{Table, IsTableOf}
 use Rattle.lryacc.specs.declared.faults.Fault.{Fault}
 use Rattle.lryacc.specs.declared.file.FileRead.TheVariants as reading
 use Rattle.lryacc.specs.declared.meaning.Expected.{Expected}
@@ -17,6 +18,7 @@ use Rattle.lrfindings.specs.CellConflicts.{resolved_in}
 use Rattle.lrfindings.specs.FileGrammars.{IsGrammarOfFile}
 use Rattle.lrfindings.specs.Findings.{DecidesNothing}
 use Rattle.lrevidence.specs.Ambiguities.{HasTwoTrees, IsProved, PartsAtEntry}
+use Rattle.lrevidence.specs.Losses.{IsLostAtEntry}
 use Rattle.lrreport.specs.declared.options.Options.{Options}
 use Rattle.lrreport.specs.declared.reports.Conclusion.{Conclusion}
 use Rattle.lrreport.specs.declared.reports.Outcome.{Outcome}
@@ -54,7 +56,8 @@ conclusion_of file o =
 -- are the conflicts that are left open; the verdict is by their number, and by the one that is expected; "unambiguous" is told
 -- only where no sentence has two trees, and "no conflicts" never where none is left open and no token has a precedence; so many
 -- are resolved as precedences decide in the cells; each sentence that is told of an entry has two trees, which part in its state,
--- where its token comes; and a sentence that precedences decide has two trees
+-- where its token comes; each that is told to be rejected is a sentence that the machine of the grammar's table rejects, since
+-- it goes wrong there; and a sentence that precedences decide has two trees
 pub record IsConcluded (left_out : Bool) (c : Conclusion) : Type 0 where
   pub max : ℕ
   pub grammar : Grammar
@@ -70,4 +73,7 @@ pub record IsConcluded (left_out : Bool) (c : Conclusion) : Type 0 where
   pub known : HasNoPrecedences grammar → c.evidence.items ≡ [] → IsTrue shown
   pub texts : All (IsProved grammar) c.evidence.items
   pub parts : All (PartsAtEntry grammar graph) c.evidence.items
+  pub table : Table
+  pub table_of : IsTableOf grammar graph table
+  pub lost : All (IsLostAtEntry grammar table) c.evidence.items
   pub without : IfSome c.decided (HasTwoTrees grammar)

@@ -3,13 +3,14 @@
 ghost use Rattle.std.specs.Prelude.{◌≡◌, All, IfOk, IfSome, is_some};
 ghost use Rattle.std.specs.List.{flat_map, list_any};
 ghost use Rattle.lrevidence.specs.Ambiguities.{HasTwoTrees, IsProved};
+ghost use Rattle.lrevidence.specs.Losses.{IsLoss, IsLostAtEntry};
 ghost use Rattle.lrshown.specs.Ambiguities.{has_sentence};
 
 use crate::levels::Trials;
 use crate::told::Told;
 use crate::words::Words;
 use lrdiagnostics::{Mark, Style};
-use lrevidence::{Ambiguity, Evidence};
+use lrevidence::{Ambiguity, Evidence, Loss};
 use lrfindings::{Entry, Findings};
 use lrgrammar::idx::{IndexStorage, StIdx, TIdx};
 use lrtable::Action;
@@ -256,6 +257,21 @@ impl<T: IndexStorage> Checked<'_, T> {
         None
     }
 
+    /// The sentence that the parser rejects of the first of the entries that has one.
+    pub(crate) fn loss_in<'e>(&self, meeting: &'e [Evidence]) -> Option<&'e Loss>
+        requires lost { All (IsLostAtEntry self.now.found.now.grm self.now.found.now.table)
+            meeting.now }
+        ensures { IfSome result (λ l.
+            IsLoss self.now.found.now.grm self.now.found.now.table l.now) }
+    {
+        for evidence in meeting {
+            if let Some(loss) = &evidence.loss {
+                return Some(&**loss);
+            }
+        }
+        None
+    }
+
     /// A sentence with two trees of one of the entries: one whose trees part by what meets in it, where there is such a one.
     pub(crate) fn sentence_with_trees<'e>(&self, meeting: &'e [Evidence]) -> Option<&'e Ambiguity>
         requires proved { All (IsProved self.now.found.now.grm) meeting.now }
@@ -275,6 +291,8 @@ impl<T: IndexStorage> Checked<'_, T> {
         trials: &Trials<'_, '_, T>,
     ) -> Result<(), AllocError>
         requires proved { All (IsProved self.now.found.now.grm) meeting.now }
+        requires lost { All (IsLostAtEntry self.now.found.now.grm self.now.found.now.table)
+            meeting.now }
     {
         let alloc = text.allocator();
         let entries = entries_of(alloc, meeting)?;
@@ -289,6 +307,8 @@ impl<T: IndexStorage> Checked<'_, T> {
     /// Adds the conflicts: the first ones, so many at the most, and how many there are besides.
     pub(crate) fn push_conflicts(&self, text: &mut Text, most: usize) -> Result<(), AllocError>
         requires proved { All (IsProved self.now.found.now.grm) self.now.told.evidence.now }
+        requires lost { All (IsLostAtEntry self.now.found.now.grm self.now.found.now.table)
+            self.now.told.evidence.now }
     {
         let tells_all = self.told.options.detail.all;
         let meetings = meetings(text.allocator(), self.told.evidence, tells_all)?;

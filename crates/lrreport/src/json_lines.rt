@@ -8,6 +8,7 @@ ghost use Rattle.json.specs.Print.{print};
 ghost use Rattle.lrspec.specs.tables.Recognition.{IsUnambiguous};
 ghost use Rattle.lrverdicts.specs.declared.verdicts.Verdict.TheVariants.{Unambiguous};
 ghost use Rattle.lrevidence.specs.Ambiguities.{HasTwoTrees, IsProved};
+ghost use Rattle.lrevidence.specs.Losses.{IsLostAtEntry};
 ghost use Rattle.lrshown.specs.Ambiguities.{has_sentence};
 ghost use Rattle.lrreport.specs.JsonTexts.{AddsTokens};
 ghost use Rattle.lrreport.specs.JsonHeads.{verdict_word, is_proved, count_tokens, head_tokens, BeginsWith};
@@ -192,6 +193,8 @@ pub(crate) fn json_of_findings<T: IndexStorage>(
     has_grammar: bool,
 ) -> Result<String, AllocError>
     requires proved { All (IsProved checked.now.found.now.grm) checked.now.told.evidence.now }
+    requires lost { All (IsLostAtEntry checked.now.found.now.grm checked.now.found.now.table)
+        checked.now.told.evidence.now }
     requires resolved { All (IsProved checked.now.found.now.grm) checked.now.told.resolved.now }
     requires unambiguous { verdict ≡ Unambiguous → IsUnambiguous checked.now.found.now.grm }
     ensures { IfOk result (λ s. BeginsWith (print (head_tokens checked.now.told.source.now.name.now
@@ -282,6 +285,8 @@ impl<'a, T: IndexStorage> Checked<'a, T> {
     /// Adds what was found.
     fn add_findings(&self, json: &mut JsonText) -> Result<(), AllocError>
         requires proved { All (IsProved self.now.found.now.grm) self.now.told.evidence.now }
+        requires lost { All (IsLostAtEntry self.now.found.now.grm self.now.found.now.table)
+            self.now.told.evidence.now }
         requires resolved { All (IsProved self.now.found.now.grm) self.now.told.resolved.now }
     {
         let alternatives = alternatives(json.allocator(), self.told.file)?;
@@ -338,6 +343,8 @@ impl<'a, T: IndexStorage> Checked<'a, T> {
         alternatives: &[usize],
     ) -> Result<(), AllocError>
         requires proved { All (IsProved self.now.found.now.grm) meeting.now }
+        requires lost { All (IsLostAtEntry self.now.found.now.grm self.now.found.now.table)
+            meeting.now }
     {
         let Some(first) = meeting.first() else {
             return Ok(());
@@ -354,6 +361,8 @@ impl<'a, T: IndexStorage> Checked<'a, T> {
         self.told.add_example(json, first);
         json.key("searched");
         json.boolean(self.told.options.steps > 0 && cut_off(meeting) == 0);
+        json.key("lost");
+        self.add_loss(json, self.loss_in(meeting));
         json.end_object();
         Ok(())
     }
@@ -377,6 +386,8 @@ impl<'a, T: IndexStorage> Checked<'a, T> {
     /// Adds the conflicts, in the order of the file: each entry by itself where all are told.
     fn add_conflicts(&self, json: &mut JsonText, alternatives: &[usize]) -> Result<(), AllocError>
         requires proved { All (IsProved self.now.found.now.grm) self.now.told.evidence.now }
+        requires lost { All (IsLostAtEntry self.now.found.now.grm self.now.found.now.table)
+            self.now.told.evidence.now }
     {
         json.begin_array();
         for meeting in &self.alike(json.allocator())? {

@@ -2,6 +2,7 @@
 
 ghost use Rattle.std.specs.Prelude.{IfSome};
 ghost use Rattle.lrevidence.specs.Ambiguities.{HasTwoTrees};
+ghost use Rattle.lrevidence.specs.Losses.{IsLoss};
 
 use crate::conflicts::Checked;
 use crate::json_parts::{add_symbols, add_tokens};
@@ -9,7 +10,7 @@ use crate::json_texts::JsonText;
 use crate::texts::leaves;
 use crate::told::Told;
 use crate::trees::add_tree;
-use lrevidence::{Ambiguity, Evidence, Outlook, Step, Tree, TwoTrees, list_of, text_of};
+use lrevidence::{Ambiguity, Evidence, Loss, Outlook, Step, Tree, TwoTrees, list_of, text_of};
 use lrfindings::Entry;
 use lrgrammar::idx::IndexStorage;
 use std::alloc::AllocError;
@@ -125,6 +126,25 @@ impl Told<'_> {
 }
 
 impl<T: IndexStorage> Checked<'_, T> {
+    /// Adds a sentence that the parser rejects: its tokens, and how many of them stand before the conflict's, and before the one
+    /// at which it stops. Null where there is none.
+    pub(crate) fn add_loss(&self, json: &mut JsonText, loss: Option<&Loss>)
+        requires proved { IfSome loss (λ l.
+            IsLoss self.now.found.now.grm self.now.found.now.table l.now) }
+    {
+        let Some(loss) = loss else {
+            return json.null();
+        };
+        json.begin_object();
+        json.key("text");
+        self.told.add_text(json, Some(&loss.tokens));
+        json.key("dot");
+        json.number(loss.shown_dot(self.told.file));
+        json.key("stop");
+        json.number(loss.shown_stop(self.told.file));
+        json.end_object();
+    }
+
     /// Adds a sentence with two trees at an entry: the rule whose two ways they are, the text, whether the trees part by what meets in
     /// the entry, how many tokens the text has, and, where it is too long to be told, its form. Null where there is none.
     pub(crate) fn add_ambiguity(

@@ -2,20 +2,21 @@
 
 ghost use Rattle.std.specs.Prelude.{All, IfSome, IsSome, IsTrue};
 ghost use Rattle.lrevidence.specs.Ambiguities.{HasTwoTrees, IsProved};
+ghost use Rattle.lrevidence.specs.Losses.{IsLoss, IsLostAtEntry};
 
 use crate::conflicts::Checked;
 use crate::drawings::push_drawing;
 use crate::levels::Trials;
 use crate::texts::{
-    Label, add_list, add_names, add_shortened, add_start, add_text, add_tree_words, add_two_trees,
-    labels,
+    Label, add_list, add_loss, add_names, add_shortened, add_start, add_text, add_tree_words,
+    add_two_trees, labels,
 };
 use crate::told::Told;
 use crate::verdicts::own_sentences;
 use crate::words::Words;
 use lrdiagnostics::{Layout, Mark};
 use lrevidence::{
-    Ambiguity, Evidence, Example, Outlook, Step, Tree, TwoTrees, candidates_of, list_of,
+    Ambiguity, Evidence, Example, Loss, Outlook, Step, Tree, TwoTrees, candidates_of, list_of,
     names_of_tokens, start_of, text_of,
 };
 use lrfindings::Entry;
@@ -274,6 +275,30 @@ impl<T: IndexStorage> Checked<'_, T> {
         self.told.push_trees(text, notes, &ambiguity.form)
     }
 
+    /// Adds a sentence that the parser rejects, and where.
+    fn push_loss(
+        &self,
+        text: &mut Text,
+        notes: Notes,
+        loss: Option<&Loss>,
+    ) -> Result<(), AllocError>
+        requires proved { IfSome loss (λ l.
+            IsLoss self.now.found.now.grm self.now.found.now.table l.now) }
+    {
+        let Some(loss) = loss else {
+            return Ok(());
+        };
+        let mut why = Words::new(text.allocator());
+        why.add_all("the parser rejects this sentence of the grammar");
+        add_start(&mut why, self.told.file, loss.start(self.told.file));
+        why.add_all("(proved),");
+        let mut words = Words::new(text.allocator());
+        add_loss(&mut why, &mut words, self.told.file, loss)?;
+        notes.push(text, &why);
+        notes.push_shown(text, &words);
+        Ok(())
+    }
+
     /// Adds the text that shows the same at another token.
     fn push_also(
         &self,
@@ -341,6 +366,8 @@ impl<T: IndexStorage> Checked<'_, T> {
         meeting: &[Evidence],
     ) -> Result<(), AllocError>
         requires proved { All (IsProved self.now.found.now.grm) meeting.now }
+        requires lost { All (IsLostAtEntry self.now.found.now.grm self.now.found.now.table)
+            meeting.now }
     {
         let Some(first) = meeting.first() else {
             return Ok(());
@@ -352,10 +379,11 @@ impl<T: IndexStorage> Checked<'_, T> {
         if let Some(ambiguity) = self.sentence_with_trees(meeting) {
             return self.push_ambiguity(text, notes, &first.entry, ambiguity);
         }
-        match &first.example {
-            Some(example) => self.told.push_example(text, notes, first, example),
-            None => Ok(()),
-        }
+        let Some(example) = &first.example else {
+            return Ok(());
+        };
+        self.told.push_example(text, notes, first, example)?;
+        self.push_loss(text, notes, self.loss_in(meeting))
     }
 
     /// Adds what is known of entries at which the same meets, and how they can be resolved, as notes under such marks.
@@ -367,6 +395,8 @@ impl<T: IndexStorage> Checked<'_, T> {
         trials: &Trials<'_, '_, T>,
     ) -> Result<(), AllocError>
         requires proved { All (IsProved self.now.found.now.grm) meeting.now }
+        requires lost { All (IsLostAtEntry self.now.found.now.grm self.now.found.now.table)
+            meeting.now }
     {
         let mut lines = Text::new(text.allocator());
         let notes = self.told.notes(marks);

@@ -6,6 +6,7 @@ ghost use Rattle.std.specs.String.{string_bytes};
 ghost use Rattle.lrspec.specs.merging.Graph.{IsGraphOf};
 ghost use Rattle.lrspec.specs.tables.Conflicts.{AreReductionsContested};
 ghost use Rattle.lrspec.specs.tables.Recognition.{IsUnambiguous};
+ghost use Rattle.lrspec.specs.tables.Table.{IsTableFor};
 ghost use Rattle.lrverdicts.specs.declared.verdicts.Verdict.TheVariants.{Unambiguous};
 ghost use Rattle.lrfindings.specs.Findings.{AreFindings, FindNothing, DecidesNothing};
 ghost use Rattle.lrverdicts.specs.Verdicts.{counts_of, status_of};
@@ -14,6 +15,7 @@ ghost use Rattle.lrdiagnostics.specs.ShownTexts.{shown_text};
 ghost use Rattle.lrshown.specs.VerdictWords.{verdict_words};
 ghost use Rattle.lrevidence.specs.Ambiguities.{HasTwoTrees, IsProved, PartsAtEntry};
 ghost use Rattle.lrevidence.specs.Entries.{AreListedIn};
+ghost use Rattle.lrevidence.specs.Losses.{IsLostAtEntry};
 ghost use Rattle.lrreport.specs.declared.options.Output.TheVariants.{Grammar, Summary};
 ghost use Rattle.json.specs.Print.{print};
 ghost use Rattle.lrshown.specs.Ambiguities.{has_sentence};
@@ -214,11 +216,14 @@ fn known_of(
     requires listed { IfSome found.now.graph (λ h.
         AreListedIn found.now.grm h found.now.conflicts.items) }
     requires contested { IfSome found.now.graph (AreReductionsContested found.now.grm) }
+    requires table { IsTableFor found.now.grm found.now.table }
     ensures left { IfOk result (λ k. map (λ e. e.entry) k.evidence.items ≡ found.now.left.items) }
     ensures counts { IfOk result (λ k. k.left ≡ counts_of (map (λ e. e.entry) k.evidence.items)) }
     ensures proved { IfOk result (λ k. All (IsProved found.now.grm) k.evidence.items) }
     ensures parts { IfOk result (λ k. MatchOption found.now.graph (k.evidence.items ≡ [])
         (λ h. All (PartsAtEntry found.now.grm h) k.evidence.items)) }
+    ensures lost { IfOk result (λ k.
+        All (IsLostAtEntry found.now.grm found.now.table) k.evidence.items) }
     ensures resolved { IfOk result (λ k. All (IsProved found.now.grm) k.resolved.items) }
     ensures decided { IfOk result (λ k. IfSome k.decided (HasTwoTrees found.now.grm)) }
 {
@@ -286,6 +291,8 @@ impl<T: IndexStorage> Checked<'_, T> {
     /// Adds all that stands before the last line.
     fn push_details(&self, text: &mut Text, warnings: &[Fault]) -> Result<(), AllocError>
         requires proved { All (IsProved self.now.found.now.grm) self.now.told.evidence.now }
+        requires lost { All (IsLostAtEntry self.now.found.now.grm self.now.found.now.table)
+            self.now.told.evidence.now }
         requires resolved { All (IsProved self.now.found.now.grm) self.now.told.resolved.now }
     {
         let options = self.told.options;
@@ -342,6 +349,8 @@ fn lines<T: IndexStorage>(
     line: &str,
 ) -> Result<String, AllocError>
     requires proved { All (IsProved checked.now.found.now.grm) checked.now.told.evidence.now }
+    requires lost { All (IsLostAtEntry checked.now.found.now.grm checked.now.found.now.table)
+        checked.now.told.evidence.now }
     requires resolved { All (IsProved checked.now.found.now.grm) checked.now.told.resolved.now }
     ensures { checked.now.told.options.lines.columns ≡ None → IfOk result (λ s.
         EndsIn (shown_text line.now ++ codes "\n") (string_bytes s)) }
@@ -362,6 +371,7 @@ fn text_on_findings<T: IndexStorage>(
     options: Options,
 ) -> Result<String, AllocError>
     requires proved { All (IsProved found.now.grm) known.now.evidence.items }
+    requires lost { All (IsLostAtEntry found.now.grm found.now.table) known.now.evidence.items }
     requires resolved { All (IsProved found.now.grm) known.now.resolved.items }
     requires decided { IfSome known.now.decided (HasTwoTrees found.now.grm) }
     requires unambiguous { verdict ≡ Unambiguous → IsUnambiguous found.now.grm }

@@ -2,8 +2,8 @@
 
 use crate::words::Words;
 use lrevidence::{
-    Ambiguity, Node, Step, Tree, name_of_rule, names_of, names_of_tokens, symbol_name, text_of,
-    token_name, tree_words,
+    Ambiguity, Loss, Node, Step, Tree, name_of_rule, names_of, names_of_tokens, symbol_name,
+    text_of, token_name, tree_words,
 };
 use lrgrammar::grammar::PartSymbol;
 use lrwriter::Text;
@@ -82,6 +82,29 @@ pub(crate) fn add_text(
     let tokens = text_of(file, ambiguity.tokens.as_slice());
     let names = names_of_tokens(words.allocator(), file, tokens)?;
     add_with_dot(words, names.as_slice(), ambiguity.dot(file));
+    Ok(())
+}
+
+/// Adds the words of a sentence that the parser rejects, with a dot where it goes wrong, and to other words where it stops.
+pub(crate) fn add_loss(
+    at: &mut Words,
+    words: &mut Words,
+    file: &FileGrammar,
+    loss: &Loss,
+) -> Result<(), AllocError> {
+    let tokens = text_of(file, loss.tokens.as_slice());
+    let names = names_of_tokens(words.allocator(), file, tokens)?;
+    let stop = loss.shown_stop(file);
+    match names.get(stop) {
+        Some(name) => {
+            at.add_all("at token");
+            at.begin();
+            write!(at, "{},", stop.saturating_add(1));
+            at.add(name);
+        }
+        None => at.add_all("at its end"),
+    }
+    add_with_dot(words, names.as_slice(), loss.shown_dot(file));
     Ok(())
 }
 

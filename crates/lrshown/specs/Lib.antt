@@ -1,5 +1,5 @@
 -- steps of trees, the trees that they put together, as they are and as they are stored, these in brackets, what is shown of
--- texts, sentences with two trees, and the words of verdicts
+-- texts, sentences with two trees, those that are rejected, and the words of verdicts
 pub mod Steps
 pub mod DrawnTrees
 pub mod StoredTrees
@@ -7,4 +7,5 @@ pub mod BracketTexts
 pub mod BracketSteps
 pub mod ShownTexts
 pub mod Ambiguities
+pub mod Losses
 pub mod VerdictWords

@@ -4,6 +4,7 @@ ghost use Rattle.std.specs.Prelude.{◌≡◌, IsTrue, IsSome};
 ghost use Rattle.lrshown.specs.Ambiguities.{has_own_sentence};
 
 use crate::ambiguities::Ambiguity;
+use crate::losses::Loss;
 use lrgrammar::grammar::PartSymbol;
 use lrverdicts::Entry;
 
@@ -41,6 +42,8 @@ pub struct Evidence {
     pub ambiguity: Option<Box<Ambiguity>>,
     /// Where none is, after what it is real, where that is looked for; None for an entry that the table doesn't list.
     pub example: Option<Box<Example>>,
+    /// With that, a sentence that the parser rejects because of the entry, where the example gives one.
+    pub loss: Option<Box<Loss>>,
     /// Whether the work that searches of the file may do was done before the search for a text was through, if one is made.
     pub is_cut_off: bool,
 }

@@ -65,7 +65,7 @@ impl TwoTrees {
 }
 
 /// The step that a move is.
-fn step_of<T: IndexStorage>(action: Move<T>) -> Step
+pub fn step_of<T: IndexStorage>(action: Move<T>) -> Step
     ensures { move_by result ≡ move_of T.number action }
 {
     match action {

@@ -2,7 +2,7 @@ use Rattle.lrevidence.proofs.evidence.evidence_for.Goals as goal
 
 pub push_evidence-requires-clause-listed : goal.push_evidence-requires-clause-listed
 push_evidence-requires-clause-listed c =
-    rw (c.in_ok-reasons.ensures.grammar, c.in_ok-reasons.ensures.graph, c.as_slice-listed.ensures.value) (rw c.in-Some-false.is-0 at c.requires.listed)
+    rw (c.in_ok-reasons.ensures.grammar, c.in_ok-reasons.ensures.graph) (rw c.in-Some-false.is-0 at c.requires.listed)
 
 pub push_evidence-requires-clause-contested : goal.push_evidence-requires-clause-contested
 push_evidence-requires-clause-contested c = rw (c.in_ok-reasons.ensures.grammar, c.in_ok-reasons.ensures.graph) (rw c.in-Some-false.is-0 at c.requires.contested)

@@ -1,6 +1,7 @@
 use Rattle.std.proofs.Common.{map}
 use Rattle.lrreasons.proofs.ReasonsInTurn.{all_more}
 use Rattle.lrevidence.specs.Ambiguities.{IsProved, PartsAtEntry}
+use Rattle.lrevidence.specs.Losses.{IsLostAtEntry}
 use Rattle.lrevidence.proofs.EvidenceInTurn.{one_more}
 use Rattle.lrevidence.proofs.evidence.push_evidence.Goals as goal
 
@@ -13,4 +14,5 @@ loop-entry-preserved c =
           c.loop-entry-test.true c.loop-entry.invariant.0 c.in_ok-push.ensures.items c.in_ok-evidence_of.ensures.entry,
       all_more (IsProved c.args.reasons.now.grammar) old new known c.loop-entry.invariant.1 c.in_ok-push.ensures.items c.in_ok-evidence_of.ensures.proved,
       all_more (PartsAtEntry c.args.reasons.now.grammar c.args.reasons.now.graph) old new known c.loop-entry.invariant.2 c.in_ok-push.ensures.items c.in_ok-evidence_of.ensures.parts,
+      all_more (IsLostAtEntry c.args.found.now.grm c.args.found.now.table) old new known c.loop-entry.invariant.3 c.in_ok-push.ensures.items c.in_ok-evidence_of.ensures.lost,
     )

@@ -35,6 +35,13 @@ known_of-requires-clause-contested c =
     let found = c.args.found in
     of_kept c.requires.found.graph (AreReductionsContested found.grm) found.graph c.requires.found.kept c.requires.found.contested
 
+pub known_of-requires-clause-table : goal.known_of-requires-clause-table
+known_of-requires-clause-table c = record {
+  graph = c.requires.found.graph;
+  graph_of = c.requires.found.of_grammar;
+  table_of = c.requires.found.table;
+}
+
 -- a verdict that says so is of a grammar that is shown to be unambiguous
 shown : (b : Bool) (left : Counts) (e : Expected) (v : Verdict) → IsVerdict b left e v → v ≡ Unambiguous → IsTrue b
 shown b left e v is told = (subst (λ v. IsVerdict b left e v) told is).0
@@ -62,6 +69,9 @@ returns-clause-proved c = record {
   texts = c.in_ok-known.ensures.proved;
   parts = each_of_kept c.requires.found.graph (PartsAtEntry c.args.found.grm) c.in_ok-known.known.evidence.items c.args.found.graph
       c.requires.found.kept c.in_ok-known.ensures.parts;
+  table = c.args.found.table;
+  table_of = c.requires.found.table;
+  lost = c.in_ok-known.ensures.lost;
   without = c.in_ok-known.ensures.decided;
 }
 

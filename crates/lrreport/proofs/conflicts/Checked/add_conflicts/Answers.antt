@@ -1,4 +1,5 @@
 use Rattle.lrevidence.specs.Ambiguities.{IsProved}
+use Rattle.lrevidence.specs.Losses.{IsLostAtEntry}
 use Rattle.lrreport.proofs.Groups.{in_group}
 use Rattle.lrreport.proofs.conflicts.Checked.add_conflicts.Goals as goal
 
@@ -8,5 +9,8 @@ add_conflict-requires g c =
     record {
       proved = in_group (IsProved checked.found.now.grm) (λ group. group.now) c.deref-meeting-items.result.now checked.told.evidence.now
           (rw c.deref-meeting-items.ensures.value c.in_ok-alike.ensures) c.requires.proved
+          c.loop-meeting.meeting-index c.meeting-item.result c.loop-meeting-test.true c.meeting-item.is;
+      lost = in_group (IsLostAtEntry checked.found.now.grm checked.found.now.table) (λ group. group.now) c.deref-meeting-items.result.now
+          checked.told.evidence.now (rw c.deref-meeting-items.ensures.value c.in_ok-alike.ensures) c.requires.lost
           c.loop-meeting.meeting-index c.meeting-item.result c.loop-meeting-test.true c.meeting-item.is;
     }

@@ -1,4 +1,5 @@
 use Rattle.lrevidence.specs.Ambiguities.{IsProved}
+use Rattle.lrevidence.specs.Losses.{IsLostAtEntry}
 use Rattle.lrreport.proofs.Groups.{in_group}
 use Rattle.lrreport.proofs.conflicts.Checked.push_conflicts.Goals as goal
 
@@ -8,5 +9,8 @@ push_meeting-requires g c =
     record {
       proved = in_group (IsProved checked.found.now.grm) (λ meeting. meeting.now) c.deref-meeting-items.result.now checked.told.evidence.now
           (rw c.deref-meeting-items.ensures.value c.in_ok-meetings.ensures) c.requires.proved
+          c.loop-place.place c.meeting-item.result c.loop-place-test.true c.meeting-item.is;
+      lost = in_group (IsLostAtEntry checked.found.now.grm checked.found.now.table) (λ meeting. meeting.now) c.deref-meeting-items.result.now
+          checked.told.evidence.now (rw c.deref-meeting-items.ensures.value c.in_ok-meetings.ensures) c.requires.lost
           c.loop-place.place c.meeting-item.result c.loop-place-test.true c.meeting-item.is;
     }

@@ -1,0 +1,23 @@
+use Rattle.std.proofs.Common.{refl}
+use Rattle.lrtree.specs.StoredTrees.{tree_of}
+use Rattle.lrlosses.specs.StoredLosses.{place_of}
+use Rattle.lrreasons.specs.Numbers.{number_of}
+use Rattle.lrevidence.proofs.losses.loss_by.Goals as goal
+
+pub returns : goal.returns
+returns c =
+    let known = c.in_ok-loss.ensures in
+    let loss = c.in-Some.loss in
+    record {
+      lost = rw c.in_ok-numbers_of.ensures ((rw c.in-Some.is at known.lost) refl);
+      tree = tree_of number_of loss.tree;
+      of_text = rw c.in_ok-numbers_of.ensures (rw c.in-Some.is at known.sentence);
+      parting = place_of number_of loss.parting;
+      parts = rw (c.in_ok-numbers_of.ensures, c.step_of.ensures) (rw c.in-Some.is at known.parts);
+      state = c.is_at.ensures.state c.if-not-is_at.false;
+      token = c.is_at.ensures.token c.if-not-is_at.false;
+      dot = refl;
+      rejected = place_of number_of loss.rejected;
+      stops = rw c.in_ok-numbers_of.ensures (rw c.in-Some.is at known.stops);
+      stop = refl;
+    }

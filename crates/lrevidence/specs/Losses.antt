@@ -1,0 +1,2 @@
+-- sentences that the parser rejects
+pub use Rattle.lrshown.specs.Losses.{IsLostAt, IsLoss, IsLostAtEntry}
