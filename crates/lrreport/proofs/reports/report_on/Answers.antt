@@ -1,3 +1,5 @@
+use Rattle.std.proofs.Common.{rules, Result, Ok, Err, IfOk}
+use Rattle.lrreport.specs.declared.reports.Report.{Report}
 use Rattle.lrreport.proofs.reports.report_on.Goals as goal
 
 pub returns-in-Ok-clause-told : goal.returns-in-Ok-clause-told
@@ -12,3 +14,11 @@ returns-in-Ok-clause-said c =
       read = rw c.in-Grammar.is at c.in_ok-file.ensures.bodies;
       beside = c.in-Ok.ensures.expected;
     }
+
+-- what is asked of other options only
+of_others : {E P : Type 0} (Q : Report → Type 0) (r : Result Report E) → ¬ P → IfOk r (λ x. P → Q x)
+of_others Q (Ok x) not_so = λ p. absurd (not_so p)
+of_others Q (Err e) not_so = tt
+
+pub returns-then-eq-clause-unread : goal.returns-then-eq-clause-unread
+returns-then-eq-clause-unread c = of_others _ c.report_of_grammar.result (λ other. other (search rules))
