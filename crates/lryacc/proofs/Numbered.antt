@@ -130,15 +130,12 @@ token-more a rules tokens precedences starts symbol number token keeps levels (i
   text = h.text;
   here = keeps token h.text h.here;
   is = h.is;
-  precedence = record {
-    precedence = h.precedence.precedence;
-    here = levels token h.precedence.precedence h.precedence.here;
-    is = h.precedence.is;
-  };
+  precedence = levels token _ h.precedence;
 }
 token-more a rules tokens precedences starts symbol number token keeps levels (inr h) = inr record {
   end = h.end;
   is = keeps token (codes "$end") h.is;
+  precedence = levels token _ h.precedence;
 }
 
 pub action-more : (a : Names) (rules tokens : List (List ℕ)) (precedences : List (Option Precedence)) (starts : List ℕ) (symbol : ℕ → Option PartSymbol) (start rule : ℕ) → Keeps a.rules rules → Keeps a.starts starts → IsActionRule a start rule → IsActionRule (with_more a rules tokens precedences starts symbol) start rule
@@ -250,12 +247,13 @@ one-each r t rules tokens = λ n m symbol e d. one-by r t n m symbol (r n) (r m)
 
 -- ---- token 0
 
-pub end-more : (a : Names) (rules tokens : List (List ℕ)) (precedences : List (Option Precedence)) (starts : List ℕ) (symbol : ℕ → Option PartSymbol) (t : ℕ → Option ℕ) → Keeps a.tokens tokens → IsEndFirst a t → IsEndFirst (with_more a rules tokens precedences starts symbol) t
-end-more a rules tokens precedences starts symbol t keeps h = record {
+pub end-more : (a : Names) (rules tokens : List (List ℕ)) (precedences : List (Option Precedence)) (starts : List ℕ) (symbol : ℕ → Option PartSymbol) (t : ℕ → Option ℕ) → Keeps a.tokens tokens → Keeps a.precedences precedences → IsEndFirst a t → IsEndFirst (with_more a rules tokens precedences starts symbol) t
+end-more a rules tokens precedences starts symbol t keeps levels h = record {
   some = (h.some.0, keeps 0 h.some.0 h.some.1);
   no_other = h.no_other;
   given = h.given;
   unnamed = λ none. keeps 0 (codes "$end") (h.unnamed none);
+  no_level = λ none. levels 0 None (h.no_level none);
 }
 
 -- it has nothing
@@ -281,6 +279,7 @@ end-put a symbol t t' number token puts none behind h = record {
       (λ q v d same. h.no_other q (d ∙ ap Some same)) n 0 e refl;
   given = λ n e. stays t t' number token n 0 (is_at (nat_cmp number) n) none refl (puts n) (h.given n e);
   unnamed = h.unnamed;
+  no_level = h.no_level;
 }
 
 -- what the end of a file has
@@ -302,6 +301,7 @@ has-end_token a r t s is h first = record {
       same_Some token 0 (sym one ∙ first.given n end);
   named = λ n end. h.of_tokens n 0 (first.given n end);
   unnamed = first.unnamed;
+  no_level = first.no_level;
 }
 
 -- the first token is that of the end of the file
@@ -311,15 +311,17 @@ end-given a r t s number end is h = record {
   no_other = λ n e. end ∙ ap Some (h.tokens_apart number n 0 is e);
   given = λ n e. ap t (same_Some n number (sym e ∙ end)) ∙ is;
   unnamed = λ none. let no : None ≡ Some number = sym none ∙ end in absurd (cc);
+  no_level = λ none. let no : None ≡ Some number = sym none ∙ end in absurd (cc);
 }
 
 -- or it has no symbol
-pub end-unnamed : (a : Names) (t : ℕ → Option ℕ) → a.end ≡ None → slice_get a.tokens 0 ≡ Some (codes "$end") → AreBefore t 0 → IsEndFirst a t
-end-unnamed a t none named before = record {
+pub end-unnamed : (a : Names) (t : ℕ → Option ℕ) → a.end ≡ None → slice_get a.tokens 0 ≡ Some (codes "$end") → slice_get a.precedences 0 ≡ Some None → AreBefore t 0 → IsEndFirst a t
+end-unnamed a t none named level before = record {
   some = (codes "$end", named);
   no_other = λ n e. let less : 0 < 0 = before n 0 e in absurd (omega arith);
   given = λ n e. let no : None ≡ Some n = sym none ∙ e in absurd (cc);
   unnamed = λ _. named;
+  no_level = λ _. level;
 }
 
 -- a list that has a first element is not empty
@@ -414,13 +416,14 @@ gives-next old now new number token added same last is gives = record {
 }
 
 -- the first token is the one that is called `$end`, where the file has no end token
-pub end-first-unnamed : (old new : Numbering) (number : ℕ) (name : List ℕ) → AddsNumbers old new → old.grammar.parts.tokens.items ≡ [] → old.meaning.now.end ≡ None → new.tokens ≡ old.tokens → number ≡ length (names_of old).tokens → slice_get (names_of new).tokens number ≡ Some name → name ≡ codes "$end" → IsNumbered old → BeginsWithEnd new
-end-first-unnamed old new number name added empty none same last here is h =
+pub end-first-unnamed : (old new : Numbering) (number : ℕ) (name : List ℕ) → AddsNumbers old new → old.grammar.parts.tokens.items ≡ [] → old.meaning.now.end ≡ None → new.tokens ≡ old.tokens → number ≡ length (names_of old).tokens → slice_get (names_of new).tokens number ≡ Some name → name ≡ codes "$end" → slice_get (names_of new).precedences number ≡ Some None → IsNumbered old → BeginsWithEnd new
+end-first-unnamed old new number name added empty none same last here is level h =
     let first : number ≡ 0 = last ∙ ap (λ (tokens : List PartToken). length (map (λ (token : PartToken). string_bytes token.name) tokens)) empty in
     let before : AreBefore (get nat_cmp old.tokens) number = tokens-before (names_of old) (get nat_cmp old.rules) (get nat_cmp old.tokens) (get nat_cmp old.actions) number last h in
     end-unnamed (names_of new) (get nat_cmp new.tokens)
     (ap (λ (m : Meaning). option_map (first_name m.symbols) m.end) added.meaning ∙ ap (option_map (first_name old.meaning.now.symbols)) none)
     (ap (slice_get (names_of new).tokens) (sym first) ∙ here ∙ ap Some is)
+    (ap (slice_get (names_of new).precedences) (sym first) ∙ level)
     (subst (λ (m : BTreeMap ℕ ℕ). AreBefore (get nat_cmp m) 0) (sym same) (subst (AreBefore (get nat_cmp old.tokens)) first before))
 
 -- or that of the end of the file

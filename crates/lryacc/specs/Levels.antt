@@ -1,5 +1,5 @@
 -- the precedence lines of a file, and the precedences of its tokens
-use Rattle.std.specs.Prelude.{◌≡◌, ℕ, ◌-◌, ◌*◌, Bool, List, [], ◌∷◌, ◌++◌, Option, IfSome, None, Some, length, slice_get}
+use Rattle.std.specs.Prelude.{◌≡◌, ℕ, zero, suc, ◌*◌, Bool, List, [], ◌∷◌, ◌++◌, Option, None, Some, length, slice_get}
 use Rattle.std.specs.BTreeMap.{get}
 use Rattle.std.specs.Option.{option_map, option_and_then, option_or}
 use Rattle.std.specs.Ordering.{nat_cmp}
@@ -54,12 +54,16 @@ group_of line.Right = group.Right
 group_of line.Nonassoc = group.Nonassoc
 group_of line.Precedence = group.Nonassoc
 
--- the precedence of the tokens of a line: levels are twice as many as lines, so that there is one below each
-pub record IsOfLine (lines : List LevelKind) (number : ℕ) (precedence : Precedence) : Type 0 where
-  pub level : precedence.level ≡ number * 2
-  pub group : option_map group_of (slice_get lines (number - 1)) ≡ Some precedence.kind
+-- the kind of the line of a number, counted from 1
+abbrev pub kind_of_line : List LevelKind → ℕ → Option LevelKind
+kind_of_line lines zero = None
+kind_of_line lines (suc before) = slice_get lines before
 
--- the precedence of the tokens of a line, if it has one; tokens of no line have none
-abbrev pub IsOfLines : List LevelKind → Option ℕ → Option Precedence → Type 0
-IsOfLines lines None precedence = precedence ≡ None
-IsOfLines lines (Some line) precedence = IfSome precedence (IsOfLine lines line)
+-- the precedence of the tokens of a line: levels are twice as many as lines, so that there is one below each
+abbrev pub precedence_in : ℕ → LevelKind → Precedence
+precedence_in line kind = record { level = line * 2; kind = group_of kind }
+
+-- the precedence of tokens that stand in a line; those of no line have none
+abbrev pub precedence_of : List LevelKind → Option ℕ → Option Precedence
+precedence_of lines None = None
+precedence_of lines (Some line) = option_map (precedence_in line) (kind_of_line lines line)

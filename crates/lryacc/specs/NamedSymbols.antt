@@ -24,7 +24,7 @@ use Rattle.lryacc.specs.declared.meaning.Meaning.{Meaning}
 use Rattle.lryacc.specs.declared.numbering.FileGrammar.{FileGrammar}
 use Rattle.lryacc.specs.declared.places.Span.{Span}
 use Rattle.lryacc.specs.declared.symbols.Symbols.{Symbols}
-use Rattle.lryacc.specs.Levels.{IsOfLines, line_of}
+use Rattle.lryacc.specs.Levels.{line_of, precedence_of}
 use Rattle.lryacc.specs.Quotes.{IsLetterFor}
 
 -- the bytes at a place, if it is one of the text
@@ -320,10 +320,9 @@ IsTokenText dialect (kind.Character byte) name text = IsCharacterText byte text
 IsTokenText dialect _ name text = IsNameOfToken dialect name text
 
 -- a token has the precedence of the line in which a symbol stands
-pub record HasPrecedenceOf (names : Names) (number token : ℕ) : Type 0 where
-  pub precedence : Option Precedence
-  pub here : slice_get names.precedences token ≡ Some precedence
-  pub is : IsOfLines names.lines (names.line number) precedence
+abbrev pub HasPrecedenceOf : Names → ℕ → ℕ → Type 0
+HasPrecedenceOf names number token =
+    slice_get names.precedences token ≡ Some (precedence_of names.lines (names.line number))
 
 -- a token stands in a grammar by a name of a symbol, with its precedence
 pub record IsTokenNamed (names : Names) (number token : ℕ) : Type 0 where
@@ -338,6 +337,7 @@ pub record IsTokenNamed (names : Names) (number token : ℕ) : Type 0 where
 pub record IsEndToken (names : Names) (number token : ℕ) : Type 0 where
   pub end : names.end ≡ Some number
   pub is : slice_get names.tokens token ≡ Some (codes "$end")
+  pub precedence : HasPrecedenceOf names number token
 
 -- a token is that of a symbol
 abbrev pub IsTokenOf : Names → ℕ → ℕ → Type 0
@@ -367,11 +367,12 @@ pub record IsNamed (names : Names) (lexeme : Lexeme) (symbol : PartSymbol) : Typ
   pub is_it : names.symbol number ≡ Some symbol
   pub is : IsSymbolOf names number symbol
 
--- token 0 of a grammar is the end token: no other symbol is it, and it stands there by a name of the end, or is called `$end` where
--- a file has none
+-- token 0 of a grammar is the end token: no other symbol is it, and it stands there by a name of the end, or is called `$end`, and
+-- has no precedence, where a file has none
 pub record HasEndToken (names : Names) : Type 0 where
   pub no_other : (number : ℕ) → names.symbol number ≡ Some (Token 0) → names.end ≡ Some number
   pub is_first : (number token : ℕ) → names.end ≡ Some number
       → names.symbol number ≡ Some (Token token) → token ≡ 0
   pub named : (number : ℕ) → names.end ≡ Some number → IsTokenOf names number 0
   pub unnamed : names.end ≡ None → slice_get names.tokens 0 ≡ Some (codes "$end")
+  pub no_level : names.end ≡ None → slice_get names.precedences 0 ≡ Some None

@@ -68,12 +68,13 @@ IsLevelled numbering =
     AreLevelled (names_of numbering).precedences (get nat_cmp numbering.below)
     numbering.without_level
 
--- the end of a file has token 0, and no other number has it; where there is none, that is called `$end`
+-- the end of a file has token 0, and no other number has it; where there is none, that is called `$end`, and has no precedence
 pub record IsEndFirst (names : Names) (tokens : ℕ → Option ℕ) : Type 0 where
   pub some : (text : List ℕ) × (slice_get names.tokens 0 ≡ Some text)
   pub no_other : (number : ℕ) → tokens number ≡ Some 0 → names.end ≡ Some number
   pub given : (number : ℕ) → names.end ≡ Some number → tokens number ≡ Some 0
   pub unnamed : names.end ≡ None → slice_get names.tokens 0 ≡ Some (codes "$end")
+  pub no_level : names.end ≡ None → slice_get names.precedences 0 ≡ Some None
 
 -- the same of a numbering
 abbrev pub BeginsWithEnd : Numbering → Type 0

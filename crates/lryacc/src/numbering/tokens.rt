@@ -1,10 +1,10 @@
 //! The tokens of the grammar of a file, and their precedences.
 
-ghost use Rattle.std.specs.Prelude.{◌≡◌, ◌+◌, ◌-◌, ◌*◌, true, [], ◌∷◌, ◌++◌, Some, length, slice_get, string_bytes};
+ghost use Rattle.std.specs.Prelude.{◌≡◌, ◌<◌, ◌+◌, ◌*◌, ◌^◌, true, [], ◌∷◌, ◌++◌, Some, length, slice_get, string_bytes};
 ghost use Rattle.std.specs.Prelude.{IfOk, OnOk, IfSome, None};
 ghost use Rattle.std.specs.BTreeMap.{get};
 ghost use Rattle.std.specs.Ordering.{nat_cmp};
-ghost use Rattle.lryacc.specs.Levels.{IsOfLines, group_of, line_of};
+ghost use Rattle.lryacc.specs.Levels.{group_of, kind_of_line, line_of, precedence_of};
 ghost use Rattle.lryacc.specs.ProductionPlaces.{Adds};
 ghost use Rattle.lryacc.specs.NamedSymbols.{IsTokenText, name_of};
 ghost use Rattle.lryacc.specs.Numbered.{AddsNumbers, BeginsWithEnd, GivesToken, IsNumbered, names_of};
@@ -57,20 +57,21 @@ impl<'m, 'a> Numbering<'m, 'a> {
 
     /// How the tokens of a level group.
     fn level_kind(&self, level: usize) -> Option<LevelKind>
-        ensures { IfSome result (λ kind.
-            slice_get self.now.meaning.now.levels.items (level - 1) ≡ Some kind) }
+        ensures is { result ≡ kind_of_line self.now.meaning.now.levels.items level }
+        ensures small { IfSome result (λ kind. level < 2 ^ 63) }
     {
         self.meaning.levels.get(level.checked_sub(1)?).copied()
     }
 
     /// The precedence of a token: levels are twice as many as in the file, so that there is one below each.
     fn precedence(&self, number: usize) -> Option<Precedence>
-        ensures { IsOfLines (names_of self.now).lines ((names_of self.now).line number) result }
+        ensures { result ≡ precedence_of (names_of self.now).lines
+            ((names_of self.now).line number) }
     {
         let level = self.level(number)?;
         let kind = self.level_kind(level)?;
         Some(Precedence {
-            level: (level as u64).checked_mul(2)?,
+            level: level as u64 * 2,
             kind: kind_of(kind),
         })
     }

@@ -50,5 +50,6 @@ returns c =
           (sym added.tokens) h;
       end =
           end-more names rules tokens levels starts names.symbol _
-          (λ n x e. ap (λ (ts : Vec PartToken Global). slice_get (map token_name ts.items) n) added.tokens ∙ e);
+          (λ n x e. ap (λ (ts : Vec PartToken Global). slice_get (map token_name ts.items) n) added.tokens ∙ e)
+          (λ n x e. ap (λ (ts : Vec PartToken Global). slice_get (map (λ (token : PartToken). token.precedence) ts.items) n) added.tokens ∙ e);
     }

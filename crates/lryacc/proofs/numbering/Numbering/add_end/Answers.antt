@@ -1,6 +1,7 @@
-use Rattle.std.proofs.Common.{◌∙◌, ap, inr, Some}
+use Rattle.std.proofs.Common.{◌∙◌, ap, inr, sym, Some}
 use Rattle.std.specs.Option.{option_map}
 use Rattle.lryacc.specs.declared.meaning.Meaning.{Meaning}
+use Rattle.lryacc.specs.Levels.{line_of, precedence_of}
 use Rattle.lryacc.specs.NamedSymbols.{IsTokenOf, first_name}
 use Rattle.lryacc.specs.Numbered.{names_of}
 use Rattle.lryacc.proofs.NamesOfOne.{ok-then}
@@ -17,5 +18,8 @@ returns c =
     inr record {
       end = ap (λ (m : Meaning). option_map (first_name m.symbols) m.end) added.meaning ∙ c.requires;
       is = c.in_ok-token.ensures.number ∙ ap Some c.in_ok-name.ensures.ok;
+      precedence =
+          c.in_ok-token.ensures.precedence ∙ ap Some c.precedence.ensures
+          ∙ ap (λ (m : Meaning). Some (precedence_of m.levels.items (line_of m c.args.number))) (sym added.meaning);
     } in
     ok-then c.give_token.result (gives-next old now c.give_token.new.self c.args.number token added c.in_ok-token.ensures.same_tokens c.in_ok-token.ensures.last is) c.give_token.ensures

@@ -9,7 +9,7 @@ use Rattle.lryacc.proofs.numbering.Numbering.add_end_token.Goals as goal
 pub returns-in_default-clause-end : goal.returns-in_default-clause-end
 returns-in_default-clause-end c =
     let added = c.in_ok-add_token.ensures in
-    end-first-unnamed c.args.self.now c.add_token.new.self c.in_ok-add_token.field-0 (string_bytes c.in_ok-name.name) added.added c.requires c.in_default.is added.same_tokens added.last added.number c.in_ok-name.ensures.ok
+    end-first-unnamed c.args.self.now c.add_token.new.self c.in_ok-add_token.field-0 (string_bytes c.in_ok-name.name) added.added c.requires c.in_default.is added.same_tokens added.last added.number c.in_ok-name.ensures.ok added.precedence
 
 pub returns-then-eq-clause-end : goal.returns-then-eq-clause-end
 returns-then-eq-clause-end c =

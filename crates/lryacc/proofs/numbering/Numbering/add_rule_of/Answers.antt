@@ -58,7 +58,8 @@ returns-clause-added c =
           (sym added.tokens) h;
       end =
           end-more names rules tokens levels starts symbol _
-          (λ n x e. ap (λ (ts : Vec PartToken Global). slice_get (map token_name ts.items) n) added.tokens ∙ e);
+          (λ n x e. ap (λ (ts : Vec PartToken Global). slice_get (map token_name ts.items) n) added.tokens ∙ e)
+          (λ n x e. ap (λ (ts : Vec PartToken Global). slice_get (map (λ (token : PartToken). token.precedence) ts.items) n) added.tokens ∙ e);
     }
 
 pub returns-clause-has : goal.returns-clause-has

@@ -27,7 +27,8 @@ returns-clause-added c =
           (map-more level_of_token old.grammar.parts.tokens.items tokens token c.in_ok-push.ensures.items);
       end =
           end-more names names.rules (map name_of_token tokens) (map level_of_token tokens) names.starts names.symbol _
-          (map-more name_of_token old.grammar.parts.tokens.items tokens token c.in_ok-push.ensures.items);
+          (map-more name_of_token old.grammar.parts.tokens.items tokens token c.in_ok-push.ensures.items)
+          (map-more level_of_token old.grammar.parts.tokens.items tokens token c.in_ok-push.ensures.items);
     }
 
 pub returns-clause-number : goal.returns-clause-number

@@ -1,6 +1,6 @@
-use Rattle.std.proofs.Common.{◌∙◌, ap, inl, string_bytes, subst, sym}
+use Rattle.std.proofs.Common.{◌∙◌, Some, ap, inl, string_bytes, subst, sym}
 use Rattle.lryacc.specs.declared.meaning.Meaning.{Meaning}
-use Rattle.lryacc.specs.Levels.{IsOfLines, line_of}
+use Rattle.lryacc.specs.Levels.{line_of, precedence_of}
 use Rattle.lryacc.specs.NamedSymbols.{IsTokenOf, IsTokenText, name_of, symbol_number}
 use Rattle.lryacc.specs.Numbered.{names_of}
 use Rattle.lryacc.proofs.NamesOfOne.{ok-then}
@@ -23,12 +23,8 @@ returns c =
       is =
           subst (λ (m : Meaning). IsTokenText m.symbols.dialect c.args.told.kind (name_of m.symbols.text.now m.symbols.dialect c.args.told) (string_bytes c.in_ok-name.name))
           (sym added.meaning) c.in_ok-name.ensures;
-      precedence = record {
-        precedence = c.precedence-precedence.result;
-        here = c.in_ok-token.ensures.precedence;
-        is =
-            subst (λ (m : Meaning). IsOfLines m.levels.items (line_of m number) c.precedence-precedence.result)
-            (sym added.meaning) c.precedence-precedence.ensures;
-      };
+      precedence =
+          c.in_ok-token.ensures.precedence ∙ ap Some c.precedence-precedence.ensures
+          ∙ ap (λ (m : Meaning). Some (precedence_of m.levels.items (line_of m number))) (sym added.meaning);
     } in
     ok-then c.give_token.result (gives-next old now c.give_token.new.self number token added c.in_ok-token.ensures.same_tokens c.in_ok-token.ensures.last is) c.give_token.ensures
