@@ -4,15 +4,13 @@ use Rattle.std.specs.Prelude.{MatchBool, MatchOption, slice_get}
 use Rattle.std.specs.Option.{option_map}
 use Rattle.lryacc.specs.declared.contents.BodyPart.{BodyPart}
 use Rattle.lryacc.specs.declared.contents.BodyPart.TheVariants as part
-use Rattle.lryacc.specs.declared.dialects.Dialect.{Dialect}
-use Rattle.lryacc.specs.declared.dialects.Dialect.TheVariants as dialect
 use Rattle.lryacc.specs.declared.faults.Halt.{Halt}
 use Rattle.lryacc.specs.declared.lexemes.Lexeme.{Lexeme}
 use Rattle.lryacc.specs.declared.lexemes.LexemeKind.{LexemeKind}
 use Rattle.lryacc.specs.declared.lexemes.LexemeKind.TheVariants as kind
 use Rattle.lryacc.specs.declared.reader.Reader.{Reader}
 use Rattle.lryacc.specs.declared.rules.Body.{Body}
-use Rattle.lryacc.specs.Bodies.{AddsBody, BeginsBody, IsBody, IsRuleBefore, IsSameFile, Passes, PassesNoDelimiter, ReadsBehind, ReadsOn, SkipsKind, Stays, GoesOn, TakesBar, TakesKind, TakesPrecedence, is_action, is_aside, is_mark, is_part, is_prec, is_rule_name, is_symbol}
+use Rattle.lryacc.specs.Bodies.{AddsBody, BeginsBody, IsBody, IsBodyEnd, IsRuleBefore, IsSameFile, Passes, PassesNoDelimiter, ReadsBehind, ReadsOn, SkipsKind, Stays, GoesOn, TakesBar, TakesKind, TakesPrecedence, is_action, is_aside, is_mark, is_prec, is_rule_name, is_symbol}
 use Rattle.lryacc.specs.Bodies.IsBody.{begins, symbol, action, aside, directive as other_directive, prec as named}
 use Rattle.lryacc.specs.Delimiters.{delimiter_at, delimiter_of, delimiters_before}
 use Rattle.lryacc.proofs.DelimitersPassed.{count-next, rule_behind, rule_named, rule_over}
@@ -162,15 +160,14 @@ ReadsOn-precedence {old} {now} {new} before reached after directive passes takes
 }
 
 -- the `=` before an action is passed over, or ends the body
-pub GoesOn-equals : (old new : Reader) (body : Body) (lexeme : Lexeme) (read : Result Bool Halt) → old.dialect ≡ dialect.Bison → slice_get old.lexemes.now old.at ≡ Some lexeme → lexeme.kind ≡ kind.Equals → IfOk read (λ goes_on. MatchBool goes_on (Passes old new) (Stays old new)) → IfOk read (GoesOn old new body body lexeme)
-GoesOn-equals old new body lexeme (Ok true) bison here is passes = ReadsOn-passes body lexeme passes here (ap is_aside is)
-GoesOn-equals old new body lexeme (Ok false) bison here is stays = record {
+pub GoesOn-equals : (old new : Reader) (body : Body) (lexeme : Lexeme) (read : Result Bool Halt) → slice_get old.lexemes.now old.at ≡ Some lexeme → lexeme.kind ≡ kind.Equals → IfOk read (λ goes_on. MatchBool goes_on (Passes old new) (Stays old new)) → IfOk read (GoesOn old new body body)
+GoesOn-equals old new body lexeme (Ok true) here is passes = ReadsOn-passes body lexeme passes here (ap is_aside is)
+GoesOn-equals old new body lexeme (Ok false) here is stays = record {
   reader = stays;
   parts = refl;
   precedence = refl;
-  is = ap (λ (d : Dialect). is_part d lexeme.kind) bison ∙ ap (is_part dialect.Bison) is;
 }
-GoesOn-equals old new body lexeme (Err halt) bison here is none = tt
+GoesOn-equals old new body lexeme (Err halt) here is none = tt
 
 -- what is passed over or not, the file is the same
 pub skips_same : {old new : Reader} (k : LexemeKind) (is : Bool) → MatchBool is (SkipsKind old new k) (Stays old new) → IsSameFile old new
@@ -307,3 +304,7 @@ bar_taken old now new (Some bar) over taken = record { before = now; over = over
 -- a body is added by a reader that stays
 pub alternative-count : (old now new : Reader) → now.lexemes.now ≡ old.lexemes.now → new.lexemes.now ≡ now.lexemes.now → new.at ≡ now.at → delimiters_before old.lexemes.now now.at ≡ delimiters_before old.lexemes.now old.at → delimiters_before new.lexemes.now new.at ≡ delimiters_before old.lexemes.now old.at
 alternative-count old now new one other at same = rw (other, one, at) same
+
+-- it ends where one that stays finds its end
+pub ends_there : (old now : Reader) (at : ℕ) → now.text.now ≡ old.text.now → now.lexemes.now ≡ old.lexemes.now → now.dialect ≡ old.dialect → now.at ≡ at → IsBodyEnd now.text.now now.lexemes.now now.dialect now.at → IsBodyEnd old.text.now old.lexemes.now old.dialect at
+ends_there old now at text lexemes dialect same ends = rw (sym text, sym lexemes, sym dialect, sym same) ends

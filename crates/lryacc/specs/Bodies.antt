@@ -1,12 +1,12 @@
 -- the bodies of a file, as they stand among its lexemes
-use Rattle.std.specs.Prelude.{◌≡◌, ℕ, ◌+◌, ◌<◌, ◌≤◌, Bool, true, false, List, [], ◌∷◌, ◌++◌, Option, None, Some, IfSome, codes, slice_get, vec_len}
+use Rattle.std.specs.Prelude.{◌≡◌, ℕ, ◌+◌, ◌<◌, ◌≤◌, ◌&&◌, ◌||◌, not, Bool, true, false, List, [], ◌∷◌, ◌++◌, Option, None, Some, IfSome, codes, slice_get, vec_len}
 use Rattle.std.specs.Option.{option_map}
 use Rattle.std.specs.Str.{bytes_eq}
 use Rattle.lryacc.specs.declared.contents.Alternative.{Alternative}
 use Rattle.lryacc.specs.declared.contents.BodyPart.{BodyPart}
 use Rattle.lryacc.specs.declared.contents.BodyPart.TheVariants as part
 use Rattle.lryacc.specs.declared.dialects.Dialect.{Dialect}
-use Rattle.lryacc.specs.declared.dialects.Dialect.TheVariants.{Bison, Grmtools}
+use Rattle.lryacc.specs.declared.dialects.Dialect.TheVariants.{Bison}
 use Rattle.lryacc.specs.declared.faults.Halt.{Halt}
 use Rattle.lryacc.specs.declared.faults.Halt.TheVariants as halt
 use Rattle.lryacc.specs.declared.lexemes.Lexeme.{Lexeme}
@@ -15,7 +15,7 @@ use Rattle.lryacc.specs.declared.lexemes.LexemeKind.TheVariants as kind
 use Rattle.lryacc.specs.declared.reader.Reader.{Reader}
 use Rattle.lryacc.specs.declared.rules.Body.{Body}
 use Rattle.lryacc.specs.Delimiters.{delimiter_at, delimiter_of, delimiters_before}
-use Rattle.lryacc.specs.NamedSymbols.{text_at}
+use Rattle.lryacc.specs.NamedSymbols.{is_bison, text_at}
 
 -- symbols: names, characters and texts, and for grmtools names in quotes
 abbrev pub is_symbol : LexemeKind → Bool
@@ -38,18 +38,6 @@ is_aside kind.Tag = true
 is_aside kind.Equals = true
 is_aside kind.Number = true
 is_aside _ = false
-
--- whether a body of a dialect goes on with such a lexeme
-abbrev pub is_part : Dialect → LexemeKind → Bool
-is_part Bison kind.Name = true
-is_part Bison (kind.Character byte) = true
-is_part Bison kind.Text = true
-is_part Bison kind.Action = true
-is_part Bison kind.Predicate = true
-is_part Grmtools kind.Name = true
-is_part Grmtools kind.QuotedName = true
-is_part Grmtools kind.Action = true
-is_part _ _ = false
 
 -- whether a directive is `%prec`
 abbrev pub is_prec : List ℕ → Lexeme → Bool
@@ -159,17 +147,16 @@ pub record ReadsOn (old new : Reader) (before after : Body) : Type 0 where
   pub on : old.at < new.at
   pub parts : (from : ℕ) → IsBodyUpTo old from old.at before → IsBodyUpTo old from new.at after
 
--- the body ends before a lexeme
-pub record StopsAt (old new : Reader) (before after : Body) (lexeme : Lexeme) : Type 0 where
+-- the body stops here
+pub record Stops (old new : Reader) (before after : Body) : Type 0 where
   pub reader : Stays old new
   pub parts : after.parts.items ≡ before.parts.items
   pub precedence : after.precedence ≡ before.precedence
-  pub is : is_part old.dialect lexeme.kind ≡ false
 
 -- whether the body goes on
-abbrev pub GoesOn : Reader → Reader → Body → Body → Lexeme → Bool → Type 0
-GoesOn old new before after lexeme true = ReadsOn old new before after
-GoesOn old new before after lexeme false = StopsAt old new before after lexeme
+abbrev pub GoesOn : Reader → Reader → Body → Body → Bool → Type 0
+GoesOn old new before after true = ReadsOn old new before after
+GoesOn old new before after false = Stops old new before after
 
 -- the reader takes the symbol behind the one `%prec` of a body
 pub record TakesPrecedence (old new : Reader) (before after : Body) : Type 0 where
@@ -190,8 +177,6 @@ pub record ReadsBehind (old new : Reader) : Type 0 where
 -- the reader goes over the rest of a body
 pub record ReadsBody (old new : Reader) (before after : Body) : Type 0 where
   pub parts : (from : ℕ) → IsBodyUpTo old from old.at before → IsBodyUpTo old from new.at after
-  pub ends : IfSome (slice_get old.lexemes.now new.at) (λ lexeme.
-      is_part old.dialect lexeme.kind ≡ false)
 
 -- the marks behind which bodies begin
 abbrev pub is_mark : LexemeKind → Bool
@@ -232,15 +217,39 @@ pub record TakesBar (old new : Reader) (bar : Lexeme) : Type 0 where
   pub over : PassesNoDelimiter old before
   pub taken : TakesKind before new kind.Bar bar
 
+-- the directives that stand in bodies
+abbrev pub is_in_bodies : Dialect → List ℕ → Bool
+is_in_bodies dialect word =
+    bytes_eq word (codes "%prec") || (bytes_eq word (codes "%empty")
+    || is_bison dialect && (bytes_eq word (codes "%dprec") || (bytes_eq word (codes "%merge")
+    || (bytes_eq word (codes "%expect") || (bytes_eq word (codes "%expect-rr")
+    || bytes_eq word (codes "%expect_rr"))))))
+
+-- whether a lexeme of this kind, which is this word, ends bodies: `|` and `;`; for Bison also the name of a rule, `%%`, and a
+-- directive that stands in no body
+abbrev pub ends_bodies : Dialect → List ℕ → LexemeKind → Bool
+ends_bodies dialect word kind.Bar = true
+ends_bodies dialect word kind.Semicolon = true
+ends_bodies Bison word kind.RuleName = true
+ends_bodies Bison word kind.Separator = true
+ends_bodies Bison word kind.Directive = not (is_in_bodies Bison word)
+ends_bodies dialect word _ = false
+
+-- bodies end at a place: nothing stands there, or what ends them
+abbrev pub IsBodyEnd : List ℕ → List Lexeme → Dialect → ℕ → Type 0
+IsBodyEnd text lexemes dialect at =
+    IfSome (slice_get lexemes at) (λ lexeme.
+    ends_bodies dialect (text_at text lexeme.span) lexeme.kind ≡ true)
+
 -- a body that was read from a place on: its rule is the one whose name stands last before that, its parts are the symbols and
--- the actions among the lexemes that follow one another up to the end of the file, or up to one with which no body of the
--- dialect goes on, and the symbol of its precedence is the one behind `%prec` there
+-- the actions among the lexemes that follow one another up to the end of the file, or up to one that ends bodies of the dialect,
+-- and the symbol of its precedence is the one behind `%prec` there
 pub record IsReadFrom (text : List ℕ) (lexemes : List Lexeme) (dialect : Dialect) (from : ℕ)
     (body : Alternative) : Type 0 where
   pub rule : IsRuleBefore lexemes from body.rule
   pub to : ℕ
   pub parts : IsBody text lexemes from to body.parts.items body.precedence
-  pub ends : IfSome (slice_get lexemes to) (λ lexeme. is_part dialect lexeme.kind ≡ false)
+  pub ends : IsBodyEnd text lexemes dialect to
 
 -- the body in hand is added to what was read, as one of a rule
 pub record EndsBody (old new : Reader) (rule : Lexeme) (read : Body) : Type 0 where

@@ -157,10 +157,9 @@ impl<'a> Reader<'a> {
     pub(crate) fn grmtools_part(&mut self, body: &mut Body, lexeme: Lexeme) -> Result<bool, Halt>
         requires here { slice_get self.old.lexemes.now self.old.at ≡ Some lexeme }
         requires small { self.old.at < usize.MAX }
-        requires dialect { self.old.dialect ≡ Dialect.Grmtools }
         ensures file { IsSameFile self.old self.new }
         ensures told { IfErr result (λ halt. IsTold halt self.new) }
-        ensures read { IfOk result (GoesOn self.old self.new body.old body.new lexeme) }
+        ensures read { IfOk result (GoesOn self.old self.new body.old body.new) }
     {
         match lexeme.kind {
             LexemeKind::Name => {

@@ -4,7 +4,9 @@ ghost use Rattle.std.specs.Prelude.{◌≡◌, ◌<◌, ◌≤◌, true, false, 
 ghost use Rattle.lryacc.specs.AllBodies.{AreAllBodies, ReachesRules, ReadsAll, ReadsAlternatives, ReadsBodies, Settles, TakesSeparator};
 ghost use Rattle.lryacc.specs.AllLexemes.{is_separator};
 ghost use Rattle.lryacc.specs.Bodies.{AddsBody, BeginsBody, EndsBody, GoesOn, IsSameFile, IsTold, IsWhole, Passes, PassesNoDelimiter};
-ghost use Rattle.lryacc.specs.Bodies.{ReadsBehind, ReadsBody, ReadsOn, Stays, TakesBar, TakesPrecedence, is_action, is_prec, is_symbol};
+ghost use Rattle.lryacc.specs.Bodies.{IsBodyEnd, ReadsBehind, ReadsBody, ReadsOn, Stays, TakesBar, TakesPrecedence};
+ghost use Rattle.lryacc.specs.Bodies.{ends_bodies, is_action, is_in_bodies, is_prec, is_symbol};
+ghost use Rattle.lryacc.specs.NamedSymbols.{text_at};
 
 use crate::contents::{Alternative, BodyPart, Statement};
 use crate::dialects::Dialect;
@@ -29,15 +31,18 @@ pub(crate) struct Body {
     span: Option<Span>,
 }
 
-/// Whether a directive of that form may stand in a body.
-fn is_of_body(form: Form, dialect: Dialect) -> bool {
-    match form {
-        Form::Empty | Form::Precedence => true,
-        Form::ShiftReduce | Form::ReduceReduce | Form::BodyNumber | Form::BodyTag => {
-            dialect == Dialect::Bison
-        }
-        _ => false,
-    }
+/// Whether a directive stands in bodies.
+fn is_in_bodies(directive: &[u8], dialect: Dialect) -> bool
+    ensures { result ≡ is_in_bodies dialect directive.now }
+{
+    directive == b"%prec".as_slice()
+        || directive == b"%empty".as_slice()
+        || (dialect == Dialect::Bison
+            && (directive == b"%dprec".as_slice()
+                || directive == b"%merge".as_slice()
+                || directive == b"%expect".as_slice()
+                || directive == b"%expect-rr".as_slice()
+                || directive == b"%expect_rr".as_slice()))
 }
 
 /// Whether a directive of that form may stand before the rules alone.
@@ -347,7 +352,7 @@ impl<'a> Reader<'a> {
 
     /// Stops behind a lexeme with which no rule begins.
     fn no_rule(&mut self) -> Result<(), Halt>
-        ensures faults { vec_len self.old.contents.faults ≤ vec_len self.new.contents.faults }
+        ensures file { IsSameFile self.old self.new }
         ensures told { IfErr result (λ halt. IsTold halt self.new) }
         ensures stops { OnOk result ⊥ }
     {
@@ -437,7 +442,49 @@ impl<'a> Reader<'a> {
         let mut body = Body::new(self.allocator());
         self.parts(&mut body)?;
         self.end_body(rule, mark, body)?;
+        self.want_end()?;
         Ok(())
+    }
+
+    /// Stops at a lexeme behind a body, if that ends none.
+    fn want_end(&mut self) -> Result<(), Halt>
+        ensures file { IsSameFile self.old self.new }
+        ensures told { IfErr result (λ halt. IsTold halt self.new) }
+        ensures stays { OnOk result (Stays self.old self.new) }
+        ensures ends { OnOk result (IsBodyEnd self.old.text.now self.old.lexemes.now
+            self.old.dialect self.old.at) }
+    {
+        match self.here() {
+            Some(lexeme) if !self.ends_bodies(lexeme) => self.no_end(),
+            _ => Ok(()),
+        }
+    }
+
+    /// Whether a lexeme ends bodies.
+    fn ends_bodies(&self, lexeme: Lexeme) -> bool
+        ensures { result ≡ ends_bodies self.now.dialect (text_at self.now.text.now lexeme.span)
+            lexeme.kind }
+    {
+        match (self.dialect, lexeme.kind) {
+            (_, LexemeKind::Bar | LexemeKind::Semicolon) => true,
+            (Dialect::Bison, LexemeKind::RuleName | LexemeKind::Separator) => true,
+            (Dialect::Bison, LexemeKind::Directive) => {
+                !is_in_bodies(self.bytes(lexeme), Dialect::Bison)
+            }
+            _ => false,
+        }
+    }
+
+    /// Stops at a lexeme that ends no body.
+    fn no_end(&mut self) -> Result<(), Halt>
+        ensures file { IsSameFile self.old self.new }
+        ensures told { IfErr result (λ halt. IsTold halt self.new) }
+        ensures stops { OnOk result ⊥ }
+    {
+        match self.dialect {
+            Dialect::Bison => self.no_rule(),
+            Dialect::Grmtools => Err(self.wants(Wanted::Semicolon)),
+        }
     }
 
     /// Reads the parts and directives of a body.
@@ -460,7 +507,7 @@ impl<'a> Reader<'a> {
         requires small { self.old.at < usize.MAX }
         ensures file { IsSameFile self.old self.new }
         ensures told { IfErr result (λ halt. IsTold halt self.new) }
-        ensures read { IfOk result (GoesOn self.old self.new body.old body.new lexeme) }
+        ensures read { IfOk result (GoesOn self.old self.new body.old body.new) }
     {
         match self.form_in_body(lexeme) {
             Some(form) => {
@@ -506,12 +553,10 @@ impl<'a> Reader<'a> {
     pub(crate) fn form_in_body(&self, lexeme: Lexeme) -> Option<Form>
         ensures { IsSome result → lexeme.kind ≡ LexemeKind.Directive }
     {
-        if lexeme.kind != LexemeKind::Directive {
-            return None;
-        }
-        match self.form(lexeme) {
-            Some(form) if is_of_body(form, self.dialect) => Some(form),
-            _ => None,
+        if lexeme.kind == LexemeKind::Directive && is_in_bodies(self.bytes(lexeme), self.dialect) {
+            self.form(lexeme)
+        } else {
+            None
         }
     }
 
@@ -521,7 +566,7 @@ impl<'a> Reader<'a> {
         requires small { self.old.at < usize.MAX }
         ensures file { IsSameFile self.old self.new }
         ensures told { IfErr result (λ halt. IsTold halt self.new) }
-        ensures read { IfOk result (GoesOn self.old self.new body.old body.new lexeme) }
+        ensures read { IfOk result (GoesOn self.old self.new body.old body.new) }
     {
         match self.dialect {
             Dialect::Bison => self.bison_part(body, lexeme),
@@ -533,10 +578,9 @@ impl<'a> Reader<'a> {
     fn bison_part(&mut self, body: &mut Body, lexeme: Lexeme) -> Result<bool, Halt>
         requires here { slice_get self.old.lexemes.now self.old.at ≡ Some lexeme }
         requires small { self.old.at < usize.MAX }
-        requires dialect { self.old.dialect ≡ Dialect.Bison }
         ensures file { IsSameFile self.old self.new }
         ensures told { IfErr result (λ halt. IsTold halt self.new) }
-        ensures read { IfOk result (GoesOn self.old self.new body.old body.new lexeme) }
+        ensures read { IfOk result (GoesOn self.old self.new body.old body.new) }
     {
         match lexeme.kind {
             LexemeKind::Name | LexemeKind::Character(_) | LexemeKind::Text => {

@@ -9,4 +9,4 @@ returns-in_ok-tag_of_action-in-Tag-clause-read c =
 
 pub returns-in-Equals-clause-read : goal.returns-in-Equals-clause-read
 returns-in-Equals-clause-read c =
-    GoesOn-equals _ _ c.args.body.now c.args.lexeme c.old_equals.result c.requires.dialect c.requires.here c.in-Equals.is c.old_equals.ensures.passes
+    GoesOn-equals _ _ c.args.body.now c.args.lexeme c.old_equals.result c.requires.here c.in-Equals.is c.old_equals.ensures.passes
