@@ -1,11 +1,8 @@
 //! The parts of the grammar of a file, with their places.
 
-ghost use Rattle.std.specs.Prelude.{◌≡◌, ◌+◌, ◌-◌, ◌*◌, [], ◌∷◌, ◌++◌, Some, map, flat_map, length, slice_get};
-ghost use Rattle.std.specs.Prelude.{IfOk, OnOk, IfSome, None};
-ghost use Rattle.lryacc.specs.ProductionPlaces.{Adds, ArePlaced, IsPlaced, body_places};
-ghost use Rattle.lryacc.specs.ProductionPlaces.{file_places, start_rules_of};
-ghost use Rattle.lryacc.specs.BodyProductions.{AreMarks, AreOfFile};
-ghost use Rattle.lryacc.specs.BodyProductions.{is_one};
+ghost use Rattle.std.specs.Prelude.{◌≡◌, ◌+◌, [], ◌∷◌, ◌++◌, Some, map, flat_map, length, slice_get, IfOk, OnOk, IfSome, None};
+ghost use Rattle.lryacc.specs.ProductionPlaces.{ArePlaced, IsPlaced, body_places, file_places, start_rules_of};
+ghost use Rattle.lryacc.specs.BodyProductions.{AreMarks, AreOfFile, is_one};
 ghost use Rattle.lryacc.specs.FileProductions.{HasProductions};
 ghost use Rattle.lryacc.specs.NamedSymbols.{IsNamed};
 ghost use Rattle.lryacc.specs.Numbered.{AddsNumbers, BeginsWithEnd, HaveRules, IsLevelled, IsNumbered, names_of};

@@ -1,12 +1,9 @@
 //! The productions of bodies, and of the actions before their ends.
 
-ghost use Rattle.std.specs.Prelude.{◌≡◌, ◌+◌, ◌-◌, ◌*◌, [], ◌∷◌, ◌++◌, Some, flat_map};
-ghost use Rattle.std.specs.Prelude.{IfOk, OnOk, None};
-ghost use Rattle.lryacc.specs.ProductionPlaces.{Adds, action_place, action_places, body_places};
-ghost use Rattle.lryacc.specs.ProductionPlaces.{parts_before_last};
+ghost use Rattle.std.specs.Prelude.{◌≡◌, ◌+◌, [], ◌∷◌, ◌++◌, Some, flat_map, IfOk, OnOk, None};
+ghost use Rattle.lryacc.specs.ProductionPlaces.{Adds, action_place, action_places, body_places, parts_before_last};
 ghost use Rattle.lryacc.specs.BodyProductions.{AddsProduction, AddsProductions, AreOfActions, AreOfBodies, AreOfBody};
-ghost use Rattle.lryacc.specs.BodyProductions.{AreRelated, IsEmptyProduction, IsOfPart, IsOfPartBefore};
-ghost use Rattle.lryacc.specs.BodyProductions.{IsRuleOfAction, symbol_parts};
+ghost use Rattle.lryacc.specs.BodyProductions.{AreRelated, IsEmptyProduction, IsOfPart, IsOfPartBefore, IsRuleOfAction, symbol_parts};
 ghost use Rattle.lryacc.specs.NamedSymbols.{IsNamed};
 ghost use Rattle.lryacc.specs.Numbered.{IsLevelled, IsNumbered, names_of};
 

@@ -1,10 +1,7 @@
 //! The tokens before the start rules, where there are several.
 
-ghost use Rattle.std.specs.Prelude.{◌≡◌, ◌-◌, ◌*◌, Some, slice_get, string_bytes};
-ghost use Rattle.std.specs.Prelude.{IfOk, OnOk, IfSome, None};
-ghost use Rattle.lryacc.specs.ProductionPlaces.{Adds};
-ghost use Rattle.lryacc.specs.BodyProductions.{AreMarks, IsMarkName};
-ghost use Rattle.lryacc.specs.BodyProductions.{IsMarkOf, Keeps, is_one};
+ghost use Rattle.std.specs.Prelude.{◌≡◌, Some, slice_get, string_bytes, IfOk, OnOk, IfSome, None};
+ghost use Rattle.lryacc.specs.BodyProductions.{AreMarks, IsMarkName, IsMarkOf, Keeps, is_one};
 ghost use Rattle.lryacc.specs.NamedSymbols.{name_of};
 ghost use Rattle.lryacc.specs.Numbered.{AddsNumbers, names_of};
 

@@ -1,7 +1,6 @@
 //! Which token the production of a body names for its precedence.
 
-ghost use Rattle.std.specs.Prelude.{◌≡◌, ◌-◌, ◌*◌, true, Some};
-ghost use Rattle.std.specs.Prelude.{IfOk, MatchOption, None};
+ghost use Rattle.std.specs.Prelude.{◌≡◌, true, Some, IfOk, MatchOption, None};
 ghost use Rattle.lryacc.specs.BodyPrecedences.{IsBelowOf, IsInNoPrecedenceLine, IsInPrecedenceLine, IsLastToken, IsLastWith};
 ghost use Rattle.lryacc.specs.BodyPrecedences.{IsPrecedence, IsPrecedenceBy, IsPrecedenceWithout, is_precedence};
 ghost use Rattle.lryacc.specs.Numbered.{IsLevelled, IsNumbered, names_of};

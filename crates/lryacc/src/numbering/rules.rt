@@ -1,10 +1,8 @@
 //! The rules of the grammar of a file.
 
-ghost use Rattle.std.specs.Prelude.{◌≡◌, ◌-◌, ◌*◌, true, [], Some, Contains, string_bytes};
-ghost use Rattle.std.specs.Prelude.{IfOk, OnOk, None};
+ghost use Rattle.std.specs.Prelude.{◌≡◌, true, [], Some, Contains, string_bytes, IfOk, OnOk, None};
 ghost use Rattle.std.specs.BTreeMap.{get};
 ghost use Rattle.std.specs.Ordering.{nat_cmp};
-ghost use Rattle.lryacc.specs.ProductionPlaces.{Adds};
 ghost use Rattle.lryacc.specs.ProductionPlaces.{parts_before_last};
 ghost use Rattle.lryacc.specs.BodyProductions.{IsActionName};
 ghost use Rattle.lryacc.specs.NamedSymbols.{NamesRule};

@@ -1,10 +1,8 @@
 //! The productions of `$accept`.
 
-ghost use Rattle.std.specs.Prelude.{◌≡◌, ◌-◌, ◌*◌, [], ◌∷◌, Some, map, slice_get};
-ghost use Rattle.std.specs.Prelude.{IfOk, OnOk, None};
+ghost use Rattle.std.specs.Prelude.{◌≡◌, [], ◌∷◌, Some, map, slice_get, IfOk, OnOk, None};
 ghost use Rattle.lryacc.specs.ProductionPlaces.{Adds};
-ghost use Rattle.lryacc.specs.BodyProductions.{AddsProduction, AddsProductions};
-ghost use Rattle.lryacc.specs.BodyProductions.{AreMarks, AreRelated, IsMarked, IsOfStart};
+ghost use Rattle.lryacc.specs.BodyProductions.{AddsProduction, AddsProductions, AreMarks, AreRelated, IsMarked, IsOfStart};
 ghost use Rattle.lryacc.specs.BodyProductions.{is_one, start_symbols_of};
 ghost use Rattle.lryacc.specs.Numbered.{IsNumbered, names_of};
 

@@ -5,7 +5,6 @@ ghost use Rattle.std.specs.Prelude.{IfOk, OnOk, IfSome, None};
 ghost use Rattle.std.specs.BTreeMap.{get};
 ghost use Rattle.std.specs.Ordering.{nat_cmp};
 ghost use Rattle.lryacc.specs.Levels.{group_of, kind_of_line, line_of, precedence_of};
-ghost use Rattle.lryacc.specs.ProductionPlaces.{Adds};
 ghost use Rattle.lryacc.specs.NamedSymbols.{IsTokenText, name_of};
 ghost use Rattle.lryacc.specs.Numbered.{AddsNumbers, BeginsWithEnd, GivesToken, IsNumbered, names_of};
 
