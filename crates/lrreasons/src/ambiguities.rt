@@ -7,11 +7,13 @@ ghost use Rattle.lrreasons.specs.Ambiguities.{IsWayOf, IsAmbiguousForm, FormPart
 ghost use Rattle.lrreasons.specs.Numbers.{number_of};
 
 use crate::candidates::{Pair, pairs};
+use crate::cutting::cut_out;
 use crate::parts::is_part;
 use lrambiguity::{Ambiguity, Contest, Move, begins_with, check_ambiguity, derives, parts_at};
 use lrconflicts::{Conflict, differ_at_once};
 use lrforms::{Ambiguous, Form, Forms, Search, Sentence};
 use lrgrammar::grammar::YaccGrammar;
+use lrgrammar::idx::TIdx;
 use lrtable::StateGraph;
 use std::alloc::{AllocError, Global};
 
@@ -203,4 +205,34 @@ pub(crate) fn prove(
         allowed = steps / pairs.len().max(1);
     }
     Ok(None)
+}
+
+/// What two trees of the tokens show, by their moves, if they part at the conflict's state and token.
+pub(crate) fn prove_by(
+    grm: &YaccGrammar<u32>,
+    graph: &StateGraph<u32>,
+    conflict: &Conflict<u32>,
+    tokens: &[TIdx<u32>],
+    one: &[Move<u32>],
+    other: &[Move<u32>],
+) -> Result<Option<ProvedAmbiguity>, AllocError>
+    requires graph { IsGraphOf grm.now graph.now }
+    requires state { conflict.now.state.0 < length graph.now }
+    ensures { IfOk result (λ o. IfSome o (IsProofOf grm.now graph.now conflict.now)) }
+{
+    let reduce = Move::Reduce(conflict.production);
+    let Some(found) = cut_out(grm.allocator(), grm, tokens, one, other, reduce)? else {
+        return Ok(None);
+    };
+    let ways = &found.sentence.ways;
+    let (Some(first), Some(second)) = (ways.first.first(), ways.second.first()) else {
+        return Ok(None);
+    };
+    let contest = Contest {
+        state: conflict.state,
+        token: conflict.token,
+        one: *first,
+        other: *second,
+    };
+    checked(grm.allocator(), grm, graph, contest, found)
 }

@@ -5,6 +5,7 @@
 mod ambiguities;
 mod brackets;
 mod candidates;
+mod cutting;
 mod examples;
 mod groups;
 mod lines;

@@ -7,7 +7,7 @@ use lrgrammar::idx::{PIdx, TIdx};
 use std::alloc::{AllocError, Global};
 
 /// How many symbols the body of the production has; 0 where there is no such production.
-fn body_len(grm: &YaccGrammar<u32>, production: PIdx<u32>) -> usize {
+pub(crate) fn body_len(grm: &YaccGrammar<u32>, production: PIdx<u32>) -> usize {
     if usize::from(production) < usize::from(grm.prods_len()) {
         grm.prod(production).len()
     } else {
@@ -87,7 +87,7 @@ fn moves_of_last(grm: &YaccGrammar<u32>, moves: &[Move<u32>]) -> usize {
 }
 
 /// How many tokens the moves take.
-fn shifts(moves: &[Move<u32>]) -> usize {
+pub(crate) fn shifts(moves: &[Move<u32>]) -> usize {
     moves
         .iter()
         .filter(|action| **action == Move::Shift)

@@ -19,7 +19,7 @@ ghost use Rattle.lrreasons.specs.Reasons.{IsReason};
 ghost use Rattle.lrreasons.specs.StoredTexts.{reason_text, reasons_text};
 ghost use Rattle.lrreasons.specs.Numbers.{number_of};
 
-use crate::ambiguities::{ProvedAmbiguity, prove};
+use crate::ambiguities::{ProvedAmbiguity, prove, prove_by};
 use crate::examples::{Example, input, outlook};
 use crate::groups::push_reasons;
 use crate::texts::push_reason;
@@ -220,6 +220,28 @@ impl<'a> Reasons<'a> {
             return Ok(None);
         }
         let proved = prove(&self.forms, self.grm, self.graph, &conflict, steps)?;
+        Ok(proved)
+    }
+
+    /// That the grammar is ambiguous at the conflict, as a text shows that these moves read to two trees, if they part in its state
+    /// at its token. The form is the innermost node that both trees have around there. None says nothing. The error says that
+    /// memory was refused.
+    pub fn ambiguity_by(
+        &self,
+        conflict: Conflict<u32>,
+        text: &[TIdx<u32>],
+        one: &[Move<u32>],
+        other: &[Move<u32>],
+    ) -> Result<Option<ProvedAmbiguity>, AllocError>
+        ensures proof { IfOk result (λ o. IfSome o
+            (IsProofOf self.now.grammar self.now.graph conflict)) }
+        ensures differ { IfOk result (λ o. IfSome o (λ a.
+            tree_of number_of a.ambiguity.one_tree ≢ tree_of number_of a.ambiguity.other_tree)) }
+    {
+        if usize::from(conflict.state) >= usize::from(self.graph.all_states_len()) {
+            return Ok(None);
+        }
+        let proved = prove_by(self.grm, self.graph, &conflict, text, one, other)?;
         Ok(proved)
     }
 
