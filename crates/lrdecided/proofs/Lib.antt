@@ -1,0 +1,16 @@
+-- items at whose dots a tree stands open
+pub mod OpenItems
+-- two ways to read that stand as a node says
+pub mod Ways
+-- no two stand as an impossible one says
+pub mod Impossible
+-- nodes that cover others, and tokens that both ways take
+pub mod Taken
+-- where a node proceeds, two ways proceed to one of its moves
+pub mod Proceeding
+-- no two ways stand as a node of a certificate says
+pub mod Settled
+-- which item is open where a tree is half read
+pub mod Openings
+-- an entry with a certificate is decided
+pub mod DecidedEntries
