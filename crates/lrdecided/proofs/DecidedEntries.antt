@@ -30,7 +30,7 @@ state_below (x ∷ h) zero p d i = omega arith
 state_below (x ∷ h) (suc s) p d i = let k : s < length h = state_below h s p d i in omega arith
 
 -- so is one that has the core after a list
-core_below : {g : Grammar} (h : Graph) (s : ℕ) {w : List Symbol} → HasCoreAfter g w (core_of h s) → s < length h
+pub core_below : {g : Grammar} (h : Graph) (s : ℕ) {w : List Symbol} → HasCoreAfter g w (core_of h s) → s < length h
 core_below h s c = state_below h s c.some.0 c.some.1 c.some.2
 
 -- two item sets with the core after one list have the same items
@@ -107,7 +107,7 @@ module _ (g : Grammar) (h : Graph) (s t : ℕ) (graph : IsGraphOf g h) where
           roots = there.roots;
           state = q;
           leads = leads;
-          within = c.cores q (core_below h q core) (same_core core there.core);
+          within = c.cores q (core_below h q core) (same_core {a = core_of h q} {b = core_of h s} core there.core);
           one_text = x;
           other_text = y;
           one_weight = a.weighs;

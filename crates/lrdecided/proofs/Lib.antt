@@ -14,3 +14,7 @@ pub mod Settled
 pub mod Openings
 -- an entry with a certificate is decided
 pub mod DecidedEntries
+-- lists of moves: what they tell of a tree, and where two part
+pub mod SameMoves
+-- where each two contenders are decided, the grammar is unambiguous
+pub mod UnambiguousGrammars

@@ -151,6 +151,28 @@ mutual
             (found_in_forest f (Open.advance o e) (rest_next (body_of g q) d x y e) c.0 m after c.2)
       ]
 
+-- the moves before the next one to a tree read a part of the text
+pub record Halfway (g : Grammar) (before : List Move) (text : List ℕ) : Type 0 where
+  pub used : List ℕ
+  pub left : List ℕ
+  pub roots : List Symbol
+  pub trees : Forest
+  pub split : used ++ left ≡ text
+  pub reads : Reads g before used roots trees
+
+pub halfway :
+    {g : Grammar} {before : List Move} {text : List ℕ} (m : Move) (after : List Move) (t : Tree) → IsTreeBy g (before ++ m ∷ after) text t
+    → Halfway g before text
+halfway {before = before} m after t a =
+    let n = found_in_tree a.of_start.is_tree Open.start a.of_start.start bare before m after a.moves_are in record {
+      used = n.used;
+      left = n.left;
+      roots = n.roots;
+      trees = n.trees;
+      split = n.split ∙ a.leaves_are;
+      reads = n.reads;
+    }
+
 -- where the moves before have read a part of a text, and others go on to a tree of all, an item is open before the next move,
 -- after the roots of what was read
 pub opening_there :

@@ -1,10 +1,11 @@
 -- when no two texts part at a cell between two moves
-use Rattle.std.specs.Prelude.{ℕ, List, ◌++◌, Option, Some}
+use Rattle.std.specs.Prelude.{◌≢◌, ℕ, ◌<◌, List, ◌++◌, length, Option, Some}
 use Rattle.lrspec.specs.grammars.Grammar.{Symbol, Grammar}
 use Rattle.lrspec.specs.grammars.Trees.{Tree, Forest}
 use Rattle.lrspec.specs.merging.Cores.{HasCoreAfter}
 use Rattle.lrspec.specs.merging.Graph.{Graph, core_of}
-use Rattle.lrconflicts.specs.Moves.{Move, IsTreeBy}
+use Rattle.lrspec.specs.tables.Table.{IsContender}
+use Rattle.lrconflicts.specs.Moves.{Move, candidate_of, IsTreeBy}
 use Rattle.lrambiguity.specs.Replays.{Reads}
 use Rattle.lrambiguity.specs.Inputs.{GoesOn}
 use Rattle.lrambiguity.specs.Partings.{PartAt}
@@ -34,3 +35,10 @@ IsDecidedWithin g h s t m n left =
 -- the entry is decided by `k` tokens, as in a canonical LR(k) parser
 abbrev pub IsDecidedBy : Grammar → Graph → ℕ → ℕ → Move → Move → ℕ → Type 0
 IsDecidedBy g h s t m n k = IsDecidedWithin g h s t m n (Some k)
+
+-- each two contenders of each cell of the graph are decided
+abbrev pub AreDecided : Grammar → Graph → Type 0
+AreDecided g h =
+    (s t : ℕ) (m n : Move) → s < length h → m ≢ n
+    → IsContender g h s t (candidate_of m) → IsContender g h s t (candidate_of n)
+    → IsDecided g h s t m n
