@@ -18,3 +18,5 @@ pub mod DecidedEntries
 pub mod SameMoves
 -- where each two contenders are decided, the grammar is unambiguous
 pub mod UnambiguousGrammars
+-- certificates in the making
+pub mod GrowingLists
