@@ -87,6 +87,8 @@ pub fn check_lost<T: IndexStorage>(
     requires table_for { IsTableFor grm.now table.now }
     ensures sentence { IfOk result (λ o. IfSome o (λ l.
         IsTreeOfText grm.now (text_of T.number text.now) (tree_of T.number l.tree))) }
+    ensures moves { IfOk result (λ o. IfSome o (λ l.
+        moves_of (tree_of T.number l.tree) ≡ moves_stored T.number moves.now)) }
     ensures lost { IfOk result (λ o. IsSome o
         → IsLost grm.now table.now (text_of T.number text.now)) }
     ensures never_accepted { IfOk result (λ o. IsSome o

@@ -29,6 +29,9 @@ find_parting-requires-clause-named g c =
 pub returns-in-Ok-Some-clause-sentence : goal.returns-in-Ok-Some-clause-sentence
 returns-in-Ok-Some-clause-sentence g c = tree_of_text (read g (goal.at.returns-in-Ok-Some-clause-sentence g c).In-Some)
 
+pub returns-in-Ok-Some-clause-moves : goal.returns-in-Ok-Some-clause-moves
+returns-in-Ok-Some-clause-moves g c = (read g (goal.at.returns-in-Ok-Some-clause-moves g c).In-Some).moves_are
+
 pub returns-in-Ok-Some-clause-lost : goal.returns-in-Ok-Some-clause-lost
 returns-in-Ok-Some-clause-lost g c = λ _. record {
   sentence = (tree_of_text (read g (goal.at.returns-in-Ok-Some-clause-lost g c).In-Some)).0;
