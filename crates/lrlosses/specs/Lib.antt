@@ -4,3 +4,7 @@ pub mod Losses
 pub mod StoredLosses
 -- the machine on its way through a text
 pub mod Walks
+-- what is found at the candidates of cells
+pub mod FoundLosses
+-- and how the code stores that
+pub mod StoredFinds
