@@ -14,6 +14,7 @@ finds out of its text and both trees, and of its list, which is told where texts
 """
 
 import json
+import re
 import subprocess
 import sys
 from collections import Counter
@@ -62,12 +63,13 @@ class Known:
 
 @dataclass
 class Answer:
-    """What is told of a grammar: as JSON in groups, with each entry alone, and by one step; and in lines."""
+    """What is told of a grammar: as JSON in groups, with each entry alone, and by one step; in lines; and in the last one of these."""
 
     grouped: dict
     alone: dict
     by_one_step: dict
     blocks: list
+    line: str
 
 
 @dataclass
@@ -245,6 +247,14 @@ def check_groups(told, alone):
         hold((group["ambiguity"], group["after"], group["lost"]) == wanted, f"something else is told of {group['tokens']} together")
 
 
+def check_line(answer):
+    """The line tells for how many entries a text is told that is rejected, and none that has two trees."""
+    lost = sum(it["lost"] is not None and it["ambiguity"] is None for it in answer.alone["conflicts"])
+    words = f", {lost} rejects sentences" if lost == 1 else f", {lost} reject sentences" if lost else ""
+    told = re.search(r", \d+ rejects? sentences|$", answer.line)[0]
+    hold(told == words, f"{lost} conflicts reject sentences, but the line is: {answer.line}")
+
+
 def by_key(drawn, told, file):
     """The entries by what tells them apart: the state, the token, and the moves that contend."""
     pair = lambda it: tuple(drawn.lines[it[name]["line"]] if name in it else None for name in ("reduce", "other"))
@@ -263,6 +273,7 @@ def check_grammar(drawn, answer, counts):
     wanted = {(it.state, it.token, it.pair): it for it in drawn.conflicts}
     hold(alone.keys() == by_one_step.keys() == wanted.keys(), f"entries are {[*alone]}, and not {[*wanted]}")
     check_groups(told, alone)
+    check_line(answer)
     known = Known(drawn.grammar) if wanted else None
     for (key, entry), lines in zip(alone.items(), answer.blocks, strict=True):
         try:
@@ -285,8 +296,9 @@ def answers(lrcheck, all_drawn):
 
     told = [called("--json", *options).splitlines() for options in (("--grammar",), ("--all",), ("--all", *ONE_STEP))]
     blocks = brackets.blocks(called("--plain", "--all"))
+    lines = dict(line.split(": ", 1) for line in called("--summary").splitlines() if ": " in line)
     for name, *files in zip(names, *told, strict=True):
-        yield Answer(*map(json.loads, files), blocks.get(name, []))
+        yield Answer(*map(json.loads, files), blocks.get(name, []), lines.get(name, ""))
 
 
 def main(lrcheck, first, count):

@@ -23,14 +23,16 @@ use lrtable::StateGraph;
 use lryacc::FileGrammar;
 use std::alloc::{AllocError, Global};
 
-/// After what a conflict that the table lists is real, and a sentence that the parser rejects because of it, where that gives one.
+/// After what a conflict that the table lists is real, where that is told, and a sentence that the parser rejects because of it,
+/// where that gives one.
 fn example_of(
     alloc: Global,
     reasons: &Reasons<'_>,
     numbering: Numbering<'_>,
     found: &Findings<u32>,
     conflict: Conflict<u32>,
-) -> Result<(Example, Option<Loss>), AllocError>
+    is_told: bool,
+) -> Result<(Option<Box<Example>>, Option<Loss>), AllocError>
     requires listed { IsListed reasons.now.grammar reasons.now.graph (entry_of number_of conflict) }
     requires contested { AreReductionsContested reasons.now.grammar reasons.now.graph }
     requires table { IsTableFor found.now.grm found.now.table }
@@ -39,7 +41,11 @@ fn example_of(
 {
     let example = reasons.example(conflict)?;
     let loss = loss_of(alloc, found, conflict, &example)?;
-    Ok((numbering.example(alloc, &example)?, loss))
+    if !is_told {
+        return Ok((None, loss));
+    }
+    let example = numbering.example(alloc, &example)?;
+    Ok((Some(Box::new(alloc, example)?), loss))
 }
 
 /// What is looked for.
@@ -51,6 +57,8 @@ pub struct Effort {
     pub work: usize,
     /// For how many entries it is told at the most after what they are real: for the first ones.
     pub examples: usize,
+    /// At how many entries without a sentence that has two trees one that the parser rejects is looked for at least: the first ones.
+    pub losses: usize,
     /// Whether each entry counts, and not only the first of those that stand together, because the same meets at them in the same
     /// state.
     pub counts_each: bool,
@@ -67,7 +75,7 @@ impl Effort {
         ensures grammar { IfOk result (λ r. r.grammar ≡ grm.entry.now) }
         ensures graph { IfOk result (λ r. r.graph ≡ graph.entry.now) }
     {
-        if self.examples > 0 {
+        if self.examples > 0 || self.losses > 0 {
             Reasons::new(grm, graph)
         } else {
             Reasons::without_examples(grm, graph)
@@ -83,6 +91,24 @@ impl Effort {
     }
 }
 
+/// What is looked for of an entry.
+#[derive(Clone, Copy)]
+struct Wanted {
+    /// How many steps a search for a sentence with two trees takes.
+    steps: usize,
+    /// Whether it is told after what the entry is real, where there is no such sentence.
+    has_example: bool,
+    /// Whether a sentence that the parser rejects is looked for then. With an example it always is.
+    has_loss: bool,
+}
+
+impl Wanted {
+    /// Whether anything is looked for where there is no sentence with two trees.
+    fn looks_further(self) -> bool {
+        self.has_example || self.has_loss
+    }
+}
+
 /// A loss in a box, if there is one.
 fn boxed(alloc: Global, loss: Option<Loss>) -> Result<Option<Box<Loss>>, AllocError>
     ensures { IfOk result (λ o. option_map (λ b. b.value) o ≡ loss) }
@@ -93,15 +119,14 @@ fn boxed(alloc: Global, loss: Option<Loss>) -> Result<Option<Box<Loss>>, AllocEr
     }
 }
 
-/// What is known of an entry, where a search for a sentence with two trees takes so many steps, with an example or without.
+/// What is known of an entry.
 fn evidence_of(
     alloc: Global,
     reasons: &Reasons<'_>,
     numbering: Numbering<'_>,
     found: &Findings<u32>,
     entry: Entry,
-    steps: usize,
-    has_example: bool,
+    wanted: Wanted,
 ) -> Result<Evidence, AllocError>
     requires listed { AreListedIn reasons.now.grammar reasons.now.graph found.now.conflicts.items }
     requires contested { AreReductionsContested reasons.now.grammar reasons.now.graph }
@@ -121,16 +146,17 @@ fn evidence_of(
     let Some(conflict) = conflict_of(entry) else {
         return Ok(evidence);
     };
-    if steps > 0 {
-        match ambiguity_at(alloc, reasons, conflict, steps)? {
+    if wanted.steps > 0 {
+        match ambiguity_at(alloc, reasons, conflict, wanted.steps)? {
             Some(ambiguity) => evidence.ambiguity = Some(Box::new(alloc, ambiguity)?),
             None => evidence.is_cut_off = reasons.is_used_up(),
         }
     }
     let listed = found.conflicts.as_slice();
-    if has_example && evidence.ambiguity.is_none() && is_among(listed, &entry) {
-        let (example, loss) = example_of(alloc, reasons, numbering, found, conflict)?;
-        evidence.example = Some(Box::new(alloc, example)?);
+    if wanted.looks_further() && evidence.ambiguity.is_none() && is_among(listed, &entry) {
+        let is_told = wanted.has_example;
+        let (example, loss) = example_of(alloc, reasons, numbering, found, conflict, is_told)?;
+        evidence.example = example;
         evidence.loss = boxed(alloc, loss)?;
     }
     Ok(evidence)
@@ -158,14 +184,23 @@ fn push_evidence(
         (All (PartsAtEntry reasons.now.grammar reasons.now.graph) list.new.items) }
     ensures lost { OnOk result (All (IsLostAtEntry found.now.grm found.now.table) list.new.items) }
 {
-    let (alloc, steps) = (*list.allocator(), effort.steps);
-    let mut count: usize = 0;
+    let alloc = *list.allocator();
+    let (mut told, mut unknown): (usize, usize) = (0, 0);
     for entry in entries {
         let counts = effort.counts(list.as_slice(), entry);
-        let is_told = counts && count < effort.examples;
-        list.push(evidence_of(alloc, reasons, numbering, found, *entry, steps, is_told)?)?;
+        let wanted = Wanted {
+            steps: effort.steps,
+            has_example: counts && told < effort.examples,
+            has_loss: unknown < effort.losses,
+        };
+        let evidence = evidence_of(alloc, reasons, numbering, found, *entry, wanted)?;
+        let is_known = evidence.ambiguity.is_some();
+        list.push(evidence)?;
         if counts {
-            count = count.saturating_add(1);
+            told = told.saturating_add(1);
+        }
+        if !is_known {
+            unknown = unknown.saturating_add(1);
         }
     }
     Ok(())

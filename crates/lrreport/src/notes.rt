@@ -374,15 +374,12 @@ impl<T: IndexStorage> Checked<'_, T> {
         };
         if let Some((token, ambiguity)) = self.own_sentence_but_at(meeting, None) {
             self.push_ambiguity(text, notes, &first.entry, ambiguity)?;
-            return self.push_others(text, notes, meeting, token);
+            self.push_others(text, notes, meeting, token)?;
+        } else if let Some(ambiguity) = self.sentence_with_trees(meeting) {
+            self.push_ambiguity(text, notes, &first.entry, ambiguity)?;
+        } else if let Some(example) = &first.example {
+            self.told.push_example(text, notes, first, example)?;
         }
-        if let Some(ambiguity) = self.sentence_with_trees(meeting) {
-            return self.push_ambiguity(text, notes, &first.entry, ambiguity);
-        }
-        let Some(example) = &first.example else {
-            return Ok(());
-        };
-        self.told.push_example(text, notes, first, example)?;
         self.push_loss(text, notes, self.loss_in(meeting))
     }
 

@@ -174,6 +174,10 @@ struct Known {
 /// those at all that precedences resolve.
 const WORK: usize = 1_000;
 
+/// At how many conflicts without a sentence that has two trees one that the parser rejects is looked for, even where fewer are
+/// shown.
+const LOSSES: usize = 1_000;
+
 /// How much work searches may do together.
 fn work_of(options: Options) -> usize {
     options.steps.saturating_mul(WORK)
@@ -192,6 +196,7 @@ fn effort_of(options: Options) -> Effort {
         steps: options.steps,
         work: work_of(options),
         examples,
+        losses: if options.steps == 0 { 0 } else { LOSSES },
         counts_each: options.detail.all
             || options.makes_page
             || matches!(options.output, Output::Json { .. }),

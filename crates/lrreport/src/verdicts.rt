@@ -8,7 +8,8 @@ ghost use Rattle.lrwriter.specs.Texts.{Adds};
 ghost use Rattle.lrverdicts.specs.declared.verdicts.Verdict.TheVariants.{Unambiguous};
 ghost use Rattle.lrevidence.specs.Ambiguities.{HasTwoTrees, IsProved};
 ghost use Rattle.lrshown.specs.Ambiguities.{has_own_sentence};
-ghost use Rattle.lrshown.specs.VerdictWords.{unambiguous_words, ambiguous_words, plain_words, sentences_words, ambiguous_verdict, unknown_verdict, known_verdict, resolved_words, decided_words, verdict_words};
+ghost use Rattle.lrshown.specs.Losses.{rejects};
+ghost use Rattle.lrshown.specs.VerdictWords.{unambiguous_words, ambiguous_words, plain_words, sentences_words, rejecting_words, ambiguous_verdict, unknown_verdict, verdict_on, known_verdict, resolved_words, decided_words, verdict_words};
 
 use crate::conflicts::Checked;
 use crate::told::Told;
@@ -29,6 +30,30 @@ pub(crate) fn own_sentences(evidence: &[Evidence]) -> usize
         }
     }
     count
+}
+
+/// For how many entries a sentence is known that the parser rejects, and none with two trees.
+fn rejecting(evidence: &[Evidence]) -> usize
+    ensures { result ≡ count_by rejects evidence.now }
+{
+    let mut count: usize = 0;
+    for one in evidence {
+        if one.rejects() {
+            count += 1;
+        }
+    }
+    count
+}
+
+/// Adds for how many conflicts a sentence is known that the parser rejects, if for some.
+fn push_rejecting(line: &mut Text, count: usize)
+    ensures { Adds line.old line.new (rejecting_words count) }
+{
+    if count == 1 {
+        line.add(", 1 rejects sentences");
+    } else if count != 0 {
+        write!(line, ", {count} reject sentences");
+    }
 }
 
 /// Adds for how many of all conflicts a text of their own is known.
@@ -152,6 +177,18 @@ impl<T: IndexStorage> Checked<'_, T> {
         }
     }
 
+    /// Adds the verdict, and for how many of the conflicts a sentence with two trees is known.
+    fn push_verdict_on(&self, line: &mut Text, verdict: Verdict)
+        requires proved { All (IsProved self.now.found.now.grm) self.now.told.evidence.now }
+        requires unambiguous { verdict ≡ Unambiguous → IsUnambiguous self.now.found.now.grm }
+        ensures { Adds line.old line.new (verdict_on verdict self.now.told.evidence.now) }
+    {
+        match self.any_sentence(self.told.evidence) {
+            Some(text) => self.push_ambiguous_verdict(line, verdict, text),
+            None => self.push_unknown_verdict(line, verdict, self.told.evidence.len()),
+        }
+    }
+
     /// Adds the verdict, and what is known of the conflicts where it was looked for.
     fn push_verdict(&self, line: &mut Text, verdict: Verdict)
         requires proved { All (IsProved self.now.found.now.grm) self.now.told.evidence.now }
@@ -163,10 +200,8 @@ impl<T: IndexStorage> Checked<'_, T> {
         if evidence.is_empty() || self.told.options.steps == 0 {
             return self.push_plain_verdict(line, verdict);
         }
-        match self.any_sentence(evidence) {
-            Some(text) => self.push_ambiguous_verdict(line, verdict, text),
-            None => self.push_unknown_verdict(line, verdict, evidence.len()),
-        }
+        self.push_verdict_on(line, verdict);
+        push_rejecting(line, rejecting(evidence));
     }
 
     /// Adds that a sentence has two trees without the precedences, which decide it, where there is one.

@@ -1,5 +1,5 @@
 -- sentences that the parser rejects
-use Rattle.std.specs.Prelude.{◌≡◌, ℕ, ◌-◌, List, IfSome}
+use Rattle.std.specs.Prelude.{◌≡◌, ℕ, ◌-◌, ◌&&◌, Bool, List, IfSome, is_none, is_some}
 use Rattle.lrspec.specs.grammars.Grammar.{Grammar}
 use Rattle.lrspec.specs.grammars.Trees.{Tree}
 use Rattle.lrspec.specs.tables.Table.{Table}
@@ -35,6 +35,10 @@ IsLoss g b l = (s : ℕ) × (t : ℕ) × IsLostAt g b s t l
 -- a sentence that is told of an entry is lost in its state, where its token comes
 abbrev pub IsLostAtEntry : Grammar → Table → Evidence → Type 0
 IsLostAtEntry g b e = IfSome e.loss (λ l. IsLostAt g b e.entry.state e.entry.token l.value)
+
+-- whether a sentence that is rejected is known of an entry, and none with two trees
+abbrev pub rejects : Evidence → Bool
+rejects e = is_some e.loss && is_none e.ambiguity
 
 -- so many of the first tokens of a text, without the one that chooses its start rule
 abbrev pub without_choice : FileGrammar → List ℕ → ℕ → ℕ

@@ -9,6 +9,7 @@ use Rattle.lrverdicts.specs.VerdictTexts.{verdict_text}
 use Rattle.lrshown.specs.declared.ambiguities.Ambiguity.{Ambiguity}
 use Rattle.lrshown.specs.declared.evidence.Evidence.{Evidence}
 use Rattle.lrshown.specs.Ambiguities.{HasTwoTrees, IsProved, has_sentence, has_own_sentence}
+use Rattle.lrshown.specs.Losses.{rejects}
 
 -- that no sentence has two trees
 abbrev pub unambiguous_words : List ℕ
@@ -42,14 +43,25 @@ unknown_verdict verdict all =
     plain_words verdict
     ++ (if all == 1 then codes ", not known to be ambiguous" else codes ", none known to be ambiguous")
 
+-- a verdict, and for how many of the conflicts a sentence with two trees is known
+abbrev pub verdict_on : Verdict → List Evidence → List ℕ
+verdict_on verdict evidence =
+    if list_any has_sentence evidence then
+    ambiguous_verdict verdict (sentences_words (count_by has_own_sentence evidence) (length evidence))
+    else unknown_verdict verdict (length evidence)
+
+-- for so many others a sentence is known that the parser rejects
+abbrev pub rejecting_words : ℕ → List ℕ
+rejecting_words n =
+    if n == 0 then []
+    else (if n == 1 then codes ", 1 rejects sentences" else codes ", " ++ decimal n ++ codes " reject sentences")
+
 -- a verdict with what is known of the conflicts, where texts were looked for
 abbrev pub known_verdict : Verdict → List Evidence → Bool → List ℕ
 known_verdict verdict evidence searched =
     if length evidence == 0 then plain_words verdict
     else (if not searched then plain_words verdict
-    else (if list_any has_sentence evidence then
-    ambiguous_verdict verdict (sentences_words (count_by has_own_sentence evidence) (length evidence))
-    else unknown_verdict verdict (length evidence)))
+    else verdict_on verdict evidence ++ rejecting_words (count_by rejects evidence))
 
 -- how many more precedences resolve, and how these are shown
 abbrev pub resolved_words : ℕ → List Evidence → Bool → List ℕ

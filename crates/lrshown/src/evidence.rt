@@ -2,6 +2,7 @@
 
 ghost use Rattle.std.specs.Prelude.{◌≡◌, IsTrue, IsSome};
 ghost use Rattle.lrshown.specs.Ambiguities.{has_own_sentence};
+ghost use Rattle.lrshown.specs.Losses.{rejects};
 
 use crate::ambiguities::Ambiguity;
 use crate::losses::Loss;
@@ -42,7 +43,7 @@ pub struct Evidence {
     pub ambiguity: Option<Box<Ambiguity>>,
     /// Where none is, after what it is real, where that is looked for; None for an entry that the table doesn't list.
     pub example: Option<Box<Example>>,
-    /// With that, a sentence that the parser rejects because of the entry, where the example gives one.
+    /// Where none is, a sentence that the parser rejects because of it, where such a one is looked for and found.
     pub loss: Option<Box<Loss>>,
     /// Whether the work that searches of the file may do was done before the search for a text was through, if one is made.
     pub is_cut_off: bool,
@@ -58,5 +59,12 @@ impl Evidence {
             Some(ambiguity) => ambiguity.is_of(&self.entry),
             None => false,
         }
+    }
+
+    /// Whether a sentence is known that the parser rejects because of the entry, and none with two trees.
+    pub fn rejects(&self) -> bool
+        ensures { result ≡ rejects self.now }
+    {
+        self.loss.is_some() && self.ambiguity.is_none()
     }
 }
