@@ -6,8 +6,8 @@ pages.py PAGE
 Ends with status 1, and says why, where the page is not what it should be: elements are closed in order; there is one script and
 one style sheet, both its own, and no other element or attribute than such pages have; text and values of attributes have
 none of the characters < > & " ' but by their entities; no address is anything else than a place in the page, and each is there
-once; symbols, productions and states that the script is to look up are there; and both trees of a text are trees of the same
-leaves, which differ.
+once; symbols, productions and states that the script is to look up are there; and both trees of a text, unless it
+has only one, are trees of the same leaves, which differ.
 
 It prints the parts of the page in their order, an element of them a line, with `^` around what is marked. Trees are printed in
 brackets, with those of their nodes in angle brackets that the other tree doesn't have with the same rule and span, or, where it
@@ -230,6 +230,9 @@ def print_text(page, text):
             print("edges:", ", ".join(f"{names[name_of(int(symbol))]} to {state}" for symbol, state in line))
             continue
         before, steps = page.trees[line[0]]
+        if len(steps) == 1:
+            print("tree:", brackets(tree_of(page, before + steps[0]), (), names))
+            continue
         one, other = (tree_of(page, before + steps[place]) for place in (line[1], 1 - line[1]))
         if leaves_of(one) != leaves_of(other) or one.shape() == other.shape():
             page.faults.append(f"no two trees of the same leaves: {before} {steps}")

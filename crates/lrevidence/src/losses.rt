@@ -10,7 +10,7 @@ use lrfindings::Findings;
 use lrgrammar::idx::{StIdx, TIdx};
 use lrlosses::{Place, check_lost};
 use lrreasons::{Conflict, Outlook};
-use lrshown::{Loss, step_of};
+use lrshown::{Loss, step_of, steps_of};
 use std::alloc::{AllocError, Global};
 
 /// How many steps a run takes at the most on a text whose tree has so many moves.
@@ -77,6 +77,8 @@ fn loss_by(
     }
     Ok(Some(Loss {
         tokens: numbers_of(alloc, tokens)?,
+        steps: steps_of(alloc, moves)?,
+        made: parting.steps,
         dot: parting.used,
         stop: rejected.used,
         lost: step_of(lost),

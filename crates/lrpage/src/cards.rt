@@ -3,6 +3,7 @@
 ghost use Rattle.std.specs.Prelude.{◌≡◌, true};
 ghost use Rattle.std.specs.Option.{ForSome};
 ghost use Rattle.lrshown.specs.Ambiguities.{AreShown, IsShown, is_of};
+ghost use Rattle.lrshown.specs.Losses.{AreShownLosses, IsShownLoss};
 
 use crate::pages::{Card, Page, add_count};
 use crate::symbols::DOT;
@@ -10,7 +11,7 @@ use lrdiagnostics::add_escaped_name;
 use lrfindings::Entry;
 use lrgrammar::idx::IndexStorage;
 use lrshown::{
-    Ambiguity, Evidence, Example, Outlook, Step, candidates_of, list_of, start_of, text_of,
+    Ambiguity, Evidence, Example, Loss, Outlook, Step, candidates_of, list_of, start_of, text_of,
 };
 use lrwriter::Text;
 use std::alloc::AllocError;
@@ -22,11 +23,12 @@ const NAMED: usize = 12;
 const OPEN: usize = 3;
 
 /// The place of the first of the entries for which a sentence with two trees is known that part by what meets in it, or else of the
-/// first that has any; or else of the first of all.
+/// first that has any, or one that the parser rejects; or else of the first of all.
 fn first_with_sentence(meeting: &[Evidence]) -> usize {
     let own = meeting.iter().position(|it| it.has_own_sentence());
     let any = meeting.iter().position(|it| it.ambiguity.is_some());
-    own.or(any).unwrap_or(0)
+    let lost = meeting.iter().position(|it| it.loss.is_some());
+    own.or(any).or(lost).unwrap_or(0)
 }
 
 /// Adds a line of help.
@@ -83,6 +85,26 @@ impl<T: IndexStorage> Page<'_, T> {
         }
     }
 
+    /// Adds that the parser rejects that sentence.
+    fn add_lost_tag(&self, page: &mut Text, _loss: &Loss)
+        requires proved { IsShownLoss self.now.found.now.grm self.now.found.now.table _loss.now }
+    {
+        page.add(" <span class=\"tag marked\">rejects a sentence (proved)</span>");
+    }
+
+    /// Adds what is known of an entry in few words.
+    fn add_tags(&self, page: &mut Text, evidence: &Evidence)
+        requires proved { ForSome evidence.now.ambiguity
+            (λ a. IsShown self.now.found.now.grm a.value) }
+        requires lost { ForSome evidence.now.loss
+            (λ l. IsShownLoss self.now.found.now.grm self.now.found.now.table l.value) }
+    {
+        self.add_tag(page, evidence);
+        if let Some(loss) = &evidence.loss {
+            self.add_lost_tag(page, loss);
+        }
+    }
+
     /// Adds how a text goes on by a step at an entry.
     fn add_outlook(&self, page: &mut Text, entry: &Entry, step: Step, outlook: Option<&Outlook>) {
         let Some(rest) = outlook.and_then(|outlook| outlook.rest.as_ref()) else {
@@ -95,7 +117,7 @@ impl<T: IndexStorage> Page<'_, T> {
         if tokens.is_empty() {
             page.add("<span class=\"soft\">the end</span>");
         } else {
-            self.add_tokens(page, tokens, 0);
+            self.add_tokens(page, tokens, 0, None);
         }
         page.add("</p>\n");
     }
@@ -135,6 +157,8 @@ impl<T: IndexStorage> Page<'_, T> {
     fn add_known(&self, page: &mut Text, evidence: &Evidence)
         requires proved { ForSome evidence.now.ambiguity
             (λ a. IsShown self.now.found.now.grm a.value) }
+        requires lost { ForSome evidence.now.loss
+            (λ l. IsShownLoss self.now.found.now.grm self.now.found.now.table l.value) }
     {
         if self.steps == 0 {
             return;
@@ -144,11 +168,15 @@ impl<T: IndexStorage> Page<'_, T> {
         } else if let Some(example) = &evidence.example {
             self.add_example(page, evidence, example);
         }
+        if let Some(loss) = &evidence.loss {
+            self.add_loss(page, &evidence.entry, loss);
+        }
     }
 
     /// Adds what is known of the entries at other tokens than that at a place.
     fn add_others(&self, page: &mut Text, meeting: &[Evidence], first: usize)
         requires proved { AreShown self.now.found.now.grm meeting.now }
+        requires lost { AreShownLosses self.now.found.now.grm self.now.found.now.table meeting.now }
     {
         let count = meeting.len().saturating_sub(1);
         if count == 0 || self.steps == 0 {
@@ -162,7 +190,7 @@ impl<T: IndexStorage> Page<'_, T> {
                 page.add("<details class=\"more\"><summary>at <code>");
                 self.add_token(page, evidence.entry.token);
                 page.add("</code>");
-                self.add_tag(page, evidence);
+                self.add_tags(page, evidence);
                 page.add("</summary>\n");
                 self.add_known(page, evidence);
                 page.add("</details>\n");
@@ -174,6 +202,7 @@ impl<T: IndexStorage> Page<'_, T> {
     /// Adds what is known of entries at which the same meets: of one that has a text, if there is any, and then of the others.
     fn add_all_known(&self, page: &mut Text, meeting: &[Evidence])
         requires proved { AreShown self.now.found.now.grm meeting.now }
+        requires lost { AreShownLosses self.now.found.now.grm self.now.found.now.table meeting.now }
     {
         let first = first_with_sentence(meeting);
         if let Some(evidence) = meeting.get(first) {
@@ -185,6 +214,8 @@ impl<T: IndexStorage> Page<'_, T> {
     /// Adds the card of that number, which is counted from 1.
     fn add_card(&self, page: &mut Text, number: usize, card: &Card<'_>) -> Result<(), AllocError>
         requires proved { AreShown self.now.found.now.grm card.now.meeting.now }
+        requires lost { AreShownLosses self.now.found.now.grm self.now.found.now.table
+            card.now.meeting.now }
     {
         let open = if number <= OPEN { " open" } else { "" };
         write!(
@@ -193,7 +224,7 @@ impl<T: IndexStorage> Page<'_, T> {
         );
         self.add_heading(page, card.meeting);
         if let Some(evidence) = card.meeting.get(first_with_sentence(card.meeting)) {
-            self.add_tag(page, evidence);
+            self.add_tags(page, evidence);
         }
         page.add("</summary>\n");
         self.add_places(page, card.marks.as_slice())?;

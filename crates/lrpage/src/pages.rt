@@ -2,6 +2,7 @@
 
 ghost use Rattle.std.specs.Prelude.{◌≡◌, ⊤, All};
 ghost use Rattle.lrshown.specs.Ambiguities.{AreShown};
+ghost use Rattle.lrshown.specs.Losses.{AreShownLosses};
 ghost use Rattle.lrshown.specs.VerdictWords.{AreProvedWords};
 
 use crate::grammars::is_of_file;
@@ -77,8 +78,11 @@ pub struct Page<'a, T: IndexStorage> {
     pub steps: usize,
     /// Each text that is shown as one with two trees has them.
     pub ghost proved: { All (λ card. AreShown found.now.grm card.meeting.now) cards.now },
+    /// Each that is shown as one that the parser rejects is a sentence, and rejected.
+    pub ghost lost: { All (λ card.
+        AreShownLosses found.now.grm found.now.table card.meeting.now) cards.now },
     /// And the verdict tells nothing as proved but what is so.
-    pub ghost told: { AreProvedWords found.now.grm verdict.now },
+    pub ghost told: { AreProvedWords found.now.grm found.now.table verdict.now },
 }
 
 impl<T: IndexStorage> Clone for Page<'_, T> {

@@ -136,14 +136,14 @@ function drawTree(figure, root, nodes, dot, isWide) {
   svg(drawing, 'path', { class: 'dot', d: isWide ? `M0 ${y}H${width}` : `M${x} ${height - BOX - 12}V${height}` });
 }
 
-/* Draws both trees side by side. */
+/* Draws both trees side by side, or one that is there alone. */
 function drawTrees(trees) {
   const before = trees.dataset.before.split(' ').filter(Boolean);
   const dot = before.filter(step => step === 's').length;
   const figures = [...trees.querySelectorAll('figure')];
   const roots = figures.map(figure => innerOf(treeOf(before.concat(figure.dataset.steps.split(' ')))));
   const nodes = roots.map(nodesOf);
-  markDiffering(...nodes);
+  if (nodes.length > 1) markDiffering(...nodes);
   nodes.forEach(measure);
   const isWide = roots.some(root => root.width > WIDEST);
   figures.forEach((figure, k) => drawTree(figure, roots[k], nodes[k], dot - roots[k].from, isWide));

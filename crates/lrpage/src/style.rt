@@ -50,6 +50,7 @@ h3 { margin: 0; font-size: 1rem; }
 .place span { margin-left: auto; padding-left: 1.5rem; font-family: system-ui, sans-serif; }
 mark { color: inherit; background: var(--other-soft); border-bottom: 2px solid var(--other); }
 .one mark { background: var(--one-soft); border-color: var(--one); }
+.text mark { background: var(--one-soft); border-color: var(--one); }
 .one > span, .one > figcaption { color: var(--one); }
 .other > span, .other > figcaption { color: var(--other); }
 .text { margin: .4rem 0 .4rem 1.2rem; overflow-wrap: anywhere; }

@@ -1,17 +1,21 @@
 //! Sentences with two trees, as the script draws them.
 
 ghost use Rattle.lrshown.specs.Ambiguities.{IsShown};
+ghost use Rattle.lrshown.specs.Losses.{IsShownLoss};
 
 use crate::pages::Page;
 use crate::symbols::DOT;
 use lrfindings::Entry;
 use lrgrammar::grammar::PartSymbol;
 use lrgrammar::idx::IndexStorage;
-use lrshown::{Ambiguity, Step, TwoTrees, text_of};
+use lrshown::{Ambiguity, Loss, Step, TwoTrees, text_of};
 use lrwriter::Text;
 
 /// How many tokens of a text are shown on either side of the dot.
 const SIDE: usize = 60;
+
+/// How many steps a tree of a sentence that the parser rejects has at the most that is drawn.
+const LARGEST: usize = 1_000;
 
 /// Which of what meets at an entry comes by a step: that by which the table could reduce, or the other.
 fn class_of(entry: &Entry, step: Step) -> &'static str {
@@ -37,8 +41,23 @@ fn add_steps(page: &mut Text, steps: &[Step]) {
 }
 
 impl<T: IndexStorage> Page<'_, T> {
-    /// Adds tokens with a dot behind so many of them; those that stand far from it are left out.
-    pub(crate) fn add_tokens(&self, page: &mut Text, tokens: &[usize], dot: usize) {
+    /// Adds a token, marked or not, and a blank.
+    fn add_token_of_text(&self, page: &mut Text, token: usize, is_marked: bool) {
+        if is_marked {
+            page.add("<mark>");
+        }
+        self.add_token(page, token);
+        page.add(if is_marked { "</mark> " } else { " " });
+    }
+
+    /// Adds tokens with a dot behind so many of them, one of which may be marked; those that stand far from the dot are left out.
+    pub(crate) fn add_tokens(
+        &self,
+        page: &mut Text,
+        tokens: &[usize],
+        dot: usize,
+        marked: Option<usize>,
+    ) {
         let (first, last) = (dot.saturating_sub(SIDE), dot.saturating_add(SIDE));
         if first > 0 {
             page.add("... ");
@@ -49,8 +68,7 @@ impl<T: IndexStorage> Page<'_, T> {
                 page.add_char(' ');
             }
             if first <= place && place < last {
-                self.add_token(page, *token);
-                page.add_char(' ');
+                self.add_token_of_text(page, *token, marked == Some(place));
             }
         }
         if tokens.len() <= dot {
@@ -109,6 +127,46 @@ impl<T: IndexStorage> Page<'_, T> {
         }
     }
 
+    /// Adds the tree of a sentence that the parser rejects, by what it doesn't do at an entry, unless it is large.
+    fn add_lost_tree(&self, page: &mut Text, entry: &Entry, loss: &Loss) {
+        let steps = loss.steps.as_slice();
+        if steps.len() > LARGEST {
+            return;
+        }
+        let (before, behind) = steps.split_at(loss.made.min(steps.len()));
+        page.add(
+            "<p>By its tree it would do this at the dot:</p>\n<div class=\"trees\" data-before=\"",
+        );
+        add_steps(page, before);
+        page.add("\">\n");
+        self.add_tree(page, entry, behind);
+        page.add("</div>\n");
+    }
+
+    /// Adds a sentence that the parser rejects at an entry, with a dot where it goes wrong, and a mark where it stops.
+    pub(crate) fn add_loss(&self, page: &mut Text, entry: &Entry, loss: &Loss)
+        requires proved { IsShownLoss self.now.found.now.grm self.now.found.now.table loss.now }
+    {
+        let tokens = text_of(self.file, loss.tokens.as_slice());
+        let stop = loss.shown_stop(self.file);
+        page.add("<p>The parser rejects this sentence of the grammar");
+        self.add_start(page, loss.start(self.file));
+        page.add(" (proved), at ");
+        match tokens.get(stop) {
+            Some(token) => {
+                let number = stop.saturating_add(1);
+                write!(page, "token {number}, <code>");
+                self.add_token(page, *token);
+                page.add("</code>");
+            }
+            None => page.add("its end"),
+        }
+        page.add(":</p>\n<p class=\"text\">");
+        self.add_tokens(page, tokens, loss.shown_dot(self.file), Some(stop));
+        page.add("</p>\n");
+        self.add_lost_tree(page, entry, loss);
+    }
+
     /// Adds a sentence with two trees, and both trees of the part of it in which they differ.
     pub(crate) fn add_ambiguity(&self, page: &mut Text, entry: &Entry, ambiguity: &Ambiguity)
         requires proved { IsShown self.now.found.now.grm ambiguity.now }
@@ -133,7 +191,7 @@ impl<T: IndexStorage> Page<'_, T> {
             page.add(". ");
         } else {
             page.add(":</p>\n<p class=\"text\">");
-            self.add_tokens(page, tokens, ambiguity.dot(self.file));
+            self.add_tokens(page, tokens, ambiguity.dot(self.file), None);
             page.add("</p>\n<p>");
         }
         page.add("They differ in this part of it:</p>\n");

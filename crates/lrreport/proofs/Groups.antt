@@ -7,7 +7,10 @@ use Rattle.std.proofs.lemmas.List.Elements.{All-same, All-map, All-weaker}
 use Rattle.std.specs.List.{All, flat_map}
 use Rattle.lrspec.specs.grammars.Grammar.{Grammar}
 use Rattle.lrshown.specs.declared.evidence.Evidence.{Evidence}
+use Rattle.lrspec.specs.tables.Table.{Table}
+use Rattle.lrshown.specs.Losses.{AreShownLosses}
 use Rattle.lrevidence.specs.Ambiguities.{IsProved, AreShown}
+use Rattle.lrevidence.specs.Losses.{IsLostAtEntry}
 
 module _ {X Y : Type 0} (P : X → Type 0) (f : Y → X) where
   of_images : (ys : List Y) → All P (map f ys) → All (λ y. P (f y)) ys
@@ -50,9 +53,20 @@ module _ {A X : Type 0} (P : X → Type 0) (items : A → List X) where
 shown : (g : Grammar) (evidence : List Evidence) → All (IsProved g) evidence → AreShown g evidence
 shown g evidence proved k d inside a is = let known = rw is at (proved k d inside) in ∣ known ∣₁
 
+-- and what is proved of those that are rejected
+shown_lost : (g : Grammar) (b : Table) (evidence : List Evidence) → All (IsLostAtEntry g b) evidence → AreShownLosses g b evidence
+shown_lost g b evidence lost k d inside l is = let known = rw is at (lost k d inside) in ∣ (_, _, known) ∣₁
+
 pub all_shown :
     {B : Type 0} (g : Grammar) (told : B → List Evidence) (those : List B)
     → All (λ one. All (IsProved g) (told one)) those → All (λ one. AreShown g (told one)) those
 all_shown g told those proved =
     let may_be_shown = λ (one : _) (each : All (IsProved g) (told one)). shown g (told one) each in
     All-weaker (λ one. All (IsProved g) (told one)) (λ one. AreShown g (told one)) may_be_shown those proved
+
+pub all_shown_lost :
+    {B : Type 0} (g : Grammar) (b : Table) (told : B → List Evidence) (those : List B)
+    → All (λ one. All (IsLostAtEntry g b) (told one)) those → All (λ one. AreShownLosses g b (told one)) those
+all_shown_lost g b told those lost =
+    let may_be_shown = λ (one : _) (each : All (IsLostAtEntry g b) (told one)). shown_lost g b (told one) each in
+    All-weaker (λ one. All (IsLostAtEntry g b) (told one)) (λ one. AreShownLosses g b (told one)) may_be_shown those lost

@@ -2,6 +2,7 @@
 
 ghost use Rattle.std.specs.Prelude.{◌≡◌, All, IfOk};
 ghost use Rattle.lrevidence.specs.Ambiguities.{IsProved};
+ghost use Rattle.lrevidence.specs.Losses.{IsLostAtEntry};
 ghost use Rattle.lrshown.specs.VerdictWords.{AreProvedWords};
 
 use crate::conflicts::{Checked, entries_of, meetings};
@@ -50,7 +51,9 @@ impl<T: IndexStorage> Checked<'_, T> {
         words: &str,
     ) -> Result<String, AllocError>
         requires proved { All (IsProved self.now.found.now.grm) self.now.told.evidence.now }
-        requires words { AreProvedWords self.now.found.now.grm words.now }
+        requires lost { All (IsLostAtEntry self.now.found.now.grm self.now.found.now.table)
+            self.now.told.evidence.now }
+        requires words { AreProvedWords self.now.found.now.grm self.now.found.now.table words.now }
     {
         let trials = Trials::new(alloc, self)?;
         let mut cards = Vec::new(alloc);

@@ -419,6 +419,7 @@ fn page_on_findings<T: IndexStorage>(
     options: Options,
 ) -> Result<Option<String>, AllocError>
     requires proved { All (IsProved found.now.grm) known.now.evidence.items }
+    requires lost { All (IsLostAtEntry found.now.grm found.now.table) known.now.evidence.items }
     requires decided { IfSome known.now.decided (HasTwoTrees found.now.grm) }
     requires unambiguous { verdict ≡ Unambiguous → IsUnambiguous found.now.grm }
 {

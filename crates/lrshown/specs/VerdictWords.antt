@@ -3,13 +3,14 @@ use Rattle.std.specs.Prelude.{◌≡◌, ℕ, ◌==◌, not, Bool, List, [], ◌
 use Rattle.std.specs.List.{count_by, list_any}
 use Rattle.lrspec.specs.grammars.Grammar.{Grammar}
 use Rattle.lrspec.specs.tables.Recognition.{IsUnambiguous}
+use Rattle.lrspec.specs.tables.Table.{Table}
 use Rattle.lrverdicts.specs.declared.verdicts.Verdict.{Verdict}
 use Rattle.lrverdicts.specs.declared.verdicts.Verdict.TheVariants.{Unambiguous, Conflicts}
 use Rattle.lrverdicts.specs.VerdictTexts.{verdict_text}
 use Rattle.lrshown.specs.declared.ambiguities.Ambiguity.{Ambiguity}
 use Rattle.lrshown.specs.declared.evidence.Evidence.{Evidence}
 use Rattle.lrshown.specs.Ambiguities.{HasTwoTrees, IsProved, has_sentence, has_own_sentence}
-use Rattle.lrshown.specs.Losses.{rejects}
+use Rattle.lrshown.specs.Losses.{IsLostAtEntry, rejects}
 
 -- that no sentence has two trees
 abbrev pub unambiguous_words : List ℕ
@@ -82,8 +83,8 @@ abbrev pub verdict_words : Verdict → List Evidence → Bool → ℕ → Bool �
 verdict_words verdict evidence searched resolved hint decided =
     known_verdict verdict evidence searched ++ resolved_words resolved evidence hint ++ decided_words decided
 
--- words of a verdict that tell nothing as proved of the grammar but what is so
-pub record TellProved (g : Grammar) (words : List ℕ) : Type 0 where
+-- words of a verdict that tell nothing of the grammar and its table but what is proved
+pub record TellProved (g : Grammar) (b : Table) (words : List ℕ) : Type 0 where
   pub verdict : Verdict
   pub evidence : List Evidence
   pub searched : Bool
@@ -93,8 +94,9 @@ pub record TellProved (g : Grammar) (words : List ℕ) : Type 0 where
   pub are : words ≡ verdict_words verdict evidence searched resolved hint (is_some decided)
   pub unambiguous : verdict ≡ Unambiguous → IsUnambiguous g
   pub texts : All (IsProved g) evidence
+  pub lost : All (IsLostAtEntry g b) evidence
   pub without : IfSome decided (HasTwoTrees g)
 
 -- the same, without saying of which verdict
-abbrev pub AreProvedWords : Grammar → List ℕ → Type 0
-AreProvedWords g words = ∥ TellProved g words ∥₁
+abbrev pub AreProvedWords : Grammar → Table → List ℕ → Type 0
+AreProvedWords g b words = ∥ TellProved g b words ∥₁

@@ -14,6 +14,10 @@ use lryacc::FileGrammar;
 pub struct Loss {
     /// The tokens by the grammar, as those of an `Ambiguity`.
     pub tokens: Vec<usize>,
+    /// The steps of a tree of it.
+    pub steps: Vec<Step>,
+    /// How many of them the parser makes: up to the conflict.
+    pub made: usize,
     /// How many of them stand before the conflict's token.
     pub dot: usize,
     /// How many of them stand before the one at which the parser stops.

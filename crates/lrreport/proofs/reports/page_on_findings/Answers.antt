@@ -15,5 +15,6 @@ page-requires-clause-words g c = ∣ record {
       c.in_ok-words.ensures.words;
   unambiguous = c.requires.unambiguous;
   texts = c.requires.proved;
+  lost = c.requires.lost;
   without = c.requires.decided;
 } ∣₁

@@ -1,18 +1,24 @@
+use Rattle.std.proofs.Common.{All}
 use Rattle.lrevidence.specs.Ambiguities.{IsProved}
-use Rattle.lrreport.proofs.Groups.{in_told, all_shown}
+use Rattle.lrevidence.specs.Losses.{IsLostAtEntry}
+use Rattle.lrreport.proofs.Groups.{in_told, all_shown, all_shown_lost}
 use Rattle.lrreport.proofs.conflicts.Checked.page.Goals as goal
 
 pub invariant_of-page : goal.invariant_of-page
 invariant_of-page g c =
     let checked = c.args.self.now in
     let cards = c.loop-meeting.cards.items in
-    let each =
-    in_told (IsProved checked.found.now.grm) (λ meeting. meeting.now) c.deref-meeting-items.result.now
-    checked.told.evidence.now (rw c.deref-meeting-items.ensures.value c.in_ok-meetings.ensures) c.requires.proved
+    let each_of = λ (P : _) (all : All P checked.told.evidence.now).
+    in_told P (λ meeting. meeting.now) c.deref-meeting-items.result.now
+    checked.told.evidence.now (rw c.deref-meeting-items.ensures.value c.in_ok-meetings.ensures) all
     (λ card. card.meeting.now) cards c.loop-meeting.meeting-index c.loop-meeting-test.false c.loop-meeting.invariant in
     record {
       proved =
           rw c.as_slice.ensures.value
-          (all_shown checked.found.now.grm (λ card. card.meeting.now) cards each);
+          (all_shown checked.found.now.grm (λ card. card.meeting.now) cards (each_of (IsProved checked.found.now.grm) c.requires.proved));
+      lost =
+          rw c.as_slice.ensures.value
+          (all_shown_lost checked.found.now.grm checked.found.now.table (λ card. card.meeting.now) cards
+          (each_of (IsLostAtEntry checked.found.now.grm checked.found.now.table) c.requires.lost));
       told = c.requires.words;
     }
