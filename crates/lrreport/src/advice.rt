@@ -79,6 +79,8 @@ pub(crate) enum NewLevels {
 pub(crate) enum Advice {
     /// To move an action that stands in the middle of a production.
     MoveAction,
+    /// So that the parser accepts what it rejects, not by levels.
+    Accept,
     /// By more lookahead, if at all.
     Lookahead,
     /// By other rules.
@@ -240,6 +242,13 @@ impl Told<'_> {
             Advice::MoveAction => words.add_all(
                 "this action must run before it is known which alternative it is: put it at the end, or into a rule of its own",
             ),
+            Advice::Accept => {
+                words.add_all("where it is not ambiguous, levels would not mend it:");
+                words.add_all(match self.options.dialect {
+                    Dialect::Bison => "use %glr-parser, or rewrite the rules",
+                    Dialect::Grmtools => "rewrite the rules",
+                });
+            }
             Advice::Lookahead => words.add_all(
                 "this may need more lookahead than one token; levels would then make the parser reject valid input",
             ),

@@ -339,6 +339,8 @@ impl<'a, T: IndexStorage> Trials<'_, 'a, T> {
         let entry = first.entry;
         if told.is_action(entry.production) {
             Ok(Some(Advice::MoveAction))
+        } else if meeting.iter().any(|it| it.loss.is_some()) {
+            Ok(Some(Advice::Accept))
         } else if own_sentences(meeting) == 0 {
             Ok(Some(Advice::Lookahead))
         } else if entry.other.is_some() || !told.can_have_level(entry.token) {
