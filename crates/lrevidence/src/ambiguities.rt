@@ -10,7 +10,7 @@ ghost use Rattle.lrreasons.specs.Numbers.{number_of};
 ghost use Rattle.lrevidence.specs.Ambiguities.{PartsAt};
 
 use lrgrammar::idx::TIdx;
-use lrreasons::{Conflict, Form, ProvedAmbiguity, Reasons};
+use lrreasons::{Conflict, Form, Move, ProvedAmbiguity, Reasons};
 use lrshown::{Ambiguity, TwoTrees, steps_of};
 use std::alloc::{AllocError, Global};
 
@@ -96,6 +96,29 @@ pub(crate) fn ambiguity_at(
         conflict.state.0 conflict.token.0)) }
 {
     match reasons.ambiguity(conflict, steps)? {
+        Some(proved) => {
+            let ambiguity = numbered(alloc, &proved);
+            proved.take_apart();
+            Ok(Some(ambiguity?))
+        }
+        None => Ok(None),
+    }
+}
+
+/// A text with two trees, by the moves to them, if these part at the conflict.
+pub(crate) fn ambiguity_by(
+    alloc: Global,
+    reasons: &Reasons<'_>,
+    conflict: Conflict<u32>,
+    text: &[TIdx<u32>],
+    one: &[Move<u32>],
+    other: &[Move<u32>],
+) -> Result<Option<Ambiguity>, AllocError>
+    ensures trees { IfOk result (λ o. IfSome o (HasTwoTrees reasons.now.grammar)) }
+    ensures parts { IfOk result (λ o. IfSome o (PartsAt reasons.now.grammar reasons.now.graph
+        conflict.state.0 conflict.token.0)) }
+{
+    match reasons.ambiguity_by(conflict, text, one, other)? {
         Some(proved) => {
             let ambiguity = numbered(alloc, &proved);
             proved.take_apart();

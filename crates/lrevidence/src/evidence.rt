@@ -8,56 +8,33 @@ ghost use Rattle.lrconflicts.specs.Entries.{entry_of, IsListed};
 ghost use Rattle.lrreasons.specs.Numbers.{number_of};
 ghost use Rattle.lrevidence.specs.Entries.{AreListedIn};
 ghost use Rattle.lrevidence.specs.Ambiguities.{HasTwoTrees, IsProved, PartsAtEntry};
-ghost use Rattle.lrevidence.specs.Losses.{IsLostAt, IsLostAtEntry};
+ghost use Rattle.lrevidence.specs.Losses.{IsLostAtEntry};
 
 use crate::ambiguities::ambiguity_at;
 use crate::conflicts::conflict_of;
 use crate::examples::Numbering;
-use crate::losses::loss_of;
+use crate::losses::LossSearch;
+use crate::texts::{Shown, shown_at};
 use lrfindings::{Entry, Findings, is_among};
 use lrgrammar::grammar::YaccGrammar;
 use lrreasons::{Conflict, Reasons};
+use lrshown::Ambiguity;
 pub use lrshown::Evidence;
-use lrshown::{Ambiguity, Example, Loss};
 use lrtable::StateGraph;
 use lryacc::FileGrammar;
 use std::alloc::{AllocError, Global};
-
-/// After what a conflict that the table lists is real, where that is told, and a sentence that the parser rejects because of it,
-/// where that gives one.
-fn example_of(
-    alloc: Global,
-    reasons: &Reasons<'_>,
-    numbering: Numbering<'_>,
-    found: &Findings<u32>,
-    conflict: Conflict<u32>,
-    is_told: bool,
-) -> Result<(Option<Box<Example>>, Option<Loss>), AllocError>
-    requires listed { IsListed reasons.now.grammar reasons.now.graph (entry_of number_of conflict) }
-    requires contested { AreReductionsContested reasons.now.grammar reasons.now.graph }
-    requires table { IsTableFor found.now.grm found.now.table }
-    ensures lost { IfOk result (λ r. IfSome r.1 (IsLostAt found.now.grm found.now.table
-        conflict.state.0 conflict.token.0)) }
-{
-    let example = reasons.example(conflict)?;
-    let loss = loss_of(alloc, found, conflict, &example)?;
-    if !is_told {
-        return Ok((None, loss));
-    }
-    let example = numbering.example(alloc, &example)?;
-    Ok((Some(Box::new(alloc, example)?), loss))
-}
 
 /// What is looked for.
 #[derive(Clone, Copy, Debug, PartialEq, Eq)]
 pub struct Effort {
     /// How many steps a search for a sentence with two trees takes at the most, for each entry; for 0 there is none.
     pub steps: usize,
-    /// How much work all searches together may do, in pieces of the size of `Reasons::allow`.
+    /// How much work all searches for sentences with two trees may do together, in pieces of the size of `Reasons::allow`, and as
+    /// much those for sentences that the parser rejects, in pieces of the size of `Losses::allow`.
     pub work: usize,
     /// For how many entries it is told at the most after what they are real: for the first ones.
     pub examples: usize,
-    /// At how many entries without a sentence that has two trees one that the parser rejects is looked for at least: the first ones.
+    /// Of how many entries without such a sentence other texts are tried at the least, if searches take any steps: of the first ones.
     pub losses: usize,
     /// Whether each entry counts, and not only the first of those that stand together, because the same meets at them in the same
     /// state.
@@ -98,33 +75,65 @@ struct Wanted {
     steps: usize,
     /// Whether it is told after what the entry is real, where there is no such sentence.
     has_example: bool,
-    /// Whether a sentence that the parser rejects is looked for then. With an example it always is.
-    has_loss: bool,
+    /// Whether other texts are tried then: they may have two trees, or be rejected by the parser.
+    has_texts: bool,
 }
 
-impl Wanted {
-    /// Whether anything is looked for where there is no sentence with two trees.
-    fn looks_further(self) -> bool {
-        self.has_example || self.has_loss
-    }
-}
-
-/// A loss in a box, if there is one.
-fn boxed(alloc: Global, loss: Option<Loss>) -> Result<Option<Box<Loss>>, AllocError>
-    ensures { IfOk result (λ o. option_map (λ b. b.value) o ≡ loss) }
+/// A value in a box, if there is one.
+fn boxed<T: Drop>(alloc: Global, value: Option<T>) -> Result<Option<Box<T>>, AllocError>
+    ensures { IfOk result (λ o. option_map (λ b. b.value) o ≡ value) }
 {
-    match loss {
-        Some(loss) => Ok(Some(Box::new(alloc, loss)?)),
+    match value {
+        Some(value) => Ok(Some(Box::new(alloc, value)?)),
         None => Ok(None),
     }
 }
 
-/// What is known of an entry.
-fn evidence_of(
-    alloc: Global,
+/// What is known of an entry of which no sentence with two trees was found: what texts show there, and, if that is asked for, after
+/// what it is real.
+fn with_texts(
     reasons: &Reasons<'_>,
     numbering: Numbering<'_>,
     found: &Findings<u32>,
+    search: &LossSearch<'_>,
+    conflict: Conflict<u32>,
+    before: Evidence,
+    has_example: bool,
+) -> Result<Evidence, AllocError>
+    requires listed { IsListed reasons.now.grammar reasons.now.graph (entry_of number_of conflict) }
+    requires contested { AreReductionsContested reasons.now.grammar reasons.now.graph }
+    requires table { IsTableFor found.now.grm found.now.table }
+    requires state { conflict.state.0 ≡ before.entry.state }
+    requires token { conflict.token.0 ≡ before.entry.token }
+    ensures entry { IfOk result (λ e. e.entry ≡ before.entry) }
+    ensures proved { IfOk result (IsProved reasons.now.grammar) }
+    ensures parts { IfOk result (PartsAtEntry reasons.now.grammar reasons.now.graph) }
+    ensures lost { IfOk result (IsLostAtEntry found.now.grm found.now.table) }
+{
+    let alloc = found.grm.allocator();
+    let example = reasons.example(conflict)?;
+    let shown = shown_at(alloc, reasons, found, search, conflict, &example)?;
+    let is_open = shown.ambiguity.is_none();
+    let told = if has_example && is_open {
+        Some(numbering.example(alloc, &example)?)
+    } else {
+        None
+    };
+    Ok(Evidence {
+        entry: before.entry,
+        ambiguity: boxed(alloc, shown.ambiguity)?,
+        example: boxed(alloc, told)?,
+        loss: boxed(alloc, shown.loss)?,
+        is_cut_off: before.is_cut_off && is_open,
+    })
+}
+
+/// What is known of an entry.
+fn evidence_of(
+    reasons: &Reasons<'_>,
+    numbering: Numbering<'_>,
+    found: &Findings<u32>,
+    search: &LossSearch<'_>,
     entry: Entry,
     wanted: Wanted,
 ) -> Result<Evidence, AllocError>
@@ -146,18 +155,35 @@ fn evidence_of(
     let Some(conflict) = conflict_of(entry) else {
         return Ok(evidence);
     };
+    let alloc = found.grm.allocator();
     if wanted.steps > 0 {
         match ambiguity_at(alloc, reasons, conflict, wanted.steps)? {
-            Some(ambiguity) => evidence.ambiguity = Some(Box::new(alloc, ambiguity)?),
+            Some(ambiguity) => {
+                evidence.ambiguity = Some(Box::new(alloc, ambiguity)?);
+                return Ok(evidence);
+            }
             None => evidence.is_cut_off = reasons.is_used_up(),
         }
     }
     let listed = found.conflicts.as_slice();
-    if wanted.looks_further() && evidence.ambiguity.is_none() && is_among(listed, &entry) {
-        let is_told = wanted.has_example;
-        let (example, loss) = example_of(alloc, reasons, numbering, found, conflict, is_told)?;
-        evidence.example = example;
-        evidence.loss = boxed(alloc, loss)?;
+    if !is_among(listed, &entry) {
+        return Ok(evidence);
+    }
+    let has_example = wanted.has_example;
+    if wanted.has_texts {
+        return with_texts(
+            reasons,
+            numbering,
+            found,
+            search,
+            conflict,
+            evidence,
+            has_example,
+        );
+    }
+    if has_example {
+        let example = reasons.example(conflict)?;
+        evidence.example = Some(Box::new(alloc, numbering.example(alloc, &example)?)?);
     }
     Ok(evidence)
 }
@@ -168,6 +194,7 @@ fn push_evidence(
     reasons: &Reasons<'_>,
     numbering: Numbering<'_>,
     found: &Findings<u32>,
+    search: &LossSearch<'_>,
     entries: &[Entry],
     effort: Effort,
 ) -> Result<(), AllocError>
@@ -184,16 +211,16 @@ fn push_evidence(
         (All (PartsAtEntry reasons.now.grammar reasons.now.graph) list.new.items) }
     ensures lost { OnOk result (All (IsLostAtEntry found.now.grm found.now.table) list.new.items) }
 {
-    let alloc = *list.allocator();
     let (mut told, mut unknown): (usize, usize) = (0, 0);
     for entry in entries {
         let counts = effort.counts(list.as_slice(), entry);
+        let has_example = counts && told < effort.examples;
         let wanted = Wanted {
             steps: effort.steps,
-            has_example: counts && told < effort.examples,
-            has_loss: unknown < effort.losses,
+            has_example,
+            has_texts: effort.steps > 0 && (has_example || unknown < effort.losses),
         };
-        let evidence = evidence_of(alloc, reasons, numbering, found, *entry, wanted)?;
+        let evidence = evidence_of(reasons, numbering, found, search, *entry, wanted)?;
         let is_known = evidence.ambiguity.is_some();
         list.push(evidence)?;
         if counts {
@@ -233,7 +260,10 @@ pub fn evidence_for(
     let reasons = effort.reasons(grm, graph)?;
     reasons.allow(effort.work);
     let numbering = Numbering { grm, file };
-    push_evidence(&mut list, &reasons, numbering, found, entries, effort)?;
+    let search = LossSearch::new(alloc, found, graph, effort.work)?;
+    push_evidence(
+        &mut list, &reasons, numbering, found, &search, entries, effort,
+    )?;
     Ok(list)
 }
 

@@ -7,6 +7,8 @@ mod conflicts;
 mod evidence;
 mod examples;
 mod losses;
+mod machine;
+mod texts;
 
 pub use crate::evidence::{Effort, Evidence, evidence_for, find_ambiguity};
 pub use lrshown::{

@@ -1,48 +1,122 @@
 //! Sentences that the parser rejects.
 
-ghost use Rattle.std.specs.Prelude.{◌≡◌, ◌++◌, IsTrue, IfOk, IfSome};
+ghost use Rattle.std.specs.Prelude.{◌≡◌, IsTrue, IfOk, IfSome};
 ghost use Rattle.lrspec.specs.tables.Table.{IsTableFor};
 ghost use Rattle.lrevidence.specs.Losses.{IsLostAt};
 
 use crate::ambiguities::numbers_of;
-use lrconflicts::Written;
-use lrfindings::Findings;
+use lrconflicts::{Move, Written};
+use lrfindings::{Entry, Findings};
 use lrgrammar::idx::{StIdx, TIdx};
-use lrlosses::{Place, check_lost};
-use lrreasons::{Conflict, Outlook};
+use lrlosses::{Candidate, Find, Losses, Place, check_lost};
+use lrreasons::Conflict;
 use lrshown::{Loss, step_of, steps_of};
+use lrtable::{Action, StateGraph};
 use std::alloc::{AllocError, Global};
+use std::collections::BTreeSet;
 
-/// How many steps a run takes at the most on a text whose tree has so many moves.
-fn steps_for(moves: usize) -> usize {
-    moves.saturating_mul(10).saturating_add(1_000)
+/// How many pairs of stacks a search for a sentence that the parser rejects looks at.
+const PAIRS: usize = 200;
+
+/// The cells in which precedences resolve something.
+#[derive(Drop)]
+struct ResolvedCells {
+    /// State and token of each.
+    cells: BTreeSet<(usize, usize)>,
+    /// Whether a shift meets several reductions in one of them. Bison tries each reduction by itself against the shift, so its table
+    /// may do something else there.
+    are_crowded: bool,
 }
 
-/// The input and the rest behind it.
-fn joined(
-    alloc: Global,
-    input: &Written<u32>,
-    rest: &Written<u32>,
-) -> Result<Written<u32>, AllocError>
-    ensures tokens { IfOk result (λ w.
-        w.tokens.items ≡ input.now.tokens.items ++ rest.now.tokens.items) }
-    ensures moves { IfOk result (λ w.
-        w.moves.items ≡ input.now.moves.items ++ rest.now.moves.items) }
-{
-    let mut tokens = Vec::new(alloc);
-    tokens.extend_from_slice(input.tokens.as_slice())?;
-    tokens.extend_from_slice(rest.tokens.as_slice())?;
-    let mut moves = Vec::new(alloc);
-    moves.extend_from_slice(input.moves.as_slice())?;
-    moves.extend_from_slice(rest.moves.as_slice())?;
-    Ok(Written { tokens, moves })
+impl ResolvedCells {
+    /// Those of what was found.
+    fn new(alloc: Global, found: &Findings<u32>) -> Result<ResolvedCells, AllocError> {
+        let mut resolved = ResolvedCells {
+            cells: BTreeSet::new(alloc),
+            are_crowded: false,
+        };
+        for one in &found.resolved {
+            resolved.add(one.entry)?;
+        }
+        resolved.are_crowded |= found.left.iter().any(|entry| resolved.has(*entry));
+        Ok(resolved)
+    }
+
+    /// Adds the cell of an entry.
+    fn add(&mut self, entry: Entry) -> Result<(), AllocError> {
+        let is_new = self.cells.insert((entry.state, entry.token))?;
+        self.are_crowded |= !is_new;
+        Ok(())
+    }
+
+    /// Whether the cell of an entry is one.
+    fn has(&self, entry: Entry) -> bool {
+        self.cells.contains(&(entry.state, entry.token))
+    }
+
+    /// Whether this cell is one. Where it is an error, that is what precedences make of it, by `%nonassoc`.
+    fn has_cell(&self, state: StIdx<u32>, token: TIdx<u32>) -> bool {
+        let cell = (usize::from(state), usize::from(token));
+        self.cells.contains(&cell)
+    }
 }
 
-/// Whether precedences resolve something in a cell: where it is an error, that is what they make of it, by `%nonassoc`.
-fn is_resolved(found: &Findings<u32>, state: StIdx<u32>, token: TIdx<u32>) -> bool {
-    let (state, token) = (usize::from(state), usize::from(token));
-    let mut entries = found.resolved.iter().map(|it| it.entry);
-    entries.any(|entry| entry.state == state && entry.token == token)
+/// Whether the table takes the candidate of the conflict.
+fn is_taken(found: &Findings<u32>, conflict: Conflict<u32>, action: Move<u32>) -> bool {
+    match found.table.action(conflict.state, conflict.token) {
+        Action::Shift(_) => action == Move::Shift,
+        Action::Reduce(production) => action == Move::Reduce(production),
+        Action::Accept | Action::Error => false,
+    }
+}
+
+/// What finds sentences that the parser rejects.
+#[derive(Drop)]
+pub(crate) struct LossSearch<'a> {
+    losses: Losses<'a>,
+    cells: ResolvedCells,
+}
+
+impl<'a> LossSearch<'a> {
+    /// In the table that was found, with so much work for all searches together.
+    pub(crate) fn new(
+        alloc: Global,
+        found: &'a Findings<u32>,
+        graph: &'a StateGraph<u32>,
+        work: usize,
+    ) -> Result<LossSearch<'a>, AllocError>
+        requires { IsTableFor found.now.grm found.now.table }
+    {
+        let losses = Losses::new(&found.grm, graph, &found.table);
+        losses.allow(work);
+        Ok(LossSearch {
+            losses,
+            cells: ResolvedCells::new(alloc, found)?,
+        })
+    }
+
+    /// A text that may be lost at the conflict by this candidate, where one is found.
+    pub(crate) fn text_at(
+        &self,
+        found: &Findings<u32>,
+        conflict: Conflict<u32>,
+        action: Move<u32>,
+    ) -> Result<Option<Written<u32>>, AllocError> {
+        if self.cells.are_crowded || is_taken(found, conflict, action) {
+            return Ok(None);
+        }
+        let candidate = Candidate {
+            state: conflict.state,
+            token: conflict.token,
+            action,
+        };
+        let Some(find) = self.losses.loss_at(candidate, PAIRS)? else {
+            return Ok(None);
+        };
+        let Find { text, loss } = find;
+        loss.take_apart();
+        Ok(Some(text))
+    }
 }
 
 /// Whether the place is at the conflict.
@@ -53,26 +127,30 @@ fn is_at(place: Place<u32>, conflict: Conflict<u32>) -> bool
     place.state == conflict.state && place.token == conflict.token
 }
 
-/// The loss at the conflict that a text and the moves of its tree show; none where it is an error by `%nonassoc` that rejects the
-/// text, since that is what this is for.
-fn loss_by(
+/// The loss at the conflict that a text and the moves of its tree show. None where it is an error by `%nonassoc` that rejects the
+/// text, since that is what this is for; nor where Bison's table may be another one.
+pub(crate) fn loss_by(
     alloc: Global,
     found: &Findings<u32>,
+    search: &LossSearch<'_>,
     conflict: Conflict<u32>,
     text: &Written<u32>,
+    steps: usize,
 ) -> Result<Option<Loss>, AllocError>
     requires table { IsTableFor found.now.grm found.now.table }
     ensures { IfOk result (λ o. IfSome o (IsLostAt found.now.grm found.now.table
         conflict.state.0 conflict.token.0)) }
 {
+    if search.cells.are_crowded {
+        return Ok(None);
+    }
     let (tokens, moves) = (text.tokens.as_slice(), text.moves.as_slice());
-    let steps = steps_for(moves.len());
     let Some(loss) = check_lost(alloc, &found.grm, &found.table, tokens, moves, steps)? else {
         return Ok(None);
     };
     let (parting, lost, rejected) = (loss.parting, loss.lost, loss.rejected);
     loss.take_apart();
-    if !is_at(parting, conflict) || is_resolved(found, rejected.state, rejected.token) {
+    if !is_at(parting, conflict) || search.cells.has_cell(rejected.state, rejected.token) {
         return Ok(None);
     }
     Ok(Some(Loss {
@@ -83,51 +161,4 @@ fn loss_by(
         stop: rejected.used,
         lost: step_of(lost),
     }))
-}
-
-/// The loss at the conflict that the input shows with the rest behind it by which a candidate goes on, where both are known.
-fn loss_behind(
-    alloc: Global,
-    found: &Findings<u32>,
-    conflict: Conflict<u32>,
-    input: &Written<u32>,
-    outlook: Option<&Outlook>,
-) -> Result<Option<Loss>, AllocError>
-    requires table { IsTableFor found.now.grm found.now.table }
-    ensures { IfOk result (λ o. IfSome o (IsLostAt found.now.grm found.now.table
-        conflict.state.0 conflict.token.0)) }
-{
-    let Some(
-        Outlook {
-            rest: Some(rest),
-            ..
-        },
-    ) = outlook
-    else {
-        return Ok(None);
-    };
-    let text = joined(alloc, input, rest)?;
-    loss_by(alloc, found, conflict, &text)
-}
-
-/// A sentence that the parser rejects, since at the conflict it doesn't go on by the right candidate: the input of the example
-/// and the rest by one of its candidates, where this is such a sentence.
-pub(crate) fn loss_of(
-    alloc: Global,
-    found: &Findings<u32>,
-    conflict: Conflict<u32>,
-    example: &lrreasons::Example,
-) -> Result<Option<Loss>, AllocError>
-    requires table { IsTableFor found.now.grm found.now.table }
-    ensures { IfOk result (λ o. IfSome o (IsLostAt found.now.grm found.now.table
-        conflict.state.0 conflict.token.0)) }
-{
-    let Some(input) = &example.input else {
-        return Ok(None);
-    };
-    let loss = loss_behind(alloc, found, conflict, input, example.one.as_ref())?;
-    if loss.is_some() {
-        return Ok(loss);
-    }
-    loss_behind(alloc, found, conflict, input, example.other.as_ref())
 }

@@ -1,0 +1,203 @@
+//! What texts show at conflicts: the input of an example with the rest by which a candidate goes on, or what a search finds.
+
+ghost use Rattle.std.specs.Prelude.{◌≡◌, ◌++◌, IfOk, IfSome};
+ghost use Rattle.lrspec.specs.tables.Table.{IsTableFor};
+ghost use Rattle.lrevidence.specs.Ambiguities.{HasTwoTrees, PartsAt};
+ghost use Rattle.lrevidence.specs.Losses.{IsLostAt};
+
+use crate::ambiguities::ambiguity_by;
+use crate::losses::{LossSearch, loss_by};
+use crate::machine::accepting_moves;
+use lrconflicts::{Move, Written, other_move};
+use lrfindings::Findings;
+use lrreasons::{Conflict, Outlook, Reasons};
+use lrshown::{Ambiguity, Loss};
+use std::alloc::{AllocError, Global};
+
+/// What texts show at a conflict.
+#[derive(Drop)]
+pub(crate) struct Shown {
+    /// One with two trees, which part there.
+    pub(crate) ambiguity: Option<Ambiguity>,
+    /// One that the parser rejects, since it goes wrong there.
+    pub(crate) loss: Option<Loss>,
+}
+
+impl Shown {
+    /// Nothing.
+    pub(crate) const NOTHING: Shown = Shown {
+        ambiguity: None,
+        loss: None,
+    };
+
+    /// Whether it is something.
+    fn is_something(&self) -> bool {
+        self.ambiguity.is_some() || self.loss.is_some()
+    }
+}
+
+/// How many steps a run takes at the most on a text whose tree has so many moves.
+fn steps_for(moves: usize) -> usize {
+    moves.saturating_mul(10).saturating_add(1_000)
+}
+
+/// The input and the rest behind it.
+fn joined(
+    alloc: Global,
+    input: &Written<u32>,
+    rest: &Written<u32>,
+) -> Result<Written<u32>, AllocError>
+    ensures tokens { IfOk result (λ w.
+        w.tokens.items ≡ input.now.tokens.items ++ rest.now.tokens.items) }
+    ensures moves { IfOk result (λ w.
+        w.moves.items ≡ input.now.moves.items ++ rest.now.moves.items) }
+{
+    let mut tokens = Vec::new(alloc);
+    tokens.extend_from_slice(input.tokens.as_slice())?;
+    tokens.extend_from_slice(rest.tokens.as_slice())?;
+    let mut moves = Vec::new(alloc);
+    moves.extend_from_slice(input.moves.as_slice())?;
+    moves.extend_from_slice(rest.moves.as_slice())?;
+    Ok(Written { tokens, moves })
+}
+
+/// What a text and the moves of its tree show at the conflict. Where the machine accepts it, its own moves lead to a tree of it too.
+fn shown_by(
+    alloc: Global,
+    reasons: &Reasons<'_>,
+    found: &Findings<u32>,
+    search: &LossSearch<'_>,
+    conflict: Conflict<u32>,
+    text: &Written<u32>,
+) -> Result<Shown, AllocError>
+    requires table { IsTableFor found.now.grm found.now.table }
+    ensures trees { IfOk result (λ s. IfSome s.ambiguity (HasTwoTrees reasons.now.grammar)) }
+    ensures parts { IfOk result (λ s. IfSome s.ambiguity (PartsAt reasons.now.grammar
+        reasons.now.graph conflict.state.0 conflict.token.0)) }
+    ensures lost { IfOk result (λ s. IfSome s.loss (IsLostAt found.now.grm found.now.table
+        conflict.state.0 conflict.token.0)) }
+{
+    let (tokens, moves) = (text.tokens.as_slice(), text.moves.as_slice());
+    let steps = steps_for(moves.len());
+    let loss = loss_by(alloc, found, search, conflict, text, steps)?;
+    let ambiguity = match accepting_moves(alloc, &found.grm, &found.table, tokens, steps)? {
+        Some(own) => ambiguity_by(alloc, reasons, conflict, tokens, own.as_slice(), moves)?,
+        None => None,
+    };
+    Ok(Shown { ambiguity, loss })
+}
+
+/// What the input shows at the conflict with the rest behind it by which a candidate goes on, where both are known.
+fn shown_behind(
+    alloc: Global,
+    reasons: &Reasons<'_>,
+    found: &Findings<u32>,
+    search: &LossSearch<'_>,
+    conflict: Conflict<u32>,
+    input: &Written<u32>,
+    outlook: Option<&Outlook>,
+) -> Result<Shown, AllocError>
+    requires table { IsTableFor found.now.grm found.now.table }
+    ensures trees { IfOk result (λ s. IfSome s.ambiguity (HasTwoTrees reasons.now.grammar)) }
+    ensures parts { IfOk result (λ s. IfSome s.ambiguity (PartsAt reasons.now.grammar
+        reasons.now.graph conflict.state.0 conflict.token.0)) }
+    ensures lost { IfOk result (λ s. IfSome s.loss (IsLostAt found.now.grm found.now.table
+        conflict.state.0 conflict.token.0)) }
+{
+    let Some(
+        Outlook {
+            rest: Some(rest),
+            ..
+        },
+    ) = outlook
+    else {
+        return Ok(Shown::NOTHING);
+    };
+    let text = joined(alloc, input, rest)?;
+    shown_by(alloc, reasons, found, search, conflict, &text)
+}
+
+/// What the example of a conflict shows: the text of each candidate is tried, since the parser goes on by one of them only.
+fn shown_by_example(
+    alloc: Global,
+    reasons: &Reasons<'_>,
+    found: &Findings<u32>,
+    search: &LossSearch<'_>,
+    conflict: Conflict<u32>,
+    example: &lrreasons::Example,
+) -> Result<Shown, AllocError>
+    requires table { IsTableFor found.now.grm found.now.table }
+    ensures trees { IfOk result (λ s. IfSome s.ambiguity (HasTwoTrees reasons.now.grammar)) }
+    ensures parts { IfOk result (λ s. IfSome s.ambiguity (PartsAt reasons.now.grammar
+        reasons.now.graph conflict.state.0 conflict.token.0)) }
+    ensures lost { IfOk result (λ s. IfSome s.loss (IsLostAt found.now.grm found.now.table
+        conflict.state.0 conflict.token.0)) }
+{
+    let Some(input) = &example.input else {
+        return Ok(Shown::NOTHING);
+    };
+    let (one, other) = (example.one.as_ref(), example.other.as_ref());
+    let first = shown_behind(alloc, reasons, found, search, conflict, input, one)?;
+    let second = shown_behind(alloc, reasons, found, search, conflict, input, other)?;
+    Ok(Shown {
+        ambiguity: first.ambiguity.or(second.ambiguity),
+        loss: first.loss.or(second.loss),
+    })
+}
+
+/// What a text shows that a search finds for the candidate.
+fn shown_by_search(
+    alloc: Global,
+    reasons: &Reasons<'_>,
+    found: &Findings<u32>,
+    search: &LossSearch<'_>,
+    conflict: Conflict<u32>,
+    action: Move<u32>,
+) -> Result<Shown, AllocError>
+    requires table { IsTableFor found.now.grm found.now.table }
+    ensures trees { IfOk result (λ s. IfSome s.ambiguity (HasTwoTrees reasons.now.grammar)) }
+    ensures parts { IfOk result (λ s. IfSome s.ambiguity (PartsAt reasons.now.grammar
+        reasons.now.graph conflict.state.0 conflict.token.0)) }
+    ensures lost { IfOk result (λ s. IfSome s.loss (IsLostAt found.now.grm found.now.table
+        conflict.state.0 conflict.token.0)) }
+{
+    match search.text_at(found, conflict, action)? {
+        Some(text) => shown_by(alloc, reasons, found, search, conflict, &text),
+        None => Ok(Shown::NOTHING),
+    }
+}
+
+/// What is shown at the conflict: by its example, or else by what a search finds for either of its candidates.
+pub(crate) fn shown_at(
+    alloc: Global,
+    reasons: &Reasons<'_>,
+    found: &Findings<u32>,
+    search: &LossSearch<'_>,
+    conflict: Conflict<u32>,
+    example: &lrreasons::Example,
+) -> Result<Shown, AllocError>
+    requires table { IsTableFor found.now.grm found.now.table }
+    ensures trees { IfOk result (λ s. IfSome s.ambiguity (HasTwoTrees reasons.now.grammar)) }
+    ensures parts { IfOk result (λ s. IfSome s.ambiguity (PartsAt reasons.now.grammar
+        reasons.now.graph conflict.state.0 conflict.token.0)) }
+    ensures lost { IfOk result (λ s. IfSome s.loss (IsLostAt found.now.grm found.now.table
+        conflict.state.0 conflict.token.0)) }
+{
+    let shown = shown_by_example(alloc, reasons, found, search, conflict, example)?;
+    if shown.is_something() {
+        return Ok(shown);
+    }
+    let reduction = Move::Reduce(conflict.production);
+    let shown = shown_by_search(alloc, reasons, found, search, conflict, reduction)?;
+    if shown.is_something() {
+        return Ok(shown);
+    }
+    shown_by_search(
+        alloc,
+        reasons,
+        found,
+        search,
+        conflict,
+        other_move(&conflict),
+    )
+}
