@@ -34,7 +34,7 @@ SHORT = 5
 MISSED = 0  # So many entries may be missed, of those that short texts show to be ambiguous.
 MOST_STATES = 600  # Canonical ones; grammars with more are passed over.
 MOST_STACKS = 3000
-ONE_STEP = ("--steps", "1")  # No text is found in it, so that the list of each entry is told.
+ONE_STEP = ("--steps", "1")  # No search finds a text in it, so that lists are told, but where their own texts have two trees.
 
 
 class Known:
@@ -101,9 +101,12 @@ def check_list(known, conflict, symbols, token):
 
 
 def check_after(known, told, entry, counts):
-    """The list, its input, and how that goes on by either candidate."""
+    """The list, its input, and how that goes on by either candidate; or a text that has two trees."""
     conflict, after = entry.conflict, entry.by_one_step["after"]
-    hold(after is not None, "it is not told after what it is real")
+    if after is None:
+        check_two_trees(told, conflict, entry.by_one_step)
+        counts["ambiguous by one step"] += 1
+        return
     symbols, token = told.symbols(after["list"]), told.symbol(after["token"])
     check_list(known, conflict, symbols, token)
     for check in texts.OF_LISTS:
@@ -127,6 +130,15 @@ def check_pair(told, conflict, ambiguity):
     pair = tuple(None if isinstance(move, int) else move[0] for move in moves)
     hold(pair in conflict.pairs(), f"the trees part by {pair}")
     return pair
+
+
+def check_two_trees(told, conflict, entry):
+    """A text is told, with two trees that part by two candidates of the entry's cell."""
+    ambiguity = entry["ambiguity"]
+    hold(ambiguity is not None, "it is not told after what it is real")
+    for check in texts.OF_TEXTS:
+        check(told, entry, ambiguity)
+    return check_pair(told, conflict, ambiguity)
 
 
 def check_printed_text(ambiguity, printed):
@@ -194,9 +206,7 @@ def check_brackets(known, told, ambiguity, pair, trees):
 def check_ambiguity(known, told, entry, counts):
     """The text and its trees, and what is printed of them."""
     ambiguity = entry.told["ambiguity"]
-    for check in texts.OF_TEXTS:
-        check(told, entry.told, ambiguity)
-    pair = check_pair(told, entry.conflict, ambiguity)
+    pair = check_two_trees(told, entry.conflict, entry.told)
     check_printed_text(ambiguity, entry.lines.text)
     check_brackets(known, told, ambiguity, pair, entry.lines.trees)
     hold(ambiguity["own"] == (pair == entry.conflict.pair), f"the trees part by {pair}, which is told otherwise")
