@@ -3,6 +3,7 @@
 mod ambiguities;
 mod commands;
 mod contests;
+mod decided;
 mod examples;
 mod fixtures;
 mod forms;

@@ -20,3 +20,19 @@ pub mod SameMoves
 pub mod UnambiguousGrammars
 -- certificates in the making
 pub mod GrowingLists
+-- with what symbols begin, symbol after symbol
+pub mod BeginningsInTurn
+-- nodes that are impossible, by bits
+pub mod ImpossibleNodes
+-- nodes whose ways take tokens, and are cut
+pub mod TakenAndCut
+-- lists that grow one after another, and states that are collected so
+pub mod CollectedInTurn
+-- nodes to which moves lead, one after another
+pub mod FoundMoves
+-- nodes that are the same
+pub mod SameNodes
+-- nodes at which two ways may begin, one after another
+pub mod FoundStarts
+-- entries that are certified
+pub mod CertifiedEntries

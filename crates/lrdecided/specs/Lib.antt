@@ -8,3 +8,15 @@ pub mod Nodes
 pub mod Rules
 -- and what certifies that no two texts part at a cell
 pub mod Certificates
+-- how the code stores nodes
+pub mod StoredNodes
+-- with what symbols begin
+pub mod Beginnings
+-- states that are collected
+pub mod StoredStates
+-- nodes to which moves lead
+pub mod Moved
+-- nodes at which two ways may begin
+pub mod Starts
+-- entries of cells
+pub mod Entries

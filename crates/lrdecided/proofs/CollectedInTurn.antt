@@ -1,0 +1,208 @@
+-- lists that grow one after another, and states that are collected so
+use Rattle.std.proofs.Common.{◌≡◌, ◌≢◌, ℕ, zero, suc, Bool, true, false, ◌+◌, ◌<◌, ◌≤◌, List, [], ◌∷◌, ◌++◌, length, map, get_or, set, replicate, drop, Some, refl, sym, subst, ap, ◌∙◌, ◌⊎◌, inl, inr, ⊎_elim, arith}
+use Rattle.std.specs.Prelude.{IsTrue, Contains, ◌↔◌}
+use Rattle.std.specs.List.Sorted.{IsPermutation}
+use Rattle.std.specs.declared.vec.Vec.{Vec}
+use Rattle.std.specs.declared.alloc.Global.{Global}
+use Rattle.std.proofs.lemmas.Bool.{cases_eq}
+use Rattle.std.proofs.lemmas.Option.{slice_get_past}
+use Rattle.std.proofs.lemmas.List.{get_or-set_other, map-append}
+use Rattle.std.proofs.lemmas.List.Elements.{Contains-append_left, Contains-push}
+use Rattle.std.proofs.lemmas.List.Sorted.{IsPermutation-map, Contains-permutation}
+use Rattle.lrspec.specs.grammars.Grammar as math
+use Rattle.lrspec.specs.grammars.ItemSets.{Items, HasItem}
+use Rattle.lrspec.specs.merging.Graph.{Graph, closed_of, closed_or_none, edge}
+use Rattle.lrspec.proofs.grammars.ListMembers.{among_from_contains, contains_from_among}
+use Rattle.lrbits.specs.Bits.{bit}
+use Rattle.lrgrammar.specs.declared.idx.StIdx.{StIdx}
+use Rattle.lrgrammar.specs.declared.idx.Symbol.{Symbol}
+use Rattle.lrgrammar.specs.Symbols.{symbol_of}
+use Rattle.lrclosing.proofs.SymbolsBehindDots.{left_at, left_none}
+use Rattle.lrsearches.specs.StoredWays.{row_of, IsRowOf, AreIncoming}
+use Rattle.lrdecided.specs.StoredNodes.{states_of}
+use Rattle.lrdecided.specs.StoredStates.{AreSeen, IsMarked, KeepsStates, HasSources}
+
+-- an element of a list is the first, or behind it
+pub first_or_behind : {X : Type 0} (y : X) (ys : List X) (x : X) → Contains (y ∷ ys) x → (x ≡ y) ⊎ Contains ys x
+first_or_behind y ys x h = elim (among_from_contains x (y ∷ ys) h) [
+  | inl e ↦ inl e
+  | inr k ↦ inr (contains_from_among x ys k)
+]
+
+pub none_contained : {X : Type 0} (x : X) → Contains [] x → ⊥
+none_contained x (k, l, e) = absurd (omega (arith, l))
+
+-- a list with one more
+module _ {X Y : Type 0} (f : X → Y) (old new : List X) (x : X) (pushed : new ≡ old ++ x ∷ []) where
+  one_more : map f new ≡ map f old ++ f x ∷ []
+  one_more = ap (map f) pushed ∙ map-append f old (x ∷ [])
+
+  pub kept : (a : Y) → Contains (map f old) a → Contains (map f new) a
+  kept a h = rw one_more (Contains-append_left (map f old) (f x ∷ []) a h)
+
+  pub added : (a : Y) → f x ≡ a → Contains (map f new) a
+  added a e = rw (one_more, e) (Contains-push (map f old) a)
+
+module _ {T : Type 0} (number : T → ℕ) where
+  -- states with one more
+  pub push_keeps : (old new : List (StIdx T)) (x : StIdx T) → new ≡ old ++ x ∷ [] → KeepsStates (states_of number old) (states_of number new)
+  push_keeps old new x e = kept (λ (s : StIdx T). number s.0) old new x e
+
+  pub push_has : (old new : List (StIdx T)) (x : StIdx T) → new ≡ old ++ x ∷ [] → Contains (states_of number new) (number x.0)
+  push_has old new x e = added (λ (s : StIdx T). number s.0) old new x e (number x.0) refl
+
+  -- the same states in another order
+  pub sorted_has : (old new : List (StIdx T)) → IsPermutation old new → KeepsStates (states_of number old) (states_of number new)
+  sorted_has old new p s h = Contains-permutation (states_of number old) (states_of number new) s (IsPermutation-map (λ (x : StIdx T). number x.0) old new p) h
+
+-- one more that was seen
+pub seen_more : (seen : List Bool) (n : ℕ) (old new : List ℕ) → n < length seen → AreSeen seen old → KeepsStates old new → Contains new n → AreSeen (set seen n true) new
+seen_more seen n old new l k keeps here s b = ⊎_elim
+    (λ (e : s ≡ n). rw e here)
+    (λ (d : s ≡ n → ⊥). keeps s (k s (sym (get_or-set_other seen n s true false d) ∙ b)))
+    (cases_eq s n)
+
+-- where a bit is set already, nothing changes
+pub seen_same : (seen : List Bool) (n : ℕ) (states : List ℕ) → bit seen n ≡ true → AreSeen seen states → AreSeen (set seen n true) states
+seen_same seen n states e k s b = ⊎_elim
+    (λ (i : s ≡ n). k s (rw i e))
+    (λ (d : s ≡ n → ⊥). k s (sym (get_or-set_other seen n s true false d) ∙ b))
+    (cases_eq s n)
+
+-- a turn for each edge of a row: the states from which those that are not left lead are listed
+pub record AreAdding (row left : List (math.Symbol × ℕ)) (states : List ℕ) : Type 0 where
+  pub sources : (x : math.Symbol) (s : ℕ) → Contains row (x, s) → Contains left (x, s) ⊎ Contains states s
+
+pub begin_sources : (row : List (math.Symbol × ℕ)) (states : List ℕ) → AreAdding row row states
+begin_sources row states = record { sources = λ x s h. inl h }
+
+pub next_sources :
+    (row left : List (math.Symbol × ℕ)) (v : math.Symbol) (r : ℕ) (old new : List ℕ) → AreAdding row ((v, r) ∷ left) old → KeepsStates old new → Contains new r
+    → AreAdding row left new
+next_sources row left v r old new k keeps here = record {
+  sources = λ x s h. elim (k.sources x s h) [
+    | inl i ↦ elim (first_or_behind (v, r) left (x, s) i) [
+      | inl e ↦ let same : s ≡ r = ap (λ (p : math.Symbol × ℕ). p.1) e in inr (rw same here)
+      | inr j ↦ inl j
+    ]
+    | inr i ↦ inr (keeps s i)
+  ];
+}
+
+pub end_sources : (row left : List (math.Symbol × ℕ)) (states : List ℕ) → left ≡ [] → AreAdding row left states → HasSources row states
+end_sources row left states e k x s h = elim (k.sources x s h) [ inl i ↦ absurd (none_contained (x, s) (rw e at i)) | inr i ↦ i ]
+
+-- a turn for each state: from those that are not left each state before is listed
+pub record HasBeforeSo (h : Graph) (states left before : List ℕ) : Type 0 where
+  pub all : (s u : ℕ) (x : math.Symbol) → Contains states u → edge h s x ≡ Some u → Contains left u ⊎ Contains before s
+
+pub begin_before : (h : Graph) (states before : List ℕ) → HasBeforeSo h states states before
+begin_before h states before = record { all = λ s u x k e. inl k }
+
+pub next_before :
+    (h : Graph) (states left : List ℕ) (n : ℕ) (old new : List ℕ) → HasBeforeSo h states (n ∷ left) old → KeepsStates old new
+    → ((s : ℕ) (x : math.Symbol) → edge h s x ≡ Some n → Contains new s) → HasBeforeSo h states left new
+next_before h states left n old new k keeps here = record {
+  all = λ s u x i e. elim (k.all s u x i e) [
+    | inl j ↦ elim (first_or_behind n left u j) [
+      | inl same ↦ inr (here s x (rw same at e))
+      | inr l ↦ inl l
+    ]
+    | inr j ↦ inr (keeps s j)
+  ];
+}
+
+pub end_before :
+    (h : Graph) (states left before : List ℕ) → left ≡ [] → HasBeforeSo h states left before
+    → (s u : ℕ) (x : math.Symbol) → Contains states u → edge h s x ≡ Some u → Contains before s
+end_before h states left before e k s u x i f = elim (k.all s u x i f) [ inl j ↦ absurd (none_contained u (rw e at j)) | inr j ↦ j ]
+
+-- the sources of the row of a state are the states before it
+pub of_row :
+    (h : Graph) (u : ℕ) (row : List (math.Symbol × ℕ)) (before : List ℕ) → IsRowOf h u row → HasSources row before
+    → (s : ℕ) (x : math.Symbol) → edge h s x ≡ Some u → Contains before s
+of_row h u row before is has s x e = has x s ((is x s).1 e)
+
+-- a turn for each state: of those that are not left the ones with the item are kept
+pub record HasKept (h : Graph) (p d : ℕ) (states left kept : List ℕ) : Type 0 where
+  pub all : (s : ℕ) → Contains states s → HasItem (closed_of h s) p d → Contains left s ⊎ Contains kept s
+
+pub begin_kept : (h : Graph) (p d : ℕ) (states kept : List ℕ) → HasKept h p d states states kept
+begin_kept h p d states kept = record { all = λ s k i. inl k }
+
+pub next_kept :
+    (h : Graph) (p d : ℕ) (states left : List ℕ) (n : ℕ) (old new : List ℕ) → HasKept h p d states (n ∷ left) old → KeepsStates old new
+    → (HasItem (closed_of h n) p d → Contains new n) → HasKept h p d states left new
+next_kept h p d states left n old new k keeps here = record {
+  all = λ s i has. elim (k.all s i has) [
+    | inl j ↦ elim (first_or_behind n left s j) [
+      | inl same ↦ inr (rw same (here (rw same at has)))
+      | inr l ↦ inl l
+    ]
+    | inr j ↦ inr (keeps s j)
+  ];
+}
+
+pub end_kept :
+    (h : Graph) (p d : ℕ) (states left kept : List ℕ) → left ≡ [] → HasKept h p d states left kept
+    → (s : ℕ) → Contains states s → HasItem (closed_of h s) p d → Contains kept s
+end_kept h p d states left kept e k s i has = elim (k.all s i has) [ inl j ↦ absurd (none_contained s (rw e at j)) | inr j ↦ j ]
+
+-- past the end of the bits nothing is marked
+pub marked_past : (seen : List Bool) (n : ℕ) → IsMarked seen seen n true
+marked_past seen n = λ was now k keeps here s b. keeps s (k s b)
+
+-- the bit is set, and was not or was
+pub marked : (seen new : List Bool) (n : ℕ) (b : Bool) → n < length seen → new ≡ set seen n true → IsTrue b ↔ (bit seen n ≢ true) → IsMarked seen new n b
+marked seen new n true l e is = λ was now k keeps here. rw e (seen_more seen n was now l k keeps here)
+marked seen new n false l e is = λ states k.
+    let set_before : bit seen n ≡ true = was_set (bit seen n) refl in
+    (rw e (seen_same seen n states set_before k), k n set_before)
+  where
+    was_set : (v : Bool) → bit seen n ≡ v → v ≡ true
+    was_set true i = refl
+    was_set false i = let no : false ≡ true = is.1 (λ t. let both : false ≡ true = sym i ∙ t in absurd cc) in no
+
+module _ {T : Type 0} (number : T → ℕ) where
+  -- what is left of a row at a place
+  pub edge_left :
+      (row : List (Symbol T × StIdx T)) (i : ℕ) (e : Symbol T × StIdx T) → i < length row → e ≡ get_or row i e
+      → row_of number (drop i row) ≡ (symbol_of number e.0, number e.1.0) ∷ row_of number (drop (i + 1) row)
+  edge_left row i e l is =
+      let shown : Symbol T × StIdx T → math.Symbol × ℕ = λ x. (symbol_of number x.0, number x.1.0) in left_at {Y = math.Symbol × ℕ} shown row i e e l is refl
+
+  pub edges_none : (row : List (Symbol T × StIdx T)) (i : ℕ) → length row ≤ i → row_of number (drop i row) ≡ []
+  edges_none row i l =
+      let shown : Symbol T × StIdx T → math.Symbol × ℕ = λ x. (symbol_of number x.0, number x.1.0) in left_none {Y = math.Symbol × ℕ} shown row i l
+
+  -- and of states
+  pub state_left :
+      (ss : List (StIdx T)) (i : ℕ) (s : StIdx T) → i < length ss → s ≡ get_or ss i s → states_of number (drop i ss) ≡ number s.0 ∷ states_of number (drop (i + 1) ss)
+  state_left ss i s l is = let shown : StIdx T → ℕ = λ x. number x.0 in left_at {Y = ℕ} shown ss i s s l is refl
+
+  pub states_none : (ss : List (StIdx T)) (i : ℕ) → length ss ≤ i → states_of number (drop i ss) ≡ []
+  states_none ss i l = let shown : StIdx T → ℕ = λ x. number x.0 in left_none {Y = ℕ} shown ss i l
+
+no_bit : (n i : ℕ) → get_or (replicate n false) i false ≡ false
+no_bit zero i = refl
+no_bit (suc n) zero = refl
+no_bit (suc n) (suc i) = no_bit n i
+
+-- no bit is set at first
+pub none_seen : (n : ℕ) (seen : List Bool) (states : List ℕ) → seen ≡ replicate n false → AreSeen seen states
+none_seen n seen states e s b = let no : false ≡ true = sym (no_bit n s) ∙ rw e at b in absurd cc
+
+-- the row of a state
+pub row_is :
+    {T : Type 0} (number : T → ℕ) (h : Graph) (lists : List (Vec (Symbol T × StIdx T) Global)) (u n : ℕ) (row : Vec (Symbol T × StIdx T) Global)
+    → AreIncoming number h lists → n ≡ u → u < length h → row ≡ get_or lists n row → IsRowOf h u (row_of number row.items)
+row_is {T} number h lists u n row k same l e =
+    let is : row ≡ get_or lists u row = rw same at e in
+    subst (λ (v : Vec (Symbol T × StIdx T) Global). IsRowOf h u (row_of number v.items)) (sym is) (k.rows u row l)
+
+-- past the end of the graph no state has an item
+pub no_item : (h : Graph) (s p d : ℕ) → length h ≤ s → HasItem (closed_of h s) p d → ⊥
+no_item h s p d l has =
+    let none : closed_of h s ≡ [] = ap closed_or_none (slice_get_past h s l) in
+    let Has : Items → Type 0 = λ a. HasItem a p d in
+    let no = subst Has none has in absurd cc
