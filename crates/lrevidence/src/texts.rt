@@ -61,6 +61,23 @@ fn joined(
     Ok(Written { tokens, moves })
 }
 
+/// The moves to two trees: first those that reduce where they part, or, if both do, those that do so by the lesser production.
+fn in_order<'m>(
+    one: &'m [Move<u32>],
+    other: &'m [Move<u32>],
+) -> (&'m [Move<u32>], &'m [Move<u32>]) {
+    for pair in one.iter().zip(other) {
+        match pair {
+            (Move::Reduce(a), Move::Reduce(b)) if a == b => {}
+            (Move::Shift, Move::Shift) => {}
+            (Move::Reduce(a), Move::Reduce(b)) if a < b => return (one, other),
+            (Move::Reduce(_), Move::Shift) => return (one, other),
+            _ => return (other, one),
+        }
+    }
+    (one, other)
+}
+
 /// What a text and the moves of its tree show at the conflict. Where the machine accepts it, its own moves lead to a tree of it too.
 fn shown_by(
     alloc: Global,
@@ -81,7 +98,10 @@ fn shown_by(
     let steps = steps_for(moves.len());
     let loss = loss_by(alloc, found, search, conflict, text, steps)?;
     let ambiguity = match accepting_moves(alloc, &found.grm, &found.table, tokens, steps)? {
-        Some(own) => ambiguity_by(alloc, reasons, conflict, tokens, own.as_slice(), moves)?,
+        Some(own) => {
+            let (one, other) = in_order(own.as_slice(), moves);
+            ambiguity_by(alloc, reasons, conflict, tokens, one, other)?
+        }
         None => None,
     };
     Ok(Shown { ambiguity, loss })
