@@ -172,22 +172,22 @@ pub bar_on : (old new : Reader) (bar : Lexeme) → TakesBar old new bar → old.
 bar_on old new bar taken = omega (arith, taken.over.on, taken.taken.passes.at)
 
 -- a reader behind a mark is inside the lexemes
-pub begins_inside : (reader : Reader) (rule : Lexeme) → BeginsBody reader rule → reader.at ≤ length reader.lexemes.now
-begins_inside reader rule begins =
-    omega (arith, slice_get_within reader.lexemes.now begins.behind.before begins.behind.mark begins.behind.here, begins.behind.next)
+pub begins_inside : {mark : Lexeme} (reader : Reader) (rule : Lexeme) → BeginsBody reader rule mark → reader.at ≤ length reader.lexemes.now
+begins_inside {mark} reader rule begins =
+    omega (arith, slice_get_within reader.lexemes.now begins.behind.before mark begins.behind.here, begins.behind.next)
 
 -- a body is read behind a mark
-pub reads_body : (old new : Reader) (rule : Lexeme) → BeginsBody old rule → AddsBody old new rule → AreReadUpTo old (old.at - 1) → AreReadUpTo new new.at
-reads_body old new rule begins added read =
+pub reads_body : {mark : Lexeme} (old new : Reader) (rule : Lexeme) → BeginsBody old rule mark → AddsBody old new rule mark → AreReadUpTo old (old.at - 1) → AreReadUpTo new new.at
+reads_body {mark} old new rule begins added read =
     let lexemes = old.lexemes.now in
     let behind = begins.behind in
     let before : old.at - 1 ≡ behind.before = omega (arith, behind.next) in
     let next = behind.next in
     let start : AreBodiesUpTo old.text.now lexemes old.dialect behind.before old.contents.alternatives.items = rw before at read in
     let first = added.read in
-    let here = subst (λ (n : ℕ). IsReadFrom old.text.now lexemes old.dialect n added.body) next first in
+    let here = subst (λ (n : ℕ). IsReadFrom old.text.now lexemes old.dialect mark n added.body) next first in
     let more : AreBodiesUpTo old.text.now lexemes old.dialect (behind.before + 1) (old.contents.alternatives.items ++ added.body ∷ []) =
-    behind_mark behind.mark added.body start behind.here behind.is here in
+    behind_mark mark added.body start behind.here behind.is here in
     let more_here : AreBodiesUpTo old.text.now lexemes old.dialect old.at (old.contents.alternatives.items ++ added.body ∷ []) =
     rw next more in
     let same : delimiters_before lexemes new.at ≡ delimiters_before lexemes old.at =

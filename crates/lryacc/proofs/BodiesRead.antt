@@ -1,5 +1,5 @@
 -- a body goes on
-use Rattle.std.proofs.Common.{◌≡◌, ℕ, ◌+◌, ◌≤◌, arith, Bool, true, false, List, [], ◌∷◌, ◌++◌, Option, None, Some, Result, Ok, Err, IfOk, refl, ap, sym, ◌∙◌, subst}
+use Rattle.std.proofs.Common.{◌≡◌, ℕ, ◌+◌, ◌-◌, ◌≤◌, arith, Bool, true, false, List, [], ◌∷◌, ◌++◌, Option, None, Some, Result, Ok, Err, IfOk, refl, ap, sym, ◌∙◌, subst}
 use Rattle.std.specs.Prelude.{MatchBool, MatchOption, slice_get}
 use Rattle.std.specs.Option.{option_map}
 use Rattle.lryacc.specs.declared.contents.BodyPart.{BodyPart}
@@ -10,9 +10,10 @@ use Rattle.lryacc.specs.declared.lexemes.LexemeKind.{LexemeKind}
 use Rattle.lryacc.specs.declared.lexemes.LexemeKind.TheVariants as kind
 use Rattle.lryacc.specs.declared.reader.Reader.{Reader}
 use Rattle.lryacc.specs.declared.rules.Body.{Body}
-use Rattle.lryacc.specs.Bodies.{AddsBody, BeginsBody, IsBody, IsBodyEnd, IsRuleBefore, IsSameFile, Passes, PassesNoDelimiter, ReadsBehind, ReadsOn, SkipsKind, Stays, GoesOn, TakesBar, TakesKind, TakesPrecedence, is_action, is_aside, is_mark, is_prec, is_rule_name, is_symbol}
+use Rattle.lryacc.specs.Bodies.{AddsBody, BeginsBody, IsBody, IsBodyEnd, IsRuleBefore, IsSameFile, Passes, PassesNoDelimiter, ReadsBehind, ReadsOn, SkipsKind, Stays, GoesOn, TakesBar, TakesKind, TakesPrecedence, is_action, is_aside, is_mark, is_prec, is_rule_name, is_symbol, reach, reach_over}
 use Rattle.lryacc.specs.Bodies.IsBody.{begins, symbol, action, aside, directive as other_directive, prec as named}
 use Rattle.lryacc.specs.Delimiters.{delimiter_at, delimiter_of, delimiters_before}
+use Rattle.lryacc.proofs.BodyReach.{reach-aside, reach-none, reach-on, reach-one, reach-skips, symbol-no_aside}
 use Rattle.lryacc.proofs.DelimitersPassed.{count-next, rule_behind, rule_named, rule_over}
 
 -- it is the same body
@@ -63,6 +64,11 @@ ReadsOn-aside {old} {now} {new} {before} {after} k found read passes here is no_
       let there : slice_get old.lexemes.now now.at ≡ found =
       subst (λ (xs : List Lexeme). slice_get xs now.at ≡ found) read.file.lexemes here in
       IsBody-skips old.text.now old.lexemes.now from now.at new.at after.parts.items after.precedence k found passes.at there is no_part (read.parts from so_far);
+  reach =
+      let there : slice_get old.lexemes.now now.at ≡ found =
+      subst (λ (xs : List Lexeme). slice_get xs now.at ≡ found) read.file.lexemes here in
+      reach-on old.lexemes.now before.span after.span after.span old.at now.at new.at (omega (arith, read.on)) (omega (arith, passes.at)) read.reach
+      (sym (reach-skips old.lexemes.now now.at new.at after.span k found passes.at there is no_part));
 }
 
 ReadsOn-stays : {old now new : Reader} {before after : Body} → ReadsOn old now before after → Stays now new → ReadsOn old new before after
@@ -71,6 +77,7 @@ ReadsOn-stays {old} {now} {new} {before} {after} read stays = record {
   on = omega (arith, read.on, stays.at);
   parts = λ from so_far.
       IsBody-same old.text.now old.lexemes.now from now.at new.at after.parts.items after.parts.items after.precedence after.precedence stays.at refl refl (read.parts from so_far);
+  reach = read.reach ∙ ap (λ (k : ℕ). reach_over old.lexemes.now old.at before.span (k - old.at)) (sym stays.at);
 }
 
 -- a name in brackets may stand behind a part
@@ -93,6 +100,7 @@ ReadsOn-passes {old} {new} body lexeme passes here no_part = record {
   on = omega (arith, passes.at);
   parts = λ from so_far.
       IsBody-aside old.text.now old.lexemes.now from old.at new.at body.parts.items body.precedence lexeme passes.at here no_part so_far;
+  reach = sym (reach-aside old.lexemes.now old.at new.at body.span lexeme passes.at here no_part);
 }
 
 -- nothing stands behind a directive
@@ -101,6 +109,9 @@ ReadsBehind-stays {old} {new} stays = record {
   on = omega (arith, stays.at);
   parts = λ from at ps n directive so_far here is other next.
       IsBody-directive old.text.now old.lexemes.now from at new.at ps n directive (stays.at ∙ next) here is other so_far;
+  asides = λ so_far.
+      let none : new.at - old.at ≡ 0 = omega (arith, stays.at) in
+      ap (reach_over old.lexemes.now old.at so_far) none ∙ reach-none old.lexemes.now old.at so_far;
 }
 
 -- a lexeme of another kind stands behind a directive
@@ -110,6 +121,8 @@ ReadsBehind-skips {old} {new} k skips no_part = record {
   parts = λ from at ps n directive so_far here is other next.
       IsBody-skips old.text.now old.lexemes.now from old.at new.at ps n k (slice_get old.lexemes.now old.at) skips.passes.at refl skips.here no_part
       (IsBody-directive old.text.now old.lexemes.now from at old.at ps n directive next here is other so_far);
+  asides = λ so_far.
+      reach-skips old.lexemes.now old.at new.at so_far k (slice_get old.lexemes.now old.at) skips.passes.at refl skips.here no_part;
 }
 
 -- the same, where it is taken; and the reader stays there
@@ -119,11 +132,13 @@ ReadsBehind-takes {old} {now} {new} {lexeme} k takes stays no_part = record {
   parts = λ from at ps n directive so_far here is other next.
       IsBody-aside old.text.now old.lexemes.now from old.at new.at ps n lexeme (stays.at ∙ takes.passes.at) takes.here (ap is_aside takes.is ∙ no_part)
       (IsBody-directive old.text.now old.lexemes.now from at old.at ps n directive next here is other so_far);
+  asides = λ so_far.
+      reach-aside old.lexemes.now old.at new.at so_far lexeme (stays.at ∙ takes.passes.at) takes.here (ap is_aside takes.is ∙ no_part);
 }
 
 -- a directive stands in the body, and what stands behind it
-pub ReadsOn-directive : {old now new : Reader} (before after : Body) (directive : Lexeme) → Passes old now → ReadsBehind now new → IsSameFile now new → slice_get old.lexemes.now old.at ≡ Some directive → directive.kind ≡ kind.Directive → is_prec now.text.now directive ≡ false → after.parts.items ≡ before.parts.items → after.precedence ≡ before.precedence → ReadsOn old new before after
-ReadsOn-directive {old} {now} {new} before after directive passes behind file here is other same same_precedence = record {
+pub ReadsOn-directive : {old now new : Reader} (before after : Body) (directive : Lexeme) → Passes old now → ReadsBehind now new → IsSameFile now new → slice_get old.lexemes.now old.at ≡ Some directive → directive.kind ≡ kind.Directive → is_prec now.text.now directive ≡ false → after.parts.items ≡ before.parts.items → after.precedence ≡ before.precedence → after.span ≡ Some (reach before.span directive.span) → ReadsOn old new before after
+ReadsOn-directive {old} {now} {new} before after directive passes behind file here is other same same_precedence reached = record {
   file = IsSameFile-again passes.file file;
   on = omega (arith, passes.at, behind.on);
   parts = λ from so_far.
@@ -138,11 +153,15 @@ ReadsOn-directive {old} {now} {new} before after directive passes behind file he
       let read_old : IsBody old.text.now old.lexemes.now from new.at before.parts.items before.precedence =
       rw (sym t, sym e) read in
       IsBody-same old.text.now old.lexemes.now from new.at new.at before.parts.items after.parts.items before.precedence after.precedence refl same same_precedence read_old;
+  reach =
+      reach-on old.lexemes.now before.span after.span after.span old.at now.at new.at (omega (arith, passes.at)) (omega (arith, behind.on))
+      (reached ∙ sym (reach-one old.lexemes.now old.at now.at before.span directive passes.at here (ap is_aside is)))
+      (sym (ap (λ (xs : List Lexeme). reach_over xs now.at after.span (new.at - now.at)) (sym passes.file.lexemes) ∙ behind.asides after.span));
 }
 
 -- `%prec` stands in the body, and a symbol behind it
-pub ReadsOn-precedence : {old now new : Reader} (before reached after : Body) (directive : Lexeme) → Passes old now → TakesPrecedence now new reached after → IsSameFile now new → slice_get old.lexemes.now old.at ≡ Some directive → directive.kind ≡ kind.Directive → is_prec now.text.now directive ≡ true → after.parts.items ≡ before.parts.items → reached.precedence ≡ before.precedence → ReadsOn old new before after
-ReadsOn-precedence {old} {now} {new} before reached after directive passes takes file here is is_one same kept = record {
+pub ReadsOn-precedence : {old now new : Reader} (before reached after : Body) (directive : Lexeme) → Passes old now → TakesPrecedence now new reached after → IsSameFile now new → slice_get old.lexemes.now old.at ≡ Some directive → directive.kind ≡ kind.Directive → is_prec now.text.now directive ≡ true → after.parts.items ≡ before.parts.items → reached.precedence ≡ before.precedence → reached.span ≡ Some (reach before.span directive.span) → ReadsOn old new before after
+ReadsOn-precedence {old} {now} {new} before reached after directive passes takes file here is is_one same kept reaches = record {
   file = IsSameFile-again passes.file file;
   on = omega (arith, passes.at, takes.taken.passes.at);
   parts = λ from so_far.
@@ -157,6 +176,12 @@ ReadsOn-precedence {old} {now} {new} before reached after directive passes takes
       subst (λ (xs : List ℕ). is_prec xs directive ≡ true) passes.file.text is_one in
       IsBody-same old.text.now old.lexemes.now from (old.at + 1 + 1) new.at before.parts.items after.parts.items (Some takes.lexeme) after.precedence behind same takes.is
       (named directive takes.lexeme so_far_none here is prec_here there takes.taken.is);
+  reach =
+      let there : slice_get old.lexemes.now now.at ≡ Some takes.lexeme =
+      subst (λ (xs : List Lexeme). slice_get xs now.at ≡ Some takes.lexeme) passes.file.lexemes takes.taken.here in
+      reach-on old.lexemes.now before.span reached.span after.span old.at now.at new.at (omega (arith, passes.at)) (omega (arith, takes.taken.passes.at))
+      (reaches ∙ sym (reach-one old.lexemes.now old.at now.at before.span directive passes.at here (ap is_aside is)))
+      (takes.span ∙ sym (reach-one old.lexemes.now now.at new.at reached.span takes.lexeme takes.taken.passes.at there (symbol-no_aside takes.lexeme.kind takes.taken.is)));
 }
 
 -- the `=` before an action is passed over, or ends the body
@@ -166,6 +191,7 @@ GoesOn-equals old new body lexeme (Ok false) here is stays = record {
   reader = stays;
   parts = refl;
   precedence = refl;
+  span = refl;
 }
 GoesOn-equals old new body lexeme (Err halt) here is none = tt
 
@@ -256,12 +282,11 @@ rule_taken {old} {new} {rule} taken =
     (rule_named old.lexemes.now old.at rule taken.here (ap is_rule_name taken.is))
 
 -- a mark was taken
-pub begins_taken : {old new : Reader} {mark : Lexeme} (rule : Lexeme) (k : LexemeKind) → TakesKind old new k mark → is_mark k ≡ true → is_rule_name k ≡ false → IsRuleBefore old.lexemes.now old.at rule → BeginsBody new rule
+pub begins_taken : {old new : Reader} {mark : Lexeme} (rule : Lexeme) (k : LexemeKind) → TakesKind old new k mark → is_mark k ≡ true → is_rule_name k ≡ false → IsRuleBefore old.lexemes.now old.at rule → BeginsBody new rule mark
 begins_taken {old} {new} {mark} rule k taken is_one none before = record {
   behind = record {
     before = old.at;
     next = taken.passes.at;
-    mark = mark;
     here = subst (λ (xs : List Lexeme). slice_get xs old.at ≡ Some mark) (sym taken.passes.file.lexemes) taken.here;
     is = ap is_mark taken.is ∙ is_one;
   };
@@ -270,21 +295,20 @@ begins_taken {old} {new} {mark} rule k taken is_one none before = record {
 }
 
 -- the reader stays behind a mark
-pub begins_still : {old new : Reader} (rule : Lexeme) → Stays old new → BeginsBody old rule → BeginsBody new rule
-begins_still {old} {new} rule stays begins_here = record {
+pub begins_still : {old new : Reader} {mark : Lexeme} (rule : Lexeme) → Stays old new → BeginsBody old rule mark → BeginsBody new rule mark
+begins_still {old} {new} {mark} rule stays begins_here = record {
   behind = record {
     before = begins_here.behind.before;
     next = stays.at ∙ begins_here.behind.next;
-    mark = begins_here.behind.mark;
-    here = subst (λ (xs : List Lexeme). slice_get xs begins_here.behind.before ≡ Some begins_here.behind.mark) (sym stays.file.lexemes) begins_here.behind.here;
+    here = subst (λ (xs : List Lexeme). slice_get xs begins_here.behind.before ≡ Some mark) (sym stays.file.lexemes) begins_here.behind.here;
     is = begins_here.behind.is;
   };
   rule_is = rule_kept rule (over_stays stays) begins_here.rule_is;
 }
 
 -- a body was read, and the `|` behind it
-pub begins_next : {old now new : Reader} (rule bar : Lexeme) → BeginsBody old rule → AddsBody old now rule → TakesBar now new bar → BeginsBody new rule
-begins_next {old} {now} {new} rule bar begins_here added taken =
+pub begins_next : {old now new : Reader} {mark : Lexeme} (rule bar : Lexeme) → BeginsBody old rule mark → AddsBody old now rule mark → TakesBar now new bar → BeginsBody new rule bar
+begins_next {old} {now} {new} {mark} rule bar begins_here added taken =
     let same : delimiters_before old.lexemes.now now.at ≡ delimiters_before old.lexemes.now old.at =
     subst (λ (xs : List Lexeme). delimiters_before xs now.at ≡ delimiters_before old.lexemes.now old.at) added.lexemes added.count in
     let there : IsRuleBefore now.lexemes.now now.at rule =
@@ -308,3 +332,8 @@ alternative-count old now new one other at same = rw (other, one, at) same
 -- it ends where one that stays finds its end
 pub ends_there : (old now : Reader) (at : ℕ) → now.text.now ≡ old.text.now → now.lexemes.now ≡ old.lexemes.now → now.dialect ≡ old.dialect → now.at ≡ at → IsBodyEnd now.text.now now.lexemes.now now.dialect now.at → IsBodyEnd old.text.now old.lexemes.now old.dialect at
 ends_there old now at text lexemes dialect same ends = rw (sym text, sym lexemes, sym dialect, sym same) ends
+
+-- the body goes on
+pub GoesOn-on : (old new : Reader) (before after : Body) (goes_on : Bool) → goes_on ≡ true → GoesOn old new before after goes_on → ReadsOn old new before after
+GoesOn-on old new before after true is read = read
+GoesOn-on old new before after false is stops = absurd (cc)

@@ -9,6 +9,7 @@ pub mod UsefulLemmas
 pub mod PlacedLemmas
 pub mod KeptLemmas
 pub mod DelimitersPassed
+pub mod BodyReach
 pub mod BodiesRead
 pub mod AllBodiesRead
 pub mod RuleNames

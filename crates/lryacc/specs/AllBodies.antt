@@ -29,7 +29,7 @@ pub data AreBodiesUpTo (text : List ℕ) (lexemes : List Lexeme) (dialect : Dial
   mark : {at : ℕ} {bodies : List Alternative} (lexeme : Lexeme) (body : Alternative)
       → AreBodiesUpTo text lexemes dialect at bodies
       → slice_get lexemes at ≡ Some lexeme → is_mark lexeme.kind ≡ true
-      → IsReadFrom text lexemes dialect (at + 1) body
+      → IsReadFrom text lexemes dialect lexeme (at + 1) body
       → AreBodiesUpTo text lexemes dialect (at + 1) (bodies ++ body ∷ [])
   -- behind each other lexeme but a second `%%` there is none
   other : {at : ℕ} {bodies : List Alternative} → AreBodiesUpTo text lexemes dialect at bodies

@@ -1,5 +1,5 @@
 -- the bodies of a file, as they stand among its lexemes
-use Rattle.std.specs.Prelude.{◌≡◌, ℕ, ◌+◌, ◌<◌, ◌≤◌, ◌&&◌, ◌||◌, not, Bool, true, false, List, [], ◌∷◌, ◌++◌, Option, None, Some, IfSome, codes, slice_get, vec_len}
+use Rattle.std.specs.Prelude.{◌≡◌, ℕ, zero, suc, ◌+◌, ◌-◌, ◌<◌, ◌≤◌, ◌&&◌, ◌||◌, not, if◌then◌else◌, Bool, true, false, List, [], ◌∷◌, ◌++◌, Option, None, Some, IfSome, codes, slice_get, unwrap_or, vec_len}
 use Rattle.std.specs.Option.{option_map}
 use Rattle.std.specs.Str.{bytes_eq}
 use Rattle.lryacc.specs.declared.contents.Alternative.{Alternative}
@@ -12,6 +12,7 @@ use Rattle.lryacc.specs.declared.faults.Halt.TheVariants as halt
 use Rattle.lryacc.specs.declared.lexemes.Lexeme.{Lexeme}
 use Rattle.lryacc.specs.declared.lexemes.LexemeKind.{LexemeKind}
 use Rattle.lryacc.specs.declared.lexemes.LexemeKind.TheVariants as kind
+use Rattle.lryacc.specs.declared.places.Span.{Span}
 use Rattle.lryacc.specs.declared.reader.Reader.{Reader}
 use Rattle.lryacc.specs.declared.rules.Body.{Body}
 use Rattle.lryacc.specs.Delimiters.{delimiter_at, delimiter_of, delimiters_before}
@@ -42,6 +43,23 @@ is_aside _ = false
 -- whether a directive is `%prec`
 abbrev pub is_prec : List ℕ → Lexeme → Bool
 is_prec text directive = bytes_eq (text_at text directive.span) (codes "%prec")
+
+-- from where one place begins to where another ends; that alone where there is none before
+abbrev pub reach : Option Span → Span → Span
+reach None place = place
+reach (Some first) place = record { start = first.start; end = place.end }
+
+-- the place that a body reaches over with one lexeme more, if it is no aside
+abbrev pub reach_to : Option Span → Option Lexeme → Option Span
+reach_to so_far None = so_far
+reach_to so_far (Some lexeme) =
+    if is_aside lexeme.kind then so_far else Some (reach so_far lexeme.span)
+
+-- the place that a body reaches over with so many lexemes more, from one on
+unfoldable pub reach_over : List Lexeme → ℕ → Option Span → ℕ → Option Span
+reach_over lexemes from so_far zero = so_far
+reach_over lexemes from so_far (suc count) =
+    reach_to (reach_over lexemes from so_far count) (slice_get lexemes (from + count))
 
 -- the lexemes from one place on, up to another, are those of a body, which has these parts, and this symbol for its precedence
 pub data IsBody (text : List ℕ) (lexemes : List Lexeme) (from : ℕ)
@@ -141,17 +159,24 @@ pub record TakesSymbol (old new : Reader) (lexeme : Lexeme) : Type 0 where
   pub is : is_symbol lexeme.kind ≡ true
   pub count : delimiters_read new ≡ delimiters_read old
 
+-- the body reaches on over the lexemes that the reader goes over
+abbrev pub ReachesOn : Reader → Reader → Body → Body → Type 0
+ReachesOn old new before after =
+    after.span ≡ reach_over old.lexemes.now old.at before.span (new.at - old.at)
+
 -- the reader goes on in a body
 pub record ReadsOn (old new : Reader) (before after : Body) : Type 0 where
   pub file : IsSameFile old new
   pub on : old.at < new.at
   pub parts : (from : ℕ) → IsBodyUpTo old from old.at before → IsBodyUpTo old from new.at after
+  pub reach : ReachesOn old new before after
 
 -- the body stops here
 pub record Stops (old new : Reader) (before after : Body) : Type 0 where
   pub reader : Stays old new
   pub parts : after.parts.items ≡ before.parts.items
   pub precedence : after.precedence ≡ before.precedence
+  pub span : after.span ≡ before.span
 
 -- whether the body goes on
 abbrev pub GoesOn : Reader → Reader → Body → Body → Bool → Type 0
@@ -164,6 +189,7 @@ pub record TakesPrecedence (old new : Reader) (before after : Body) : Type 0 whe
   pub taken : TakesSymbol old new lexeme
   pub none : before.precedence ≡ None
   pub is : after.precedence ≡ Some lexeme
+  pub span : after.span ≡ Some (reach before.span lexeme.span)
 
 -- the reader goes over what belongs to another directive of a body, if anything does
 pub record ReadsBehind (old new : Reader) : Type 0 where
@@ -173,10 +199,14 @@ pub record ReadsBehind (old new : Reader) : Type 0 where
       → slice_get old.lexemes.now at ≡ Some directive → directive.kind ≡ kind.Directive
       → is_prec old.text.now directive ≡ false
       → old.at ≡ at + 1 → IsBody old.text.now old.lexemes.now from new.at parts precedence
+  pub asides : (so_far : Option Span)
+      → reach_over old.lexemes.now old.at so_far (new.at - old.at) ≡ so_far
 
 -- the reader goes over the rest of a body
 pub record ReadsBody (old new : Reader) (before after : Body) : Type 0 where
   pub parts : (from : ℕ) → IsBodyUpTo old from old.at before → IsBodyUpTo old from new.at after
+  pub on : old.at ≤ new.at
+  pub reach : ReachesOn old new before after
 
 -- the marks behind which bodies begin
 abbrev pub is_mark : LexemeKind → Bool
@@ -184,11 +214,10 @@ is_mark kind.Colon = true
 is_mark kind.Bar = true
 is_mark _ = false
 
--- a place right behind a `:` or a `|`
-pub record IsBehindMark (lexemes : List Lexeme) (at : ℕ) : Type 0 where
+-- a place right behind a mark
+pub record IsBehindMark (lexemes : List Lexeme) (at : ℕ) (mark : Lexeme) : Type 0 where
   pub before : ℕ
   pub next : at ≡ before + 1
-  pub mark : Lexeme
   pub here : slice_get lexemes before ≡ Some mark
   pub is : is_mark mark.kind ≡ true
 
@@ -207,8 +236,8 @@ pub record IsRuleBefore (lexemes : List Lexeme) (at : ℕ) (rule : Lexeme) : Typ
       → IfSome (slice_get lexemes between) (λ lexeme. is_rule_name lexeme.kind ≡ false)
 
 -- the reader stands right behind a mark, and the last name of a rule before that is this one
-pub record BeginsBody (reader : Reader) (rule : Lexeme) : Type 0 where
-  pub behind : IsBehindMark reader.lexemes.now reader.at
+pub record BeginsBody (reader : Reader) (rule mark : Lexeme) : Type 0 where
+  pub behind : IsBehindMark reader.lexemes.now reader.at mark
   pub rule_is : IsRuleBefore reader.lexemes.now reader.at rule
 
 -- the reader takes a `|`, and goes over no other delimiter before it
@@ -241,18 +270,24 @@ IsBodyEnd text lexemes dialect at =
     IfSome (slice_get lexemes at) (λ lexeme.
     ends_bodies dialect (text_at text lexeme.span) lexeme.kind ≡ true)
 
--- a body that was read from a place on: its rule is the one whose name stands last before that, its parts are the symbols and
--- the actions among the lexemes that follow one another up to the end of the file, or up to one that ends bodies of the dialect,
--- and the symbol of its precedence is the one behind `%prec` there
-pub record IsReadFrom (text : List ℕ) (lexemes : List Lexeme) (dialect : Dialect) (from : ℕ)
-    (body : Alternative) : Type 0 where
+-- the place of a body that reaches over this: that, or the end of the mark before it if it reaches over nothing
+abbrev pub place_of : Option Span → Lexeme → Span
+place_of reached mark =
+    unwrap_or reached (record { start = mark.span.end; end = mark.span.end })
+
+-- a body that was read from a place on, behind a mark: its rule is the one whose name stands last before that, its parts are the
+-- symbols and the actions among the lexemes that follow one another up to the end of the file, or up to one that ends bodies of
+-- the dialect, and the symbol of its precedence is the one behind `%prec` there; it stands where these lexemes do but for asides
+pub record IsReadFrom (text : List ℕ) (lexemes : List Lexeme) (dialect : Dialect) (mark : Lexeme)
+    (from : ℕ) (body : Alternative) : Type 0 where
   pub rule : IsRuleBefore lexemes from body.rule
   pub to : ℕ
   pub parts : IsBody text lexemes from to body.parts.items body.precedence
   pub ends : IsBodyEnd text lexemes dialect to
+  pub place : body.span ≡ place_of (reach_over lexemes from None (to - from)) mark
 
 -- the body in hand is added to what was read, as one of a rule
-pub record EndsBody (old new : Reader) (rule : Lexeme) (read : Body) : Type 0 where
+pub record EndsBody (old new : Reader) (rule mark : Lexeme) (read : Body) : Type 0 where
   pub text : new.text.now ≡ old.text.now
   pub lexemes : new.lexemes.now ≡ old.lexemes.now
   pub dialect : new.dialect ≡ old.dialect
@@ -261,10 +296,11 @@ pub record EndsBody (old new : Reader) (rule : Lexeme) (read : Body) : Type 0 wh
   pub rule_is : body.rule ≡ rule
   pub parts_are : body.parts.items ≡ read.parts.items
   pub precedence_is : body.precedence ≡ read.precedence
+  pub place : body.span ≡ place_of read.span mark
   pub bodies : new.contents.alternatives.items ≡ old.contents.alternatives.items ++ body ∷ []
 
--- a body of a rule is read here, and added to what was read; the reader goes over no delimiter
-pub record AddsBody (old new : Reader) (rule : Lexeme) : Type 0 where
+-- a body of a rule is read here, behind a mark, and added to what was read; the reader goes over no delimiter
+pub record AddsBody (old new : Reader) (rule mark : Lexeme) : Type 0 where
   pub text : new.text.now ≡ old.text.now
   pub lexemes : new.lexemes.now ≡ old.lexemes.now
   pub dialect : new.dialect ≡ old.dialect
@@ -272,5 +308,5 @@ pub record AddsBody (old new : Reader) (rule : Lexeme) : Type 0 where
   pub count : delimiters_read new ≡ delimiters_read old
   pub body : Alternative
   pub rule_is : body.rule ≡ rule
-  pub read : IsReadFrom old.text.now old.lexemes.now old.dialect old.at body
+  pub read : IsReadFrom old.text.now old.lexemes.now old.dialect mark old.at body
   pub bodies : new.contents.alternatives.items ≡ old.contents.alternatives.items ++ body ∷ []

@@ -5,7 +5,7 @@ ghost use Rattle.lryacc.specs.AllBodies.{AreAllBodies, ReachesRules, ReadsAll, R
 ghost use Rattle.lryacc.specs.AllLexemes.{is_separator};
 ghost use Rattle.lryacc.specs.Bodies.{AddsBody, BeginsBody, EndsBody, GoesOn, IsSameFile, IsTold, IsWhole, Passes, PassesNoDelimiter};
 ghost use Rattle.lryacc.specs.Bodies.{IsBodyEnd, ReadsBehind, ReadsBody, ReadsOn, Stays, TakesBar, TakesPrecedence};
-ghost use Rattle.lryacc.specs.Bodies.{ends_bodies, is_action, is_in_bodies, is_prec, is_symbol};
+ghost use Rattle.lryacc.specs.Bodies.{ends_bodies, is_action, is_in_bodies, is_prec, is_symbol, place_of, reach};
 ghost use Rattle.lryacc.specs.NamedSymbols.{text_at};
 
 use crate::contents::{Alternative, BodyPart, Statement};
@@ -65,6 +65,7 @@ impl Body {
     fn new(alloc: Global) -> Body
         ensures parts { result.parts.items ≡ [] }
         ensures precedence { result.precedence ≡ None }
+        ensures span { result.span ≡ None }
     {
         Body {
             parts: Vec::new(alloc),
@@ -80,6 +81,7 @@ impl Body {
     fn reach(&mut self, lexeme: Lexeme)
         ensures parts { self.new.parts.items ≡ self.old.parts.items }
         ensures precedence { self.new.precedence ≡ self.old.precedence }
+        ensures span { self.new.span ≡ Some (reach self.old.span lexeme.span) }
     {
         let start = match self.span {
             Some(span) => span.start,
@@ -92,6 +94,7 @@ impl Body {
     pub(crate) fn add(&mut self, part: BodyPart, lexeme: Lexeme) -> Result<(), AllocError>
         ensures parts { OnOk result (self.new.parts.items ≡ self.old.parts.items ++ part ∷ []) }
         ensures precedence { self.new.precedence ≡ self.old.precedence }
+        ensures span { self.new.span ≡ Some (reach self.old.span lexeme.span) }
     {
         self.reach(lexeme);
         self.parts.push(part)?;
@@ -111,6 +114,7 @@ impl Body {
         ensures rule { result.rule ≡ rule }
         ensures parts { result.parts.items ≡ self.parts.items }
         ensures precedence { result.precedence ≡ self.precedence }
+        ensures span { result.span ≡ place_of self.span mark }
     {
         let Body {
             parts,
@@ -393,7 +397,7 @@ impl<'a> Reader<'a> {
 
     /// Reads the bodies of a rule, the first of which begins behind a colon.
     pub(crate) fn alternatives(&mut self, rule: Lexeme, colon: Lexeme) -> Result<(), Halt>
-        requires { BeginsBody self.old rule }
+        requires { BeginsBody self.old rule colon }
         ensures faults { vec_len self.old.contents.faults ≤ vec_len self.new.contents.faults }
         ensures told { IfErr result (λ halt. IsTold halt self.new) }
         ensures read { OnOk result (ReadsAlternatives self.old self.new) }
@@ -434,10 +438,10 @@ impl<'a> Reader<'a> {
 
     /// Reads a body, which begins behind a mark.
     fn alternative(&mut self, rule: Lexeme, mark: Lexeme) -> Result<(), Halt>
-        requires { BeginsBody self.old rule }
+        requires { BeginsBody self.old rule mark }
         ensures faults { vec_len self.old.contents.faults ≤ vec_len self.new.contents.faults }
         ensures told { IfErr result (λ halt. IsTold halt self.new) }
-        ensures added { OnOk result (AddsBody self.old self.new rule) }
+        ensures added { OnOk result (AddsBody self.old self.new rule mark) }
     {
         let mut body = Body::new(self.allocator());
         self.parts(&mut body)?;
@@ -667,6 +671,7 @@ impl<'a> Reader<'a> {
         ensures told { IfErr result (λ halt. IsTold halt self.new) }
         ensures parts { OnOk result (body.new.parts.items ≡ body.old.parts.items) }
         ensures precedence { OnOk result (body.new.precedence ≡ body.old.precedence) }
+        ensures span { OnOk result (body.new.span ≡ body.old.span) }
         ensures read { OnOk result (ReadsBehind self.old self.new) }
     {
         match form {
@@ -725,7 +730,7 @@ impl<'a> Reader<'a> {
     /// Adds the body to the contents.
     fn end_body(&mut self, rule: Lexeme, mark: Lexeme, body: Body) -> Result<(), AllocError>
         ensures faults { vec_len self.old.contents.faults ≤ vec_len self.new.contents.faults }
-        ensures ended { OnOk result (EndsBody self.old self.new rule body) }
+        ensures ended { OnOk result (EndsBody self.old self.new rule mark body) }
     {
         let misplaced = body.misplaced_empty();
         self.add_alternative(body.alternative(rule, mark))?;

@@ -1,7 +1,8 @@
-use Rattle.std.proofs.Common.{List, None, [], ◌∷◌, ◌++◌, refl, ap, sym, subst, arith, ◌∙◌}
+use Rattle.std.proofs.Common.{List, Option, ◌-◌, None, [], ◌∷◌, ◌++◌, refl, ap, sym, subst, arith, ◌∙◌}
 use Rattle.lryacc.specs.declared.contents.Alternative.{Alternative}
 use Rattle.lryacc.specs.declared.lexemes.Lexeme.{Lexeme}
-use Rattle.lryacc.specs.Bodies.{IsBody, IsRuleBefore}
+use Rattle.lryacc.specs.declared.places.Span.{Span}
+use Rattle.lryacc.specs.Bodies.{IsBody, IsRuleBefore, place_of, reach_over}
 use Rattle.lryacc.specs.Bodies.IsBody.{begins}
 use Rattle.lryacc.proofs.BodiesRead.{IsBody-same, alternative-count, body_counts, ends_there}
 use Rattle.lryacc.proofs.reader.Reader.alternative.Goals as goal
@@ -37,6 +38,11 @@ returns-clause-added c =
         ends =
             ends_there old c.end_body.new.self c.parts.new.self.at now_text now_lexemes now_dialect added.at
             c.in_ok-want_end.ensures.ends;
+        place =
+            added.place
+            ∙ ap (λ (z : Option Span). place_of z c.args.mark)
+            (read.reach
+            ∙ ap (λ (z : Option Span). reach_over lexemes old.at z (c.parts.new.self.at - old.at)) c.new-body.ensures.span);
       };
       bodies =
           stays.file.bodies ∙ added.bodies

@@ -10,6 +10,6 @@ invariant-loop-turn l = record {
   dialect : l.self.dialect ≡ l.initial.self.dialect;
   faults : vec_len l.initial.self.contents.faults ≤ vec_len l.self.contents.faults;
   on : l._turn + l.initial.self.at ≤ l.self.at;
-  begins : BeginsBody l.self l.rule;
+  begins : BeginsBody l.self l.rule l.mark;
   read : AreReadUpTo l.initial.self (l.initial.self.at - 1) → AreReadUpTo l.self (l.self.at - 1);
 }

@@ -22,4 +22,5 @@ returns-clause-taken c =
       };
       none = none;
       is = c.reach.ensures.precedence;
+      span = c.reach.ensures.span;
     }

@@ -13,5 +13,6 @@ returns-in_ok-tell-clause-ended c =
       rule_is = c.alternative.ensures.rule;
       parts_are = c.alternative.ensures.parts;
       precedence_is = c.alternative.ensures.precedence;
+      place = c.alternative.ensures.span;
       bodies = told.file.bodies ∙ c.in_ok-add_alternative.ensures.added;
     }

@@ -1,4 +1,5 @@
-use Rattle.std.proofs.Common.{◌≡◌, ◌+◌, None, ◌∙◌, arith}
+use Rattle.std.proofs.Common.{◌≡◌, ◌+◌, None, ◌∙◌, arith, sym}
+use Rattle.lryacc.proofs.BodyReach.{action-no_aside, reach-one}
 use Rattle.lryacc.proofs.BodiesRead.{IsBody-action}
 use Rattle.lryacc.proofs.reader.Reader.grmtools_action.Goals as goal
 
@@ -10,6 +11,9 @@ returns-else-is_in_body-clause-read c =
       on = omega (arith, passes.at);
       parts = λ from so_far.
           IsBody-action _ _ _ _ _ _ _ _ _ c.args.lexeme None passes.at c.in_ok-add.ensures.parts c.in_ok-add.ensures.precedence c.requires.here c.requires.is so_far;
+      reach =
+          c.in_ok-add.ensures.span
+          ∙ sym (reach-one _ _ _ _ c.args.lexeme passes.at c.requires.here (action-no_aside c.args.lexeme.kind c.requires.is));
     }
 
 pub returns-in_ok-tell-clause-read : goal.returns-in_ok-tell-clause-read
@@ -28,4 +32,7 @@ returns-in_ok-tell-clause-read c =
       on = omega (arith, at);
       parts = λ from so_far.
           IsBody-action _ _ _ _ _ _ _ _ _ c.args.lexeme None at c.in_ok-add.ensures.parts c.in_ok-add.ensures.precedence c.requires.here c.requires.is so_far;
+      reach =
+          c.in_ok-add.ensures.span
+          ∙ sym (reach-one _ _ _ _ c.args.lexeme at c.requires.here (action-no_aside c.args.lexeme.kind c.requires.is));
     }

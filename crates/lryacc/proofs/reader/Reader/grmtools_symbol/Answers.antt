@@ -1,4 +1,5 @@
-use Rattle.std.proofs.Common.{arith}
+use Rattle.std.proofs.Common.{◌∙◌, arith, sym}
+use Rattle.lryacc.proofs.BodyReach.{symbol-no_aside, reach-one}
 use Rattle.lryacc.proofs.BodiesRead.{IsBody-symbol}
 use Rattle.lryacc.proofs.reader.Reader.grmtools_symbol.Goals as goal
 
@@ -10,4 +11,7 @@ returns-clause-read c =
       on = omega (arith, passes.at);
       parts = λ from so_far.
           IsBody-symbol _ _ _ _ _ _ _ _ _ c.args.lexeme passes.at c.in_ok-add.ensures.parts c.in_ok-add.ensures.precedence c.requires.here c.requires.is so_far;
+      reach =
+          c.in_ok-add.ensures.span
+          ∙ sym (reach-one _ _ _ _ c.args.lexeme passes.at c.requires.here (symbol-no_aside c.args.lexeme.kind c.requires.is));
     }

@@ -1,5 +1,5 @@
-use Rattle.std.proofs.Common.{ℕ, ◌-◌, length}
-use Rattle.lryacc.specs.Bodies.{IsBodyUpTo, IsSameFile}
+use Rattle.std.proofs.Common.{◌≡◌, ◌≤◌, ℕ, ◌-◌, length}
+use Rattle.lryacc.specs.Bodies.{IsBodyUpTo, IsSameFile, reach_over}
 use Rattle.lryacc.proofs.reader.Reader.parts.Given as goal
 
 abbrev pub invariant-loop-lexeme : goal.invariant-loop-lexeme
@@ -7,6 +7,9 @@ invariant-loop-lexeme l = record {
   file : IsSameFile l.initial.self l.self;
   parts : (from : ℕ) → IsBodyUpTo l.initial.self from l.initial.self.at l.initial.body
       → IsBodyUpTo l.initial.self from l.self.at l.body;
+  on : l.initial.self.at ≤ l.self.at;
+  reach : l.body.span
+      ≡ reach_over l.initial.self.lexemes.now l.initial.self.at l.initial.body.span (l.self.at - l.initial.self.at);
 }
 
 abbrev pub decreases-loop-lexeme : goal.decreases-loop-lexeme
