@@ -276,18 +276,9 @@ impl<T: IndexStorage> Checked<'_, T> {
     }
 
     /// Adds a sentence that the parser rejects, and where.
-    fn push_loss(
-        &self,
-        text: &mut Text,
-        notes: Notes,
-        loss: Option<&Loss>,
-    ) -> Result<(), AllocError>
-        requires proved { IfSome loss (λ l.
-            IsLoss self.now.found.now.grm self.now.found.now.table l.now) }
+    fn push_loss(&self, text: &mut Text, notes: Notes, loss: &Loss) -> Result<(), AllocError>
+        requires proved { IsLoss self.now.found.now.grm self.now.found.now.table loss.now }
     {
-        let Some(loss) = loss else {
-            return Ok(());
-        };
         let mut why = Words::new(text.allocator());
         why.add_all("the parser rejects this sentence of the grammar");
         add_start(&mut why, self.told.file, loss.start(self.told.file));
@@ -380,7 +371,10 @@ impl<T: IndexStorage> Checked<'_, T> {
         } else if let Some(example) = &first.example {
             self.told.push_example(text, notes, first, example)?;
         }
-        self.push_loss(text, notes, self.loss_in(meeting))
+        match self.loss_in(meeting) {
+            Some(loss) => self.push_loss(text, notes, loss),
+            None => Ok(()),
+        }
     }
 
     /// Adds what is known of entries at which the same meets, and how they can be resolved, as notes under such marks.
