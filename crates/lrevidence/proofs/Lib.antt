@@ -1,5 +1,6 @@
--- sentences with two trees, entries that are listed, what is known of one after the other, and values in boxes
+-- sentences with two trees, entries that are listed, what is known of one after the other, values in boxes, and what is decided
 pub mod NumberedTexts
 pub mod ListedEntries
 pub mod EvidenceInTurn
 pub mod Boxes
+pub mod FoundDecisions

@@ -1,4 +1,5 @@
--- sentences with two trees, which part somewhere, those that are rejected, and entries that a table lists
+-- sentences with two trees, which part somewhere, those that are rejected, entries that are decided, and those that a table lists
 pub mod Ambiguities
 pub mod Losses
+pub mod DecidedEntries
 pub mod Entries

@@ -9,9 +9,11 @@ ghost use Rattle.lrreasons.specs.Numbers.{number_of};
 ghost use Rattle.lrevidence.specs.Entries.{AreListedIn};
 ghost use Rattle.lrevidence.specs.Ambiguities.{HasTwoTrees, IsProved, PartsAtEntry};
 ghost use Rattle.lrevidence.specs.Losses.{IsLostAtEntry};
+ghost use Rattle.lrevidence.specs.DecidedEntries.{IsDecidedOf, IsToldDecided};
 
 use crate::ambiguities::ambiguity_at;
 use crate::conflicts::conflict_of;
+use crate::decisions::Decisions;
 use crate::examples::Numbering;
 use crate::losses::LossSearch;
 use crate::texts::{Shown, shown_at};
@@ -36,6 +38,10 @@ pub struct Effort {
     pub examples: usize,
     /// Of how many entries without such a sentence other texts are tried at the least, if searches take any steps: of the first ones.
     pub losses: usize,
+    /// For how many of these, if no text has two trees, it is searched whether none can have.
+    pub decisions: usize,
+    /// How many nodes such a search looks at.
+    pub nodes: usize,
     /// Whether each entry counts, and not only the first of those that stand together, because the same meets at them in the same
     /// state.
     pub counts_each: bool,
@@ -96,6 +102,7 @@ fn with_texts(
     numbering: Numbering<'_>,
     found: &Findings<u32>,
     search: &LossSearch<'_>,
+    decisions: &Decisions<'_>,
     conflict: Conflict<u32>,
     before: Evidence,
     has_example: bool,
@@ -109,6 +116,7 @@ fn with_texts(
     ensures proved { IfOk result (IsProved reasons.now.grammar) }
     ensures parts { IfOk result (PartsAtEntry reasons.now.grammar reasons.now.graph) }
     ensures lost { IfOk result (IsLostAtEntry found.now.grm found.now.table) }
+    ensures decided { IfOk result (IsDecidedOf decisions.now.grammar decisions.now.graph) }
 {
     let alloc = found.grm.allocator();
     let example = reasons.example(conflict)?;
@@ -119,11 +127,13 @@ fn with_texts(
     } else {
         None
     };
+    let decided = decisions.of(before.entry, is_open)?;
     Ok(Evidence {
         entry: before.entry,
         ambiguity: boxed(alloc, shown.ambiguity)?,
         example: boxed(alloc, told)?,
         loss: boxed(alloc, shown.loss)?,
+        decided,
         is_cut_off: before.is_cut_off && is_open,
     })
 }
@@ -134,6 +144,7 @@ fn evidence_of(
     numbering: Numbering<'_>,
     found: &Findings<u32>,
     search: &LossSearch<'_>,
+    decisions: &Decisions<'_>,
     entry: Entry,
     wanted: Wanted,
 ) -> Result<Evidence, AllocError>
@@ -144,12 +155,14 @@ fn evidence_of(
     ensures proved { IfOk result (IsProved reasons.now.grammar) }
     ensures parts { IfOk result (PartsAtEntry reasons.now.grammar reasons.now.graph) }
     ensures lost { IfOk result (IsLostAtEntry found.now.grm found.now.table) }
+    ensures decided { IfOk result (IsDecidedOf decisions.now.grammar decisions.now.graph) }
 {
     let mut evidence = Evidence {
         entry,
         ambiguity: None,
         example: None,
         loss: None,
+        decided: None,
         is_cut_off: false,
     };
     let Some(conflict) = conflict_of(entry) else {
@@ -176,6 +189,7 @@ fn evidence_of(
             numbering,
             found,
             search,
+            decisions,
             conflict,
             evidence,
             has_example,
@@ -195,6 +209,7 @@ fn push_evidence(
     numbering: Numbering<'_>,
     found: &Findings<u32>,
     search: &LossSearch<'_>,
+    decisions: &Decisions<'_>,
     entries: &[Entry],
     effort: Effort,
 ) -> Result<(), AllocError>
@@ -204,12 +219,15 @@ fn push_evidence(
     requires proved { All (IsProved reasons.now.grammar) list.now.items }
     requires parts { All (PartsAtEntry reasons.now.grammar reasons.now.graph) list.now.items }
     requires lost { All (IsLostAtEntry found.now.grm found.now.table) list.now.items }
+    requires decided { All (IsDecidedOf decisions.now.grammar decisions.now.graph) list.now.items }
     ensures entries { OnOk result (map (λ e. e.entry) list.new.items
         ≡ map (λ e. e.entry) list.old.items ++ entries.now) }
     ensures proved { OnOk result (All (IsProved reasons.now.grammar) list.new.items) }
     ensures parts { OnOk result
         (All (PartsAtEntry reasons.now.grammar reasons.now.graph) list.new.items) }
     ensures lost { OnOk result (All (IsLostAtEntry found.now.grm found.now.table) list.new.items) }
+    ensures decided { OnOk result
+        (All (IsDecidedOf decisions.now.grammar decisions.now.graph) list.new.items) }
 {
     let (mut told, mut unknown): (usize, usize) = (0, 0);
     for entry in entries {
@@ -220,7 +238,7 @@ fn push_evidence(
             has_example,
             has_texts: effort.steps > 0 && (has_example || unknown < effort.losses),
         };
-        let evidence = evidence_of(reasons, numbering, found, search, *entry, wanted)?;
+        let evidence = evidence_of(reasons, numbering, found, search, decisions, *entry, wanted)?;
         let is_known = evidence.ambiguity.is_some();
         list.push(evidence)?;
         if counts {
@@ -251,6 +269,8 @@ pub fn evidence_for(
     ensures parts { IfOk result (λ v. MatchOption found.now.graph (v.items ≡ [])
         (λ h. All (PartsAtEntry found.now.grm h) v.items)) }
     ensures lost { IfOk result (λ v. All (IsLostAtEntry found.now.grm found.now.table) v.items) }
+    ensures decided { IfOk result (λ v.
+        All (IsToldDecided found.now.grm found.now.graph) v.items) }
 {
     let (Some(graph), false) = (&found.graph, entries.is_empty()) else {
         return Ok(Vec::new(alloc));
@@ -261,8 +281,9 @@ pub fn evidence_for(
     reasons.allow(effort.work);
     let numbering = Numbering { grm, file };
     let search = LossSearch::new(alloc, found, graph, effort.work)?;
+    let decisions = Decisions::new(grm, graph, effort.decisions, effort.nodes)?;
     push_evidence(
-        &mut list, &reasons, numbering, found, &search, entries, effort,
+        &mut list, &reasons, numbering, found, &search, &decisions, entries, effort,
     )?;
     Ok(list)
 }

@@ -4,6 +4,7 @@
 
 mod ambiguities;
 mod conflicts;
+mod decisions;
 mod evidence;
 mod examples;
 mod losses;
@@ -12,7 +13,7 @@ mod texts;
 
 pub use crate::evidence::{Effort, Evidence, evidence_for, find_ambiguity};
 pub use lrshown::{
-    Ambiguity, Example, Loss, Node, Outlook, Step, Tree, TwoTrees, Visit, body_of, candidates_of,
-    list_of, name_of_rule, names_of, names_of_tokens, node_name, rule_name, start_of, symbol_name,
-    text_of, token_name, tree_words,
+    Ambiguity, Decided, Example, Loss, Node, Outlook, Step, Tree, TwoTrees, Visit, body_of,
+    candidates_of, list_of, name_of_rule, names_of, names_of_tokens, node_name, rule_name,
+    start_of, symbol_name, text_of, token_name, tree_words,
 };

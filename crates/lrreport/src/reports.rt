@@ -178,6 +178,12 @@ const WORK: usize = 1_000;
 /// shown.
 const LOSSES: usize = 1_000;
 
+/// For how many of these it is searched whether no sentence has two trees there.
+const DECISIONS: usize = 100;
+
+/// For how many steps that a search for such a sentence may take one of these looks at a node.
+const STEPS_A_NODE: usize = 100;
+
 /// How much work searches may do together.
 fn work_of(options: Options) -> usize {
     options.steps.saturating_mul(WORK)
@@ -197,6 +203,8 @@ fn effort_of(options: Options) -> Effort {
         work: work_of(options),
         examples,
         losses: if options.steps == 0 { 0 } else { LOSSES },
+        decisions: DECISIONS,
+        nodes: options.steps / STEPS_A_NODE,
         counts_each: options.detail.all
             || options.makes_page
             || matches!(options.output, Output::Json { .. }),

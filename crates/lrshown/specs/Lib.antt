@@ -8,4 +8,5 @@ pub mod BracketSteps
 pub mod ShownTexts
 pub mod Ambiguities
 pub mod Losses
+pub mod DecidedEntries
 pub mod VerdictWords

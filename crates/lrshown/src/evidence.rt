@@ -1,11 +1,13 @@
 //! What is known of conflicts.
 
-ghost use Rattle.std.specs.Prelude.{◌≡◌, IsTrue, IsSome};
+ghost use Rattle.std.specs.Prelude.{◌≡◌, IsTrue, IsSome, Some};
 ghost use Rattle.lrshown.specs.Ambiguities.{has_own_sentence};
+ghost use Rattle.lrshown.specs.DecidedEntries.{is_decided, tokens_of};
 ghost use Rattle.lrshown.specs.Losses.{rejects};
 
 use crate::ambiguities::Ambiguity;
 use crate::losses::Loss;
+use lrdecided::Decided;
 use lrgrammar::grammar::PartSymbol;
 use lrverdicts::Entry;
 
@@ -45,6 +47,9 @@ pub struct Evidence {
     pub example: Option<Box<Example>>,
     /// Where none is, a sentence that the parser rejects because of it, where such a one is looked for and found.
     pub loss: Option<Box<Loss>>,
+    /// Where none is, how it is decided, where that is looked for and found: no sentence has two trees that part at it by its
+    /// candidates.
+    pub decided: Option<Decided>,
     /// Whether the work that searches of the file may do was done before the search for a text was through, if one is made.
     pub is_cut_off: bool,
 }
@@ -66,5 +71,30 @@ impl Evidence {
         ensures { result ≡ rejects self.now }
     {
         self.loss.is_some() && self.ambiguity.is_none()
+    }
+
+    /// Whether it is known that no sentence has two trees that part at the entry.
+    pub fn is_decided(&self) -> bool
+        ensures decided { IsTrue result → IsSome self.now.decided }
+        ensures told { result ≡ is_decided self.now }
+    {
+        self.decided.is_some()
+    }
+
+    /// Whether it is known that so many tokens decide the entry.
+    pub fn is_decided_by(&self, tokens: usize) -> bool
+        ensures { IsTrue result → tokens_of self.now ≡ Some tokens }
+    {
+        self.tokens() == Some(tokens)
+    }
+
+    /// How many tokens decide the entry, if that is known.
+    pub fn tokens(&self) -> Option<usize>
+        ensures { result ≡ tokens_of self.now }
+    {
+        match self.decided {
+            Some(decided) => decided.tokens,
+            None => None,
+        }
     }
 }

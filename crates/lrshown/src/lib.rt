@@ -19,3 +19,4 @@ pub use crate::names::{
 };
 pub use crate::steps::{Step, TwoTrees, step_of, steps_of};
 pub use crate::trees::{Node, Tree, Visit};
+pub use lrdecided::Decided;
