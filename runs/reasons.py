@@ -223,6 +223,16 @@ def check_missed(known, conflict, counts):
     counts["not known, with more stacks than are looked at"] += not known.rests.is_whole
 
 
+def check_decided(known, entry, counts):
+    """No short text has two trees that part by the candidates of an entry that is decided."""
+    if entry.told["decided"] is None:
+        return
+    counts["decided"] += 1
+    hold(entry.told["ambiguity"] is None, "it has a sentence with two trees, and is decided")
+    shared = known.shared(entry.conflict, entry.conflict.pair)
+    hold(not shared, f"it is decided, but two trees part there: {shared}")
+
+
 # All of a grammar, and of all.
 
 
@@ -239,21 +249,25 @@ def check_entry(known, told, entry, counts):
     else:
         hold(entry.told["after"] == entry.by_one_step["after"], "another list is told where a text was looked for")
         check_missed(known, entry.conflict, counts)
+    check_decided(known, entry, counts)
 
 
 def check_groups(told, alone):
     """Entries stand in the order of the file. Those in a row that meet alike in one state, where the table does the same, are
     told together: with the text of the first token that has one, or rather of the first that has one of its own candidates, the
-    list of the first token where that has none, and the lost text of the first that has one."""
+    list of the first token where that has none, the lost text of the first that has one, and that they are decided where each is."""
     in_order = lambda key: (key[2][0], key[0], key[2][1] or 0, key[1])
     hold([*alone] == sorted(alone, key=in_order), f"the entries are out of order: {[*alone]}")
-    rows = groupby(alone.values(), lambda it: {**it, **dict.fromkeys(("tokens", "shift", "ambiguity", "after", "lost"))})
+    rows = groupby(alone.values(), lambda it: {**it, **dict.fromkeys(("tokens", "shift", "ambiguity", "after", "lost", "decided"))})
     for group, (_, row) in zip(told.grouped["conflicts"], rows, strict=True):
         row = [*row]
         hold(group["tokens"] == [token for it in row for token in it["tokens"]], f"{group['tokens']} are told together")
         known = sorted((it["ambiguity"] for it in row if it["ambiguity"]), key=lambda it: not it["own"])
         lost = next((it["lost"] for it in row if it["lost"]), None)
         wanted = next(iter(known), None), row[0]["after"], lost
+        decided = {it["decided"] for it in row}
+        hold(group["decided"] == (None if None in decided else decided.pop() if len(decided) == 1 else True),
+             f"{group['tokens']} are decided by {group['decided']}, each by {decided}")
         hold((group["ambiguity"], group["after"], group["lost"]) == wanted, f"something else is told of {group['tokens']} together")
 
 
@@ -263,6 +277,18 @@ def check_line(answer):
     words = f", {lost} rejects sentences" if lost == 1 else f", {lost} reject sentences" if lost else ""
     told = re.search(r", \d+ rejects? sentences|$", answer.line)[0]
     hold(told == words, f"{lost} conflicts reject sentences, but the line is: {answer.line}")
+    check_words_of_decided(answer)
+
+
+def check_words_of_decided(answer):
+    """The line tells of how many entries it is known that no sentence has two trees, where none with two trees is told."""
+    all, decided = len(answer.alone["conflicts"]), sum(it["decided"] is not None for it in answer.alone["conflicts"])
+    if any(it["ambiguity"] for it in answer.alone["conflicts"]) or not all:
+        return
+    known = ", not ambiguous" if all == 1 else ", none ambiguous"
+    unknown = ", not known to be ambiguous" if all == 1 else ", none known to be ambiguous"
+    words = known if decided == all else unknown + (f", {decided} known not to be" if decided else "")
+    hold(words in answer.line, f"{decided} of {all} conflicts are decided, but the line is: {answer.line}")
 
 
 def by_key(drawn, told, file):

@@ -1,6 +1,6 @@
 -- what is known of the graph that is kept, where one is
 use Rattle.std.proofs.Common.{◌≡◌, Bor, List, [], Option, None, Some, All, option_map, refl, sym, subst}
-use Rattle.std.proofs.lemmas.List.Elements.{All-nil}
+use Rattle.std.proofs.lemmas.List.Elements.{All-nil, All-weaker}
 use Rattle.std.specs.Prelude.{IfNone, IfSome, MatchOption, is_some}
 
 module _ {X : Type 0} (x : X) (P : X → Type 0) where
@@ -24,6 +24,13 @@ pub each_of_kept :
     → IfSome o (λ y. y ≡ x) → MatchOption o (ys ≡ []) (λ h. All (P h) ys) → All (P x) ys
 each_of_kept x P ys None same none = rw none (All-nil (P x))
 each_of_kept x P ys (Some y) same each = subst (λ h. All (P h) ys) same each
+
+-- what is told of each by the graph that is kept is so by this one
+pub told_of_kept :
+    {X Y : Type 0} (x : X) (Q : Y → Type 0) (P : X → Y → Type 0) (ys : List Y) (o : Option X) → ((y : Y) → Q y → P x y)
+    → IfSome o (λ y. y ≡ x) → All (λ y. MatchOption o (Q y) (λ h. P h y)) ys → All (P x) ys
+told_of_kept x Q P ys None weaker same each = All-weaker Q (P x) weaker ys each
+told_of_kept x Q P ys (Some y) weaker same each = subst (λ h. All (P h) ys) same each
 
 -- there is something behind the references just where there is something
 pub is_some_referred : {X : Type 0} (o : Option X) (r : Option (Bor X)) → option_map (λ b. b.now) r ≡ o → is_some r ≡ is_some o

@@ -8,14 +8,7 @@ use Rattle.lrverdicts.specs.declared.verdicts.Verdict.TheVariants.{Unambiguous, 
 use Rattle.lrverdicts.specs.declared.verdicts.Verdict.TheVariants as told
 use Rattle.lrverdicts.specs.VerdictTexts.{counts_text, verdict_text}
 use Rattle.lrshown.specs.declared.evidence.Evidence.{Evidence}
-use Rattle.lrshown.specs.VerdictWords.{ambiguous_verdict, ambiguous_words, plain_words, resolved_words, unknown_verdict}
-
-pub unknown_for_more :
-    (v : Verdict) (all : ℕ) → all ≢ 1 → unknown_verdict v all ≡ plain_words v ++ codes ", none known to be ambiguous"
-unknown_for_more v all more =
-    let words : (if all == 1 then codes ", not known to be ambiguous" else codes ", none known to be ambiguous") ≡ codes ", none known to be ambiguous" =
-    grind (arith, nat_tests) in
-    ap (λ x. plain_words v ++ x) words
+use Rattle.lrshown.specs.VerdictWords.{ambiguous_verdict, ambiguous_words, resolved_words}
 
 pub resolved_some :
     (s : ℕ) (e : List Evidence) (hint : Bool) → s ≢ 0

@@ -19,6 +19,7 @@ use Rattle.lrfindings.specs.FileGrammars.{IsGrammarOfFile}
 use Rattle.lrfindings.specs.Findings.{DecidesNothing}
 use Rattle.lrevidence.specs.Ambiguities.{HasTwoTrees, IsProved, PartsAtEntry}
 use Rattle.lrevidence.specs.Losses.{IsLostAtEntry}
+use Rattle.lrevidence.specs.DecidedEntries.{IsDecidedOf}
 use Rattle.lrreport.specs.declared.options.Options.{Options}
 use Rattle.lrreport.specs.declared.reports.Conclusion.{Conclusion}
 use Rattle.lrreport.specs.declared.reports.Outcome.{Outcome}
@@ -57,7 +58,8 @@ conclusion_of file o =
 -- only where no sentence has two trees, and "no conflicts" never where none is left open and no token has a precedence; so many
 -- are resolved as precedences decide in the cells; each sentence that is told of an entry has two trees, which part in its state,
 -- where its token comes; each that is told to be rejected is a sentence that the machine of the grammar's table rejects, since
--- it goes wrong there; and a sentence that precedences decide has two trees
+-- it goes wrong there; of each entry that is told to be decided no sentence has two trees that part there by what meets in it,
+-- and so many tokens of lookahead decide it; and a sentence that precedences decide has two trees
 pub record IsConcluded (left_out : Bool) (c : Conclusion) : Type 0 where
   pub max : ℕ
   pub grammar : Grammar
@@ -76,4 +78,5 @@ pub record IsConcluded (left_out : Bool) (c : Conclusion) : Type 0 where
   pub table : Table
   pub table_of : IsTableOf grammar graph table
   pub lost : All (IsLostAtEntry grammar table) c.evidence.items
+  pub decided : All (IsDecidedOf grammar graph) c.evidence.items
   pub without : IfSome c.decided (HasTwoTrees grammar)

@@ -81,6 +81,8 @@ pub(crate) enum Advice {
     MoveAction,
     /// So that the parser accepts what it rejects, not by levels.
     Accept,
+    /// By so many tokens of lookahead, not by levels.
+    Decide(usize),
     /// By more lookahead, if at all.
     Lookahead,
     /// By other rules.
@@ -236,6 +238,14 @@ impl Told<'_> {
         }
     }
 
+    /// Adds that another parser can be used, where there is one, or other rules.
+    fn add_other_parser(&self, words: &mut Words) {
+        words.add_all(match self.options.dialect {
+            Dialect::Bison => "use %glr-parser, or rewrite the rules",
+            Dialect::Grmtools => "rewrite the rules",
+        });
+    }
+
     /// Adds how a conflict can be resolved.
     pub(crate) fn add_advice(&self, words: &mut Words, advice: &Advice) {
         match advice {
@@ -244,10 +254,13 @@ impl Told<'_> {
             ),
             Advice::Accept => {
                 words.add_all("where it is not ambiguous, levels would not mend it:");
-                words.add_all(match self.options.dialect {
-                    Dialect::Bison => "use %glr-parser, or rewrite the rules",
-                    Dialect::Grmtools => "rewrite the rules",
-                });
+                self.add_other_parser(words);
+            }
+            Advice::Decide(tokens) => {
+                words.begin();
+                write!(words, "{tokens}");
+                words.add_all("tokens of lookahead would decide, and levels would not mend it:");
+                self.add_other_parser(words);
             }
             Advice::Lookahead => words.add_all(
                 "this may need more lookahead than one token; levels would then make the parser reject valid input",

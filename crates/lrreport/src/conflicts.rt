@@ -1,9 +1,11 @@
 //! Conflicts, each with the places of the productions that meet in it.
 
-ghost use Rattle.std.specs.Prelude.{◌≡◌, All, IfOk, IfSome, is_some};
+ghost use Rattle.std.specs.Prelude.{◌≡◌, All, IfOk, IfSome, IsSome, IsTrue, Some, is_some};
 ghost use Rattle.std.specs.List.{flat_map, list_any};
 ghost use Rattle.lrevidence.specs.Ambiguities.{HasTwoTrees, IsProved};
 ghost use Rattle.lrevidence.specs.Losses.{IsLoss, IsLostAtEntry};
+ghost use Rattle.lrevidence.specs.DecidedEntries.{IsToldDecided};
+ghost use Rattle.lrshown.specs.DecidedEntries.{tokens_of};
 ghost use Rattle.lrshown.specs.Ambiguities.{has_sentence};
 
 use crate::levels::Trials;
@@ -293,6 +295,8 @@ impl<T: IndexStorage> Checked<'_, T> {
         requires proved { All (IsProved self.now.found.now.grm) meeting.now }
         requires lost { All (IsLostAtEntry self.now.found.now.grm self.now.found.now.table)
             meeting.now }
+        requires entries { All (IsToldDecided self.now.found.now.grm self.now.found.now.graph)
+            meeting.now }
     {
         let alloc = text.allocator();
         let entries = entries_of(alloc, meeting)?;
@@ -309,6 +313,8 @@ impl<T: IndexStorage> Checked<'_, T> {
         requires proved { All (IsProved self.now.found.now.grm) self.now.told.evidence.now }
         requires lost { All (IsLostAtEntry self.now.found.now.grm self.now.found.now.table)
             self.now.told.evidence.now }
+        requires entries { All (IsToldDecided self.now.found.now.grm self.now.found.now.graph)
+            self.now.told.evidence.now }
     {
         let tells_all = self.told.options.detail.all;
         let meetings = meetings(text.allocator(), self.told.evidence, tells_all)?;
@@ -320,6 +326,25 @@ impl<T: IndexStorage> Checked<'_, T> {
         }
         push_more(text, meetings.len().saturating_sub(most));
         Ok(())
+    }
+}
+
+/// Whether each of the entries is decided.
+pub(crate) fn are_decided(meeting: &[Evidence]) -> bool
+    ensures { IsTrue result → All (λ evidence. IsSome evidence.decided) meeting.now }
+{
+    meeting.iter().all(|it| it.is_decided())
+}
+
+/// How many tokens decide each of the entries, if that is known, and the same of all.
+pub(crate) fn tokens_of_each(meeting: &[Evidence]) -> Option<usize>
+    ensures { IfSome result (λ k. All (λ evidence. tokens_of evidence ≡ Some k) meeting.now) }
+{
+    let tokens = meeting.first()?.tokens()?;
+    if meeting.iter().all(|it| it.is_decided_by(tokens)) {
+        Some(tokens)
+    } else {
+        None
     }
 }
 

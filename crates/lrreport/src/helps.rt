@@ -1,6 +1,7 @@
 //! Searches how conflicts can be resolved: by the levels that an author would try first, each tried on all conflicts of the file.
 
 use crate::advice::{Advice, Hindrance, NewLevels, Place};
+use crate::conflicts::tokens_of_each;
 use crate::levels::{Group, Level, Proposal, Rank, Trial, Trials};
 use crate::told::Told;
 use crate::verdicts::own_sentences;
@@ -339,6 +340,8 @@ impl<'a, T: IndexStorage> Trials<'_, 'a, T> {
         let entry = first.entry;
         if told.is_action(entry.production) {
             Ok(Some(Advice::MoveAction))
+        } else if let Some(tokens) = tokens_of_each(meeting) {
+            Ok(Some(Advice::Decide(tokens)))
         } else if meeting.iter().any(|it| it.loss.is_some()) {
             Ok(Some(Advice::Accept))
         } else if own_sentences(meeting) == 0 {

@@ -9,6 +9,7 @@ ghost use Rattle.lrspec.specs.tables.Recognition.{IsUnambiguous};
 ghost use Rattle.lrverdicts.specs.declared.verdicts.Verdict.TheVariants.{Unambiguous};
 ghost use Rattle.lrevidence.specs.Ambiguities.{HasTwoTrees, IsProved};
 ghost use Rattle.lrevidence.specs.Losses.{IsLostAtEntry};
+ghost use Rattle.lrevidence.specs.DecidedEntries.{IsToldDecided};
 ghost use Rattle.lrshown.specs.Ambiguities.{has_sentence};
 ghost use Rattle.lrreport.specs.JsonTexts.{AddsTokens};
 ghost use Rattle.lrreport.specs.JsonHeads.{verdict_word, is_proved, count_tokens, head_tokens, BeginsWith};
@@ -195,6 +196,8 @@ pub(crate) fn json_of_findings<T: IndexStorage>(
     requires proved { All (IsProved checked.now.found.now.grm) checked.now.told.evidence.now }
     requires lost { All (IsLostAtEntry checked.now.found.now.grm checked.now.found.now.table)
         checked.now.told.evidence.now }
+    requires entries { All (IsToldDecided checked.now.found.now.grm checked.now.found.now.graph)
+        checked.now.told.evidence.now }
     requires resolved { All (IsProved checked.now.found.now.grm) checked.now.told.resolved.now }
     requires unambiguous { verdict ≡ Unambiguous → IsUnambiguous checked.now.found.now.grm }
     ensures { IfOk result (λ s. BeginsWith (print (head_tokens checked.now.told.source.now.name.now
@@ -287,6 +290,8 @@ impl<'a, T: IndexStorage> Checked<'a, T> {
         requires proved { All (IsProved self.now.found.now.grm) self.now.told.evidence.now }
         requires lost { All (IsLostAtEntry self.now.found.now.grm self.now.found.now.table)
             self.now.told.evidence.now }
+        requires entries { All (IsToldDecided self.now.found.now.grm self.now.found.now.graph)
+            self.now.told.evidence.now }
         requires resolved { All (IsProved self.now.found.now.grm) self.now.told.resolved.now }
     {
         let alternatives = alternatives(json.allocator(), self.told.file)?;
@@ -345,6 +350,8 @@ impl<'a, T: IndexStorage> Checked<'a, T> {
         requires proved { All (IsProved self.now.found.now.grm) meeting.now }
         requires lost { All (IsLostAtEntry self.now.found.now.grm self.now.found.now.table)
             meeting.now }
+        requires entries { All (IsToldDecided self.now.found.now.grm self.now.found.now.graph)
+            meeting.now }
     {
         let Some(first) = meeting.first() else {
             return Ok(());
@@ -363,6 +370,7 @@ impl<'a, T: IndexStorage> Checked<'a, T> {
         json.boolean(self.told.options.steps > 0 && cut_off(meeting) == 0);
         json.key("lost");
         self.add_loss(json, self.loss_in(meeting));
+        self.add_decided(json, meeting);
         json.end_object();
         Ok(())
     }
@@ -387,6 +395,8 @@ impl<'a, T: IndexStorage> Checked<'a, T> {
     fn add_conflicts(&self, json: &mut JsonText, alternatives: &[usize]) -> Result<(), AllocError>
         requires proved { All (IsProved self.now.found.now.grm) self.now.told.evidence.now }
         requires lost { All (IsLostAtEntry self.now.found.now.grm self.now.found.now.table)
+            self.now.told.evidence.now }
+        requires entries { All (IsToldDecided self.now.found.now.grm self.now.found.now.graph)
             self.now.told.evidence.now }
     {
         json.begin_array();

@@ -1,10 +1,11 @@
 //! What is known of conflicts, as JSON.
 
-ghost use Rattle.std.specs.Prelude.{IfSome};
+ghost use Rattle.std.specs.Prelude.{All, IfSome};
 ghost use Rattle.lrevidence.specs.Ambiguities.{HasTwoTrees};
 ghost use Rattle.lrevidence.specs.Losses.{IsLoss};
+ghost use Rattle.lrevidence.specs.DecidedEntries.{IsToldDecided};
 
-use crate::conflicts::Checked;
+use crate::conflicts::{Checked, are_decided, tokens_of_each};
 use crate::json_parts::{add_symbols, add_tokens};
 use crate::json_texts::JsonText;
 use crate::texts::leaves;
@@ -143,6 +144,20 @@ impl<T: IndexStorage> Checked<'_, T> {
         json.key("stop");
         json.number(loss.shown_stop(self.told.file));
         json.end_object();
+    }
+
+    /// Adds whether no sentence has two trees that part at the entries: how many tokens decide each of them, or that it is so where
+    /// that isn't known. Null where neither is.
+    pub(crate) fn add_decided(&self, json: &mut JsonText, meeting: &[Evidence])
+        requires proved { All (IsToldDecided self.now.found.now.grm self.now.found.now.graph)
+            meeting.now }
+    {
+        json.key("decided");
+        match tokens_of_each(meeting) {
+            Some(tokens) => json.number(tokens),
+            None if are_decided(meeting) => json.boolean(true),
+            None => json.null(),
+        }
     }
 
     /// Adds a sentence with two trees at an entry: the rule whose two ways they are, the text, whether the trees part by what meets in

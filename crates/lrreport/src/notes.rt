@@ -1,10 +1,12 @@
 //! What is known of conflicts, as notes under their places.
 
-ghost use Rattle.std.specs.Prelude.{All, IfSome, IsSome, IsTrue};
+ghost use Rattle.std.specs.Prelude.{◌≡◌, All, IfSome, IsSome, IsTrue, Some};
 ghost use Rattle.lrevidence.specs.Ambiguities.{HasTwoTrees, IsProved};
 ghost use Rattle.lrevidence.specs.Losses.{IsLoss, IsLostAtEntry};
+ghost use Rattle.lrevidence.specs.DecidedEntries.{IsToldDecided};
+ghost use Rattle.lrshown.specs.DecidedEntries.{tokens_of};
 
-use crate::conflicts::Checked;
+use crate::conflicts::{Checked, are_decided, tokens_of_each};
 use crate::drawings::push_drawing;
 use crate::levels::Trials;
 use crate::texts::{
@@ -203,10 +205,13 @@ impl Told<'_> {
         notes: Notes,
         evidence: &Evidence,
         example: &Example,
+        is_decided: bool,
     ) -> Result<(), AllocError> {
         let mut why = Words::new(text.allocator());
-        why.add_all("not known to be ambiguous");
-        self.add_effort(&mut why, evidence);
+        if !is_decided {
+            why.add_all("not known to be ambiguous");
+            self.add_effort(&mut why, evidence);
+        }
         why.add_all("both are possible");
         add_start(
             &mut why,
@@ -229,10 +234,11 @@ impl Told<'_> {
         notes: Notes,
         evidence: &Evidence,
         example: &Example,
+        is_decided: bool,
     ) -> Result<(), AllocError> {
         let candidates = candidates_of(&evidence.entry);
         let (label, other_label) = labels(self.file, candidates, ", and go on:");
-        self.push_list(text, notes, evidence, example)?;
+        self.push_list(text, notes, evidence, example, is_decided)?;
         self.push_outlook(text, notes, label, example.one.as_ref())?;
         self.push_outlook(text, notes, other_label, example.other.as_ref())
     }
@@ -288,6 +294,56 @@ impl<T: IndexStorage> Checked<'_, T> {
         notes.push(text, &why);
         notes.push_shown(text, &words);
         Ok(())
+    }
+
+    /// Adds that no sentence has two trees that part at the entries, and how many tokens decide each of them, if that is known.
+    fn push_not_ambiguous(
+        &self,
+        text: &mut Text,
+        notes: Notes,
+        _meeting: &[Evidence],
+        tokens: Option<usize>,
+    )
+        requires proved { All (IsToldDecided self.now.found.now.grm self.now.found.now.graph)
+            _meeting.now }
+        requires each { All (λ evidence. IsSome evidence.decided) _meeting.now }
+        requires tokens { IfSome tokens
+            (λ k. All (λ evidence. tokens_of evidence ≡ Some k) _meeting.now) }
+    {
+        let mut words = Words::new(text.allocator());
+        words.add_all("not ambiguous here (proved)");
+        if let Some(tokens) = tokens {
+            words.add_piece(":");
+            words.begin();
+            write!(words, "{tokens}");
+            words.add_all("tokens of lookahead would decide");
+        }
+        notes.push(text, &words);
+    }
+
+    /// Adds what is known of entries without a sentence that has two trees.
+    fn push_without_sentence(
+        &self,
+        text: &mut Text,
+        notes: Notes,
+        meeting: &[Evidence],
+    ) -> Result<(), AllocError>
+        requires proved { All (IsToldDecided self.now.found.now.grm self.now.found.now.graph)
+            meeting.now }
+    {
+        let is_decided = are_decided(meeting);
+        if is_decided {
+            self.push_not_ambiguous(text, notes, meeting, tokens_of_each(meeting));
+        }
+        let Some(first) = meeting.first() else {
+            return Ok(());
+        };
+        match &first.example {
+            Some(example) => self
+                .told
+                .push_example(text, notes, first, example, is_decided),
+            None => Ok(()),
+        }
     }
 
     /// Adds the text that shows the same at another token.
@@ -359,6 +415,8 @@ impl<T: IndexStorage> Checked<'_, T> {
         requires proved { All (IsProved self.now.found.now.grm) meeting.now }
         requires lost { All (IsLostAtEntry self.now.found.now.grm self.now.found.now.table)
             meeting.now }
+        requires entries { All (IsToldDecided self.now.found.now.grm self.now.found.now.graph)
+            meeting.now }
     {
         let Some(first) = meeting.first() else {
             return Ok(());
@@ -368,8 +426,8 @@ impl<T: IndexStorage> Checked<'_, T> {
             self.push_others(text, notes, meeting, token)?;
         } else if let Some(ambiguity) = self.sentence_with_trees(meeting) {
             self.push_ambiguity(text, notes, &first.entry, ambiguity)?;
-        } else if let Some(example) = &first.example {
-            self.told.push_example(text, notes, first, example)?;
+        } else {
+            self.push_without_sentence(text, notes, meeting)?;
         }
         match self.loss_in(meeting) {
             Some(loss) => self.push_loss(text, notes, loss),
@@ -387,6 +445,8 @@ impl<T: IndexStorage> Checked<'_, T> {
     ) -> Result<(), AllocError>
         requires proved { All (IsProved self.now.found.now.grm) meeting.now }
         requires lost { All (IsLostAtEntry self.now.found.now.grm self.now.found.now.table)
+            meeting.now }
+        requires entries { All (IsToldDecided self.now.found.now.grm self.now.found.now.graph)
             meeting.now }
     {
         let mut lines = Text::new(text.allocator());

@@ -16,6 +16,7 @@ ghost use Rattle.lrshown.specs.VerdictWords.{verdict_words};
 ghost use Rattle.lrevidence.specs.Ambiguities.{HasTwoTrees, IsProved, PartsAtEntry};
 ghost use Rattle.lrevidence.specs.Entries.{AreListedIn};
 ghost use Rattle.lrevidence.specs.Losses.{IsLostAtEntry};
+ghost use Rattle.lrevidence.specs.DecidedEntries.{IsToldDecided};
 ghost use Rattle.lrreport.specs.declared.options.Output.TheVariants.{Grammar, Summary};
 ghost use Rattle.json.specs.Print.{print};
 ghost use Rattle.lrshown.specs.Ambiguities.{has_sentence};
@@ -237,6 +238,8 @@ fn known_of(
         (λ h. All (PartsAtEntry found.now.grm h) k.evidence.items)) }
     ensures lost { IfOk result (λ k.
         All (IsLostAtEntry found.now.grm found.now.table) k.evidence.items) }
+    ensures entries { IfOk result (λ k.
+        All (IsToldDecided found.now.grm found.now.graph) k.evidence.items) }
     ensures resolved { IfOk result (λ k. All (IsProved found.now.grm) k.resolved.items) }
     ensures decided { IfOk result (λ k. IfSome k.decided (HasTwoTrees found.now.grm)) }
 {
@@ -306,6 +309,8 @@ impl<T: IndexStorage> Checked<'_, T> {
         requires proved { All (IsProved self.now.found.now.grm) self.now.told.evidence.now }
         requires lost { All (IsLostAtEntry self.now.found.now.grm self.now.found.now.table)
             self.now.told.evidence.now }
+        requires entries { All (IsToldDecided self.now.found.now.grm self.now.found.now.graph)
+            self.now.told.evidence.now }
         requires resolved { All (IsProved self.now.found.now.grm) self.now.told.resolved.now }
     {
         let options = self.told.options;
@@ -330,6 +335,8 @@ impl<T: IndexStorage> Checked<'_, T> {
         decided: Option<&Ambiguity>,
     ) -> Result<String, AllocError>
         requires proved { All (IsProved self.now.found.now.grm) self.now.told.evidence.now }
+        requires entries { All (IsToldDecided self.now.found.now.grm self.now.found.now.graph)
+            self.now.told.evidence.now }
         requires unambiguous { verdict ≡ Unambiguous → IsUnambiguous self.now.found.now.grm }
         requires decided { IfSome decided (λ a. HasTwoTrees self.now.found.now.grm a.now) }
         ensures { IfOk result (λ s. string_bytes s ≡ line_of self.now.told.source.now.name.now
@@ -364,6 +371,8 @@ fn lines<T: IndexStorage>(
     requires proved { All (IsProved checked.now.found.now.grm) checked.now.told.evidence.now }
     requires lost { All (IsLostAtEntry checked.now.found.now.grm checked.now.found.now.table)
         checked.now.told.evidence.now }
+    requires entries { All (IsToldDecided checked.now.found.now.grm checked.now.found.now.graph)
+        checked.now.told.evidence.now }
     requires resolved { All (IsProved checked.now.found.now.grm) checked.now.told.resolved.now }
     ensures { checked.now.told.options.lines.columns ≡ None → IfOk result (λ s.
         EndsIn (shown_text line.now ++ codes "\n") (string_bytes s)) }
@@ -385,6 +394,7 @@ fn text_on_findings<T: IndexStorage>(
 ) -> Result<String, AllocError>
     requires proved { All (IsProved found.now.grm) known.now.evidence.items }
     requires lost { All (IsLostAtEntry found.now.grm found.now.table) known.now.evidence.items }
+    requires entries { All (IsToldDecided found.now.grm found.now.graph) known.now.evidence.items }
     requires resolved { All (IsProved found.now.grm) known.now.resolved.items }
     requires decided { IfSome known.now.decided (HasTwoTrees found.now.grm) }
     requires unambiguous { verdict ≡ Unambiguous → IsUnambiguous found.now.grm }
@@ -428,6 +438,8 @@ fn page_on_findings<T: IndexStorage>(
 ) -> Result<Option<String>, AllocError>
     requires proved { All (IsProved found.now.grm) known.now.evidence.items }
     requires lost { All (IsLostAtEntry found.now.grm found.now.table) known.now.evidence.items }
+    requires entries { All (IsToldDecided found.now.grm found.now.graph) known.now.evidence.items }
+    requires graph { IfSome found.now.graph (IsGraphOf found.now.grm) }
     requires decided { IfSome known.now.decided (HasTwoTrees found.now.grm) }
     requires unambiguous { verdict ≡ Unambiguous → IsUnambiguous found.now.grm }
 {

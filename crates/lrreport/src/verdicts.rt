@@ -7,9 +7,11 @@ ghost use Rattle.lrspec.specs.tables.Recognition.{IsUnambiguous};
 ghost use Rattle.lrwriter.specs.Texts.{Adds};
 ghost use Rattle.lrverdicts.specs.declared.verdicts.Verdict.TheVariants.{Unambiguous};
 ghost use Rattle.lrevidence.specs.Ambiguities.{HasTwoTrees, IsProved};
+ghost use Rattle.lrevidence.specs.DecidedEntries.{IsToldDecided};
 ghost use Rattle.lrshown.specs.Ambiguities.{has_own_sentence};
 ghost use Rattle.lrshown.specs.Losses.{rejects};
-ghost use Rattle.lrshown.specs.VerdictWords.{unambiguous_words, ambiguous_words, plain_words, sentences_words, rejecting_words, ambiguous_verdict, unknown_verdict, verdict_on, known_verdict, resolved_words, decided_words, verdict_words};
+ghost use Rattle.lrshown.specs.DecidedEntries.{is_decided};
+ghost use Rattle.lrshown.specs.VerdictWords.{unambiguous_words, ambiguous_words, plain_words, sentences_words, rejecting_words, ambiguous_verdict, none_known_words, unknown_words, unknown_verdict, verdict_on, known_verdict, resolved_words, decided_words, verdict_words};
 
 use crate::conflicts::Checked;
 use crate::told::Told;
@@ -43,6 +45,48 @@ fn rejecting(evidence: &[Evidence]) -> usize
         }
     }
     count
+}
+
+/// How many entries are decided.
+fn decided_entries(evidence: &[Evidence]) -> usize
+    ensures { result ≡ count_by is_decided evidence.now }
+{
+    let mut count: usize = 0;
+    for one in evidence {
+        if one.is_decided() {
+            count += 1;
+        }
+    }
+    count
+}
+
+/// Adds that no sentence with two trees is known for all those conflicts.
+fn push_none_known(line: &mut Text, all: usize)
+    ensures { Adds line.old line.new (none_known_words all) }
+{
+    if all == 1 {
+        line.add(", not known to be ambiguous");
+    } else {
+        line.add(", none known to be ambiguous");
+    }
+}
+
+/// Adds the same, and how many of the conflicts are decided, if some are.
+fn push_unknown(line: &mut Text, decided: usize, all: usize)
+    ensures { Adds line.old line.new (unknown_words decided all) }
+{
+    if decided == 0 {
+        push_none_known(line, all);
+    } else if decided != all {
+        write!(
+            line,
+            ", none known to be ambiguous, {decided} known not to be"
+        );
+    } else if all == 1 {
+        line.add(", not ambiguous");
+    } else {
+        line.add(", none ambiguous");
+    }
 }
 
 /// Adds for how many conflicts a sentence is known that the parser rejects, if for some.
@@ -164,34 +208,39 @@ impl<T: IndexStorage> Checked<'_, T> {
         }
     }
 
-    /// Adds a verdict, and that no sentence is known for so many conflicts.
-    fn push_unknown_verdict(&self, line: &mut Text, verdict: Verdict, all: usize)
+    /// Adds a verdict, and that no sentence with two trees is known; some conflicts may be known to have none.
+    fn push_unknown_verdict(&self, line: &mut Text, verdict: Verdict)
+        requires entries { All (IsToldDecided self.now.found.now.grm self.now.found.now.graph)
+            self.now.told.evidence.now }
         requires unambiguous { verdict ≡ Unambiguous → IsUnambiguous self.now.found.now.grm }
-        ensures { Adds line.old line.new (unknown_verdict verdict all) }
+        ensures { Adds line.old line.new (unknown_verdict verdict
+            (count_by is_decided self.now.told.evidence.now)
+            (length self.now.told.evidence.now)) }
     {
+        let evidence = self.told.evidence;
         self.push_plain_verdict(line, verdict);
-        if all == 1 {
-            line.add(", not known to be ambiguous");
-        } else {
-            line.add(", none known to be ambiguous");
-        }
+        push_unknown(line, decided_entries(evidence), evidence.len());
     }
 
     /// Adds the verdict, and for how many of the conflicts a sentence with two trees is known.
     fn push_verdict_on(&self, line: &mut Text, verdict: Verdict)
         requires proved { All (IsProved self.now.found.now.grm) self.now.told.evidence.now }
+        requires entries { All (IsToldDecided self.now.found.now.grm self.now.found.now.graph)
+            self.now.told.evidence.now }
         requires unambiguous { verdict ≡ Unambiguous → IsUnambiguous self.now.found.now.grm }
         ensures { Adds line.old line.new (verdict_on verdict self.now.told.evidence.now) }
     {
         match self.any_sentence(self.told.evidence) {
             Some(text) => self.push_ambiguous_verdict(line, verdict, text),
-            None => self.push_unknown_verdict(line, verdict, self.told.evidence.len()),
+            None => self.push_unknown_verdict(line, verdict),
         }
     }
 
     /// Adds the verdict, and what is known of the conflicts where it was looked for.
     fn push_verdict(&self, line: &mut Text, verdict: Verdict)
         requires proved { All (IsProved self.now.found.now.grm) self.now.told.evidence.now }
+        requires entries { All (IsToldDecided self.now.found.now.grm self.now.found.now.graph)
+            self.now.told.evidence.now }
         requires unambiguous { verdict ≡ Unambiguous → IsUnambiguous self.now.found.now.grm }
         ensures { Adds line.old line.new (known_verdict verdict self.now.told.evidence.now
             (nat_lt 0 self.now.told.options.steps)) }
@@ -225,6 +274,8 @@ impl<T: IndexStorage> Checked<'_, T> {
         has_hint: bool,
     ) -> Result<String, AllocError>
         requires proved { All (IsProved self.now.found.now.grm) self.now.told.evidence.now }
+        requires entries { All (IsToldDecided self.now.found.now.grm self.now.found.now.graph)
+            self.now.told.evidence.now }
         requires unambiguous { verdict ≡ Unambiguous → IsUnambiguous self.now.found.now.grm }
         requires decided { IfSome decided (λ a. HasTwoTrees self.now.found.now.grm a.now) }
         ensures words { IfOk result (λ s. string_bytes s

@@ -3,6 +3,7 @@ use Rattle.std.specs.Prelude.{◌≡◌, ℕ, ◌==◌, not, Bool, List, [], ◌
 use Rattle.std.specs.List.{count_by, list_any}
 use Rattle.lrspec.specs.grammars.Grammar.{Grammar}
 use Rattle.lrspec.specs.tables.Recognition.{IsUnambiguous}
+use Rattle.lrspec.specs.merging.Graph.{Graph, IsGraphOf}
 use Rattle.lrspec.specs.tables.Table.{Table}
 use Rattle.lrverdicts.specs.declared.verdicts.Verdict.{Verdict}
 use Rattle.lrverdicts.specs.declared.verdicts.Verdict.TheVariants.{Unambiguous, Conflicts}
@@ -11,6 +12,7 @@ use Rattle.lrshown.specs.declared.ambiguities.Ambiguity.{Ambiguity}
 use Rattle.lrshown.specs.declared.evidence.Evidence.{Evidence}
 use Rattle.lrshown.specs.Ambiguities.{HasTwoTrees, IsProved, has_sentence, has_own_sentence}
 use Rattle.lrshown.specs.Losses.{IsLostAtEntry, rejects}
+use Rattle.lrshown.specs.DecidedEntries.{IsToldDecided, is_decided}
 
 -- that no sentence has two trees
 abbrev pub unambiguous_words : List ℕ
@@ -38,18 +40,29 @@ abbrev pub ambiguous_verdict : Verdict → List ℕ → List ℕ
 ambiguous_verdict (Conflicts c) texts = ambiguous_words ++ codes ": " ++ verdict_text (Conflicts c) ++ codes ", " ++ texts
 ambiguous_verdict verdict texts = verdict_text verdict ++ codes "; " ++ ambiguous_words ++ codes ": " ++ texts
 
--- a verdict, and that none is known
-abbrev pub unknown_verdict : Verdict → ℕ → List ℕ
-unknown_verdict verdict all =
-    plain_words verdict
-    ++ (if all == 1 then codes ", not known to be ambiguous" else codes ", none known to be ambiguous")
+-- no text is known for so many conflicts
+abbrev pub none_known_words : ℕ → List ℕ
+none_known_words all =
+    if all == 1 then codes ", not known to be ambiguous" else codes ", none known to be ambiguous"
+
+-- and so many of them are decided
+abbrev pub unknown_words : ℕ → ℕ → List ℕ
+unknown_words decided all =
+    if decided == 0 then none_known_words all
+    else (if decided == all then
+    (if all == 1 then codes ", not ambiguous" else codes ", none ambiguous")
+    else codes ", none known to be ambiguous, " ++ decimal decided ++ codes " known not to be")
+
+-- a verdict, and that no text is known
+abbrev pub unknown_verdict : Verdict → ℕ → ℕ → List ℕ
+unknown_verdict verdict decided all = plain_words verdict ++ unknown_words decided all
 
 -- a verdict, and for how many of the conflicts a sentence with two trees is known
 abbrev pub verdict_on : Verdict → List Evidence → List ℕ
 verdict_on verdict evidence =
     if list_any has_sentence evidence then
     ambiguous_verdict verdict (sentences_words (count_by has_own_sentence evidence) (length evidence))
-    else unknown_verdict verdict (length evidence)
+    else unknown_verdict verdict (count_by is_decided evidence) (length evidence)
 
 -- for so many others a sentence is known that the parser rejects
 abbrev pub rejecting_words : ℕ → List ℕ
@@ -95,6 +108,10 @@ pub record TellProved (g : Grammar) (b : Table) (words : List ℕ) : Type 0 wher
   pub unambiguous : verdict ≡ Unambiguous → IsUnambiguous g
   pub texts : All (IsProved g) evidence
   pub lost : All (IsLostAtEntry g b) evidence
+  -- a graph of the grammar, if one is kept
+  pub graph : Option Graph
+  pub graph_of : IfSome graph (IsGraphOf g)
+  pub entries : All (IsToldDecided g graph) evidence
   pub without : IfSome decided (HasTwoTrees g)
 
 -- the same, without saying of which verdict

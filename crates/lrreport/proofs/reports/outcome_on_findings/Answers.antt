@@ -1,6 +1,7 @@
-use Rattle.std.proofs.Common.{◌≡◌, ◌∙◌, ℕ, ◌-◌, ◌^◌, Bool, arith, length, subst, sym}
-use Rattle.std.specs.Prelude.{IsTrue}
-use Rattle.lrspec.specs.merging.Graph.{IsGraphOf}
+use Rattle.std.proofs.Common.{◌≡◌, ◌∙◌, None, ℕ, ◌-◌, ◌^◌, Bool, arith, length, subst, sym}
+use Rattle.std.specs.Prelude.{IfSome, IsTrue}
+use Rattle.lrspec.specs.grammars.Grammar.{Grammar}
+use Rattle.lrspec.specs.merging.Graph.{Graph, IsGraphOf}
 use Rattle.lrspec.specs.tables.Conflicts.{AreReductionsContested}
 use Rattle.lryacc.specs.declared.numbering.FileGrammar.{FileGrammar}
 use Rattle.lryacc.specs.declared.meaning.Expected.{Expected}
@@ -12,7 +13,9 @@ use Rattle.lrfindings.specs.declared.findings.Findings.{Findings}
 use Rattle.lrfindings.specs.Findings.{AreFindings}
 use Rattle.lrevidence.specs.Entries.{AreListedIn}
 use Rattle.lrevidence.specs.Ambiguities.{PartsAtEntry}
-use Rattle.lrreport.proofs.KeptGraph.{of_kept, kept_or, each_of_kept}
+use Rattle.lrevidence.specs.DecidedEntries.{IsDecidedEntry, IsDecidedOf}
+use Rattle.lrshown.specs.declared.evidence.Evidence.{Evidence}
+use Rattle.lrreport.proofs.KeptGraph.{of_kept, kept_or, each_of_kept, told_of_kept}
 use Rattle.lrreport.proofs.KeptFindings.{are_left, so_many_resolved, known_without, none_known}
 use Rattle.lrreport.proofs.reports.outcome_on_findings.Goals as goal
 
@@ -52,6 +55,15 @@ text_on_findings-requires-clause-unambiguous c = λ told. c.requires.found.unamb
 pub page_on_findings-requires-clause-unambiguous : goal.page_on_findings-requires-clause-unambiguous
 page_on_findings-requires-clause-unambiguous c = λ told. c.requires.found.unambiguous (shown c.args.found.is_unambiguous c.in_ok-known.known.left c.beside-expected.result c.of-verdict.result c.of-verdict.ensures told)
 
+-- of an entry of which nothing is told nothing is wrong
+not_told : (g : Grammar) (h : Graph) (e : Evidence) → e.decided ≡ None → IsDecidedOf g h e
+not_told g h e none = subst (λ d. IfSome d (IsDecidedEntry g h e.entry)) (sym none) tt
+
+pub page_on_findings-requires-clause-graph : goal.page_on_findings-requires-clause-graph
+page_on_findings-requires-clause-graph c =
+    let found = c.args.found in
+    of_kept c.requires.found.graph (IsGraphOf found.grm) found.graph c.requires.found.kept c.requires.found.of_grammar
+
 pub returns-clause-proved : goal.returns-clause-proved
 returns-clause-proved c = record {
   max = 2 ^ 32 - 1;
@@ -72,6 +84,8 @@ returns-clause-proved c = record {
   table = c.args.found.table;
   table_of = c.requires.found.table;
   lost = c.in_ok-known.ensures.lost;
+  decided = told_of_kept c.requires.found.graph (λ e. e.decided ≡ None) (IsDecidedOf c.args.found.grm) c.in_ok-known.known.evidence.items c.args.found.graph
+      (λ e none. not_told c.args.found.grm c.requires.found.graph e none) c.requires.found.kept c.in_ok-known.ensures.entries;
   without = c.in_ok-known.ensures.decided;
 }
 

@@ -16,5 +16,8 @@ page-requires-clause-words g c = ∣ record {
   unambiguous = c.requires.unambiguous;
   texts = c.requires.proved;
   lost = c.requires.lost;
+  graph = c.args.found.now.graph;
+  graph_of = c.requires.graph;
+  entries = c.requires.entries;
   without = c.requires.decided;
 } ∣₁

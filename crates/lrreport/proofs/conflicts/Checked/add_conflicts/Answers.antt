@@ -1,5 +1,6 @@
 use Rattle.lrevidence.specs.Ambiguities.{IsProved}
 use Rattle.lrevidence.specs.Losses.{IsLostAtEntry}
+use Rattle.lrevidence.specs.DecidedEntries.{IsToldDecided}
 use Rattle.lrreport.proofs.Groups.{in_group}
 use Rattle.lrreport.proofs.conflicts.Checked.add_conflicts.Goals as goal
 
@@ -12,5 +13,8 @@ add_conflict-requires g c =
           c.loop-meeting.meeting-index c.meeting-item.result c.loop-meeting-test.true c.meeting-item.is;
       lost = in_group (IsLostAtEntry checked.found.now.grm checked.found.now.table) (λ group. group.now) c.deref-meeting-items.result.now
           checked.told.evidence.now (rw c.deref-meeting-items.ensures.value c.in_ok-alike.ensures) c.requires.lost
+          c.loop-meeting.meeting-index c.meeting-item.result c.loop-meeting-test.true c.meeting-item.is;
+      entries = in_group (IsToldDecided checked.found.now.grm checked.found.now.graph) (λ group. group.now) c.deref-meeting-items.result.now
+          checked.told.evidence.now (rw c.deref-meeting-items.ensures.value c.in_ok-alike.ensures) c.requires.entries
           c.loop-meeting.meeting-index c.meeting-item.result c.loop-meeting-test.true c.meeting-item.is;
     }
