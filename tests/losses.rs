@@ -202,6 +202,8 @@ fn losses_are_found(rt: HostRuntime) -> Result<(), Fail> {
         (RULES, "ID : . ID «:»; "),
         (ONE_BODY, "a . c «e»; "),
         (ACTIONS_WITHIN, "x . a «c»; "),
+        // the sentence ends where the machine needs a token more
+        ("%% S: A 'c' 'd' | X 'c'; A: 'a'; X: 'a';", "a . c «$»; "),
         // to reduce by the one is as good as by the other
         ("%% S: A 'c' | B 'c'; A: 'a'; B: 'a';", "none; "),
     ] {

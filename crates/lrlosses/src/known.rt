@@ -2,7 +2,7 @@
 
 use crate::completes::Completes;
 use crate::edges::Edges;
-use crate::rules::{Rules, START, body_of, core_of};
+use crate::rules::{Rules, body_of, core_of};
 use crate::ways::Ways;
 use lrconflicts::Move;
 use lrforms::Forms;
@@ -139,24 +139,6 @@ impl<'a> Known<'a> {
             candidates.push(Move::Reduce(*production))?;
         }
         Ok(candidates)
-    }
-
-    /// The states along a list, the start state first; None where no edges lead along it.
-    pub(crate) fn states_along(
-        &self,
-        alloc: Global,
-        list: &[Symbol<u32>],
-    ) -> Result<Option<Vec<StIdx<u32>>>, AllocError> {
-        let mut states = vec![in alloc; START]?;
-        let mut last = START;
-        for symbol in list {
-            let Some(next) = self.graph.edge(last, *symbol) else {
-                return Ok(None);
-            };
-            states.push(next)?;
-            last = next;
-        }
-        Ok(Some(states))
     }
 
     /// The symbols along which a stack was come to.

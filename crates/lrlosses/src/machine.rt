@@ -10,6 +10,9 @@ use std::alloc::{AllocError, Global};
 /// How many steps the machine takes on a text.
 const MOST_STEPS: usize = 20_000;
 
+/// How often it comes to a state behind a text, as far as that counts.
+const MOST_ARRIVALS: usize = 4;
+
 /// How many reductions it makes before it shifts a token.
 const MOST_REDUCTIONS: usize = 500;
 
@@ -78,6 +81,14 @@ impl<'a> Machine<'a> {
         Ok(true)
     }
 
+    /// That it is where it is by these moves.
+    fn arrival(&self, moves: &[Move<u32>]) -> Result<Arrival, AllocError> {
+        Ok(Arrival {
+            moves: Vec::from_slice(*self.stack.allocator(), moves)?,
+            stack: self.stack.clone()?,
+        })
+    }
+
     /// Goes on until the token is shifted.
     pub(crate) fn take(&mut self, token: TIdx<u32>) -> Result<Outcome, AllocError> {
         for _ in 0..MOST_REDUCTIONS {
@@ -99,20 +110,26 @@ impl<'a> Machine<'a> {
     }
 }
 
-/// The machine's moves on the text, from the start up to this very stack behind the text, where the token comes next; None where
-/// it doesn't come to it.
-pub(crate) fn moves_to(
+/// How the machine came to a state.
+#[derive(Drop)]
+pub(crate) struct Arrival {
+    pub(crate) moves: Vec<Move<u32>>,
+    pub(crate) stack: Vec<StIdx<u32>>,
+}
+
+/// How the machine comes to the state behind the text, where the token comes next; at most so often as counts.
+pub(crate) fn arrivals(
     alloc: Global,
     machine: &mut Machine<'_>,
     text: &[TIdx<u32>],
     token: TIdx<u32>,
-    stack: &[StIdx<u32>],
-) -> Result<Option<Vec<Move<u32>>>, AllocError> {
-    let mut moves = Vec::new(alloc);
+    state: StIdx<u32>,
+) -> Result<Vec<Arrival>, AllocError> {
+    let (mut arrivals, mut moves) = (Vec::new(alloc), Vec::new(alloc));
     let mut used: usize = 0;
     for _ in 0..MOST_STEPS {
-        if used == text.len() && machine.stack.as_slice() == stack {
-            return Ok(Some(moves));
+        if used == text.len() && machine.top() == state {
+            arrivals.push(machine.arrival(moves.as_slice())?)?;
         }
         let next = text.get(used).copied();
         match (machine.action(next.unwrap_or(token)), next) {
@@ -121,7 +138,7 @@ pub(crate) fn moves_to(
                 moves.push(Move::Shift)?;
                 used = used.saturating_add(1);
             }
-            (Action::Reduce(production), _) => {
+            (Action::Reduce(production), _) if arrivals.len() < MOST_ARRIVALS => {
                 if !machine.reduce(production)? {
                     break;
                 }
@@ -130,5 +147,5 @@ pub(crate) fn moves_to(
             _ => break,
         }
     }
-    Ok(None)
+    Ok(arrivals)
 }

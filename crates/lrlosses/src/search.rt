@@ -5,7 +5,7 @@
 use crate::checks::{Candidate, Checker};
 use crate::known::Known;
 use crate::lists::{lists_before, nearest_lists};
-use crate::machine::{Machine, Outcome, moves_to};
+use crate::machine::{Arrival, Machine, Outcome, arrivals};
 use crate::pairs::{Origin, Pairs, Start, copied};
 use crate::readings::readings;
 use crate::rules::{START, body_of};
@@ -138,22 +138,19 @@ impl<'a> Search<'a> {
         Ok(lists)
     }
 
-    /// Keeps a list, if the machine comes along it to the cell with a shortest text of the list.
+    /// Keeps how the machine comes to the cell behind a shortest text of a list.
     fn add_start(&mut self, list: &[Symbol<u32>]) -> Result<(), AllocError> {
         let (alloc, known) = (self.alloc, self.known);
-        let Some(stack) = known.states_along(alloc, list)? else {
-            return Ok(());
-        };
-        if stack.last().copied() != Some(self.candidate.state) {
-            return Ok(());
-        }
+        let Candidate { state, token, .. } = self.candidate;
         let Some(tokens) = text_along(alloc, known.grm, &known.edges, list)? else {
             return Ok(());
         };
         let mut machine = Machine::new(known.grm, known.table, vec![in alloc; START]?);
-        let moves = moves_to(alloc, &mut machine, &tokens, self.candidate.token, &stack)?;
+        let found = arrivals(alloc, &mut machine, &tokens, token, state)?;
         self.count(machine.steps);
-        if let Some(moves) = moves {
+        for arrival in found {
+            let Arrival { moves, stack } = arrival;
+            let tokens = tokens.clone()?;
             let text = Written { tokens, moves };
             self.starts.push(Start { text, stack })?;
         }
