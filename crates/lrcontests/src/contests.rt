@@ -161,6 +161,13 @@ impl<'a, T: IndexStorage> Contests<'a, T> {
         Ok(Contests { grm, graph, ways })
     }
 
+    /// The ways into the states of the graph, which all searches share.
+    pub fn ways(&self) -> &Ways<T>
+        ensures { AreWaysOf T.number self.now.grammar self.now.graph result.now }
+    {
+        &self.ways
+    }
+
     /// A shortest list of symbols after which the shift/reduce conflict is real: it has the core of the state, and both to
     /// shift the token and to reduce by the production on it are candidates. The error says that memory was refused.
     pub fn of_shift(

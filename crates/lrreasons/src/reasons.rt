@@ -8,6 +8,7 @@ ghost use Rattle.lrspec.specs.tables.Conflicts.{AreReductionsContested};
 ghost use Rattle.lrspec.specs.tables.LrTables.{HasNoPrecedences, ListsNothing};
 ghost use Rattle.lrspec.specs.tables.Recognition.{IsUnambiguous};
 ghost use Rattle.lrgrammar.specs.Symbols.{symbol_of};
+ghost use Rattle.lrsearches.specs.StoredWays.{AreWaysOf};
 ghost use Rattle.lrtable.specs.RunAnswers.{text_of as tokens_of};
 ghost use Rattle.lrtree.specs.StoredTrees.{tree_of};
 ghost use Rattle.lrconflicts.specs.Moves.{IsTreeOfText};
@@ -29,6 +30,7 @@ use lrcontests::Contests;
 use lrforms::Forms;
 use lrgrammar::grammar::YaccGrammar;
 use lrgrammar::idx::{Symbol, TIdx};
+use lrsearches::Ways;
 use lrtable::StateGraph;
 use lrtable::statetable::Conflicts;
 use std::alloc::AllocError;
@@ -180,6 +182,23 @@ impl<'a> Reasons<'a> {
             contests: None,
             forms,
         })
+    }
+
+    /// Makes what searches for examples share, where it isn't made yet.
+    pub fn prepare_examples(&mut self) -> Result<(), AllocError>
+        ensures { self.new ≡ self.old }
+    {
+        if self.contests.is_none() {
+            self.contests = Some(Contests::new(self.grm, self.graph)?);
+        }
+        Ok(())
+    }
+
+    /// The ways into the states of the graph, where what searches for examples share is made.
+    pub fn ways(&self) -> Option<&Ways<u32>>
+        ensures { IfSome result (AreWaysOf number_of self.now.grammar self.now.graph) }
+    {
+        Some(self.contests.as_ref()?.ways())
     }
 
     /// Lets all further searches together do so much work, or a little more: to try a step, to look at an item of a state, and to
