@@ -23,8 +23,8 @@ def of_help():
 
 
 def of_document():
-    rows = [row for row in (TOP / "docs/LRCHECK.md").read_text().splitlines() if row.startswith("| `--")]
-    return {name for row in rows for name in NAME.findall(row.split("|")[1])}
+    rows = [row for row in (TOP / "docs/LRCHECK.md").read_text().splitlines() if row.startswith("`--")]
+    return {name for row in rows for name in NAME.findall(row.split(" | ")[0])}
 
 
 def of_page(page):
