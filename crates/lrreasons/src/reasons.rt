@@ -196,7 +196,8 @@ impl<'a> Reasons<'a> {
 
     /// The ways into the states of the graph, where what searches for examples share is made.
     pub fn ways(&self) -> Option<&Ways<u32>>
-        ensures { IfSome result (AreWaysOf number_of self.now.grammar self.now.graph) }
+        ensures { IfSome result (λ ways.
+            AreWaysOf number_of self.now.grammar self.now.graph ways.now) }
     {
         Some(self.contests.as_ref()?.ways())
     }
