@@ -6,8 +6,9 @@ page.py [--pictures FOLDER] [--without-precedences] LRCHECK FILE..
 For each file it makes the page, opens it in Chromium without a window, and prints a row: conflicts, rules and states of the
 page, its MB, the seconds that `lrcheck` takes, and those until the page is loaded. Each page is used as its readers do: the
 trees of the first conflict are drawn, and differ; its link to a state is clicked, then the state's edges are opened, and one of
-them is clicked; words are typed into the filter, which leaves just the parts that have them, and taken back. Nothing may be
-fetched but the page, and the console may have no errors. Ends with status 1 where anything else is seen.
+them is clicked; words are typed into the filter, which leaves just the parts that have them, marks these words, leaves out what is
+empty then, and opens a conflict that is left alone; then they are taken back. Nothing may be fetched but the page, and the console
+may have no errors. Ends with status 1 where anything else is seen.
 
 With `--pictures` each page is shown in light and in dark, 1,100 pixels wide, as FOLDER/NAME.png and NAME-dark.png; one of more
 than 200 kB is an error. Needs Chromium (Debian's package `chromium`).
@@ -97,7 +98,7 @@ class Browser:
 
     def until(self, script, what):
         """Waits until a script of the page comes to what is true."""
-        end = time.monotonic() + 20
+        end = time.monotonic() + 60
         while not self.value(script):
             if time.monotonic() > end:
                 raise Failure(what)
@@ -149,7 +150,8 @@ class Browser:
 COUNT = "document.querySelectorAll('#{0} .part').length"
 SHOWN = "[...document.querySelectorAll('.part')].filter(part => part.checkVisibility())"
 TARGET = "document.getElementById(location.hash.slice(1))"
-IN_SIGHT = f"(box => box.bottom > 0 && box.top < innerHeight)({TARGET}.getBoundingClientRect())"
+BAR = "document.querySelector('nav').getBoundingClientRect().bottom"
+IN_SIGHT = f"(box => box.top >= {BAR} && box.top < innerHeight)({TARGET}.getBoundingClientRect())"
 
 
 def look_at_trees(browser):
@@ -174,9 +176,10 @@ def follow_links(browser):
     before = browser.value("location.hash")
     if browser.value(f"{state}.querySelector('details') !== null"):
         browser.click(f"{state}.querySelector('details > summary')")
-        browser.until(f"{state}.querySelectorAll('[data-edges] a').length > 0", "edges should be listed")
-        browser.click(f"{state}.querySelector('[data-edges] a')")
+        browser.click(f"{state}.querySelector('.names a')")
         browser.until(f"location.hash !== '{before}' && " + IN_SIGHT, "an edge should lead to a state")
+    browser.value("document.querySelector('#grammar').scrollIntoView()")
+    browser.until("document.querySelector('#grammar ol a') !== null", "the grammar in sight should be there")
     browser.click("document.querySelector('#grammar ol a')")
     browser.until("location.hash.startsWith('#r') && " + IN_SIGHT, "a name should lead to its rule")
     browser.value("document.querySelector('#c1').open = false")
@@ -192,6 +195,11 @@ def use_filter(browser):
     browser.call("Input.insertText", text=word)
     browser.until("document.getElementById('told').textContent !== ''", "the filter should tell how many parts it leaves")
     shown = browser.value(SHOWN + ".length")
+    if browser.value("CSS.highlights.get('found').size === 0"):
+        raise Failure("the filter should mark words")
+    if browser.value("[...document.querySelectorAll('main > section')].some(section => section.checkVisibility() &&"
+                     " ![...section.querySelectorAll('.part')].some(part => part.checkVisibility()))"):
+        raise Failure("the filter should leave no empty section")
     has_all = f"{json.dumps(word.lower().split())}.every(word => part.textContent.toLowerCase().includes(word))"
     right = browser.value(f"[...document.querySelectorAll('.part')].every(part => !part.hidden === {has_all})")
     if not 0 < shown < everything or not right:

@@ -11,7 +11,8 @@ use lrdiagnostics::add_escaped_name;
 use lrfindings::Entry;
 use lrgrammar::idx::IndexStorage;
 use lrshown::{
-    Ambiguity, Evidence, Example, Loss, Outlook, Step, candidates_of, list_of, start_of, text_of,
+    Ambiguity, Evidence, Example, Loss, Outlook, Step, candidates_of, list_of, rule_name, start_of,
+    text_of,
 };
 use lrwriter::Text;
 use std::alloc::AllocError;
@@ -58,6 +59,17 @@ impl<T: IndexStorage> Page<'_, T> {
         let more = meeting.len().saturating_sub(NAMED);
         if more > 0 {
             write!(page, " and {more} more");
+        }
+    }
+
+    /// Adds which rule the production of the reduction is of, and in which line that stands.
+    fn add_rule_and_line(&self, page: &mut Text, card: &Card<'_>) {
+        if let (Some(first), Some(mark)) = (card.meeting.first(), card.marks.first()) {
+            page.add(" <span class=\"soft\">");
+            let rule = self.rule_of(first.entry.production);
+            add_escaped_name(page, rule_name(self.file, rule));
+            let line = self.source.line(mark.span.start);
+            write!(page, ", line {line}</span>");
         }
     }
 
@@ -217,12 +229,16 @@ impl<T: IndexStorage> Page<'_, T> {
         requires lost { AreShownLosses self.now.found.now.grm self.now.found.now.table
             card.now.meeting.now }
     {
-        let open = if number <= OPEN { " open" } else { "" };
-        write!(
-            page,
-            "<details class=\"part\" id=\"c{number}\"{open}><summary>"
-        );
+        write!(page, "<details class=\"part\" id=\"c{number}\"");
+        if let Some(first) = card.meeting.first() {
+            let state = first.entry.state;
+            write!(page, " data-state=\"{state}\"");
+        }
+        page.add(if number <= OPEN { " open" } else { "" });
+        page.add("><summary><span class=\"title\">");
         self.add_heading(page, card.meeting);
+        page.add("</span>");
+        self.add_rule_and_line(page, card);
         if let Some(evidence) = card.meeting.get(first_with_sentence(card.meeting)) {
             self.add_tags(page, evidence);
         }

@@ -1,4 +1,4 @@
-//! The grammar of a file.
+//! The grammar of a file, as data for the script.
 
 use crate::pages::Page;
 use crate::symbols::number_of;
@@ -8,7 +8,6 @@ use lrgrammar::idx::IndexStorage;
 use lrshown::{body_of, rule_name};
 use lrwriter::Text;
 use lryacc::FileGrammar;
-use std::alloc::{AllocError, Global};
 
 /// The level of a token, which is even for those of the file; one below stand such as have no name in it.
 fn level_of(token: &PartToken) -> u64 {
@@ -33,87 +32,61 @@ fn line_word(file: &FileGrammar, level: u64, kind: AssocKind) -> &'static str {
 }
 
 impl<T: IndexStorage> Page<'_, T> {
-    /// The productions of each rule.
-    fn productions(&self, alloc: Global) -> Result<Vec<Vec<usize>>, AllocError> {
-        let mut lists: Vec<Vec<usize>> = Vec::new(alloc);
-        for _ in &self.file.parts.rules {
-            lists.push(Vec::new(alloc))?;
+    /// Adds a token: its name, and what else is said of it: its level, or that it is none of the file. Levels are twice as many
+    /// as in the file.
+    fn add_token_line(&self, page: &mut Text, token: &PartToken) {
+        add_escaped_name(page, token.name.as_str());
+        if !is_of_file(token) {
+            page.add("\t-");
+        } else if let Some(precedence) = token.precedence {
+            let word = line_word(self.file, precedence.level, precedence.kind);
+            let level = precedence.level / 2;
+            write!(page, "\t{word}, level {level}");
         }
-        for (production, prod) in self.file.parts.prods.iter().enumerate() {
-            if let Some(list) = lists.get_mut(prod.rule) {
-                list.push(production)?;
-            }
-        }
-        Ok(lists)
+        page.add_char('\n');
     }
 
-    /// Adds a production: for the script its rule and its body by their numbers, and for readers its body.
-    fn add_production(&self, page: &mut Text, production: usize) {
+    /// Adds a rule: its name, and its line in the file, where it has one.
+    fn add_rule_line(&self, page: &mut Text, rule: usize) {
+        add_escaped_name(page, rule_name(self.file, rule));
+        if let (Some(place), true) = (self.file.rule_places.get(rule), rule > 0) {
+            let line = self.source.line(place.start);
+            write!(page, "\t{line}");
+        }
+        page.add_char('\n');
+    }
+
+    /// Adds a production: the numbers of its rule and of its symbols, and that of the token behind `%prec`, where there is one.
+    fn add_production_line(&self, page: &mut Text, production: usize) {
         let rule = number_of(PartSymbol::Rule(self.rule_of(production)));
-        write!(page, "<li id=\"p{production}\" data-symbols=\"{rule}");
+        write!(page, "{rule}");
         for symbol in body_of(self.file, production) {
             let number = number_of(*symbol);
             write!(page, " {number}");
         }
-        page.add("\">");
-        self.add_body(page, production, None);
         if let Some(named) = self.file.named_precedence(production) {
-            page.add(" <span class=\"soft\">%prec ");
-            self.add_token(page, named.token);
-            page.add("</span>");
+            let token = named.token;
+            write!(page, "\t{token}");
         }
-        page.add("</li>\n");
+        page.add_char('\n');
     }
 
-    /// Adds a rule.
-    fn add_rule_part(&self, page: &mut Text, rule: usize, productions: &[usize]) {
-        write!(page, "<section class=\"part\"><dfn id=\"r{rule}\">");
-        add_escaped_name(page, rule_name(self.file, rule));
-        page.add("</dfn>");
-        if let (Some(place), true) = (self.file.rule_places.get(rule), rule > 0) {
-            let line = self.source.line(place.start);
-            write!(page, " <span class=\"soft\">line {line}</span>");
+    /// Adds the tokens, the rules and the productions: a line each.
+    pub(crate) fn add_grammar(&self, page: &mut Text) {
+        let parts = &self.file.parts;
+        page.add("<section id=\"grammar\"><h2>Grammar</h2></section>\n");
+        page.add("<pre id=\"tokens\" hidden>\n");
+        for token in &parts.tokens {
+            self.add_token_line(page, token);
         }
-        page.add("<ol class=\"body\">\n");
-        for production in productions {
-            self.add_production(page, *production);
+        page.add("</pre>\n<pre id=\"rules\" hidden>\n");
+        for rule in 0..parts.rules.len() {
+            self.add_rule_line(page, rule);
         }
-        page.add("</ol></section>\n");
-    }
-
-    /// Adds the token of that number, with its level. Levels are twice as many as in the file.
-    fn add_token_part(&self, page: &mut Text, number: usize, token: &PartToken) {
-        write!(page, "<li><dfn id=\"t{number}\">");
-        add_escaped_name(page, token.name.as_str());
-        page.add("</dfn>");
-        if let Some(precedence) = token.precedence {
-            let word = line_word(self.file, precedence.level, precedence.kind);
-            let level = precedence.level / 2;
-            write!(page, " <span class=\"soft\">{word}, level {level}</span>");
+        page.add("</pre>\n<pre id=\"productions\" hidden>\n");
+        for production in 0..parts.prods.len() {
+            self.add_production_line(page, production);
         }
-        page.add("</li>\n");
-    }
-
-    /// Adds the tokens.
-    fn add_token_parts(&self, page: &mut Text) {
-        page.add("<details class=\"part\"><summary><b>Tokens</b></summary>\n");
-        page.add("<ul class=\"names\">\n");
-        for (number, token) in self.file.parts.tokens.iter().enumerate() {
-            if is_of_file(token) {
-                self.add_token_part(page, number, token);
-            }
-        }
-        page.add("</ul></details>\n");
-    }
-
-    /// Adds the rules, and the tokens. The error says that memory for a list was refused.
-    pub(crate) fn add_grammar(&self, page: &mut Text) -> Result<(), AllocError> {
-        page.add("<section id=\"grammar\"><h2>Grammar</h2>\n");
-        for (rule, productions) in self.productions(page.allocator())?.iter().enumerate() {
-            self.add_rule_part(page, rule, productions.as_slice());
-        }
-        self.add_token_parts(page);
-        page.add("</section>\n");
-        Ok(())
+        page.add("</pre>\n");
     }
 }

@@ -33,7 +33,7 @@ const BAR: &str = "<nav><div>
  aria-label=\"Filter conflicts, rules and states\">
 <span id=\"told\" class=\"soft\" role=\"status\"></span>
 </div></nav>
-<noscript><p>Trees, edges and the filter need scripts.</p></noscript>
+<noscript><p>Trees, the grammar, states and the filter need scripts.</p></noscript>
 ";
 
 /// What is said of conflicts.
@@ -147,7 +147,7 @@ impl<T: IndexStorage> Page<'_, T> {
     fn add_main(&self, page: &mut Text) -> Result<(), AllocError> {
         page.add("<main>\n");
         self.add_cards(page)?;
-        self.add_grammar(page)?;
+        self.add_grammar(page);
         self.add_states(page)?;
         page.add("</main>\n");
         Ok(())

@@ -1,4 +1,5 @@
-//! What a page does by itself: trees, edges, the filter, and links into parts that are closed or left out.
+//! What a page does by itself: it makes the parts of the grammar and the states out of data, once they come into sight, draws trees, and
+//! has a filter, and links into parts that are closed or left out.
 
 /// The script. It makes no sentence of the page into markup.
 pub(crate) const SCRIPT: &str = r#"'use strict';
@@ -8,9 +9,40 @@ const ROW = 46, GAP = 12, BOX = 24, WIDEST = 660;
 const pen = document.createElement('canvas').getContext('2d');
 const byId = id => document.getElementById(id);
 
+/* The file by its numbers. A token: its name, and its level; a rule: its name, and its line; a production: its rule and its symbols,
+   and the token behind %prec; a state: its items, and its edges. */
+const rowsOf = id => (byId(id)?.textContent ?? '').split('\n').slice(0, -1).map(row => row.split('\t'));
+const numbersOf = list => list.split(' ').filter(Boolean).map(Number);
+const pairsOf = list => list.split(' ').filter(Boolean).map(pair => pair.split('.').map(Number));
+const tokens = rowsOf('tokens'), rules = rowsOf('rules'), states = rowsOf('graph');
+const productions = rowsOf('productions').map(([symbols, prec]) => {
+  const [rule, ...body] = numbersOf(symbols);
+  return { rule, body, prec };
+});
+
 /* Symbols have numbers: tokens even ones, rules odd ones. */
 const idOf = symbol => (symbol % 2 ? 'r' : 't') + (symbol >> 1);
-const nameOf = symbol => byId(idOf(symbol)).textContent;
+const nameOf = symbol => (symbol % 2 ? rules : tokens)[symbol >> 1][0];
+
+function add(parent, name, text, attributes = {}) {
+  const made = document.createElement(name);
+  for (const [key, value] of Object.entries(attributes)) made.setAttribute(key, value);
+  if (text !== undefined) made.textContent = text;
+  return parent.appendChild(made);
+}
+const addLink = (parent, text, id) => add(parent, 'a', text, { href: '#' + id });
+const count = (number, word) => number + ' ' + word + (number === 1 ? '' : 's');
+
+/* Adds a body, perhaps with a dot before one of its symbols or behind all. */
+function addBody(parent, { body }, dot) {
+  body.forEach((symbol, place) => {
+    if (place === dot) add(parent, 'b', '\u2022', { class: 'dot' });
+    if (place) parent.append(' ');
+    if (symbol % 2) addLink(parent, nameOf(symbol), idOf(symbol)); else parent.append(nameOf(symbol));
+  });
+  if (dot >= body.length) add(parent, 'b', '\u2022', { class: 'dot' });
+  if (dot === undefined && !body.length) add(parent, 'span', '%empty', { class: 'soft' });
+}
 
 /* The tree that steps put together: s for a leaf, or for a node the number of its production. */
 function treeOf(steps) {
@@ -21,12 +53,12 @@ function treeOf(steps) {
       open.push({ from: leaves, to: ++leaves, below: [], height: 0 });
       continue;
     }
-    const [symbol, ...body] = byId('p' + step).dataset.symbols.split(' ').map(Number);
+    const { rule, body } = productions[step];
     const below = body.length ? open.splice(-body.length) : [];
     below.forEach((node, k) => { node.symbol = body[k]; });
     const from = below.length ? below[0].from : leaves;
     const height = 1 + below.reduce((most, node) => Math.max(most, node.height), 0);
-    open.push({ symbol, production: step, from, to: leaves, below, height });
+    open.push({ symbol: rule, production: step, from, to: leaves, below, height });
   }
   return open.pop();
 }
@@ -149,44 +181,156 @@ function drawTrees(trees) {
   figures.forEach((figure, k) => drawTree(figure, roots[k], nodes[k], dot - roots[k].from, isWide));
 }
 
-/* Lists where symbols lead from a state. */
-function listEdges(list) {
-  for (const edge of list.dataset.edges.split(' ')) {
-    const [symbol, state] = edge.split(':').map(Number);
-    const link = document.createElement('a');
-    link.href = '#s' + state;
-    link.textContent = nameOf(symbol) + ' \u2192 ' + state;
-    list.append(link);
+/* What fills a part of the grammar or a state, until that is done: when it comes into sight, or is looked for. */
+const fillers = new Map();
+const watcher = new IntersectionObserver(
+  seen => seen.forEach(one => { if (one.isIntersecting) fill(one.target); }), { rootMargin: '50%' });
+function fill(part) {
+  const filler = fillers.get(part);
+  if (!filler) return;
+  fillers.delete(part);
+  watcher.unobserve(part);
+  filler(part);
+}
+function addPart(section, name, id, filler) {
+  const part = add(section, name, undefined, { class: 'part', ...id });
+  fillers.set(part, filler);
+  watcher.observe(part);
+  return part;
+}
+
+const ofRule = rules.map(() => []);
+for (const production of productions) ofRule[production.rule >> 1].push(production);
+
+/* Adds the productions of a rule. */
+function fillRule(part, rule) {
+  const list = add(part, 'ol', undefined, { class: 'body' });
+  for (const production of ofRule[rule]) {
+    const item = add(list, 'li');
+    addBody(item, production);
+    if (production.prec) add(item, 'span', ' %prec ' + tokens[production.prec][0], { class: 'soft' });
   }
 }
 
-/* Makes what is shown of a part only once it is open. */
-const made = new WeakSet();
-function make(part) {
-  for (const item of part.querySelectorAll('[data-before], [data-edges]')) {
-    if (item.closest('details') !== part || made.has(item)) continue;
-    made.add(item);
-    if ('edges' in item.dataset) listEdges(item); else drawTrees(item);
+/* Adds the rules, and the tokens. */
+function addGrammar(section) {
+  rules.forEach(([name, line], rule) => {
+    const part = addPart(section, 'section', {}, part => fillRule(part, rule));
+    add(part, 'dfn', name, { id: 'r' + rule });
+    if (line) add(part, 'span', ' line ' + line, { class: 'soft' });
+  });
+  const part = add(section, 'details', undefined, { class: 'part' });
+  add(add(part, 'summary'), 'b', 'Tokens');
+  const list = add(part, 'ul', undefined, { class: 'names' });
+  tokens.forEach(([name, level], token) => {
+    if (level === '-') return;
+    const item = add(list, 'li');
+    add(item, 'dfn', name, { id: 't' + token });
+    if (level) add(item, 'span', ' ' + level, { class: 'soft' });
+  });
+}
+
+/* The cards by the states that they are about. */
+const cards = states.map(() => []);
+for (const card of document.querySelectorAll('[data-state]')) cards[card.dataset.state].push(card);
+
+/* Adds an item: of the production around the grammar with what the file knows of it. */
+function addItem(list, production, dot) {
+  if (production === productions.length && !dot) {
+    productions.forEach(({ rule }, inner) => { if (rule === 1) addItem(list, inner, 0); });
+    return;
+  }
+  const item = add(list, 'li');
+  const rule = productions[production]?.rule ?? 1;
+  addLink(item, nameOf(rule), idOf(rule));
+  item.append(production < productions.length ? ': ' : ' ');
+  addBody(item, productions[production] ?? { body: [] }, dot);
+}
+
+/* Adds the items of a state, what its cards are about, and its edges. */
+function fillState(part, state) {
+  const [items, edges] = states[state].map(pairsOf);
+  const list = add(part, 'ul', undefined, { class: 'body' });
+  for (const [production, dot] of items) addItem(list, production, dot);
+  for (const card of cards[state]) {
+    addLink(add(part, 'p', undefined, { class: 'conflict' }), undefined, card.id).append(
+      ...card.querySelector('.title').cloneNode(true).childNodes);
+  }
+  if (!edges.length) return;
+  const closed = add(part, 'details');
+  add(closed, 'summary', count(edges.length, 'edge'));
+  const names = add(closed, 'p', undefined, { class: 'names' });
+  for (const [symbol, target] of edges) addLink(names, nameOf(symbol) + ' \u2192 ' + target, 's' + target);
+}
+
+function addStates(section) {
+  states.forEach((row, state) => {
+    const part = addPart(section, 'section', { id: 's' + state }, part => fillState(part, state));
+    const head = add(part, 'h3', 'State ' + state), conflicts = cards[state].length;
+    if (conflicts) add(head, 'span', count(conflicts, 'conflict'), { class: 'tag marked' });
+  });
+}
+
+addGrammar(byId('grammar'));
+if (states.length) addStates(byId('states'));
+
+/* Draws the trees of a part only once it is open. */
+const drawn = new WeakSet();
+function draw(part) {
+  for (const trees of part.querySelectorAll('[data-before]')) {
+    if (trees.closest('details') !== part || drawn.has(trees)) continue;
+    drawn.add(trees);
+    drawTrees(trees);
   }
 }
 
 const field = byId('filter'), told = byId('told');
+const sections = [...document.querySelectorAll('main > section')];
 const parts = [...document.querySelectorAll('.part')];
-let texts;
+const FEW = 12, MOST = 2000;
+let texts, opened = [];
 
-/* Shows the parts alone that have all words of the field. */
-function filter() {
-  texts ??= parts.map(part => part.textContent.toLowerCase());
-  const words = field.value.toLowerCase().split(/\s+/).filter(Boolean);
-  let shown = 0;
-  parts.forEach((part, k) => {
-    part.hidden = !words.every(word => texts[k].includes(word));
-    shown += !part.hidden;
-  });
-  told.textContent = words.length ? shown + ' of ' + parts.length : '';
+/* The words of a text, as ranges. */
+function rangesOf(node, words) {
+  const text = node.data.toLowerCase(), found = [];
+  for (const word of words) {
+    for (let at = text.indexOf(word); at >= 0; at = text.indexOf(word, at + word.length)) {
+      const range = new Range();
+      range.setStart(node, at);
+      range.setEnd(node, at + word.length);
+      found.push(range);
+    }
+  }
+  return found;
 }
 
-/* Opens and shows what the address names. */
+/* Marks words in these parts, where the browser can. */
+function markWords(shown, words) {
+  if (!globalThis.Highlight) return;
+  const found = [];
+  for (const part of words.length ? shown : []) {
+    const walk = document.createTreeWalker(part, NodeFilter.SHOW_TEXT);
+    while (found.length < MOST && walk.nextNode()) found.push(...rangesOf(walk.currentNode, words));
+  }
+  CSS.highlights.set('found', new Highlight(...found));
+}
+
+/* Shows the parts alone that have all words of the field, and opens them if they are few. */
+function filter() {
+  if (!texts) parts.forEach(fill);
+  texts ??= parts.map(part => part.textContent.toLowerCase());
+  const words = field.value.toLowerCase().split(/\s+/).filter(Boolean);
+  parts.forEach((part, k) => { part.hidden = !words.every(word => texts[k].includes(word)); });
+  const shown = parts.filter(part => !part.hidden);
+  for (const section of sections) section.hidden = words.length > 0 && !shown.some(part => section.contains(part));
+  for (const part of opened) part.open = false;
+  opened = words.length && shown.length <= FEW ? shown.filter(part => part.localName === 'details' && !part.open) : [];
+  for (const part of opened) part.open = true;
+  told.textContent = words.length ? shown.length + ' of ' + parts.length : '';
+  markWords(shown, words);
+}
+
+/* Opens and shows what the address names. Parts before it are filled first, so that it stays in sight. */
 function reveal() {
   const target = byId(location.hash.slice(1));
   if (!target) return;
@@ -194,11 +338,16 @@ function reveal() {
     field.value = '';
     filter();
   }
+  let near = target.closest('.part');
+  for (let turn = 0; near && turn < 24; turn++, near = near.previousElementSibling) fill(near);
   for (let part = target; part; part = part.parentElement) {
     if (part.localName === 'details') part.open = true;
   }
   target.scrollIntoView();
 }
+
+const nav = document.querySelector('nav');
+new ResizeObserver(() => document.documentElement.style.setProperty('--bar', nav.offsetHeight + 'px')).observe(nav);
 
 let wait;
 field.addEventListener('input', () => { clearTimeout(wait); wait = setTimeout(filter, 120); });
@@ -209,7 +358,7 @@ addEventListener('hashchange', reveal);
 addEventListener('click', event => {
   if (event.target.closest('a')?.getAttribute('href') === location.hash) reveal();
 });
-addEventListener('toggle', event => { if (event.target.open) make(event.target); }, true);
-document.querySelectorAll('details[open]').forEach(make);
+addEventListener('toggle', event => { if (event.target.open) draw(event.target); }, true);
+document.querySelectorAll('details[open]').forEach(draw);
 reveal();
 "#;

@@ -34,7 +34,7 @@ nav div { max-width: 75rem; margin: 0 auto; padding: .5rem 1rem; display: flex; 
   gap: .4rem 1.2rem; align-items: center; }
 nav input { flex: 1 1 16rem; font: inherit; padding: .3rem .6rem; color: inherit; background: var(--card);
   border: 1px solid var(--soft); border-radius: 6px; }
-.part { content-visibility: auto; contain-intrinsic-size: auto 2.8rem; scroll-margin-top: 4rem; margin-bottom: .5rem;
+.part { content-visibility: auto; contain-intrinsic-size: auto 2.8rem; margin-bottom: .5rem;
   background: var(--card); border: 1px solid var(--line); border-radius: 8px; padding: .4rem .9rem; }
 .part:target { border-color: var(--link); box-shadow: 0 0 0 1px var(--link); }
 .part > summary { cursor: pointer; overflow-wrap: anywhere; }
@@ -44,10 +44,11 @@ summary b, dfn { font-weight: 600; font-style: normal; }
 .tag.marked { color: var(--one); background: var(--one-soft); }
 h3 { margin: 0; font-size: 1rem; }
 .places { margin: .75rem 0; border: 1px solid var(--line); border-radius: 6px; background: var(--code);
-  padding: .4rem 0; overflow-x: auto; }
-.place { display: flex; gap: .8rem; padding: 0 .8rem; white-space: pre; }
+  padding: .4rem 0; }
+.place { display: flex; flex-wrap: wrap; gap: 0 .8rem; padding: 0 .8rem; }
 .place i { font-style: normal; color: var(--soft); min-width: 3ch; text-align: right; user-select: none; }
-.place span { margin-left: auto; padding-left: 1.5rem; font-family: system-ui, sans-serif; }
+.place code { white-space: pre; overflow-x: auto; max-width: calc(100% - 4rem); }
+.place span { margin-left: auto; padding-left: 1.5rem; font-family: system-ui, sans-serif; overflow-wrap: anywhere; }
 mark { color: inherit; background: var(--other-soft); border-bottom: 2px solid var(--other); }
 .one mark { background: var(--one-soft); border-color: var(--one); }
 .text mark { background: var(--one-soft); border-color: var(--one); }
@@ -77,7 +78,8 @@ ul, ol, .names { margin: .2rem 0; padding-left: .5rem; list-style: none; }
 ol.body li::before { content: '| '; color: var(--soft); }
 ol.body li:first-child::before { content: ': '; }
 .names { display: flex; flex-wrap: wrap; gap: .1rem 1.5rem; }
-dfn, section { scroll-margin-top: 4.5rem; }
+dfn, section, .part { scroll-margin-top: calc(var(--bar, 4rem) + .5rem); }
+::highlight(found) { background: #ffe08a; color: #1b1f24; }
 .part:has(:target) { border-color: var(--link); }
 .conflict { border-left: .25rem solid var(--one); padding-left: .7rem; }
 "#;
