@@ -38,7 +38,8 @@ impl ResolvedCells {
         for one in &found.resolved {
             resolved.add(one.entry)?;
         }
-        resolved.are_crowded |= found.left.iter().any(|entry| resolved.has(*entry));
+        let listed = &found.conflicts;
+        resolved.are_crowded |= listed.iter().any(|entry| resolved.has(*entry));
         Ok(resolved)
     }
 
