@@ -76,12 +76,14 @@ impl Told<'_> {
         token >= FIRST_TOKENS && self.token_name(token) != "%no-default-prec"
     }
 
-    /// That the conflicts can be expected, unless they are, where each is one with a shift.
+    /// That the conflicts can be expected, unless they are, where each is one with a shift, and no sentence is known that the parser
+    /// rejects: that would be hidden.
     fn expected_note(&self, alloc: Global) -> Result<Option<String>, AllocError> {
         let count = self.evidence.len();
         let with_shifts = self.evidence.iter().all(|it| it.entry.other.is_none());
+        let loses = self.evidence.iter().any(|it| it.loss.is_some());
         let is_expected = self.options.expected == Some(count as u64);
-        if count == 0 || !with_shifts || is_expected || self.options.ignores_precedences {
+        if count == 0 || !with_shifts || loses || is_expected || self.options.ignores_precedences {
             return Ok(None);
         }
         let note = format!(in alloc;
