@@ -72,11 +72,14 @@ impl<T: IndexStorage> States<'_, T> {
     fn add_core(&self, page: &mut Text, state: StIdx<T>)
         requires { T.number state.0 < length self.now.graph.now }
     {
-        let mut gap = "";
+        let mut is_first = true;
         for key in self.graph.core_state(state).items.keys() {
+            if !is_first {
+                page.add_char(' ');
+            }
             let (production, dot) = (usize::from(key.0), usize::from(key.1));
-            write!(page, "{gap}{production}.{dot}");
-            gap = " ";
+            write!(page, "{production}.{dot}");
+            is_first = false;
         }
     }
 
@@ -84,11 +87,14 @@ impl<T: IndexStorage> States<'_, T> {
     fn add_edges(&self, page: &mut Text, state: StIdx<T>)
         requires { T.number state.0 < length self.now.graph.now }
     {
-        let mut gap = "";
+        let mut is_first = true;
         for (symbol, target) in self.graph.edges(state) {
+            if !is_first {
+                page.add_char(' ');
+            }
             let (symbol, target) = (self.number_of(*symbol), usize::from(*target));
-            write!(page, "{gap}{symbol}.{target}");
-            gap = " ";
+            write!(page, "{symbol}.{target}");
+            is_first = false;
         }
     }
 
