@@ -36,3 +36,7 @@ pub mod SameNodes
 pub mod FoundStarts
 -- entries that are certified
 pub mod CertifiedEntries
+-- what contends for cells, one after another
+pub mod FoundContenders
+-- cells in which each two contenders are decided
+pub mod DecidedCells

@@ -10,7 +10,7 @@ use Rattle.lrspec.specs.grammars.Candidates as candidate
 use Rattle.lrspec.specs.grammars.Candidates.{Candidate, IsCandidate}
 use Rattle.lrspec.specs.merging.Graph.{Graph, Leads, IsGraphOf, edge}
 use Rattle.lrspec.specs.tables.Table as table
-use Rattle.lrspec.specs.tables.Table.{Table, IsContender, AcceptsAndReduces, IsTableOf}
+use Rattle.lrspec.specs.tables.Table.{Table, IsContender, IsTableFor}
 use Rattle.lrspec.specs.tables.Machine.{next_token}
 use Rattle.lrspec.specs.tables.Recognition.{IsUnambiguous}
 use Rattle.lrspec.proofs.grammars.BodyFacts.{symbol_at_dot}
@@ -18,6 +18,7 @@ use Rattle.lrspec.proofs.grammars.CanonicalItemFacts.{stands_of_looks}
 use Rattle.lrconflicts.specs.Moves.{Move, Shift, Reduce, candidate_of, moves_of, IsTreeBy}
 use Rattle.lrambiguity.specs.Replays.{Reads}
 use Rattle.lrambiguity.proofs.NextMoves.{next_is_candidate}
+use Rattle.lrdecided.specs.Contenders.{AcceptsAlone}
 use Rattle.lrdecided.specs.Decided.{IsDecided, AreDecided}
 use Rattle.lrdecided.proofs.DecidedEntries.{core_below}
 use Rattle.lrdecided.proofs.Openings.{halfway}
@@ -40,6 +41,19 @@ stands_there {g} (candidate.IsCandidate.accept l) = (g.start_production, length 
 -- where the tree of a sentence is one by its moves
 tree_by : {g : Grammar} {text : List ℕ} (s : IsSentence g text) → IsTreeBy g (moves_of s.tree) text s.tree
 tree_by s = record { of_start = record { rule = s.rule; start = s.start; is_tree = s.is_tree }; leaves_are = s.leaves_are; moves_are = refl }
+
+-- in a grammar that has a table nothing contends with accepting
+pub accepts_alone : {g : Grammar} {b : Table} → IsTableFor g b → AcceptsAlone g
+accepts_alone {g} k p c =
+    let hold = k.graph_of.hold in
+    let w : List Symbol = Rule c.start_rule ∷ [] in
+    let (s, leads) = hold.leads w p (length (body_of g p)) (stands_of_looks c.reduces) in
+    k.table_of.no_contest s p (record {
+      below = core_below k.graph s (hold.cores w s leads);
+      differ = c.differ;
+      accepts = hold.looks w s g.start_production (length (body_of g g.start_production)) (end_token g) leads c.accepts;
+      reduces = hold.looks w s p (length (body_of g p)) (end_token g) leads c.reduces;
+    })
 
 some_of : (o : Option ℕ) → IsSome o → (u : ℕ) × (o ≡ Some u)
 some_of None i = absurd cc
@@ -83,21 +97,14 @@ module _ (g : Grammar) (h : Graph) (shape : IsGrammar g) (graph : IsGraphOf g h)
       })
       a b
 
-  module _ (b : Table) (built : IsTableOf g h b) where
+  module _ (alone : AcceptsAlone g) where
     -- at the end, with the start rule alone, nothing but accepting is a candidate
     ends : (r : ℕ) (m : Move) → body_of g g.start_production ≡ Rule r ∷ [] → IsCandidate g (Rule r ∷ []) (end_token g) (candidate_of m) → ⊥
     ends r Shift start (candidate.IsCandidate.shift {p = p} {d = d} s before) = omega (arith, symbol_at_dot shape p d (Token (end_token g)) before)
     ends r (Reduce q) start (candidate.IsCandidate.reduce differ l) =
-        let w = Rule r ∷ [] in
-        let (s, leads) = graph.hold.leads w q (length (body_of g q)) (stands_of_looks l) in
-        let accepts : Looks g w g.start_production (length (body_of g g.start_production)) (end_token g) =
+        let accepts : Looks g (Rule r ∷ []) g.start_production (length (body_of g g.start_production)) (end_token g) =
         rw start (item.Looks.advance item.Looks.begin start) in
-        built.no_contest s q (record {
-          below = core_below h s (graph.hold.cores w s leads);
-          differ = differ;
-          accepts = graph.hold.looks w s g.start_production (length (body_of g g.start_production)) (end_token g) leads accepts;
-          reduces = graph.hold.looks w s q (length (body_of g q)) (end_token g) leads l;
-        })
+        alone q (record { start_rule = r; body = start; differ = differ; accepts = accepts; reduces = l })
 
     -- so no tree of a text goes on behind all the moves of another
     none_longer :

@@ -20,3 +20,5 @@ pub mod Moved
 pub mod Starts
 -- entries of cells
 pub mod Entries
+-- the moves that contend for cells
+pub mod Contenders

@@ -102,7 +102,7 @@ fn is_certified<T: IndexStorage>(
 }
 
 /// Whether the entry is certified by all tokens that come, where first few and then more symbols are kept of what a way derives.
-fn is_certified_by_all<T: IndexStorage>(
+pub(crate) fn is_certified_by_all<T: IndexStorage>(
     grm: &YaccGrammar<T>,
     graph: &StateGraph<T>,
     ways: &Ways<T>,
