@@ -3,6 +3,7 @@
 ghost use Rattle.std.specs.Prelude.{IfOk, IfSome, slice_get};
 ghost use Rattle.lrdiagnostics.specs.Places.{AddsMore, AddsPlace};
 
+use crate::faults::words_of;
 use crate::lines::ShownLine;
 use crate::sources::Source;
 use crate::styles::Style;
@@ -39,10 +40,9 @@ pub struct Message {
 
 impl Message {
     /// What is told of a fault.
-    pub fn of(alloc: Global, fault: &Fault) -> Result<Message, AllocError> {
-        let kind = fault.kind;
+    pub fn of(alloc: Global, source: &Source<'_>, fault: &Fault) -> Result<Message, AllocError> {
         Ok(Message {
-            words: format!(in alloc; "{kind}")?,
+            words: words_of(alloc, source, fault)?,
             places: vec![in alloc; fault.span]?,
         })
     }
@@ -63,10 +63,14 @@ impl Message {
 }
 
 /// What is told of faults.
-pub fn messages_of(alloc: Global, faults: &[Fault]) -> Result<Vec<Message>, AllocError> {
+pub fn messages_of(
+    alloc: Global,
+    source: &Source<'_>,
+    faults: &[Fault],
+) -> Result<Vec<Message>, AllocError> {
     faults
         .iter()
-        .map(|fault| Message::of(alloc, fault))
+        .map(|fault| Message::of(alloc, source, fault))
         .try_collect(alloc)
 }
 

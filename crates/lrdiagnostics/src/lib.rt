@@ -4,6 +4,7 @@
 mod columns;
 mod diagnostics;
 mod escapes;
+mod faults;
 mod lines;
 mod sources;
 mod styles;
@@ -11,6 +12,7 @@ mod words;
 
 pub use crate::diagnostics::{Mark, Message, TOLD, Teller, Weight, messages_of};
 pub use crate::escapes::{add_escaped, add_escaped_name};
+pub use crate::faults::words_of;
 pub use crate::lines::{ShownLine, add_shown};
 pub use crate::sources::{Position, Source};
 pub use crate::styles::Style;

@@ -2,7 +2,7 @@
 
 use crate::json_texts::JsonText;
 use crate::told::Told;
-use lrdiagnostics::Source;
+use lrdiagnostics::{Source, words_of};
 use lrevidence::{body_of, symbol_name, token_name};
 use lrfindings::Entry;
 use lrgrammar::grammar::PartSymbol;
@@ -75,8 +75,7 @@ pub(crate) fn add_faults(
 ) -> Result<(), AllocError> {
     json.begin_array();
     for fault in faults {
-        let kind = fault.kind;
-        let message = format!(in json.allocator(); "{kind}")?;
+        let message = words_of(json.allocator(), source, fault)?;
         json.begin_object();
         add_place(json, source, fault.span);
         json.key("message");

@@ -118,7 +118,7 @@ fn report_on_faults(
         source,
         has_colours: options.lines.has_colours,
     };
-    let messages = messages_of(alloc, faults)?;
+    let messages = messages_of(alloc, source, faults)?;
     let mut text = Text::new(alloc);
     teller.add_messages(
         &mut text,

@@ -132,7 +132,7 @@ impl<'a> Told<'a> {
         faults: &[Fault],
         most: usize,
     ) -> Result<(), AllocError> {
-        let mut messages = messages_of(text.allocator(), faults)?;
+        let mut messages = messages_of(text.allocator(), self.source, faults)?;
         self.add_unused(&mut messages)?;
         self.add_useless_lines(&mut messages)?;
         self.add_useless_productions(&mut messages, faults)?;

@@ -1,5 +1,7 @@
 -- places in a text
 pub mod Spans
+-- names that are spelt nearly as another one
+pub mod Spellings
 -- sets of rules, and which productions are useful by them
 pub mod UsefulRules
 -- where the productions of a file stand

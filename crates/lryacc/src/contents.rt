@@ -81,8 +81,17 @@ pub(crate) struct Alternative {
     pub(crate) parts: Vec<BodyPart>,
     /// The token behind its `%prec`.
     pub(crate) precedence: Option<Lexeme>,
+    /// Whether `%empty` stands in it.
+    pub(crate) has_empty: bool,
     /// From its first part to its last, or the place behind the mark before it.
     pub(crate) span: Span,
+}
+
+impl Alternative {
+    /// Whether it has no symbol: nothing, or an action alone.
+    pub(crate) fn is_empty(&self) -> bool {
+        matches!(self.parts.as_slice(), [] | [BodyPart::Action(..)])
+    }
 }
 
 /// What a grammar file says, and what is wrong with it so far.

@@ -4,6 +4,7 @@ ghost use Rattle.std.specs.Prelude.{IfErr};
 ghost use Rattle.lryacc.specs.Bodies.{IsTold, PassesNoDelimiter};
 
 use crate::contents::{LevelKind, Statement};
+use crate::dialects::Dialect;
 use crate::directives::{Form, form_of, is_name_in_any_case};
 use crate::faults::{FaultKind, Halt, OldForm, Wanted};
 use crate::lexemes::{Lexeme, LexemeKind};
@@ -19,7 +20,7 @@ fn unknown(directive: &[u8]) -> FaultKind {
         b"%0" => OldForm::Token,
         [b'\\', name @ ..] if is_name_in_any_case(name) => OldForm::Backslash,
         [b'%', name @ ..] if is_name_in_any_case(name) => OldForm::Capitals,
-        _ => return FaultKind::UnknownDirective,
+        _ => return FaultKind::UnknownDirective(Dialect::Bison),
     })
 }
 

@@ -1,7 +1,13 @@
 //! The directives, and what stands behind each.
 
+ghost use Rattle.std.specs.Prelude.{◌≡◌, IfOk, IfSome, slice_get};
+ghost use Rattle.std.specs.Option.{option_map};
+ghost use Rattle.lryacc.specs.Spellings.{IsNear};
+
 use crate::contents::LevelKind;
 use crate::dialects::Dialect;
+use crate::spellings::{Near, nearer};
+use std::alloc::{AllocError, Global};
 
 /// What stands behind a directive.
 #[derive(Clone, Copy)]
@@ -158,6 +164,48 @@ fn bison_form_of(name: &[u8]) -> Option<Form> {
     match form_in(&NAMES, name) {
         Some(form) => Some(form),
         None => form_in(&UNDERSCORED, name),
+    }
+}
+
+/// The name in a list that is the nearest one.
+fn near_in(
+    alloc: Global,
+    names: &[(&'static str, Form)],
+    name: &[u8],
+) -> Result<Option<&'static str>, AllocError>
+    ensures { IfOk result (λ near. IfSome near (λ near. IsNear name.now near.now)) }
+{
+    let mut best = None;
+    for at in 0..names.len() {
+        best = nearer(alloc, name, names[at].0.as_bytes(), at, best)?;
+    }
+    match best {
+        Some(near) => Ok(listed(names, near)),
+        None => Ok(None),
+    }
+}
+
+/// The name of that number in a list.
+fn listed(names: &[(&'static str, Form)], near: Near) -> Option<&'static str>
+    ensures { result ≡ option_map (λ pair. pair.0) (slice_get names.now near.at) }
+{
+    match names.get(near.at) {
+        Some((name, _)) => Some(*name),
+        None => None,
+    }
+}
+
+/// The directive of a dialect that is written nearly as that name, both without their `%`.
+pub fn near_directive(
+    alloc: Global,
+    dialect: Dialect,
+    name: &[u8],
+) -> Result<Option<&'static str>, AllocError>
+    ensures { IfOk result (λ near. IfSome near (λ near. IsNear name.now near.now)) }
+{
+    match dialect {
+        Dialect::Bison => near_in(alloc, &NAMES, name),
+        Dialect::Grmtools => near_in(alloc, &GRMTOOLS, name),
     }
 }
 

@@ -3,6 +3,7 @@
 ghost use Rattle.std.specs.Prelude.{◌≡◌, MatchResult};
 ghost use Rattle.lryacc.specs.declared.faults.Halt.TheVariants.{Memory};
 
+use crate::dialects::Dialect;
 use crate::places::Span;
 use std::alloc::AllocError;
 use std::fmt;
@@ -16,7 +17,7 @@ pub struct Fault {
     pub span: Span,
 }
 
-/// What is wrong; each displays as the words that tell of it.
+/// What is wrong; each displays as words that tell of it without names.
 #[derive(Clone, Copy, Debug, PartialEq, Eq)]
 pub enum FaultKind {
     /// No lexeme begins with this byte.
@@ -49,8 +50,8 @@ pub enum FaultKind {
     InvalidBracket,
     /// Something else should stand here, or before the file ends.
     Wanted(Wanted),
-    /// No directive has this name.
-    UnknownDirective,
+    /// No directive of the dialect has this name.
+    UnknownDirective(Dialect),
     /// A form of old Yacc.
     Old(OldForm),
     /// `%prec` or `%empty` stands twice in one body.
@@ -59,36 +60,38 @@ pub enum FaultKind {
     NotEmpty,
     /// The file has no rule.
     NoRules,
-    /// The symbol is no token, and has no rule. Only warned of where no body has it.
-    Undefined,
-    /// The symbol is a token, and has a rule.
-    RuleOfToken,
-    /// The symbol is declared both a token and a rule.
-    BothKinds,
-    /// A rule stands behind `%prec`.
-    PrecedenceOfRule,
+    /// No colon stands behind the name with which a rule is to begin.
+    NoColon,
+    /// No colon stands behind the name, but a type of Rust, as in files of grmtools alone.
+    OfGrmtools,
+    /// The symbol is no token, and has no rule; there a name that is near stands first. Only warned of where no body has it.
+    Undefined(Option<Span>),
+    /// The symbol is of another class, as what is said of it there tells.
+    OtherClass(OtherClass, Span),
     /// A character is declared a rule.
     CharacterAsRule,
     /// A rule is given a number.
     CodeOfRule,
     /// The token has another number already.
     CodeTwice,
-    /// Another token has that number.
-    CodeOfOther,
+    /// Another token has that number; there it is declared.
+    CodeOfOther(u64, Span),
     /// A rule is given a text for another name.
     NameOfRule,
-    /// The symbol has a tag already.
-    TagTwice,
-    /// The last token that is named here has a precedence already.
-    LevelTwice,
+    /// The symbol has a tag already; there it has got it.
+    TagTwice(Span),
+    /// The token has a precedence already; there it has got it.
+    LevelTwice(Span),
     /// The start symbol is a token.
     StartIsToken,
+    /// The start symbol has no rule; there one stands first whose name is near.
+    StartHasNoRule(Option<Span>),
     /// The start rule derives no text.
     StartIsUnproductive,
     /// The number is too large.
     LargeNumber,
-    /// Only warned of: the symbol is declared already.
-    DeclaredTwice,
+    /// Only warned of: the symbol is declared already, and there first.
+    DeclaredTwice(Span),
     /// Only warned of: the symbol is a start rule already.
     StartTwice,
     /// Of grmtools: an action that other parts of its body stand behind.
@@ -105,10 +108,32 @@ pub enum FaultKind {
     UnreachedRule,
     /// Only warned of: the production derives no text.
     UselessProduction,
-    /// Only warned of: no declaration and no body names the token behind `%prec`.
-    UnknownPrecedence,
-    /// Only warned of: the symbol or the text has another name already.
+    /// Only warned of: no declaration and no body names the token behind `%prec`; there one stands first that has a precedence,
+    /// and whose name is near.
+    UnknownPrecedence(Option<Span>),
+    /// Only warned of: an action refers to a part by its number, and before the action only so many stand.
+    NumberOutOfRange(usize),
+    /// Only warned of: an action refers to a part by a name, which none before the action has.
+    UnknownReference,
+    /// Only warned of: the body is empty, and has no `%empty`, as others have.
+    EmptyUnsaid,
+    /// Only warned of: the text is another name of a symbol already, which is declared there.
+    TextOfOther(Span),
+    /// Only warned of: the symbol has another text already, which stands there.
+    SecondText(Span),
+    /// Only warned of: the symbol has another name already, which Bison gives it.
     SecondName,
+}
+
+/// Of which class a symbol is, and is not to be.
+#[derive(Clone, Copy, Debug, PartialEq, Eq)]
+pub enum OtherClass {
+    /// A token that has a rule.
+    TokenWithRule,
+    /// What is declared both a token and a rule.
+    Both,
+    /// A rule that stands behind `%prec`.
+    RuleBehindPrec,
 }
 
 /// What should stand at a place.
@@ -246,26 +271,27 @@ impl FaultKind {
             FaultKind::InvalidName => "a name begins with a letter, `_` or `.`",
             FaultKind::InvalidBracket => "a bracket holds one name",
             FaultKind::Wanted(_) => "something else should stand here",
-            FaultKind::UnknownDirective => "unknown directive",
+            FaultKind::UnknownDirective(_) => "unknown directive",
             FaultKind::Old(_) => "this is a form of old Yacc",
             FaultKind::Twice => "this stands in the body already",
             FaultKind::NotEmpty => "`%empty` in a body that is not empty",
             FaultKind::NoRules => "the file has no rule",
-            FaultKind::Undefined => "this is no token, and has no rule",
-            FaultKind::RuleOfToken => "this is a token, and has a rule",
-            FaultKind::BothKinds => "this is declared both a token and a rule",
-            FaultKind::PrecedenceOfRule => "`%prec` names a token, and this is a rule",
+            FaultKind::NoColon => "`:` should stand behind this name",
+            FaultKind::OfGrmtools => "this is a file of grmtools: `--grmtools`",
+            FaultKind::Undefined(_) => "this is no token, and has no rule",
+            FaultKind::OtherClass(..) => "this symbol is of another class",
             FaultKind::CharacterAsRule => "a character is always a token",
             FaultKind::CodeOfRule => "a rule has no number",
             FaultKind::CodeTwice => "the token has another number already",
-            FaultKind::CodeOfOther => "another token has this number",
+            FaultKind::CodeOfOther(..) => "another token has this number",
             FaultKind::NameOfRule => "a rule has no string for another name",
-            FaultKind::TagTwice => "this has a tag already",
-            FaultKind::LevelTwice => "this names a token that has a precedence already",
+            FaultKind::TagTwice(_) => "this has a tag already",
+            FaultKind::LevelTwice(_) => "this token has a level already",
             FaultKind::StartIsToken => "the start symbol is a token",
+            FaultKind::StartHasNoRule(_) => "the start symbol has no rule",
             FaultKind::StartIsUnproductive => "the start rule derives no sentence",
             FaultKind::LargeNumber => "the number is too large",
-            FaultKind::DeclaredTwice => "this is declared already",
+            FaultKind::DeclaredTwice(_) => "this is declared already",
             FaultKind::StartTwice => "this is a start rule already",
             FaultKind::ActionNotLast => "an action stands at the end of its body",
             FaultKind::SecondDirective => "this directive stands in the file already",
@@ -274,8 +300,13 @@ impl FaultKind {
             FaultKind::UnproductiveRule => "this rule derives no sentence",
             FaultKind::UnreachedRule => "this rule is never reached",
             FaultKind::UselessProduction => "this derives no sentence",
-            FaultKind::UnknownPrecedence => "nothing else names this token",
-            FaultKind::SecondName => "this is no name of the symbol, since one of them has another",
+            FaultKind::UnknownPrecedence(_) => "this token has no level",
+            FaultKind::NumberOutOfRange(_) => "this number is out of range",
+            FaultKind::UnknownReference => "this names no symbol of the body",
+            FaultKind::EmptyUnsaid => "an empty body without `%empty`",
+            FaultKind::TextOfOther(_) => "this is the name of another symbol",
+            FaultKind::SecondText(_) | FaultKind::SecondName =>
+                "the symbol has another name already",
         }
     }
 }

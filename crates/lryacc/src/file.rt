@@ -73,6 +73,18 @@ fn faults_read(alloc: Global, text: &[u8], faults: &[Fault]) -> Result<FileRead,
     Ok(FileRead::Faults(in_order(alloc, text, faults)?))
 }
 
+/// Those of the faults of a file that are told: where it is one of grmtools, that alone.
+fn to_tell(faults: &[Fault]) -> &[Fault]
+    requires { 0 < length faults.now }
+    ensures { 0 < length result.now }
+{
+    let is_of_grmtools = |fault: &Fault| matches!(fault.kind, FaultKind::OfGrmtools);
+    match faults.iter().position(is_of_grmtools) {
+        Some(at) => &faults[at..at + 1],
+        None => faults,
+    }
+}
+
 /// Reads a grammar file of a dialect: its grammar, or all faults that were come by. A file that begins with `%grmtools{` is one
 /// of grmtools in any case. The error says that memory was refused.
 pub fn read_file(alloc: Global, text: &[u8], dialect: Dialect) -> Result<FileRead, AllocError>
@@ -84,7 +96,7 @@ pub fn read_file(alloc: Global, text: &[u8], dialect: Dialect) -> Result<FileRea
     let dialect = dialect_of(text, dialect);
     let contents = contents(alloc, text, dialect)?;
     if !contents.faults.is_empty() {
-        return faults_read(alloc, text, contents.faults.as_slice());
+        return faults_read(alloc, text, to_tell(contents.faults.as_slice()));
     }
     contents_read(alloc, text, dialect, &contents)
 }
@@ -138,7 +150,7 @@ fn grammar_read(
     match file_grammar(alloc, meaning, contents) {
         Ok(whole) => useful_read(alloc, text, dialect, meaning, contents, whole),
         Err(NoProductions::Undefined(span)) => {
-            let kind = FaultKind::Undefined;
+            let kind = FaultKind::Undefined(None);
             faults_read(alloc, text, &[Fault { kind, span }])
         }
         Err(NoProductions::Memory) => Err(AllocError),

@@ -63,7 +63,10 @@ impl<'a> Reader<'a> {
             Some(Form::Starts) => self.once(directive, Form::Starts),
             Some(Form::ShiftReduce) => self.once(directive, Form::ShiftReduce),
             Some(Form::ReduceReduce) => self.once(directive, Form::ReduceReduce),
-            _ => Err(self.fault(FaultKind::UnknownDirective, directive.span)),
+            _ => {
+                let kind = FaultKind::UnknownDirective(Dialect::Grmtools);
+                Err(self.fault(kind, directive.span))
+            }
         }
     }
 

@@ -9,6 +9,7 @@ use crate::faults::{Fault, FaultKind};
 use crate::lexemes::{Lexeme, LexemeKind};
 use crate::meaning::Meaning;
 use crate::places::Span;
+use crate::spellings::Meant;
 use crate::symbols::{Class, Symbol};
 use std::alloc::AllocError;
 use std::collections::BTreeSet;
@@ -104,7 +105,8 @@ impl<'a> Meaning<'a> {
         if self.is_known_before(name, end) {
             return Ok(());
         }
-        self.tell(FaultKind::Undefined, name.span)
+        let near = self.near(name, Meant::Symbol)?;
+        self.tell(FaultKind::Undefined(near), name.span)
     }
 
     /// Tells of what stands behind `%prec` and is no token, or has no precedence.

@@ -13,10 +13,11 @@ ghost use Rattle.lryacc.specs.declared.contents.Statement.{Statement};
 
 use crate::contents::{Alternative, BodyPart, Contents, LevelKind, Statement};
 use crate::dialects::Dialect;
-use crate::faults::{Fault, FaultKind};
+use crate::faults::{Fault, FaultKind, OtherClass};
 use crate::lexemes::{Lexeme, LexemeKind};
 use crate::numbers::value_of;
 use crate::places::Span;
+use crate::spellings::Meant;
 use crate::symbols::{Class, Symbol, Symbols};
 use crate::useful::Useless;
 use std::alloc::{AllocError, Global};
@@ -50,10 +51,8 @@ pub(crate) struct Meaning<'a> {
     pub(crate) symbols: Symbols<'a>,
     /// The kinds of the precedence lines, in the order of the file.
     pub(crate) levels: Vec<LevelKind>,
-    /// By symbol, the precedence line in which it stands by this name, counted from 1, and the line up to where it is named there.
+    /// By symbol, the precedence line in which it stands by this name, counted from 1, and where it is named there.
     lines: BTreeMap<usize, (usize, Span)>,
-    /// Where the precedence line in hand begins.
-    level_start: usize,
     /// The symbols behind `%start`, each once.
     pub(crate) starts: Vec<Lexeme>,
     /// Their numbers.
@@ -95,7 +94,6 @@ impl<'a> Meaning<'a> {
             symbols,
             levels: Vec::new(alloc),
             lines: BTreeMap::new(alloc),
-            level_start: 0,
             starts: Vec::new(alloc),
             started: BTreeSet::new(alloc),
             end: None,
@@ -141,8 +139,7 @@ impl<'a> Meaning<'a> {
         if !useless.is_empty() {
             self.tell_token_starts()?;
         }
-        let starts = useless.starts.as_slice();
-        add_at(&mut self.faults, FaultKind::StartIsUnproductive, starts)?;
+        self.tell_unproductive(useless.starts.as_slice())?;
         self.warn_of_rules(dialect, contents, useless.rules.as_slice())?;
         let productions = useless.productions.as_slice();
         add_at(
@@ -151,6 +148,27 @@ impl<'a> Meaning<'a> {
             productions,
         )?;
         Ok(())
+    }
+
+    /// Tells of start symbols that derive no text.
+    fn tell_unproductive(&mut self, starts: &[Span]) -> Result<(), AllocError> {
+        for span in starts {
+            let kind = self.unproductive(*span)?;
+            self.tell(kind, *span)?;
+        }
+        Ok(())
+    }
+
+    /// Why the start symbol that is named at a place derives no text.
+    fn unproductive(&self, span: Span) -> Result<FaultKind, AllocError> {
+        let kind = LexemeKind::RuleName;
+        let name = Lexeme { kind, span };
+        match self.symbols.find(name) {
+            Some(number) if self.class(number) == Class::Unknown => {
+                Ok(FaultKind::StartHasNoRule(self.near(name, Meant::Rule)?))
+            }
+            _ => Ok(FaultKind::StartIsUnproductive),
+        }
     }
 
     /// Warns of useless rules.
@@ -172,27 +190,28 @@ impl<'a> Meaning<'a> {
         }
     }
 
-    /// Takes in that a symbol is of that class.
+    /// Takes in that a symbol is of that class, and tells of what is wrong where it is of another one.
     fn take_class(
         &mut self,
         lexeme: Lexeme,
         class: Class,
-        otherwise: FaultKind,
+        wrong: OtherClass,
     ) -> Result<(), AllocError>
         ensures { OnOk result (KeepsMeaning self.old self.new) }
     {
         let Some(number) = self.symbols.find(lexeme) else {
             return Ok(());
         };
-        let mut is_other = false;
+        let mut other = None;
         if let Some(symbol) = self.symbols.list.get_mut(number) {
-            is_other = symbol.class != class && symbol.class != Class::Unknown;
-            if !is_other {
+            if symbol.class == class || symbol.class == Class::Unknown {
                 symbol.class = class;
+            } else {
+                other = Some(symbol.span());
             }
         }
-        if is_other {
-            self.tell(otherwise, lexeme.span)?;
+        if let Some(other) = other {
+            self.tell(FaultKind::OtherClass(wrong, other), lexeme.span)?;
         }
         Ok(())
     }
@@ -237,15 +256,15 @@ impl<'a> Meaning<'a> {
             Statement::Rule(symbol) => self.take_rule_name(symbol),
             Statement::Code(symbol, number) => self.take_code(symbol, number),
             Statement::Alias(symbol, text) => self.take_alias(symbol, text),
-            Statement::Level(kind, directive) => self.begin_level(kind, directive),
+            Statement::Level(kind, _) => self.begin_level(kind),
             Statement::InLevel(symbol) => self.take_in_level(symbol),
             Statement::Mention(_) | Statement::NotInRules(_) => Ok(()),
             Statement::Tagged(symbol, tag) => self.take_tag(symbol, tag),
             Statement::LeftSide(rule) => {
-                self.take_class(rule, Class::Rule, FaultKind::RuleOfToken)
+                self.take_class(rule, Class::Rule, OtherClass::TokenWithRule)
             }
             Statement::NamedPrecedence(token) => {
-                self.take_class(token, Class::Token, FaultKind::PrecedenceOfRule)
+                self.take_class(token, Class::Token, OtherClass::RuleBehindPrec)
             }
             Statement::Start(symbol) => self.take_start(symbol),
             Statement::DefaultPrecedence(is_on) => {
@@ -268,14 +287,13 @@ impl<'a> Meaning<'a> {
         }
     }
 
-    /// Takes in that a precedence line begins with a directive.
-    fn begin_level(&mut self, kind: LevelKind, directive: Lexeme) -> Result<(), AllocError>
+    /// Takes in that a precedence line begins.
+    fn begin_level(&mut self, kind: LevelKind) -> Result<(), AllocError>
         ensures keeps { OnOk result (KeepsEnd self.old self.new) }
         ensures begins { OnOk result (BeginsLine kind self.old self.new) }
         ensures said { OnOk result (KeepsSaid self.old self.new) }
     {
         self.levels.push(kind)?;
-        self.level_start = directive.span.start;
         Ok(())
     }
 
@@ -296,7 +314,7 @@ impl<'a> Meaning<'a> {
     fn take_token(&mut self, lexeme: Lexeme) -> Result<(), AllocError>
         ensures { OnOk result (KeepsMeaning self.old self.new) }
     {
-        self.take_class(lexeme, Class::Token, FaultKind::BothKinds)?;
+        self.take_class(lexeme, Class::Token, OtherClass::Both)?;
         self.declare(lexeme)
     }
 
@@ -308,13 +326,13 @@ impl<'a> Meaning<'a> {
         let Some(number) = self.symbols.find(lexeme) else {
             return Ok(());
         };
-        let mut is_declared = false;
+        let mut first = None;
         if let Some(symbol) = self.symbols.list.get_mut(number) {
-            is_declared = symbol.declared.is_some();
-            symbol.declared = symbol.declared.or(Some(lexeme.span));
+            first = symbol.declared;
+            symbol.declared = first.or(Some(lexeme.span));
         }
-        if is_declared && self.symbols.dialect == Dialect::Bison {
-            self.warn(FaultKind::DeclaredTwice, lexeme.span)?;
+        if let (Some(first), Dialect::Bison) = (first, self.symbols.dialect) {
+            self.warn(FaultKind::DeclaredTwice(first), lexeme.span)?;
         }
         Ok(())
     }
@@ -326,7 +344,7 @@ impl<'a> Meaning<'a> {
         ensures taken { OnOk result (TakesStart lexeme self.old self.new) }
     {
         let Some(number) = self.symbols.find(lexeme) else {
-            return self.tell(FaultKind::Undefined, lexeme.span);
+            return self.tell(FaultKind::StartHasNoRule(None), lexeme.span);
         };
         if !self.started.insert(number)? {
             return self.warn(FaultKind::StartTwice, lexeme.span);
@@ -350,7 +368,7 @@ impl<'a> Meaning<'a> {
         if lexeme.kind != LexemeKind::Name {
             return self.tell(FaultKind::CharacterAsRule, lexeme.span);
         }
-        self.take_class(lexeme, Class::Rule, FaultKind::BothKinds)?;
+        self.take_class(lexeme, Class::Rule, OtherClass::Both)?;
         self.declare(lexeme)
     }
 
@@ -418,8 +436,8 @@ impl<'a> Meaning<'a> {
     ) -> Result<(), AllocError>
         ensures { OnOk result (KeepsMeaning self.old self.new) }
     {
-        if let Some(span) = self.second_level(number) {
-            self.tell(FaultKind::LevelTwice, span)?;
+        if let Some((first, second)) = self.two_levels(number) {
+            self.tell(FaultKind::LevelTwice(first), second)?;
         }
         if let Some(code) = symbol.code {
             self.tell_code(first, code, symbol.span())?;
@@ -438,9 +456,9 @@ impl<'a> Meaning<'a> {
     {
         if let Some(other) = first.get(&code).copied() {
             if other.start < span.start {
-                return self.tell(FaultKind::CodeOfOther, span);
+                return self.tell(FaultKind::CodeOfOther(code, other), span);
             }
-            self.tell(FaultKind::CodeOfOther, other)?;
+            self.tell(FaultKind::CodeOfOther(code, span), other)?;
         }
         first.insert(code, span)?;
         Ok(())
@@ -453,8 +471,8 @@ impl<'a> Meaning<'a> {
         let Some(number) = self.symbols.find(lexeme) else {
             return Ok(());
         };
-        if self.has_tag(number) {
-            return self.tell(FaultKind::TagTwice, lexeme.span);
+        if let Some((_, first)) = self.known_tag(number) {
+            return self.tell(FaultKind::TagTwice(first), lexeme.span);
         }
         if let Some(symbol) = self.symbols.list.get_mut(number) {
             symbol.tag = Some((tag.span, lexeme.span));
@@ -467,11 +485,11 @@ impl<'a> Meaning<'a> {
         self.symbols.list.get(number)?.tag
     }
 
-    /// Whether a symbol has a tag, by this name or the other one.
-    fn has_tag(&self, number: usize) -> bool {
-        match self.symbols.partner(number) {
-            Some(other) => self.tag(number).is_some() || self.tag(other).is_some(),
-            None => self.tag(number).is_some(),
+    /// The tag that a symbol has by this name or the other one, and where that is said.
+    fn known_tag(&self, number: usize) -> Option<(Span, Span)> {
+        match self.tag(number) {
+            Some(tag) => Some(tag),
+            None => self.tag(self.symbols.partner(number)?),
         }
     }
 
@@ -485,12 +503,12 @@ impl<'a> Meaning<'a> {
         if self.symbols.bytes(tag) == self.symbols.bytes(other_tag) {
             return Ok(());
         }
-        let later = if here.start < there.start {
-            there
+        let (first, later) = if here.start < there.start {
+            (here, there)
         } else {
-            here
+            (there, here)
         };
-        self.tell(FaultKind::TagTwice, later)
+        self.tell(FaultKind::TagTwice(first), later)
     }
 
     /// The class of a symbol.
@@ -524,7 +542,29 @@ impl<'a> Meaning<'a> {
         if self.symbols.partner(one) == Some(other) {
             return Ok(());
         }
-        self.warn(FaultKind::SecondName, text.span)
+        self.warn(self.second_name(one, other), text.span)
+    }
+
+    /// Where a symbol is declared, or else is named first.
+    fn span(&self, number: usize) -> Option<Span> {
+        Some(self.symbols.list.get(number)?.span())
+    }
+
+    /// Why a text can't become another name of a symbol.
+    fn second_name(&self, symbol: usize, text: usize) -> FaultKind {
+        if let Some(holder) = self.symbols.partner(text) {
+            return match self.span(holder) {
+                Some(span) => FaultKind::TextOfOther(span),
+                None => FaultKind::SecondName,
+            };
+        }
+        let Some(first) = self.symbols.partner(symbol) else {
+            return FaultKind::SecondName;
+        };
+        match self.span(first) {
+            Some(span) => FaultKind::SecondText(span),
+            None => FaultKind::SecondName,
+        }
     }
 
     /// Whether two names can become those of one symbol: neither has another one.
@@ -574,15 +614,14 @@ impl<'a> Meaning<'a> {
         ensures said { OnOk result (KeepsSaid self.old self.new) }
     {
         let level = self.levels.len();
-        let span = Span::new(self.level_start, lexeme.span.end);
-        self.take_class(lexeme, Class::Token, FaultKind::BothKinds)?;
+        self.take_class(lexeme, Class::Token, OtherClass::Both)?;
         let Some(number) = self.symbols.find(lexeme) else {
             return Ok(());
         };
         if self.line(number).is_some() {
-            return self.tell(FaultKind::LevelTwice, span);
+            return self.tell(self.level_twice(number, lexeme), lexeme.span);
         }
-        self.lines.insert(number, (level, span))?;
+        self.lines.insert(number, (level, lexeme.span))?;
         Ok(())
     }
 
@@ -593,12 +632,20 @@ impl<'a> Meaning<'a> {
         self.lines.get(&number).copied()
     }
 
-    /// Where a symbol stands in a precedence line behind one in which its other name stands.
-    fn second_level(&self, number: usize) -> Option<Span> {
+    /// What is wrong where a symbol is named in a second precedence line.
+    fn level_twice(&self, number: usize, lexeme: Lexeme) -> FaultKind {
+        match self.line(number) {
+            Some((_, first)) => FaultKind::LevelTwice(first),
+            None => FaultKind::LevelTwice(lexeme.span),
+        }
+    }
+
+    /// Where the other name of a symbol stands in a precedence line, and behind that this name does.
+    fn two_levels(&self, number: usize) -> Option<(Span, Span)> {
         let (_, there) = self.line(self.symbols.partner(number)?)?;
         let (_, here) = self.line(number)?;
         if there.end < here.end {
-            Some(here)
+            Some((there, here))
         } else {
             None
         }
@@ -635,6 +682,41 @@ impl<'a> Meaning<'a> {
         }
     }
 
+    /// Warns of what bodies have: tokens behind `%prec`, for Bison also references of actions, and none where `%empty` should
+    /// stand.
+    fn warn_of_bodies(&mut self, alternatives: &[Alternative]) -> Result<(), AllocError>
+        ensures { OnOk result (KeepsMeaning self.old self.new) }
+    {
+        self.warn_of_precedences(alternatives)?;
+        match self.symbols.dialect {
+            Dialect::Bison => self.warn_of_parts(alternatives),
+            Dialect::Grmtools => Ok(()),
+        }
+    }
+
+    /// Warns of references of actions, and of empty bodies without `%empty`.
+    fn warn_of_parts(&mut self, alternatives: &[Alternative]) -> Result<(), AllocError>
+        ensures { OnOk result (KeepsMeaning self.old self.new) }
+    {
+        self.warn_of_references(alternatives)?;
+        if alternatives.iter().any(|alternative| alternative.has_empty) {
+            self.warn_of_empty(alternatives)?;
+        }
+        Ok(())
+    }
+
+    /// Warns of empty bodies without `%empty`.
+    fn warn_of_empty(&mut self, alternatives: &[Alternative]) -> Result<(), AllocError>
+        ensures { OnOk result (KeepsMeaning self.old self.new) }
+    {
+        for alternative in alternatives {
+            if !alternative.has_empty && alternative.is_empty() {
+                self.warn(FaultKind::EmptyUnsaid, alternative.span)?;
+            }
+        }
+        Ok(())
+    }
+
     /// Warns of tokens that stand behind `%prec` and nowhere else.
     fn warn_of_precedences(&mut self, alternatives: &[Alternative]) -> Result<(), AllocError>
         ensures { OnOk result (KeepsMeaning self.old self.new) }
@@ -642,11 +724,19 @@ impl<'a> Meaning<'a> {
         for alternative in alternatives {
             if let Some(token) = alternative.precedence {
                 if !self.is_known(token) {
-                    self.warn(FaultKind::UnknownPrecedence, token.span)?;
+                    self.warn_of_precedence(token)?;
                 }
             }
         }
         Ok(())
+    }
+
+    /// Warns of a token behind `%prec` that nothing else names.
+    fn warn_of_precedence(&mut self, token: Lexeme) -> Result<(), AllocError>
+        ensures { OnOk result (KeepsMeaning self.old self.new) }
+    {
+        let near = self.near(token, Meant::Level)?;
+        self.warn(FaultKind::UnknownPrecedence(near), token.span)
     }
 
     /// Whether a declaration or a body names a token.
@@ -669,12 +759,14 @@ impl<'a> Meaning<'a> {
     fn tell_undefined(&mut self, symbol: Symbol) -> Result<(), AllocError>
         ensures { OnOk result (KeepsMeaning self.old self.new) }
     {
-        match symbol.class {
-            Class::Unknown if symbol.is_used => {
-                self.tell(FaultKind::Undefined, symbol.mention.span)
-            }
-            Class::Unknown => self.warn(FaultKind::Undefined, symbol.mention.span),
-            Class::Token | Class::Rule => Ok(()),
+        if symbol.class != Class::Unknown {
+            return Ok(());
+        }
+        let kind = FaultKind::Undefined(self.near(symbol.mention, Meant::Symbol)?);
+        if symbol.is_used {
+            self.tell(kind, symbol.mention.span)
+        } else {
+            self.warn(kind, symbol.mention.span)
         }
     }
 
@@ -706,7 +798,8 @@ impl<'a> Meaning<'a> {
                 self.tell(FaultKind::StartIsToken, symbol.span())
             }
             Class::Unknown if self.symbols.dialect == Dialect::Grmtools => {
-                self.tell(FaultKind::Undefined, start.span)
+                let near = self.near(start, Meant::Rule)?;
+                self.tell(FaultKind::StartHasNoRule(near), start.span)
             }
             _ => Ok(()),
         }
@@ -746,7 +839,7 @@ impl<'a> Meaning<'a> {
         self.take_statements(contents.statements.as_slice())?;
         self.leave_out_reductions()?;
         self.take_bodies(contents.alternatives.as_slice());
-        self.warn_of_precedences(contents.alternatives.as_slice())?;
+        self.warn_of_bodies(contents.alternatives.as_slice())?;
         self.find_end();
         self.tell_symbols()?;
         self.tell_starts()?;

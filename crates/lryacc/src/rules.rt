@@ -15,6 +15,7 @@ use crate::faults::{FaultKind, Halt, OldForm, Wanted};
 use crate::lexemes::{Lexeme, LexemeKind};
 use crate::places::Span;
 use crate::reader::Reader;
+use crate::runs::Run;
 use std::alloc::{AllocError, Global};
 
 /// A body in hand.
@@ -119,6 +120,7 @@ impl Body {
         let Body {
             parts,
             precedence,
+            empty,
             span,
             ..
         } = self;
@@ -127,6 +129,7 @@ impl Body {
             rule,
             parts,
             precedence,
+            has_empty: empty.is_some(),
             span: span.unwrap_or(behind),
         }
     }
@@ -354,13 +357,35 @@ impl<'a> Reader<'a> {
         }
     }
 
+    /// What is wrong with a name with which a rule is to begin, and behind which no colon stands.
+    fn without_colon(&self, name: Lexeme) -> FaultKind {
+        let behind = self.text.get(name.span.end..).unwrap_or(b"");
+        match behind[..Run::Line.end(behind, 0)].trim_ascii() {
+            [b'-', b'>', rest @ ..] if rest.contains(&b':') => FaultKind::OfGrmtools,
+            _ => FaultKind::NoColon,
+        }
+    }
+
+    /// Stops at a lexeme with which no rule begins.
+    fn no_rule_here(&mut self) -> Halt
+        ensures told { IsTold result self.new }
+        ensures stays { Stays self.old self.new }
+    {
+        match self.here() {
+            Some(name) if name.kind == LexemeKind::Name => {
+                self.fault(self.without_colon(name), name.span)
+            }
+            _ => self.wants(Wanted::Rule),
+        }
+    }
+
     /// Stops behind a lexeme with which no rule begins.
     fn no_rule(&mut self) -> Result<(), Halt>
         ensures file { IsSameFile self.old self.new }
         ensures told { IfErr result (λ halt. IsTold halt self.new) }
         ensures stops { OnOk result ⊥ }
     {
-        let halt = self.wants(Wanted::Rule);
+        let halt = self.no_rule_here();
         self.pass();
         Err(halt)
     }

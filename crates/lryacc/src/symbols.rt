@@ -106,6 +106,12 @@ impl<'a> Symbols<'a> {
         text.get(place.start..place.end).unwrap_or(b"")
     }
 
+    /// The text behind a place.
+    pub(crate) fn behind(&self, place: Span) -> &'a [u8] {
+        let text = self.text;
+        text.get(place.end..).unwrap_or(b"")
+    }
+
     /// The number of the symbol of that name, which has a meaning of its own for Bison.
     pub(crate) fn find_name(&self, name: &'a [u8]) -> Option<usize>
         ensures { result ≡ for_bison self.now.dialect (number_in self.now (Name.word name.now)) }

@@ -26,7 +26,7 @@ enum Value<'a> {
 
 /// The place behind the tag that begins at a place, or the place itself where none does; None where it isn't closed on its
 /// line, or is empty. `->` closes none.
-fn behind_tag(code: &[u8], from: usize) -> Option<usize>
+pub(crate) fn behind_tag(code: &[u8], from: usize) -> Option<usize>
     requires { from ≤ length code.now }
     ensures { IfSome result (λ end. end ≤ length code.now) }
 {
@@ -89,7 +89,7 @@ fn value_of_mark(code: &[u8], at: usize) -> (Option<Value<'_>>, usize)
 }
 
 /// The name between brackets.
-fn name_between(bracket: &[u8]) -> &[u8] {
+pub(crate) fn name_between(bracket: &[u8]) -> &[u8] {
     match bracket {
         [b'[', inner @ ..] => {
             let start = gap_end(inner, 0, Dialect::Bison).unwrap_or(0);

@@ -1,0 +1,213 @@
+//! What actions refer to: the parts before them, by numbers or names.
+
+ghost use Rattle.std.specs.Prelude.{◌<◌, length, OnOk};
+ghost use Rattle.lryacc.specs.EndTokens.{KeepsMeaning};
+
+use crate::code::{CodeReader, Ending};
+use crate::contents::{Alternative, BodyPart};
+use crate::dialects::Dialect;
+use crate::faults::FaultKind;
+use crate::gaps::gap_end;
+use crate::lexemes::{Lexeme, is_name_start};
+use crate::meaning::Meaning;
+use crate::numbers::value_of;
+use crate::places::Span;
+use crate::runs::Run;
+use crate::values::{behind_tag, name_between};
+use std::alloc::{AllocError, Global};
+
+/// How an action calls a part.
+#[derive(Clone, Copy)]
+enum Call<'a> {
+    /// By its number, counted from 1: `$2`, `@2`.
+    Number(u64),
+    /// By its name, behind which something of the host language may follow a `.` or `-`: `$left`, `@left`.
+    Name(&'a [u8]),
+    /// By its name in brackets: `$[left]`, `@[left]`.
+    Bracket(&'a [u8]),
+}
+
+impl<'a> Call<'a> {
+    /// Whether what has this name is called so.
+    fn is_of(self, name: &[u8]) -> bool {
+        match self {
+            Call::Number(_) => false,
+            Call::Bracket(called) => called == name,
+            Call::Name(called) => match called.strip_prefix(name) {
+                Some(rest) => matches!(rest, [] | [b'.' | b'-', ..]),
+                None => false,
+            },
+        }
+    }
+}
+
+/// What an action refers to, and where.
+#[derive(Clone, Copy)]
+struct Reference<'a> {
+    call: Call<'a>,
+    span: Span,
+}
+
+/// What is called at a place behind `$` or `@` and perhaps a tag, and the place behind that.
+fn call_at(code: &[u8], start: usize) -> Option<(Call<'_>, usize)> {
+    let first = *code.get(start)?;
+    if first.is_ascii_digit() {
+        let end = Run::Digits.end(code, start);
+        return Some((Call::Number(value_of(&code[start..end])?), end));
+    }
+    if is_name_start(first) {
+        let end = Run::Name.end(code, start);
+        return Some((Call::Name(&code[start..end]), end));
+    }
+    if first != b'[' || !is_name_start(*code.get(start + 1)?) {
+        return None;
+    }
+    let end = Run::Name.end(code, start + 1);
+    if *code.get(end)? != b']' {
+        return None;
+    }
+    Some((Call::Bracket(&code[start + 1..end]), end + 1))
+}
+
+/// Where what is called by a mark at a place begins; None where nothing is.
+fn start_of_call(code: &[u8], at: usize) -> Option<usize>
+    requires { at < length code.now }
+{
+    match code[at] {
+        b'$' => behind_tag(code, at + 1),
+        b'@' => Some(at + 1),
+        _ => None,
+    }
+}
+
+/// What the mark at a place calls, if it calls a part, and the place behind what belongs to the mark.
+fn call_of_mark(code: &[u8], at: usize) -> (Option<Call<'_>>, usize)
+    requires { at < length code.now }
+{
+    let Some(start) = start_of_call(code, at) else {
+        return (None, at + 1);
+    };
+    if code.get(start) == Some(&b'$') {
+        return (None, start.saturating_add(1));
+    }
+    match call_at(code, start) {
+        Some((call, end)) => (Some(call), end),
+        None => (None, at + 1),
+    }
+}
+
+/// What the code of an action that begins at a place of the file refers to. What stands in its quotes and comments refers to
+/// nothing.
+fn references(alloc: Global, code: &[u8], begin: usize) -> Result<Vec<Reference<'_>>, AllocError> {
+    let mut all = Vec::new(alloc);
+    let mut reader = CodeReader::new();
+    // The place behind the last mark.
+    let mut behind: usize = 0;
+    for at in 0..code.len() {
+        if behind <= at && reader.is_in_code() {
+            let (call, end) = call_of_mark(code, at);
+            behind = end;
+            if let Some(call) = call {
+                let span = Span::new(begin.saturating_add(at), begin.saturating_add(end));
+                all.push(Reference { call, span })?;
+            }
+        }
+        if let Ok(Some(next)) = reader.step(code, at, Ending::File) {
+            reader = next;
+        }
+    }
+    Ok(all)
+}
+
+impl<'a> Meaning<'a> {
+    /// The name that a symbol is called by: that in brackets behind it, or else its own.
+    fn called(&self, symbol: Lexeme) -> &'a [u8] {
+        let behind = self.symbols.behind(symbol.span);
+        let start = gap_end(behind, 0, Dialect::Bison).unwrap_or(0);
+        match behind.get(start..) {
+            Some(bracket) if bracket.first() == Some(&b'[') => name_between(bracket),
+            _ => self.symbols.name(symbol),
+        }
+    }
+
+    /// Whether a part of a body is called so.
+    fn is_part(&self, call: Call<'a>, part: BodyPart) -> bool {
+        match part {
+            BodyPart::Symbol(symbol) => call.is_of(self.called(symbol)),
+            BodyPart::Action(_, Some(name)) => {
+                call.is_of(name_between(self.symbols.bytes(name.span)))
+            }
+            BodyPart::Action(_, None) => false,
+        }
+    }
+
+    /// What is wrong with how an action calls something, before which so many parts of a body stand.
+    fn wrong_call(
+        &self,
+        alternative: &Alternative,
+        before: usize,
+        call: Call<'a>,
+    ) -> Option<FaultKind> {
+        if let Call::Number(number) = call {
+            let is_there = number as usize <= before;
+            return if is_there {
+                None
+            } else {
+                Some(FaultKind::NumberOutOfRange(before))
+            };
+        }
+        if call.is_of(self.called(alternative.rule)) {
+            return None;
+        }
+        for part in alternative.parts.iter().take(before) {
+            if self.is_part(call, *part) {
+                return None;
+            }
+        }
+        Some(FaultKind::UnknownReference)
+    }
+
+    /// Warns of references of the actions of bodies.
+    pub(crate) fn warn_of_references(
+        &mut self,
+        alternatives: &[Alternative],
+    ) -> Result<(), AllocError>
+        ensures { OnOk result (KeepsMeaning self.old self.new) }
+    {
+        for alternative in alternatives {
+            self.warn_of_actions(alternative)?;
+        }
+        Ok(())
+    }
+
+    /// Warns of references of the actions of a body.
+    fn warn_of_actions(&mut self, alternative: &Alternative) -> Result<(), AllocError>
+        ensures { OnOk result (KeepsMeaning self.old self.new) }
+    {
+        for before in 0..alternative.parts.len() {
+            if let Some(BodyPart::Action(action, _)) = alternative.parts.get(before).copied() {
+                self.warn_of_action(alternative, before, action)?;
+            }
+        }
+        Ok(())
+    }
+
+    /// Warns of references of an action, before which so many parts of a body stand.
+    fn warn_of_action(
+        &mut self,
+        alternative: &Alternative,
+        before: usize,
+        action: Lexeme,
+    ) -> Result<(), AllocError>
+        ensures { OnOk result (KeepsMeaning self.old self.new) }
+    {
+        let code = self.symbols.bytes(action.span);
+        let all = references(*self.faults.allocator(), code, action.span.start)?;
+        for reference in &all {
+            if let Some(kind) = self.wrong_call(alternative, before, reference.call) {
+                self.warn(kind, reference.span)?;
+            }
+        }
+        Ok(())
+    }
+}
