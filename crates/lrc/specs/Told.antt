@@ -11,6 +11,7 @@ use Rattle.lryacc.specs.declared.faults.Fault.{Fault}
 use Rattle.lryacc.specs.declared.file.FileRead.TheVariants as reading
 use Rattle.lryacc.specs.declared.meaning.Expected.{Expected}
 use Rattle.lryacc.specs.declared.numbering.FileGrammar.{FileGrammar}
+use Rattle.lryacc.specs.declared.parsers.Parser.{Parser}
 use Rattle.lryacc.specs.FilesRead.{ComesTo}
 use Rattle.lrfindings.specs.FileGrammars.{IsGrammarOfFile}
 
@@ -27,8 +28,9 @@ pub record IsTold (count : ℕ) (old new : List ℕ) : Type 0 where
 -- the text is read as that grammar of Bison
 pub record IsSaidBy (text : List ℕ) (file : FileGrammar) : Type 0 where
   pub expected : Expected
+  pub parser : Parser
   pub warnings : Vec Fault Global
-  pub read : ComesTo text Bison (reading.Grammar file expected warnings)
+  pub read : ComesTo text Bison (reading.Grammar file expected parser warnings)
 
 -- numbers are all cells, gotos and productions of the table of the graph of the grammar that the text is read as
 pub record IsFlat (text numbers : List ℕ) : Type 0 where

@@ -30,7 +30,7 @@ fn grammar_of(alloc: Global, text: &[u8]) -> Result<FileGrammar, Problem>
     ensures { IfOk result (IsSaidBy text.now) }
 {
     match read_file(alloc, text, Dialect::Bison)? {
-        FileRead::Grammar(file, _, _) => Ok(file),
+        FileRead::Grammar(file, _, _, _) => Ok(file),
         FileRead::Faults(_) => Err(Problem::Input),
     }
 }

@@ -1,5 +1,5 @@
 -- what is proved of a conclusion
-use Rattle.std.specs.Prelude.{◌≡◌, ◌⊎◌, ℕ, Bool, not, List, [], All, IfSome, IsTrue, length, map}
+use Rattle.std.specs.Prelude.{◌≡◌, ◌⊎◌, ℕ, Bool, true, not, List, [], None, All, IfSome, IsTrue, length, map, if◌then◌else◌}
 use Rattle.std.specs.Option.{option_or}
 use Rattle.std.specs.declared.alloc.Global.{Global}
 use Rattle.std.specs.declared.vec.Vec.{Vec}
@@ -12,7 +12,9 @@ use Rattle.lryacc.specs.declared.faults.Fault.{Fault}
 use Rattle.lryacc.specs.declared.file.FileRead.TheVariants as reading
 use Rattle.lryacc.specs.declared.meaning.Expected.{Expected}
 use Rattle.lryacc.specs.declared.numbering.FileGrammar.{FileGrammar}
+use Rattle.lryacc.specs.declared.parsers.Parser.{Parser}
 use Rattle.lryacc.specs.FilesRead.{ComesTo}
+use Rattle.lryacc.specs.Parsers.{splits}
 use Rattle.lrverdicts.specs.Verdicts.{counts_of, IsVerdict}
 use Rattle.lrfindings.specs.CellConflicts.{resolved_in}
 use Rattle.lrfindings.specs.FileGrammars.{IsGrammarOfFile}
@@ -20,6 +22,7 @@ use Rattle.lrfindings.specs.Findings.{DecidesNothing}
 use Rattle.lrevidence.specs.Ambiguities.{HasTwoTrees, IsProved, PartsAtEntry}
 use Rattle.lrevidence.specs.Losses.{IsLostAtEntry}
 use Rattle.lrevidence.specs.DecidedEntries.{IsDecidedOf}
+use Rattle.lrshown.specs.declared.evidence.Evidence.{Evidence}
 use Rattle.lrreport.specs.declared.options.Options.{Options}
 use Rattle.lrreport.specs.declared.reports.Conclusion.{Conclusion}
 use Rattle.lrreport.specs.declared.reports.Outcome.{Outcome}
@@ -33,12 +36,23 @@ expected_beside options file =
       reduce_reduce = file.reduce_reduce;
     }
 
--- the text is read as that grammar, and as many conflicts are expected as it says, unless an option does
+-- what is known of an entry, but for a sentence that is rejected
+abbrev pub without_loss : Evidence → Evidence
+without_loss e = record e { loss = None }
+
+-- what is known of entries for a parser: one that splits at conflicts rejects no sentence because of one
+abbrev pub known_by : Parser → List Evidence → List Evidence
+known_by parser evidence = if splits parser then map without_loss evidence else evidence
+
+-- the text is read as that grammar, as many conflicts are expected as it says, unless an option does, and of a parser that splits
+-- at conflicts no sentence is told to be rejected
 pub record IsSaidBy (options : Options) (text : List ℕ) (c : Conclusion) : Type 0 where
   pub expected : Expected
+  pub parser : Parser
   pub warnings : Vec Fault Global
-  pub read : ComesTo text options.dialect (reading.Grammar c.file expected warnings)
+  pub read : ComesTo text options.dialect (reading.Grammar c.file expected parser warnings)
   pub beside : c.expected ≡ expected_beside options expected
+  pub unlost : splits parser ≡ true → All (λ e. e.loss ≡ None) c.evidence.items
 
 -- what is concluded of the grammar of a file
 abbrev pub conclusion_of : FileGrammar → Outcome → Conclusion

@@ -204,7 +204,7 @@ impl Told<'_> {
     }
 
     /// Adds levels that resolve a conflict.
-    fn add_levels(&self, words: &mut Words, levels: &NewLevels) {
+    pub(crate) fn add_levels(&self, words: &mut Words, levels: &NewLevels) {
         match levels {
             NewLevels::Associativity { is_of_operator } => add_associativity(
                 words,

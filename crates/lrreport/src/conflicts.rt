@@ -166,8 +166,11 @@ impl<T: IndexStorage> Checked<'_, T> {
         }
     }
 
-    /// What it does in the cells of all the entries, where that is the same.
+    /// What it does in the cells of all the entries, where that is the same, and no more.
     fn choice_of(&self, entries: &[Entry]) -> Option<Choice> {
+        if self.told.parser.splits() {
+            return None;
+        }
         let choice = self.choice(entries.first()?);
         let is_one = entries.iter().all(|entry| self.choice(entry) == choice);
         is_one.then_some(choice)

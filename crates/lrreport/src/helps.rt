@@ -86,9 +86,12 @@ impl Told<'_> {
         if count == 0 || !with_shifts || loses || is_expected || self.options.ignores_precedences {
             return Ok(None);
         }
-        let note = format!(in alloc;
-            "help: if the table does what is wanted, say %expect {count}"
-        )?;
+        let wanted = if self.parser.splits() {
+            "if the parser is to split there"
+        } else {
+            "if the table does what is wanted"
+        };
+        let note = format!(in alloc; "help: {wanted}, say %expect {count}")?;
         Ok(Some(note))
     }
 
@@ -334,7 +337,11 @@ impl<'a, T: IndexStorage> Trials<'_, 'a, T> {
     }
 
     /// How a conflict can be resolved; None where precedences are left out, or where too much was tried already.
-    fn advice(&self, alloc: Global, meeting: &[Evidence]) -> Result<Option<Advice>, AllocError> {
+    pub(crate) fn advice(
+        &self,
+        alloc: Global,
+        meeting: &[Evidence],
+    ) -> Result<Option<Advice>, AllocError> {
         let told = self.told();
         let (Some(first), false) = (meeting.first(), told.options.ignores_precedences) else {
             return Ok(None);
@@ -357,10 +364,12 @@ impl<'a, T: IndexStorage> Trials<'_, 'a, T> {
 
     /// The words for how a conflict can be resolved; none where nothing is advised.
     pub(crate) fn help(&self, alloc: Global, meeting: &[Evidence]) -> Result<Words, AllocError> {
-        let mut words = Words::new(alloc);
-        if let Some(advice) = self.advice(alloc, meeting)? {
+        let (mut words, told) = (Words::new(alloc), self.told());
+        if told.parser.splits() && !told.options.ignores_precedences {
+            self.add_split_help(&mut words, meeting)?;
+        } else if let Some(advice) = self.advice(alloc, meeting)? {
             words.add("help:");
-            self.told().add_advice(&mut words, &advice);
+            told.add_advice(&mut words, &advice);
         }
         Ok(words)
     }

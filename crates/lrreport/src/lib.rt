@@ -17,6 +17,7 @@ mod options;
 mod pages;
 mod reports;
 mod resolved;
+mod splits;
 mod states;
 mod texts;
 mod told;

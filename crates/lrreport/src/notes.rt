@@ -28,14 +28,14 @@ use std::alloc::{AllocError, Global};
 
 /// Notes behind so many blanks, and how their lines are made.
 #[derive(Clone, Copy)]
-struct Notes {
+pub(crate) struct Notes {
     indent: usize,
     layout: Layout,
 }
 
 impl Notes {
     /// Adds a note.
-    fn push(self, text: &mut Text, words: &Words) {
+    pub(crate) fn push(self, text: &mut Text, words: &Words) {
         let column = self.indent.saturating_add(2);
         text.add_times(' ', self.indent);
         text.add("= ");
@@ -263,7 +263,8 @@ impl<T: IndexStorage> Checked<'_, T> {
         });
         add_two_trees(&mut words, self.told.file, ambiguity);
         notes.push(text, &words);
-        self.push_sentence(text, notes, ambiguity)
+        self.push_sentence(text, notes, ambiguity)?;
+        self.told.push_fate(text, notes, ambiguity)
     }
 
     /// Adds a text, and both trees of the part of it in which they differ; of a long text that part alone.

@@ -1,6 +1,6 @@
 //! The report on a file.
 
-ghost use Rattle.std.specs.Prelude.{◌≡◌, ◌≢◌, ◌⊎◌, ◌-◌, ◌^◌, ◌++◌, [], not, All, map, IfOk, IfSome, IfNone, MatchOption, codes, is_some, length, nat_lt};
+ghost use Rattle.std.specs.Prelude.{◌≡◌, ◌≢◌, ◌⊎◌, ◌-◌, ◌^◌, ◌++◌, [], not, true, None, All, map, IfOk, IfSome, IfNone, MatchOption, codes, is_some, length, nat_lt};
 ghost use Rattle.std.specs.List.{list_any};
 ghost use Rattle.std.specs.String.{string_bytes};
 ghost use Rattle.lrspec.specs.merging.Graph.{IsGraphOf};
@@ -8,6 +8,7 @@ ghost use Rattle.lrspec.specs.tables.Conflicts.{AreReductionsContested};
 ghost use Rattle.lrspec.specs.tables.Recognition.{IsUnambiguous};
 ghost use Rattle.lrspec.specs.tables.Table.{IsTableFor};
 ghost use Rattle.lrverdicts.specs.declared.verdicts.Verdict.TheVariants.{Unambiguous};
+ghost use Rattle.lryacc.specs.Parsers.{splits};
 ghost use Rattle.lrfindings.specs.Findings.{AreFindings, FindNothing, DecidesNothing};
 ghost use Rattle.lrverdicts.specs.Verdicts.{counts_of, status_of};
 ghost use Rattle.lrwriter.specs.Texts.{Adds};
@@ -22,7 +23,7 @@ ghost use Rattle.json.specs.Print.{print};
 ghost use Rattle.lrshown.specs.Ambiguities.{has_sentence};
 ghost use Rattle.lrreport.specs.JsonHeads.{head_tokens};
 ghost use Rattle.lrreport.specs.ToldConclusions.{has_hint, last_line, line_of, EndsIn, Tells, TellsConclusion};
-ghost use Rattle.lrreport.specs.Conclusions.{IsConcluded, IsSaidBy, conclusion_of, expected_beside};
+ghost use Rattle.lrreport.specs.Conclusions.{IsConcluded, IsSaidBy, conclusion_of, expected_beside, known_by, without_loss};
 
 use crate::conflicts::Checked;
 use crate::json_lines::{json_of_faults, json_of_findings, json_of_refusal};
@@ -35,7 +36,7 @@ use lrfindings::{
 };
 use lrgrammar::idx::IndexStorage;
 use lrwriter::Text;
-use lryacc::{Expected, Fault, FileGrammar, FileRead, read_file};
+use lryacc::{Expected, Fault, FileGrammar, FileRead, Parser, read_file};
 use std::alloc::{AllocError, Global};
 
 /// What is told of a file.
@@ -97,6 +98,7 @@ struct Read<'a> {
     source: &'a Source<'a>,
     file: &'a FileGrammar,
     expected: Expected,
+    parser: &'a Parser,
     warnings: &'a [Fault],
 }
 
@@ -219,10 +221,35 @@ fn resolved_entries(alloc: Global, resolved: &[Resolved]) -> Result<Vec<Entry>, 
     resolved.iter().map(|it| it.entry).collect(alloc)
 }
 
+/// What is known of entries, but for sentences that are rejected.
+fn without_losses(alloc: Global, evidence: Vec<Evidence>) -> Result<Vec<Evidence>, AllocError>
+    ensures { IfOk result (λ v. v.items ≡ map without_loss evidence.items) }
+{
+    evidence
+        .into_iter()
+        .map(|it| Evidence { loss: None, ..it })
+        .collect(alloc)
+}
+
+/// What is known of the conflicts of a file for such a parser. One that splits at a conflict rejects no sentence because of it.
+fn evidence_by(
+    alloc: Global,
+    parser: &Parser,
+    evidence: Vec<Evidence>,
+) -> Result<Vec<Evidence>, AllocError>
+    ensures { IfOk result (λ v. v.items ≡ known_by parser.now evidence.items) }
+{
+    if parser.splits() {
+        without_losses(alloc, evidence)
+    } else {
+        Ok(evidence)
+    }
+}
+
 /// What is known of a grammar beside what was found in it.
 fn known_of(
     alloc: Global,
-    file: &FileGrammar,
+    read: Read<'_>,
     found: &Findings<u32>,
     options: Options,
 ) -> Result<Known, AllocError>
@@ -242,9 +269,13 @@ fn known_of(
         All (IsToldDecided found.now.grm found.now.graph) k.evidence.items) }
     ensures resolved { IfOk result (λ k. All (IsProved found.now.grm) k.resolved.items) }
     ensures decided { IfOk result (λ k. IfSome k.decided (HasTwoTrees found.now.grm)) }
+    ensures unlost { splits read.entry.parser.now ≡ true → IfOk result (λ k.
+        All (λ e. e.loss ≡ None) k.evidence.items) }
 {
+    let file = read.file;
     let (entries, effort) = (found.left.as_slice(), effort_of(options));
-    let evidence = evidence_for(alloc, file, found, entries, effort)?;
+    let all = evidence_for(alloc, file, found, entries, effort)?;
+    let evidence = evidence_by(alloc, read.parser, all)?;
     let resolved = resolved_entries(alloc, found.resolved.as_slice())?;
     let decided = if entries.is_empty() && !resolved.is_empty() {
         let (entries, steps) = (resolved.as_slice(), options.steps);
@@ -289,6 +320,7 @@ fn told_of<'a>(
             expected: options.beside(read.expected).shift_reduce,
             ..options
         },
+        parser: read.parser,
     }
 }
 
@@ -506,8 +538,10 @@ fn outcome_on_findings(
     ensures told { IfOk result (λ o. TellsConclusion options read.entry.source.now.name.now
         (conclusion_of read.entry.file.now o) (string_bytes o.text)) }
     ensures expected { IfOk result (λ o. o.expected ≡ expected_beside options read.entry.expected) }
+    ensures unlost { splits read.entry.parser.now ≡ true → IfOk result (λ o.
+        All (λ e. e.loss ≡ None) o.evidence.items) }
 {
-    let known = known_of(alloc, read.file, &found, options)?;
+    let known = known_of(alloc, read, &found, options)?;
     let expected = options.beside(read.expected);
     let verdict = Verdict::of(found.is_unambiguous, known.left, expected);
     let text = text_on_findings(alloc, read, &found, &known, verdict, options)?;
@@ -536,6 +570,8 @@ fn outcome_of(alloc: Global, read: Read<'_>, options: Options) -> Result<Outcome
     ensures told { IfOk result (λ o. TellsConclusion options read.entry.source.now.name.now
         (conclusion_of read.entry.file.now o) (string_bytes o.text)) }
     ensures expected { IfOk result (λ o. o.expected ≡ expected_beside options read.entry.expected) }
+    ensures unlost { splits read.entry.parser.now ≡ true → IfOk result (λ o.
+        All (λ e. e.loss ≡ None) o.evidence.items) }
 {
     let wants_graph = options.makes_page || options.output == Output::States;
     let has_precedences = !options.ignores_precedences;
@@ -577,8 +613,8 @@ pub fn report_on(
         options.output ≢ Grammar → IfNone r.conclusion (r.status ≡ 2)) }
 {
     let source = Source::new(alloc, name, bytes)?;
-    let (file, expected, warnings) = match read_file(alloc, bytes, options.dialect)? {
-        FileRead::Grammar(file, expected, warnings) => (file, expected, warnings),
+    let (file, expected, parser, warnings) = match read_file(alloc, bytes, options.dialect)? {
+        FileRead::Grammar(file, expected, parser, warnings) => (file, expected, parser, warnings),
         FileRead::Faults(faults) => {
             return report_on_faults(alloc, &source, faults.as_slice(), options);
         }
@@ -590,6 +626,7 @@ pub fn report_on(
         source: &source,
         file: &file,
         expected,
+        parser: &parser,
         warnings: warnings.as_slice(),
     };
     match outcome_of(alloc, read, options) {

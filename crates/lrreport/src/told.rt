@@ -5,7 +5,7 @@ use lrdiagnostics::{Layout, Source, Teller};
 use lrevidence::{Evidence, name_of_rule, token_name};
 use lrfindings::{Entry, UselessPrecedences, precedence_token};
 use lrgrammar::grammar::{PartProd, PartSymbol, Precedence};
-use lryacc::{FileGrammar, Span};
+use lryacc::{FileGrammar, Parser, Span};
 
 /// A file's grammar, what is known of its conflicts, and how that is told.
 #[derive(Clone, Copy)]
@@ -19,6 +19,8 @@ pub(crate) struct Told<'a> {
     /// Which precedences resolve nothing, and which tokens are in no rule.
     pub(crate) useless: &'a UselessPrecedences,
     pub(crate) options: Options,
+    /// The parser for which the file is written.
+    pub(crate) parser: &'a Parser,
 }
 
 impl<'a> Told<'a> {

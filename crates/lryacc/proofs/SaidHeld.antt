@@ -377,6 +377,7 @@ said-left statements now left keeps leaves h =
             ∙ ap (λ (b : Bool). cond b (last_number now.symbols.text.now (reduce_lexemes statements)) None) (sym heeds)
             ∙ ap (λ (t : List ℕ). cond (can_expect_reductions left.symbols.dialect statements) (last_number t (reduce_lexemes statements)) None) (sym keeps.text);
       };
+      generalized = leaves.generalized ∙ h.expected.generalized;
       starts =
           subst (λ (ls : List Lexeme). AreStarts left.symbols.text.now left.symbols.dialect statements ls) (sym (ap (λ list. list.items) leaves.starts))
           (first-same now.symbols.text.now left.symbols.text.now now.symbols.dialect left.symbols.dialect (start_lexemes statements) (start_lexemes statements) now.starts.items keeps.text keeps.dialect refl h.starts.starts);
@@ -389,6 +390,7 @@ are_said-kept statements old new keeps same h = record {
       subst (λ e. AreExpected new.symbols.text.now new.symbols.dialect statements e) (sym same.expected.expected)
       (subst (λ (d : Dialect). AreExpected new.symbols.text.now d statements old.expected) (sym keeps.dialect)
       (subst (λ (t : List ℕ). AreExpected t old.symbols.dialect statements old.expected) (sym keeps.text) h.expected));
+  generalized = same.expected.generalized ∙ h.generalized;
   starts =
       subst (λ (ls : List Lexeme). AreStarts new.symbols.text.now new.symbols.dialect statements ls) (sym (ap (λ list. list.items) same.starts))
       (first-same old.symbols.text.now new.symbols.text.now old.symbols.dialect new.symbols.dialect (start_lexemes statements) (start_lexemes statements) old.starts.items keeps.text keeps.dialect refl h.starts);

@@ -16,11 +16,12 @@ use Rattle.lryacc.specs.AllBodies.{AreAllBodies}
 use Rattle.lryacc.specs.AllLexemes.{AreAllLexemesOf}
 use Rattle.lryacc.specs.BodyProductions.{AreOfFile}
 use Rattle.lryacc.specs.EndTokens.{HasEnd}
-use Rattle.lryacc.specs.ExpectedConflicts.{AreExpected}
+use Rattle.lryacc.specs.ExpectedConflicts.{AreExpected, is_generalized}
 use Rattle.lryacc.specs.Headers.{IsReadAs}
 use Rattle.lryacc.specs.KeptProductions.{IsWithout}
 use Rattle.lryacc.specs.Levels.{IsInLine, has_default_after, levels_of}
 use Rattle.lryacc.specs.NamedSymbols.{AreDeclaredRules, AreOneEach, HasEndToken, NameOne, Names, called}
+use Rattle.lryacc.specs.Parsers.{IsParserBy}
 use Rattle.lryacc.specs.ProductionPlaces.{file_places, start_rules_of}
 use Rattle.lryacc.specs.StartSymbols.{AreStarts}
 
@@ -76,15 +77,16 @@ pub record IsGrammarOf (text : List ℕ) (dialect : Dialect) (statements : List 
 
 -- faults come to no grammar
 abbrev pub HasNoGrammar : FileRead → Type 0
-HasNoGrammar (Grammar file expected warnings) = ⊥
+HasNoGrammar (Grammar file expected parser warnings) = ⊥
 HasNoGrammar (Faults faults) = Unit {0}
 
--- if a file comes to a grammar, it is that of its bodies, with the start symbols that declarations name and the numbers of
--- conflicts that they expect
+-- if a file comes to a grammar, it is that of its bodies, with the start symbols that declarations name, the numbers of conflicts
+-- that they expect, and the parser that they ask for
 abbrev pub HasBodies : List ℕ → Dialect → List Statement → List Alternative → FileRead → Type 0
-HasBodies text dialect statements bodies (Grammar file expected warnings) =
+HasBodies text dialect statements bodies (Grammar file expected parser warnings) =
     (starts : List Lexeme) × IsGrammarOf text dialect statements starts bodies file warnings.items
     × AreStarts text dialect statements starts × AreExpected text dialect statements expected
+    × IsParserBy text dialect (is_generalized statements) parser
 HasBodies text dialect statements bodies (Faults faults) = Unit {0}
 
 -- the bodies of a text: all that stand among all its lexemes
@@ -96,7 +98,7 @@ pub record AreBodiesRead (text : List ℕ) (dialect : Dialect) (bodies : List Al
 
 -- if a text comes to a grammar, these are its bodies
 abbrev pub AreBodiesOf : List ℕ → Dialect → List Alternative → FileRead → Type 0
-AreBodiesOf text dialect bodies (Grammar file expected warnings) = AreBodiesRead text dialect bodies
+AreBodiesOf text dialect bodies (Grammar file expected parser warnings) = AreBodiesRead text dialect bodies
 AreBodiesOf text dialect bodies (Faults faults) = Unit {0}
 
 -- what a text comes to that is taken for one of a dialect: it is read as one, or as one of grmtools where it says so

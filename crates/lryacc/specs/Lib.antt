@@ -72,6 +72,8 @@ pub mod EndTokens
 pub mod StartSymbols
 -- how many conflicts are expected
 pub mod ExpectedConflicts
+-- which parser a file asks for
+pub mod Parsers
 -- start symbols and expected conflicts, while declarations are taken in
 pub mod SaidTaken
 -- which lines symbols stand in

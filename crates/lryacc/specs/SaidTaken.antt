@@ -85,12 +85,14 @@ pub record LeavesOutReductions (old new : Meaning) : Type 0 where
       → new.expected.reduce_reduce ≡ old.expected.reduce_reduce
   pub unsaid : old.expected_reductions ≡ None
       → new.expected.reduce_reduce ≡ old.expected.reduce_reduce
+  pub generalized : new.is_glr ≡ old.is_glr
   pub starts : new.starts ≡ old.starts
 
 -- behind all declarations of a file
 pub record AreSaid (statements : List Statement) (meaning : Meaning) : Type 0 where
   pub expected : AreExpected meaning.symbols.text.now meaning.symbols.dialect statements
       meaning.expected
+  pub generalized : meaning.is_glr ≡ is_generalized statements
   pub starts :
       AreStarts meaning.symbols.text.now meaning.symbols.dialect statements meaning.starts.items
 

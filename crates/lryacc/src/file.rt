@@ -17,6 +17,7 @@ use crate::dialects::{Dialect, dialect_of};
 use crate::faults::{Fault, FaultKind};
 use crate::meaning::{Expected, Meaning};
 use crate::numbering::{FileGrammar, NoProductions, file_grammar};
+use crate::parsers::{Parser, parser_of};
 use crate::places::Span;
 use crate::reader::Reader;
 use crate::scanner::{Scanned, scan};
@@ -27,8 +28,9 @@ use std::collections::BTreeMap;
 /// What a file comes to.
 #[derive(Debug, Drop)]
 pub enum FileRead {
-    /// Its grammar, without what is not reached or derives no text; how many conflicts it expects, and what it is warned of.
-    Grammar(FileGrammar, Expected, Vec<Fault>),
+    /// Its grammar, without what is not reached or derives no text; how many conflicts it expects, which parser it asks for, and what
+    /// it is warned of.
+    Grammar(FileGrammar, Expected, Parser, Vec<Fault>),
     /// What is wrong with it: at least one fault.
     Faults(Vec<Fault>),
 }
@@ -187,11 +189,12 @@ fn useful_read(
         contents.now.alternatives.items) }
 {
     let (grammar, useless) = without_useless(alloc, whole)?;
-    let expected = meaning.expected;
+    let (expected, is_glr) = (meaning.expected, meaning.is_glr);
     meaning.tell_useless(dialect, contents, &useless)?;
     if !meaning.faults.is_empty() {
         return faults_read(alloc, text, meaning.faults.as_slice());
     }
+    let parser = parser_of(alloc, text, dialect, is_glr)?;
     let warnings = in_order(alloc, text, meaning.warnings.as_slice())?;
-    Ok(FileRead::Grammar(grammar, expected, warnings))
+    Ok(FileRead::Grammar(grammar, expected, parser, warnings))
 }

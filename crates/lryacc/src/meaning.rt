@@ -66,7 +66,7 @@ pub(crate) struct Meaning<'a> {
     /// What is behind the last `%expect-rr`.
     expected_reductions: Option<Lexeme>,
     /// Whether the parser is a generalized one.
-    is_glr: bool,
+    pub(crate) is_glr: bool,
     pub(crate) faults: Vec<Fault>,
     pub(crate) warnings: Vec<Fault>,
 }

@@ -10,9 +10,11 @@ returns-in-Ok-clause-said c =
     rw c.report.ensures.concluded
     record {
       expected = c.in-Grammar.expected;
+      parser = c.in-Grammar.parser;
       warnings = c.in-Grammar.warnings;
       read = rw c.in-Grammar.is at c.in_ok-file.ensures.bodies;
       beside = c.in-Ok.ensures.expected;
+      unlost = c.in-Ok.ensures.unlost;
     }
 
 -- what is asked of other options only

@@ -12,7 +12,7 @@ each-ok P Q (Ok a) f p = f a p
 each-ok P Q (Err e) f p = p
 
 bodies-of : (text : List ℕ) (dialect : Dialect) (bodies : List Alternative) (read : FileRead) → AreBodiesRead text dialect bodies → AreBodiesOf text dialect bodies read
-bodies-of text dialect bodies (Grammar file expected warnings) h = h
+bodies-of text dialect bodies (Grammar file expected parser warnings) h = h
 bodies-of text dialect bodies (Faults faults) h = tt
 
 none-told : (n : ℕ) (is : Bool) → is ≡ (n == 0) → is ≡ true → n ≡ 0

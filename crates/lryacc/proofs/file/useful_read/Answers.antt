@@ -1,5 +1,6 @@
-use Rattle.std.proofs.Common.{◌≡◌, ℕ, zero, suc, ◌<◌, List, [], ◌∷◌, length, vec_len, refl, ap, arith}
+use Rattle.std.proofs.Common.{◌≡◌, ℕ, zero, suc, ◌<◌, List, [], ◌∷◌, Bool, length, vec_len, refl, ap, subst, arith}
 use Rattle.lryacc.specs.NamedSymbols.{names_in}
+use Rattle.lryacc.specs.Parsers.{IsParserBy}
 use Rattle.lryacc.proofs.AliasesTaken.{all-heeded}
 use Rattle.lryacc.proofs.EndsTaken.{has-end}
 use Rattle.lryacc.proofs.LinesHeld.{has-line, in-line}
@@ -74,4 +75,5 @@ returns-clause-bodies c =
       },
       said.0,
       said.1,
+      subst (λ (b : Bool). IsParserBy c.args.text.now c.args.dialect b c.in_ok-parser.parser) c.requires.said.generalized c.in_ok-parser.ensures,
     )

@@ -1,0 +1,261 @@
+//! What a generalized parser does with two trees of one text: what `%dprec` and `%merge` say of the productions at their roots.
+
+use crate::advice::Advice;
+use crate::levels::Trials;
+use crate::notes::Notes;
+use crate::told::Told;
+use crate::words::Words;
+use lrevidence::{Ambiguity, Evidence, Node, Step, Tree};
+use lrgrammar::idx::IndexStorage;
+use lrwriter::Text;
+use lryacc::{Dynamic, DynamicKind, Parser, Span};
+use std::alloc::{AllocError, Global};
+use std::str;
+
+/// What becomes of two trees.
+#[derive(Clone, Copy)]
+pub(crate) enum Fate<'a> {
+    /// By `%dprec` the one is kept whose production has the greater number.
+    Kept {
+        is_first: bool,
+        greater: u64,
+        lesser: u64,
+    },
+    /// By `%merge` the function of that name makes one value of both.
+    Merged(&'a str),
+    /// Neither decides, so the parser stops with an error.
+    Open,
+}
+
+/// The production at the root of a tree.
+fn root(tree: &Tree) -> Option<usize> {
+    match tree.nodes.last() {
+        Some(Node::Inner(production)) => Some(*production),
+        _ => None,
+    }
+}
+
+/// The first sentence of entries whose trees part by what meets in one of them.
+fn own_sentence(meeting: &[Evidence]) -> Option<&Ambiguity> {
+    for evidence in meeting {
+        if let Some(ambiguity) = &evidence.ambiguity {
+            if ambiguity.is_of(&evidence.entry) {
+                return Some(&**ambiguity);
+            }
+        }
+    }
+    None
+}
+
+impl<'a> Told<'a> {
+    /// What bodies say, each with its place.
+    fn dynamics(&self) -> &'a [Dynamic] {
+        match self.parser {
+            Parser::Generalized(dynamics) => dynamics.as_slice(),
+            Parser::Deterministic => &[],
+        }
+    }
+
+    /// Whether a place is in the body of a production.
+    fn has_place(&self, production: usize, place: Span) -> bool {
+        let body = self.place(production);
+        body.start <= place.start && place.end <= body.end
+    }
+
+    /// The number of a production by `%dprec`; 0 where it has none.
+    fn dynamic_precedence(&self, production: usize) -> u64 {
+        for dynamic in self.dynamics() {
+            if let DynamicKind::Precedence(number) = dynamic.kind {
+                if self.has_place(production, dynamic.place) {
+                    return number;
+                }
+            }
+        }
+        0
+    }
+
+    /// The function of a production by `%merge`, with its brackets.
+    fn merger(&self, production: usize) -> Option<&'a str> {
+        for dynamic in self.dynamics() {
+            if let DynamicKind::Merger(place) = dynamic.kind {
+                if self.has_place(production, dynamic.place) {
+                    return str::from_utf8(self.source.part(place.start, place.end)).ok();
+                }
+            }
+        }
+        None
+    }
+
+    /// What becomes of two trees with these productions at their roots. Numbers that differ decide where both have one, and where
+    /// they don't differ, or there is none, the function that both have.
+    pub(crate) fn fate(&self, one: usize, other: usize) -> Fate<'a> {
+        let (number, against) = (self.dynamic_precedence(one), self.dynamic_precedence(other));
+        if number == against {
+            return match (self.merger(one), self.merger(other)) {
+                (Some(name), Some(same)) if name == same => Fate::Merged(name),
+                _ => Fate::Open,
+            };
+        }
+        if number == 0 || against == 0 {
+            return Fate::Open;
+        }
+        Fate::Kept {
+            is_first: against < number,
+            greater: number.max(against),
+            lesser: number.min(against),
+        }
+    }
+
+    /// The productions at the roots of the two trees that are drawn of a sentence.
+    fn roots(
+        &self,
+        alloc: Global,
+        ambiguity: &Ambiguity,
+    ) -> Result<Option<(usize, usize)>, AllocError> {
+        let (one, other) = Tree::both(alloc, self.file, &ambiguity.form)?;
+        Ok(match (root(&one), root(&other)) {
+            (Some(one), Some(other)) => Some((one, other)),
+            _ => None,
+        })
+    }
+
+    /// Adds what becomes of the trees of a sentence, where the parser splits.
+    pub(crate) fn push_fate(
+        &self,
+        text: &mut Text,
+        notes: Notes,
+        ambiguity: &Ambiguity,
+    ) -> Result<(), AllocError> {
+        if !self.parser.splits() {
+            return Ok(());
+        }
+        let alloc = text.allocator();
+        if let Some((one, other)) = self.roots(alloc, ambiguity)? {
+            let mut words = Words::new(alloc);
+            words.add_all("the parser splits here,");
+            self.add_fate(
+                &mut words,
+                self.fate(one, other),
+                ambiguity.form.candidates(),
+            );
+            notes.push(text, &words);
+        }
+        Ok(())
+    }
+
+    /// Adds which of two trees is meant that part by these candidates, as their labels tell them.
+    fn add_which(&self, words: &mut Words, candidates: (Step, Step), is_first: bool) {
+        let (one, other) = candidates;
+        let (step, against) = if is_first { (one, other) } else { (other, one) };
+        match (step, against) {
+            (Step::Shift, _) => words.add_all("that of the shift"),
+            (_, Step::Shift) => words.add_all("that of the reduction"),
+            (Step::Reduce(step), Step::Reduce(against)) => {
+                let name = self.rule_name(step);
+                if name == self.rule_name(against) {
+                    words.add_all(if is_first { "the first" } else { "the second" });
+                } else {
+                    words.add_all("that as");
+                    words.add(name);
+                }
+            }
+        }
+    }
+
+    /// Adds what becomes of two trees that part by these candidates.
+    fn add_fate(&self, words: &mut Words, fate: Fate<'_>, candidates: (Step, Step)) {
+        match fate {
+            Fate::Kept {
+                is_first,
+                greater,
+                lesser,
+            } => {
+                words.add_all("and %dprec keeps");
+                self.add_which(words, candidates, is_first);
+                words.begin();
+                write!(words, "({greater} against {lesser})");
+            }
+            Fate::Merged(name) => {
+                words.add_all("and %merge");
+                words.add(name);
+                words.add_all("makes one value of both");
+            }
+            Fate::Open => words.add_all(
+                "and stops with an error at such a sentence: neither %dprec nor %merge decides",
+            ),
+        }
+    }
+
+    /// Adds what can be said of two trees with these productions at their roots.
+    fn add_dynamics(&self, words: &mut Words, one: usize, other: usize) {
+        let (line, against) = (
+            self.source.line(self.place(one).start),
+            self.source.line(self.place(other).start),
+        );
+        let (first, last) = (line.min(against), line.max(against));
+        let rule = self.rule_name(one);
+        if one == other {
+            words.add_all("give the production of");
+            words.add(rule);
+            words.add_all("in line");
+            words.begin();
+            write!(words, "{line}");
+            words.add_all("a %merge function, which makes one value of both");
+        } else {
+            words.add_all("give both productions of");
+            words.add(rule);
+            words.add_all("in lines");
+            words.begin();
+            write!(words, "{first} and {last}");
+            words.add_all(
+                "a %dprec number, the one to be kept the greater, or one %merge function",
+            );
+        }
+    }
+
+    /// What becomes of the trees of the first own sentence of entries, and the productions at their roots.
+    pub(crate) fn fate_of(
+        &self,
+        alloc: Global,
+        meeting: &[Evidence],
+    ) -> Result<Option<(Fate<'a>, usize, usize)>, AllocError> {
+        let Some(ambiguity) = own_sentence(meeting) else {
+            return Ok(None);
+        };
+        Ok(match self.roots(alloc, ambiguity)? {
+            Some((one, other)) => Some((self.fate(one, other), one, other)),
+            None => None,
+        })
+    }
+}
+
+impl<'a, T: IndexStorage> Trials<'_, 'a, T> {
+    /// Adds what there is to do about entries where the parser splits: nothing, unless neither `%dprec` nor `%merge` decides between
+    /// the trees of a sentence. Then levels may resolve the conflict before that.
+    pub(crate) fn add_split_help(
+        &self,
+        words: &mut Words,
+        meeting: &[Evidence],
+    ) -> Result<(), AllocError> {
+        let (alloc, told) = (words.allocator(), self.told());
+        match told.fate_of(alloc, meeting)? {
+            Some((Fate::Open, one, other)) => {
+                words.add("help:");
+                if let Some(Advice::Levels(levels)) = self.advice(alloc, meeting)? {
+                    told.add_levels(words, &levels);
+                    words.add_piece(";");
+                    words.add("or");
+                }
+                told.add_dynamics(words, one, other);
+            }
+            Some(_) => {}
+            None if meeting.iter().all(|it| it.is_decided()) => {
+                words.add_all("help: the parser splits here, so nothing needs to be done");
+            }
+            None => words.add_all(
+                "help: the parser splits here; if a sentence has two trees, %dprec or %merge decides between them",
+            ),
+        }
+        Ok(())
+    }
+}
