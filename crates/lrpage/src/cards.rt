@@ -1,9 +1,10 @@
 //! Conflicts, each as a card that opens.
 
-ghost use Rattle.std.specs.Prelude.{◌≡◌, true};
+ghost use Rattle.std.specs.Prelude.{◌≡◌, IsSome, true};
 ghost use Rattle.std.specs.Option.{ForSome};
 ghost use Rattle.lrshown.specs.Ambiguities.{AreShown, IsShown, is_of};
 ghost use Rattle.lrshown.specs.Losses.{AreShownLosses, IsShownLoss};
+ghost use Rattle.lrshown.specs.DecidedEntries.{AreShownDecided, IsShownDecided};
 
 use crate::pages::{Card, Page, add_count};
 use crate::symbols::DOT;
@@ -81,15 +82,27 @@ impl<T: IndexStorage> Page<'_, T> {
         page.add(" <span class=\"tag marked\">ambiguous (proved)</span>");
     }
 
-    /// Adds whether a sentence with two trees is known that part by what meets in an entry.
+    /// Adds that no sentence has two trees that part at an entry.
+    fn add_decided_tag(&self, page: &mut Text, _evidence: &Evidence)
+        requires proved { IsShownDecided self.now.found.now.grm self.now.found.now.graph
+            _evidence.now }
+        requires decided { IsSome _evidence.now.decided }
+    {
+        page.add(" <span class=\"tag\">not ambiguous (proved)</span>");
+    }
+
+    /// Adds whether a sentence with two trees is known that part by what meets in an entry, or that there is none.
     fn add_tag(&self, page: &mut Text, evidence: &Evidence)
         requires proved { ForSome evidence.now.ambiguity
             (λ a. IsShown self.now.found.now.grm a.value) }
+        requires decided { IsShownDecided self.now.found.now.grm self.now.found.now.graph
+            evidence.now }
     {
         match &evidence.ambiguity {
             Some(text) if text.is_of(&evidence.entry) => {
                 self.add_proved_tag(page, &evidence.entry, text);
             }
+            _ if evidence.is_decided() => self.add_decided_tag(page, evidence),
             _ if self.steps > 0 => {
                 page.add(" <span class=\"tag\">not known to be ambiguous</span>");
             }
@@ -110,6 +123,8 @@ impl<T: IndexStorage> Page<'_, T> {
             (λ a. IsShown self.now.found.now.grm a.value) }
         requires lost { ForSome evidence.now.loss
             (λ l. IsShownLoss self.now.found.now.grm self.now.found.now.table l.value) }
+        requires decided { IsShownDecided self.now.found.now.grm self.now.found.now.graph
+            evidence.now }
     {
         self.add_tag(page, evidence);
         if let Some(loss) = &evidence.loss {
@@ -134,20 +149,30 @@ impl<T: IndexStorage> Page<'_, T> {
         page.add("</p>\n");
     }
 
-    /// Adds after what an entry is real, and how the text goes on.
-    fn add_example(&self, page: &mut Text, evidence: &Evidence, example: &Example) {
-        let (entry, steps) = (&evidence.entry, self.steps);
+    /// Adds how far a search went that found no sentence, unless it is known that there is none.
+    fn add_effort(&self, page: &mut Text, evidence: &Evidence) {
+        let steps = self.steps;
+        if evidence.is_decided() {
+            return;
+        }
         if evidence.is_cut_off {
             page.add(
-                "<p>No sentence with two trees was looked for to the end: the allowance of this file was used up.",
+                "No sentence with two trees was looked for to the end: the allowance of this file was used up. ",
             );
         } else {
             write!(
                 page,
-                "<p>No sentence with two trees was found in {steps} steps."
+                "No sentence with two trees was found in {steps} steps. "
             );
         }
-        page.add(" Both are possible");
+    }
+
+    /// Adds after what an entry is real, and how the text goes on.
+    fn add_example(&self, page: &mut Text, evidence: &Evidence, example: &Example) {
+        let entry = &evidence.entry;
+        page.add("<p>");
+        self.add_effort(page, evidence);
+        page.add("Both are possible");
         self.add_start(page, start_of(self.file, example.list.first().copied()));
         page.add(" after</p>\n<p class=\"text\">");
         for symbol in list_of(self.file, example.list.as_slice()) {
@@ -189,6 +214,8 @@ impl<T: IndexStorage> Page<'_, T> {
     fn add_others(&self, page: &mut Text, meeting: &[Evidence], first: usize)
         requires proved { AreShown self.now.found.now.grm meeting.now }
         requires lost { AreShownLosses self.now.found.now.grm self.now.found.now.table meeting.now }
+        requires decided { AreShownDecided self.now.found.now.grm self.now.found.now.graph
+            meeting.now }
     {
         let count = meeting.len().saturating_sub(1);
         if count == 0 || self.steps == 0 {
@@ -215,6 +242,8 @@ impl<T: IndexStorage> Page<'_, T> {
     fn add_all_known(&self, page: &mut Text, meeting: &[Evidence])
         requires proved { AreShown self.now.found.now.grm meeting.now }
         requires lost { AreShownLosses self.now.found.now.grm self.now.found.now.table meeting.now }
+        requires decided { AreShownDecided self.now.found.now.grm self.now.found.now.graph
+            meeting.now }
     {
         let first = first_with_sentence(meeting);
         if let Some(evidence) = meeting.get(first) {
@@ -227,6 +256,8 @@ impl<T: IndexStorage> Page<'_, T> {
     fn add_card(&self, page: &mut Text, number: usize, card: &Card<'_>) -> Result<(), AllocError>
         requires proved { AreShown self.now.found.now.grm card.now.meeting.now }
         requires lost { AreShownLosses self.now.found.now.grm self.now.found.now.table
+            card.now.meeting.now }
+        requires decided { AreShownDecided self.now.found.now.grm self.now.found.now.graph
             card.now.meeting.now }
     {
         write!(page, "<details class=\"part\" id=\"c{number}\"");

@@ -3,6 +3,7 @@
 ghost use Rattle.std.specs.Prelude.{◌≡◌, ⊤, All};
 ghost use Rattle.lrshown.specs.Ambiguities.{AreShown};
 ghost use Rattle.lrshown.specs.Losses.{AreShownLosses};
+ghost use Rattle.lrshown.specs.DecidedEntries.{AreShownDecided};
 ghost use Rattle.lrshown.specs.VerdictWords.{AreProvedWords};
 
 use crate::grammars::is_of_file;
@@ -81,6 +82,9 @@ pub struct Page<'a, T: IndexStorage> {
     /// Each that is shown as one that the parser rejects is a sentence, and rejected.
     pub ghost lost: { All (λ card.
         AreShownLosses found.now.grm found.now.table card.meeting.now) cards.now },
+    /// Of each entry that is shown as one that is not ambiguous it is proved.
+    pub ghost decided: { All (λ card.
+        AreShownDecided found.now.grm found.now.graph card.meeting.now) cards.now },
     /// And the verdict tells nothing as proved but what is so.
     pub ghost told: { AreProvedWords found.now.grm found.now.table verdict.now },
 }

@@ -1,5 +1,5 @@
 -- entries that are told in groups: what holds of each holds of those of each group
-use Rattle.std.proofs.Common.{◌≡◌, ℕ, ◌<◌, ◌≤◌, List, [], ◌∷◌, ◌++◌, length, map, take, get_or, sym, ap, subst, ◌∙◌}
+use Rattle.std.proofs.Common.{◌≡◌, ℕ, Option, ◌<◌, ◌≤◌, List, [], ◌∷◌, ◌++◌, length, map, take, get_or, sym, ap, subst, ◌∙◌}
 use Rattle.std.proofs.Math.Seq.{take-append_seam, drop-append_seam}
 use Rattle.std.proofs.lemmas.List.{take_all}
 use Rattle.std.proofs.lemmas.List.Elements.{All-nil, All-cons, All-head, All-tail, All-take, All-drop}
@@ -7,10 +7,13 @@ use Rattle.std.proofs.lemmas.List.Elements.{All-same, All-map, All-weaker}
 use Rattle.std.specs.List.{All, flat_map}
 use Rattle.lrspec.specs.grammars.Grammar.{Grammar}
 use Rattle.lrshown.specs.declared.evidence.Evidence.{Evidence}
+use Rattle.lrspec.specs.merging.Graph.{Graph}
 use Rattle.lrspec.specs.tables.Table.{Table}
 use Rattle.lrshown.specs.Losses.{AreShownLosses}
+use Rattle.lrshown.specs.DecidedEntries.{AreShownDecided}
 use Rattle.lrevidence.specs.Ambiguities.{IsProved, AreShown}
 use Rattle.lrevidence.specs.Losses.{IsLostAtEntry}
+use Rattle.lrevidence.specs.DecidedEntries.{IsToldDecided}
 
 module _ {X Y : Type 0} (P : X → Type 0) (f : Y → X) where
   of_images : (ys : List Y) → All P (map f ys) → All (λ y. P (f y)) ys
@@ -57,6 +60,10 @@ shown g evidence proved k d inside a is = let known = rw is at (proved k d insid
 shown_lost : (g : Grammar) (b : Table) (evidence : List Evidence) → All (IsLostAtEntry g b) evidence → AreShownLosses g b evidence
 shown_lost g b evidence lost k d inside l is = let known = rw is at (lost k d inside) in ∣ (_, _, known) ∣₁
 
+-- and what is proved of those that are decided
+shown_decided : (g : Grammar) (o : Option Graph) (evidence : List Evidence) → All (IsToldDecided g o) evidence → AreShownDecided g o evidence
+shown_decided g o evidence decided k d inside = let known = decided k d inside in ∣ known ∣₁
+
 pub all_shown :
     {B : Type 0} (g : Grammar) (told : B → List Evidence) (those : List B)
     → All (λ one. All (IsProved g) (told one)) those → All (λ one. AreShown g (told one)) those
@@ -70,3 +77,10 @@ pub all_shown_lost :
 all_shown_lost g b told those lost =
     let may_be_shown = λ (one : _) (each : All (IsLostAtEntry g b) (told one)). shown_lost g b (told one) each in
     All-weaker (λ one. All (IsLostAtEntry g b) (told one)) (λ one. AreShownLosses g b (told one)) may_be_shown those lost
+
+pub all_shown_decided :
+    {B : Type 0} (g : Grammar) (o : Option Graph) (told : B → List Evidence) (those : List B)
+    → All (λ one. All (IsToldDecided g o) (told one)) those → All (λ one. AreShownDecided g o (told one)) those
+all_shown_decided g o told those decided =
+    let may_be_shown = λ (one : _) (each : All (IsToldDecided g o) (told one)). shown_decided g o (told one) each in
+    All-weaker (λ one. All (IsToldDecided g o) (told one)) (λ one. AreShownDecided g o (told one)) may_be_shown those decided

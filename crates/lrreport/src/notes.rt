@@ -1,10 +1,11 @@
 //! What is known of conflicts, as notes under their places.
 
-ghost use Rattle.std.specs.Prelude.{◌≡◌, All, IfSome, IsSome, IsTrue, Some};
+ghost use Rattle.std.specs.Prelude.{◌≡◌, All, IfOk, IfSome, IsSome, IsTrue, Some, map};
+ghost use Rattle.std.specs.List.{filter};
 ghost use Rattle.lrevidence.specs.Ambiguities.{HasTwoTrees, IsProved};
 ghost use Rattle.lrevidence.specs.Losses.{IsLoss, IsLostAtEntry};
 ghost use Rattle.lrevidence.specs.DecidedEntries.{IsToldDecided};
-ghost use Rattle.lrshown.specs.DecidedEntries.{tokens_of};
+ghost use Rattle.lrshown.specs.DecidedEntries.{is_decided, tokens_of};
 
 use crate::conflicts::{Checked, are_decided, tokens_of_each};
 use crate::drawings::push_drawing;
@@ -70,10 +71,22 @@ impl Notes {
     }
 }
 
-/// The tokens of the entries for which there is no sentence with two trees that part by what meets in them.
+/// The tokens of the entries that are not decided, and for which there is no sentence with two trees that part by what meets in
+/// them.
 fn unknown(alloc: Global, meeting: &[Evidence]) -> Result<Vec<usize>, AllocError> {
-    let unknown = meeting.iter().filter(|it| !it.has_own_sentence());
+    let unknown = meeting
+        .iter()
+        .filter(|it| !it.has_own_sentence() && !it.is_decided());
     unknown.map(|it| it.entry.token).collect(alloc)
+}
+
+/// The tokens of the entries that are decided.
+fn decided(alloc: Global, meeting: &[Evidence]) -> Result<Vec<usize>, AllocError>
+    ensures { IfOk result (λ tokens.
+        tokens.items ≡ map (λ e. e.entry.token) (filter is_decided meeting.now)) }
+{
+    let decided = meeting.iter().filter(|it| it.is_decided());
+    decided.map(|it| it.entry.token).collect(alloc)
 }
 
 /// Whether each of the entries has a sentence with two trees that part by what meets in it.
@@ -141,7 +154,7 @@ impl Told<'_> {
         self.push_tree(text, notes, second.0, second.1, dot)
     }
 
-    /// Adds at which of the entries no sentence with two trees was found.
+    /// Adds at which of the entries no sentence with two trees was found, nor that there is none, if at some.
     fn push_unknown(
         &self,
         text: &mut Text,
@@ -149,6 +162,9 @@ impl Told<'_> {
         meeting: &[Evidence],
     ) -> Result<(), AllocError> {
         let tokens = unknown(text.allocator(), meeting)?;
+        if tokens.is_empty() {
+            return Ok(());
+        }
         let mut words = Words::new(text.allocator());
         words.add_all("not known to be ambiguous at");
         add_names(&mut words, self.file, tokens.as_slice());
@@ -205,10 +221,9 @@ impl Told<'_> {
         notes: Notes,
         evidence: &Evidence,
         example: &Example,
-        is_decided: bool,
     ) -> Result<(), AllocError> {
         let mut why = Words::new(text.allocator());
-        if !is_decided {
+        if !evidence.is_decided() {
             why.add_all("not known to be ambiguous");
             self.add_effort(&mut why, evidence);
         }
@@ -234,11 +249,10 @@ impl Told<'_> {
         notes: Notes,
         evidence: &Evidence,
         example: &Example,
-        is_decided: bool,
     ) -> Result<(), AllocError> {
         let candidates = candidates_of(&evidence.entry);
         let (label, other_label) = labels(self.file, candidates, ", and go on:");
-        self.push_list(text, notes, evidence, example, is_decided)?;
+        self.push_list(text, notes, evidence, example)?;
         self.push_outlook(text, notes, label, example.one.as_ref())?;
         self.push_outlook(text, notes, other_label, example.other.as_ref())
     }
@@ -322,6 +336,41 @@ impl<T: IndexStorage> Checked<'_, T> {
         notes.push(text, &words);
     }
 
+    /// Adds at which of the entries no sentence has two trees that part there: at those that are decided, if some are.
+    fn push_decided_tokens(
+        &self,
+        text: &mut Text,
+        notes: Notes,
+        _meeting: &[Evidence],
+        tokens: &[usize],
+    )
+        requires proved { All (IsToldDecided self.now.found.now.grm self.now.found.now.graph)
+            _meeting.now }
+        requires tokens { tokens.now ≡ map (λ e. e.entry.token) (filter is_decided _meeting.now) }
+    {
+        if tokens.is_empty() {
+            return;
+        }
+        let mut words = Words::new(text.allocator());
+        words.add_all("not ambiguous (proved) at");
+        add_names(&mut words, self.told.file, tokens);
+        notes.push(text, &words);
+    }
+
+    /// Adds which of the entries are decided, if some are.
+    fn push_decided_entries(
+        &self,
+        text: &mut Text,
+        notes: Notes,
+        meeting: &[Evidence],
+    ) -> Result<(), AllocError>
+        requires { All (IsToldDecided self.now.found.now.grm self.now.found.now.graph) meeting.now }
+    {
+        let tokens = decided(text.allocator(), meeting)?;
+        self.push_decided_tokens(text, notes, meeting, tokens.as_slice());
+        Ok(())
+    }
+
     /// Adds what is known of entries without a sentence that has two trees.
     fn push_without_sentence(
         &self,
@@ -332,17 +381,19 @@ impl<T: IndexStorage> Checked<'_, T> {
         requires proved { All (IsToldDecided self.now.found.now.grm self.now.found.now.graph)
             meeting.now }
     {
-        let is_decided = are_decided(meeting);
-        if is_decided {
-            self.push_not_ambiguous(text, notes, meeting, tokens_of_each(meeting));
-        }
         let Some(first) = meeting.first() else {
             return Ok(());
         };
+        if are_decided(meeting) {
+            self.push_not_ambiguous(text, notes, meeting, tokens_of_each(meeting));
+        } else {
+            self.push_decided_entries(text, notes, meeting)?;
+            if first.is_decided() {
+                self.told.push_unknown(text, notes, meeting)?;
+            }
+        }
         match &first.example {
-            Some(example) => self
-                .told
-                .push_example(text, notes, first, example, is_decided),
+            Some(example) => self.told.push_example(text, notes, first, example),
             None => Ok(()),
         }
     }
@@ -392,10 +443,13 @@ impl<T: IndexStorage> Checked<'_, T> {
         first: usize,
     ) -> Result<(), AllocError>
         requires proved { All (IsProved self.now.found.now.grm) meeting.now }
+        requires entries { All (IsToldDecided self.now.found.now.grm self.now.found.now.graph)
+            meeting.now }
     {
         if have_sentences(meeting) {
             self.push_each(text, notes, meeting);
         } else {
+            self.push_decided_entries(text, notes, meeting)?;
             self.told.push_unknown(text, notes, meeting)?;
         }
         if own_sentences(meeting) == 2 {

@@ -3,6 +3,7 @@
 ghost use Rattle.std.specs.Prelude.{◌≡◌, All, IfOk};
 ghost use Rattle.lrevidence.specs.Ambiguities.{IsProved};
 ghost use Rattle.lrevidence.specs.Losses.{IsLostAtEntry};
+ghost use Rattle.lrevidence.specs.DecidedEntries.{IsToldDecided};
 ghost use Rattle.lrshown.specs.VerdictWords.{AreProvedWords};
 
 use crate::conflicts::{Checked, entries_of, meetings};
@@ -52,6 +53,8 @@ impl<T: IndexStorage> Checked<'_, T> {
     ) -> Result<String, AllocError>
         requires proved { All (IsProved self.now.found.now.grm) self.now.told.evidence.now }
         requires lost { All (IsLostAtEntry self.now.found.now.grm self.now.found.now.table)
+            self.now.told.evidence.now }
+        requires entries { All (IsToldDecided self.now.found.now.grm self.now.found.now.graph)
             self.now.told.evidence.now }
         requires words { AreProvedWords self.now.found.now.grm self.now.found.now.table words.now }
     {

@@ -1,5 +1,5 @@
 -- entries at which no text has two trees that part
-use Rattle.std.specs.Prelude.{◌≡◌, ℕ, Bool, Option, None, Some, IfSome, MatchOption, is_some}
+use Rattle.std.specs.Prelude.{◌≡◌, ℕ, Bool, List, All, Option, None, Some, IfSome, MatchOption, is_some}
 use Rattle.lrspec.specs.grammars.Grammar.{Grammar}
 use Rattle.lrspec.specs.merging.Graph.{Graph}
 use Rattle.lrdecided.specs.declared.decided.Decided.{Decided}
@@ -32,6 +32,13 @@ IsDecidedOf g h e = IfSome e.decided (IsDecidedEntry g h e.entry)
 -- the same where a graph is kept; without one no entry is told to be decided
 abbrev pub IsToldDecided : Grammar → Option Graph → Evidence → Type 0
 IsToldDecided g o e = MatchOption o (e.decided ≡ None) (λ h. IsDecidedOf g h e)
+
+-- the same, without saying how it is decided
+abbrev pub IsShownDecided : Grammar → Option Graph → Evidence → Type 0
+IsShownDecided g o e = ∥ IsToldDecided g o e ∥₁
+
+abbrev pub AreShownDecided : Grammar → Option Graph → List Evidence → Type 0
+AreShownDecided g o evidence = All (IsShownDecided g o) evidence
 
 -- whether an entry is told to be decided
 abbrev pub is_decided : Evidence → Bool

@@ -1,7 +1,8 @@
 use Rattle.std.proofs.Common.{All}
 use Rattle.lrevidence.specs.Ambiguities.{IsProved}
 use Rattle.lrevidence.specs.Losses.{IsLostAtEntry}
-use Rattle.lrreport.proofs.Groups.{in_told, all_shown, all_shown_lost}
+use Rattle.lrevidence.specs.DecidedEntries.{IsToldDecided}
+use Rattle.lrreport.proofs.Groups.{in_told, all_shown, all_shown_decided, all_shown_lost}
 use Rattle.lrreport.proofs.conflicts.Checked.page.Goals as goal
 
 pub invariant_of-page : goal.invariant_of-page
@@ -20,5 +21,9 @@ invariant_of-page g c =
           rw c.as_slice.ensures.value
           (all_shown_lost checked.found.now.grm checked.found.now.table (λ card. card.meeting.now) cards
           (each_of (IsLostAtEntry checked.found.now.grm checked.found.now.table) c.requires.lost));
+      decided =
+          rw c.as_slice.ensures.value
+          (all_shown_decided checked.found.now.grm checked.found.now.graph (λ card. card.meeting.now) cards
+          (each_of (IsToldDecided checked.found.now.grm checked.found.now.graph) c.requires.entries));
       told = c.requires.words;
     }
