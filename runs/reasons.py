@@ -10,7 +10,8 @@ finds out of its text and both trees, and of its list, which is told where texts
 - the input is a shortest text of the list, and no rest by either candidate is shorter;
 - the trees part by two candidates of the entry's cell; the trees in brackets are parts of them that leave out the same in both,
   and part there too;
-- where no text is told, no text of at most SHORT tokens has two trees that part there.
+- where no text is told, no text of at most SHORT tokens has two trees that part there;
+- where the grammar is told to be unambiguous although there are conflicts, none has two trees at all.
 """
 
 import json
@@ -27,10 +28,11 @@ import texts
 from canonical import Canonical, TooLarge
 from drawn_grammars import Conflict, drawn_grammars
 from partings import Rests
-from sentences import Behind, Least
+from sentences import Behind, Least, ShortTexts
 from texts import END, Wrong, hold
 
 SHORT = 5
+YET = ", yet unambiguous (proved)"
 MISSED = 0  # So many entries may be missed, of those that short texts show to be ambiguous.
 MOST_STATES = 600  # Canonical ones; grammars with more are passed over.
 MOST_STACKS = 3000
@@ -285,10 +287,26 @@ def check_words_of_decided(answer):
     all, decided = len(answer.alone["conflicts"]), sum(it["decided"] is not None for it in answer.alone["conflicts"])
     if any(it["ambiguity"] for it in answer.alone["conflicts"]) or not all:
         return
+    if YET in answer.line:
+        hold(decided == all, f"{decided} of {all} conflicts are decided, but the line is: {answer.line}")
+        return
     known = ", not ambiguous" if all == 1 else ", none ambiguous"
     unknown = ", not known to be ambiguous" if all == 1 else ", none known to be ambiguous"
     words = known if decided == all else unknown + (f", {decided} known not to be" if decided else "")
     hold(words in answer.line, f"{decided} of {all} conflicts are decided, but the line is: {answer.line}")
+
+
+def check_unambiguous(drawn, answer, counts):
+    """The line and JSON tell alike whether the grammar is unambiguous although there are conflicts. No short text has two trees then."""
+    told = YET in answer.line
+    for file in (answer.grouped, answer.alone):
+        hold(told == (file["verdict"] == "conflicts" and file["proved"]), f"JSON tells otherwise than the line: {answer.line}")
+    if not told:
+        return
+    counts["unambiguous with conflicts"] += 1
+    rule, _ = drawn.grammar.prods[0]
+    ambiguous = ShortTexts(drawn.grammar, SHORT + 1).with_two_trees(rule)
+    hold(not ambiguous, f"it is told to be unambiguous, but texts have two trees: {ambiguous}")
 
 
 def by_key(drawn, told, file):
@@ -310,6 +328,7 @@ def check_grammar(drawn, answer, counts):
     hold(alone.keys() == by_one_step.keys() == wanted.keys(), f"entries are {[*alone]}, and not {[*wanted]}")
     check_groups(told, alone)
     check_line(answer)
+    check_unambiguous(drawn, answer, counts)
     known = Known(drawn.grammar) if wanted else None
     for (key, entry), lines in zip(alone.items(), answer.blocks, strict=True):
         try:

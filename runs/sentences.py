@@ -4,6 +4,7 @@ grammar means and not by the program.
 A move is the number of a production, by which a reduction is made, or None for a shift.
 """
 
+from itertools import product
 from math import inf
 
 MANY = 2  # As many trees as are told apart from more.
@@ -130,3 +131,36 @@ class Trees:
             if first := self.known.get((head, start, middle), 0):
                 found += first * self.count(rest, middle, end)
         return min(MANY, found)
+
+
+class ShortTexts:
+    """The texts of each rule of at most so many tokens, and how many trees each has, counted up to MANY."""
+
+    def __init__(self, grammar, most):
+        self.prods, self.most, self.known = grammar.prods, most, {}
+        while (counts := self.higher()) != self.known:
+            self.known = counts
+
+    def higher(self):
+        """What is known, by trees that may be one higher."""
+        counts = {}
+        for rule, body in self.prods:
+            known = counts.setdefault(rule, {})
+            for text, count in self.rows(body).items():
+                known[text] = min(MANY, known.get(text, 0) + count)
+        return counts
+
+    def rows(self, symbols):
+        """The texts of the symbols, and how many rows of trees each has."""
+        counts = {(): 1}
+        for symbol in symbols:
+            before, counts = counts, {}
+            behind = self.known.get(symbol, {}) if isinstance(symbol, bytes) else {(symbol,): 1}
+            for (text, count), (more, times) in product(before.items(), behind.items()):
+                if len(text) + len(more) <= self.most:
+                    counts[text + more] = min(MANY, counts.get(text + more, 0) + count * times)
+        return counts
+
+    def with_two_trees(self, rule):
+        """Those of the rule that have two trees."""
+        return [text for text, count in self.known.get(rule, {}).items() if count == MANY]

@@ -10,8 +10,10 @@ mod examples;
 mod losses;
 mod machine;
 mod texts;
+mod unambiguity;
 
 pub use crate::evidence::{Effort, Evidence, evidence_for, find_ambiguity};
+pub use crate::unambiguity::shows_unambiguous;
 pub use lrshown::{
     Ambiguity, Decided, Example, Loss, Node, Outlook, Step, Tree, TwoTrees, Visit, body_of,
     candidates_of, list_of, name_of_rule, names_of, names_of_tokens, node_name, rule_name,

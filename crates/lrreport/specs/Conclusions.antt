@@ -62,6 +62,7 @@ conclusion_of file o =
       has_precedences = o.has_precedences;
       expected = o.expected;
       verdict = o.verdict;
+      is_unambiguous = o.is_unambiguous;
       evidence = o.evidence;
       resolved = o.resolved;
       decided = o.decided;
@@ -69,7 +70,7 @@ conclusion_of file o =
 
 -- of the grammar of the file, with its precedences, unless these are left out, or the table with them lists nothing: the entries
 -- are the conflicts that are left open; the verdict is by their number, and by the one that is expected; "unambiguous" is told
--- only where no sentence has two trees, and "no conflicts" never where none is left open and no token has a precedence; so many
+-- only where no sentence has two trees, which may be shown where there are conflicts too, and "no conflicts" never where none is left open and no token has a precedence; so many
 -- are resolved as precedences decide in the cells; each sentence that is told of an entry has two trees, which part in its state,
 -- where its token comes; each that is told to be rejected is a sentence that the machine of the grammar's table rejects, since
 -- it goes wrong there; of each entry that is told to be decided no sentence has two trees that part there by what meets in it,
@@ -86,6 +87,7 @@ pub record IsConcluded (left_out : Bool) (c : Conclusion) : Type 0 where
   pub resolved : c.resolved ≡ length (resolved_in grammar graph)
   pub verdict : IsVerdict shown (counts_of (map (λ e. e.entry) c.evidence.items)) c.expected c.verdict
   pub unambiguous : IsTrue shown → IsUnambiguous grammar
+  pub yet_unambiguous : IsTrue c.is_unambiguous → IsUnambiguous grammar
   pub known : HasNoPrecedences grammar → c.evidence.items ≡ [] → IsTrue shown
   pub texts : All (IsProved grammar) c.evidence.items
   pub parts : All (PartsAtEntry grammar graph) c.evidence.items

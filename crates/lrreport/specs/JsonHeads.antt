@@ -19,10 +19,10 @@ verdict_word (Conflicts c) known = if known then codes "ambiguous" else codes "c
 verdict_word (told.Expected c) known = codes "as expected"
 verdict_word (Unexpected c wanted) known = codes "unexpected"
 
--- whether that the grammar is ambiguous is proved, or that it is not
-abbrev pub is_proved : Verdict → Bool → Bool
-is_proved Unambiguous known = true
-is_proved verdict known = known
+-- whether that the grammar is ambiguous is proved, or that it is not, which is shown or not where there are conflicts
+abbrev pub is_proved : Verdict → Bool → Bool → Bool
+is_proved Unambiguous shown known = true
+is_proved verdict shown known = shown || known
 
 -- how many conflicts there are
 abbrev pub count_tokens : Counts → List Token
@@ -32,17 +32,17 @@ count_tokens counts =
     ∷ []
 
 -- the name of the file, its verdict, whether something is proved, and how many conflicts there are
-abbrev pub head_tokens : List ℕ → Verdict → Bool → List Token
-head_tokens name verdict known =
+abbrev pub head_tokens : List ℕ → Verdict → Bool → Bool → List Token
+head_tokens name verdict shown known =
     begin_object
     ∷ key (codes "file") ∷ string name
     ∷ key (codes "verdict") ∷ string (verdict_word verdict known)
-    ∷ key (codes "proved") ∷ boolean (is_proved verdict known)
+    ∷ key (codes "proved") ∷ boolean (is_proved verdict shown known)
     ∷ count_tokens (counts_in verdict)
 
 -- what is told as JSON of a conclusion begins so
 abbrev pub json_head : List ℕ → Conclusion → List ℕ
-json_head name c = print (head_tokens name c.verdict (list_any has_sentence c.evidence.items))
+json_head name c = print (head_tokens name c.verdict c.is_unambiguous (list_any has_sentence c.evidence.items))
 
 -- a text begins with another one
 pub record BeginsWith (head text : List ℕ) : Type 0 where

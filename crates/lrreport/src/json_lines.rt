@@ -200,8 +200,11 @@ pub(crate) fn json_of_findings<T: IndexStorage>(
         checked.now.told.evidence.now }
     requires resolved { All (IsProved checked.now.found.now.grm) checked.now.told.resolved.now }
     requires unambiguous { verdict ≡ Unambiguous → IsUnambiguous checked.now.found.now.grm }
+    requires yet_unambiguous { IsTrue checked.now.told.is_unambiguous
+        → IsUnambiguous checked.now.found.now.grm }
     ensures { IfOk result (λ s. BeginsWith (print (head_tokens checked.now.told.source.now.name.now
-        verdict (list_any has_sentence checked.now.told.evidence.now))) (string_bytes s)) }
+        verdict checked.now.told.is_unambiguous
+        (list_any has_sentence checked.now.told.evidence.now))) (string_bytes s)) }
 {
     let told = checked.told;
     let mut json = JsonText::new(alloc);
@@ -233,8 +236,10 @@ impl<'a, T: IndexStorage> Checked<'a, T> {
     fn add_head(&self, json: &mut JsonText, verdict: Verdict)
         requires proved { All (IsProved self.now.found.now.grm) self.now.told.evidence.now }
         requires unambiguous { verdict ≡ Unambiguous → IsUnambiguous self.now.found.now.grm }
+        requires yet_unambiguous { IsTrue self.now.told.is_unambiguous
+            → IsUnambiguous self.now.found.now.grm }
         ensures { AddsTokens json.old json.new (head_tokens self.now.told.source.now.name.now
-            verdict (list_any has_sentence self.now.told.evidence.now)) }
+            verdict self.now.told.is_unambiguous (list_any has_sentence self.now.told.evidence.now)) }
     {
         let shown = self.any_sentence(self.told.evidence);
         json.begin_object();
@@ -251,9 +256,11 @@ impl<'a, T: IndexStorage> Checked<'a, T> {
     fn head(&self, alloc: Global, verdict: Verdict) -> Result<String, AllocError>
         requires proved { All (IsProved self.now.found.now.grm) self.now.told.evidence.now }
         requires unambiguous { verdict ≡ Unambiguous → IsUnambiguous self.now.found.now.grm }
+        requires yet_unambiguous { IsTrue self.now.told.is_unambiguous
+            → IsUnambiguous self.now.found.now.grm }
         ensures { IfOk result (λ s. string_bytes s
             ≡ print (head_tokens self.now.told.source.now.name.now verdict
-            (list_any has_sentence self.now.told.evidence.now))) }
+            self.now.told.is_unambiguous (list_any has_sentence self.now.told.evidence.now))) }
     {
         let mut json = JsonText::new(alloc);
         self.add_head(&mut json, verdict);
@@ -264,8 +271,11 @@ impl<'a, T: IndexStorage> Checked<'a, T> {
     fn add_proved(&self, json: &mut JsonText, verdict: Verdict, shown: Option<&Ambiguity>)
         requires proved { IfSome shown (λ a. HasTwoTrees self.now.found.now.grm a.now) }
         requires unambiguous { verdict ≡ Unambiguous → IsUnambiguous self.now.found.now.grm }
+        requires yet_unambiguous { IsTrue self.now.told.is_unambiguous
+            → IsUnambiguous self.now.found.now.grm }
         ensures { AddsTokens json.old json.new (key (codes "proved")
-            ∷ boolean (is_proved verdict (is_some shown.entry)) ∷ []) }
+            ∷ boolean (is_proved verdict self.now.told.is_unambiguous (is_some shown.entry))
+            ∷ []) }
     {
         json.key("proved");
         json.boolean(self.is_proved(verdict, shown));
@@ -275,10 +285,16 @@ impl<'a, T: IndexStorage> Checked<'a, T> {
     fn is_proved(&self, verdict: Verdict, shown: Option<&Ambiguity>) -> bool
         requires shown { IfSome shown (λ a. HasTwoTrees self.now.found.now.grm a.now) }
         requires unambiguous { verdict ≡ Unambiguous → IsUnambiguous self.now.found.now.grm }
+        requires yet_unambiguous { IsTrue self.now.told.is_unambiguous
+            → IsUnambiguous self.now.found.now.grm }
         ensures proved { IsTrue result
             → IsSome shown.entry ⊎ IsUnambiguous self.now.found.now.grm }
-        ensures told { result ≡ is_proved verdict (is_some shown.entry) }
+        ensures told { result
+            ≡ is_proved verdict self.now.told.is_unambiguous (is_some shown.entry) }
     {
+        if self.told.is_unambiguous {
+            return true;
+        }
         match verdict {
             Verdict::Unambiguous => true,
             _ => shown.is_some(),

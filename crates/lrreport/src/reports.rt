@@ -1,6 +1,6 @@
 //! The report on a file.
 
-ghost use Rattle.std.specs.Prelude.{◌≡◌, ◌≢◌, ◌⊎◌, ◌-◌, ◌^◌, ◌++◌, [], not, true, None, All, map, IfOk, IfSome, IfNone, MatchOption, codes, is_some, length, nat_lt};
+ghost use Rattle.std.specs.Prelude.{◌≡◌, ◌≢◌, ◌⊎◌, ◌-◌, ◌^◌, ◌++◌, [], not, true, None, All, map, IfOk, IfSome, IfNone, IsTrue, MatchOption, codes, is_some, length, nat_lt};
 ghost use Rattle.std.specs.List.{list_any};
 ghost use Rattle.std.specs.String.{string_bytes};
 ghost use Rattle.lrspec.specs.merging.Graph.{IsGraphOf};
@@ -30,7 +30,7 @@ use crate::json_lines::{json_of_faults, json_of_findings, json_of_refusal};
 use crate::options::{Options, Output};
 use crate::told::Told;
 use lrdiagnostics::{Layout, Source, TOLD, Teller, Weight, add_shown, messages_of};
-use lrevidence::{Ambiguity, Effort, Evidence, evidence_for, find_ambiguity};
+use lrevidence::{Ambiguity, Effort, Evidence, evidence_for, find_ambiguity, shows_unambiguous};
 use lrfindings::{
     Counts, Entry, FindError, Findings, Resolved, UselessPrecedences, Verdict, find, small_text,
 };
@@ -64,6 +64,8 @@ pub struct Conclusion {
     pub expected: Expected,
     /// The verdict, which the lines tell.
     pub verdict: Verdict,
+    /// Whether it is shown that no sentence has two trees although there are conflicts.
+    pub is_unambiguous: bool,
     /// The conflicts, in the order of the file, and what is known of each.
     pub evidence: Vec<Evidence>,
     /// How many more precedences resolve.
@@ -165,6 +167,8 @@ fn report_on_refusal(
 struct Known {
     /// How many conflicts are left open.
     left: Counts,
+    /// Whether it is shown that no sentence has two trees although some are left open.
+    is_unambiguous: bool,
     /// Of the conflicts that are left open.
     evidence: Vec<Evidence>,
     /// Of what precedences resolve, where that is asked for.
@@ -259,6 +263,8 @@ fn known_of(
     requires contested { IfSome found.now.graph (AreReductionsContested found.now.grm) }
     requires table { IsTableFor found.now.grm found.now.table }
     ensures left { IfOk result (λ k. map (λ e. e.entry) k.evidence.items ≡ found.now.left.items) }
+    ensures unambiguous { IfOk result (λ k. IsTrue k.is_unambiguous
+        → IsUnambiguous found.now.grm) }
     ensures counts { IfOk result (λ k. k.left ≡ counts_of (map (λ e. e.entry) k.evidence.items)) }
     ensures proved { IfOk result (λ k. All (IsProved found.now.grm) k.evidence.items) }
     ensures parts { IfOk result (λ k. MatchOption found.now.graph (k.evidence.items ≡ [])
@@ -276,6 +282,7 @@ fn known_of(
     let (entries, effort) = (found.left.as_slice(), effort_of(options));
     let all = evidence_for(alloc, file, found, entries, effort)?;
     let evidence = evidence_by(alloc, read.parser, all)?;
+    let is_unambiguous = shows_unambiguous(found, evidence.as_slice(), effort)?;
     let resolved = resolved_entries(alloc, found.resolved.as_slice())?;
     let decided = if entries.is_empty() && !resolved.is_empty() {
         let (entries, steps) = (resolved.as_slice(), options.steps);
@@ -290,6 +297,7 @@ fn known_of(
     };
     Ok(Known {
         left: Counts::of(entries),
+        is_unambiguous,
         evidence,
         resolved,
         decided,
@@ -307,12 +315,14 @@ fn told_of<'a>(
     ensures steps { result.options.steps ≡ options.steps }
     ensures columns { result.options.lines.columns ≡ options.lines.columns }
     ensures hint { has_hint result.options ≡ has_hint options }
+    ensures shown { result.is_unambiguous ≡ known.now.is_unambiguous }
     ensures evidence { result.evidence.now ≡ known.now.evidence.items }
     ensures resolved { result.resolved.now ≡ known.now.resolved.items }
 {
     Told {
         source: read.source,
         file: read.file,
+        is_unambiguous: known.is_unambiguous,
         evidence: known.evidence.as_slice(),
         resolved: known.resolved.as_slice(),
         useless,
@@ -370,9 +380,11 @@ impl<T: IndexStorage> Checked<'_, T> {
         requires entries { All (IsToldDecided self.now.found.now.grm self.now.found.now.graph)
             self.now.told.evidence.now }
         requires unambiguous { verdict ≡ Unambiguous → IsUnambiguous self.now.found.now.grm }
+        requires yet_unambiguous { IsTrue self.now.told.is_unambiguous
+            → IsUnambiguous self.now.found.now.grm }
         requires decided { IfSome decided (λ a. HasTwoTrees self.now.found.now.grm a.now) }
         ensures { IfOk result (λ s. string_bytes s ≡ line_of self.now.told.source.now.name.now
-            (verdict_words verdict self.now.told.evidence.now
+            (verdict_words verdict self.now.told.is_unambiguous self.now.told.evidence.now
             (nat_lt 0 self.now.told.options.steps) (length self.now.found.now.resolved.items)
             (has_hint self.now.told.options) (is_some decided.entry))) }
     {
@@ -430,11 +442,12 @@ fn text_on_findings<T: IndexStorage>(
     requires resolved { All (IsProved found.now.grm) known.now.resolved.items }
     requires decided { IfSome known.now.decided (HasTwoTrees found.now.grm) }
     requires unambiguous { verdict ≡ Unambiguous → IsUnambiguous found.now.grm }
+    requires yet_unambiguous { IsTrue known.now.is_unambiguous → IsUnambiguous found.now.grm }
     ensures told { IfOk result (λ s. Tells options.output options.lines.columns
-        (last_line read.entry.source.now.name.now (verdict_words verdict known.now.evidence.items
-        (nat_lt 0 options.steps) (length found.now.resolved.items) (has_hint options)
-        (is_some known.now.decided)))
-        (print (head_tokens read.entry.source.now.name.now verdict
+        (last_line read.entry.source.now.name.now (verdict_words verdict known.now.is_unambiguous
+        known.now.evidence.items (nat_lt 0 options.steps) (length found.now.resolved.items)
+        (has_hint options) (is_some known.now.decided)))
+        (print (head_tokens read.entry.source.now.name.now verdict known.now.is_unambiguous
         (list_any has_sentence known.now.evidence.items))) (string_bytes s)) }
 {
     let checked = Checked {
@@ -474,6 +487,7 @@ fn page_on_findings<T: IndexStorage>(
     requires graph { IfSome found.now.graph (IsGraphOf found.now.grm) }
     requires decided { IfSome known.now.decided (HasTwoTrees found.now.grm) }
     requires unambiguous { verdict ≡ Unambiguous → IsUnambiguous found.now.grm }
+    requires yet_unambiguous { IsTrue known.now.is_unambiguous → IsUnambiguous found.now.grm }
 {
     if !options.makes_page {
         return Ok(None);
@@ -494,6 +508,7 @@ struct Outcome {
     has_precedences: bool,
     expected: Expected,
     verdict: Verdict,
+    is_unambiguous: bool,
     evidence: Vec<Evidence>,
     resolved: usize,
     decided: Option<Ambiguity>,
@@ -515,6 +530,7 @@ impl Outcome {
                 has_precedences: self.has_precedences,
                 expected: self.expected,
                 verdict: self.verdict,
+                is_unambiguous: self.is_unambiguous,
                 evidence: self.evidence,
                 resolved: self.resolved,
                 decided: self.decided,
@@ -547,6 +563,7 @@ fn outcome_on_findings(
     let text = text_on_findings(alloc, read, &found, &known, verdict, options)?;
     let page = page_on_findings(alloc, read, &found, &known, verdict, options)?;
     let Known {
+        is_unambiguous,
         evidence,
         decided,
         ..
@@ -557,6 +574,7 @@ fn outcome_on_findings(
         has_precedences: found.has_precedences,
         expected,
         verdict,
+        is_unambiguous,
         evidence,
         resolved: found.resolved.len(),
         decided,

@@ -12,6 +12,8 @@ use lryacc::{FileGrammar, Parser, Span};
 pub(crate) struct Told<'a> {
     pub(crate) source: &'a Source<'a>,
     pub(crate) file: &'a FileGrammar,
+    /// Whether it is shown that no sentence has two trees although there are conflicts.
+    pub(crate) is_unambiguous: bool,
     /// What is known of the conflicts that are left open.
     pub(crate) evidence: &'a [Evidence],
     /// What is known of what precedences resolve, where that is asked for; else nothing.

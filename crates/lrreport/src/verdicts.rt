@@ -1,6 +1,6 @@
 //! The words of a file's verdict. That something is proved is written by what takes the proof.
 
-ghost use Rattle.std.specs.Prelude.{◌≡◌, ◌==◌, [], All, IfOk, IfSome, codes, is_some, length, nat_lt, if◌then◌else◌};
+ghost use Rattle.std.specs.Prelude.{◌≡◌, ◌==◌, [], All, IfOk, IfSome, IsTrue, codes, is_some, length, nat_lt, if◌then◌else◌};
 ghost use Rattle.std.specs.List.{count_by};
 ghost use Rattle.std.specs.String.{string_bytes};
 ghost use Rattle.lrspec.specs.tables.Recognition.{IsUnambiguous};
@@ -11,7 +11,7 @@ ghost use Rattle.lrevidence.specs.DecidedEntries.{IsToldDecided};
 ghost use Rattle.lrshown.specs.Ambiguities.{has_own_sentence};
 ghost use Rattle.lrshown.specs.Losses.{rejects};
 ghost use Rattle.lrshown.specs.DecidedEntries.{is_decided};
-ghost use Rattle.lrshown.specs.VerdictWords.{unambiguous_words, ambiguous_words, plain_words, sentences_words, rejecting_words, ambiguous_verdict, none_known_words, unknown_words, unknown_verdict, verdict_on, known_verdict, resolved_words, decided_words, verdict_words};
+ghost use Rattle.lrshown.specs.VerdictWords.{unambiguous_words, ambiguous_words, plain_words, sentences_words, rejecting_words, ambiguous_verdict, none_known_words, unknown_words, unknown_verdict, verdict_on, known_verdict, decided_or_unknown, yet_unambiguous_words, resolved_words, decided_words, verdict_words};
 
 use crate::conflicts::Checked;
 use crate::told::Told;
@@ -167,6 +167,14 @@ impl<T: IndexStorage> Checked<'_, T> {
         line.add("unambiguous (proved): no sentence has two trees");
     }
 
+    /// Adds that no sentence has two trees although there are conflicts.
+    fn push_yet_unambiguous(&self, line: &mut Text)
+        requires proved { IsUnambiguous self.now.found.now.grm }
+        ensures { Adds line.old line.new yet_unambiguous_words }
+    {
+        line.add(", yet unambiguous (proved)");
+    }
+
     /// Adds that the grammar is ambiguous, which that text shows.
     fn push_ambiguous(&self, line: &mut Text, _text: &Ambiguity)
         requires proved { HasTwoTrees self.now.found.now.grm _text.now }
@@ -208,18 +216,37 @@ impl<T: IndexStorage> Checked<'_, T> {
         }
     }
 
-    /// Adds a verdict, and that no sentence with two trees is known; some conflicts may be known to have none.
+    /// Adds that no sentence has two trees, if that is shown, and else that none is known; some conflicts may be known to have none.
+    fn push_decided_or_unknown(&self, line: &mut Text)
+        requires entries { All (IsToldDecided self.now.found.now.grm self.now.found.now.graph)
+            self.now.told.evidence.now }
+        requires yet_unambiguous { IsTrue self.now.told.is_unambiguous
+            → IsUnambiguous self.now.found.now.grm }
+        ensures { Adds line.old line.new (decided_or_unknown self.now.told.is_unambiguous
+            (count_by is_decided self.now.told.evidence.now)
+            (length self.now.told.evidence.now)) }
+    {
+        if self.told.is_unambiguous {
+            self.push_yet_unambiguous(line);
+        } else {
+            let evidence = self.told.evidence;
+            push_unknown(line, decided_entries(evidence), evidence.len());
+        }
+    }
+
+    /// Adds a verdict, and that no sentence with two trees is known, or that none has two.
     fn push_unknown_verdict(&self, line: &mut Text, verdict: Verdict)
         requires entries { All (IsToldDecided self.now.found.now.grm self.now.found.now.graph)
             self.now.told.evidence.now }
         requires unambiguous { verdict ≡ Unambiguous → IsUnambiguous self.now.found.now.grm }
-        ensures { Adds line.old line.new (unknown_verdict verdict
+        requires yet_unambiguous { IsTrue self.now.told.is_unambiguous
+            → IsUnambiguous self.now.found.now.grm }
+        ensures { Adds line.old line.new (unknown_verdict verdict self.now.told.is_unambiguous
             (count_by is_decided self.now.told.evidence.now)
             (length self.now.told.evidence.now)) }
     {
-        let evidence = self.told.evidence;
         self.push_plain_verdict(line, verdict);
-        push_unknown(line, decided_entries(evidence), evidence.len());
+        self.push_decided_or_unknown(line);
     }
 
     /// Adds the verdict, and for how many of the conflicts a sentence with two trees is known.
@@ -228,7 +255,10 @@ impl<T: IndexStorage> Checked<'_, T> {
         requires entries { All (IsToldDecided self.now.found.now.grm self.now.found.now.graph)
             self.now.told.evidence.now }
         requires unambiguous { verdict ≡ Unambiguous → IsUnambiguous self.now.found.now.grm }
-        ensures { Adds line.old line.new (verdict_on verdict self.now.told.evidence.now) }
+        requires yet_unambiguous { IsTrue self.now.told.is_unambiguous
+            → IsUnambiguous self.now.found.now.grm }
+        ensures { Adds line.old line.new (verdict_on verdict self.now.told.is_unambiguous
+            self.now.told.evidence.now) }
     {
         match self.any_sentence(self.told.evidence) {
             Some(text) => self.push_ambiguous_verdict(line, verdict, text),
@@ -242,8 +272,10 @@ impl<T: IndexStorage> Checked<'_, T> {
         requires entries { All (IsToldDecided self.now.found.now.grm self.now.found.now.graph)
             self.now.told.evidence.now }
         requires unambiguous { verdict ≡ Unambiguous → IsUnambiguous self.now.found.now.grm }
-        ensures { Adds line.old line.new (known_verdict verdict self.now.told.evidence.now
-            (nat_lt 0 self.now.told.options.steps)) }
+        requires yet_unambiguous { IsTrue self.now.told.is_unambiguous
+            → IsUnambiguous self.now.found.now.grm }
+        ensures { Adds line.old line.new (known_verdict verdict self.now.told.is_unambiguous
+            self.now.told.evidence.now (nat_lt 0 self.now.told.options.steps)) }
     {
         let evidence = self.told.evidence;
         if evidence.is_empty() || self.told.options.steps == 0 {
@@ -277,9 +309,11 @@ impl<T: IndexStorage> Checked<'_, T> {
         requires entries { All (IsToldDecided self.now.found.now.grm self.now.found.now.graph)
             self.now.told.evidence.now }
         requires unambiguous { verdict ≡ Unambiguous → IsUnambiguous self.now.found.now.grm }
+        requires yet_unambiguous { IsTrue self.now.told.is_unambiguous
+            → IsUnambiguous self.now.found.now.grm }
         requires decided { IfSome decided (λ a. HasTwoTrees self.now.found.now.grm a.now) }
         ensures words { IfOk result (λ s. string_bytes s
-            ≡ verdict_words verdict self.now.told.evidence.now
+            ≡ verdict_words verdict self.now.told.is_unambiguous self.now.told.evidence.now
             (nat_lt 0 self.now.told.options.steps) (length self.now.found.now.resolved.items)
             has_hint (is_some decided.entry)) }
     {

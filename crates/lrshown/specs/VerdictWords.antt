@@ -1,5 +1,5 @@
 -- what is told of a verdict, and of the conflicts and the precedences behind it
-use Rattle.std.specs.Prelude.{◌≡◌, ℕ, ◌==◌, not, Bool, List, [], ◌++◌, All, Option, IfSome, is_some, codes, decimal, length, if◌then◌else◌}
+use Rattle.std.specs.Prelude.{◌≡◌, ℕ, ◌==◌, not, Bool, List, [], ◌++◌, All, Option, IfSome, IsTrue, is_some, codes, decimal, length, if◌then◌else◌}
 use Rattle.std.specs.List.{count_by, list_any}
 use Rattle.lrspec.specs.grammars.Grammar.{Grammar}
 use Rattle.lrspec.specs.tables.Recognition.{IsUnambiguous}
@@ -53,16 +53,24 @@ unknown_words decided all =
     (if all == 1 then codes ", not ambiguous" else codes ", none ambiguous")
     else codes ", none known to be ambiguous, " ++ decimal decided ++ codes " known not to be")
 
--- a verdict, and that no text is known
-abbrev pub unknown_verdict : Verdict → ℕ → ℕ → List ℕ
-unknown_verdict verdict decided all = plain_words verdict ++ unknown_words decided all
+-- that no sentence has two trees although there are conflicts
+abbrev pub yet_unambiguous_words : List ℕ
+yet_unambiguous_words = codes ", yet unambiguous (proved)"
 
--- a verdict, and for how many of the conflicts a sentence with two trees is known
-abbrev pub verdict_on : Verdict → List Evidence → List ℕ
-verdict_on verdict evidence =
+-- the same where it is shown, and else how many of the conflicts are decided
+abbrev pub decided_or_unknown : Bool → ℕ → ℕ → List ℕ
+decided_or_unknown shown decided all = if shown then yet_unambiguous_words else unknown_words decided all
+
+-- a verdict, and that no text is known
+abbrev pub unknown_verdict : Verdict → Bool → ℕ → ℕ → List ℕ
+unknown_verdict verdict shown decided all = plain_words verdict ++ decided_or_unknown shown decided all
+
+-- a verdict, and for how many of the conflicts a sentence with two trees is known, or that none has
+abbrev pub verdict_on : Verdict → Bool → List Evidence → List ℕ
+verdict_on verdict shown evidence =
     if list_any has_sentence evidence then
     ambiguous_verdict verdict (sentences_words (count_by has_own_sentence evidence) (length evidence))
-    else unknown_verdict verdict (count_by is_decided evidence) (length evidence)
+    else unknown_verdict verdict shown (count_by is_decided evidence) (length evidence)
 
 -- for so many others a sentence is known that the parser rejects
 abbrev pub rejecting_words : ℕ → List ℕ
@@ -71,11 +79,11 @@ rejecting_words n =
     else (if n == 1 then codes ", 1 rejects sentences" else codes ", " ++ decimal n ++ codes " reject sentences")
 
 -- a verdict with what is known of the conflicts, where texts were looked for
-abbrev pub known_verdict : Verdict → List Evidence → Bool → List ℕ
-known_verdict verdict evidence searched =
+abbrev pub known_verdict : Verdict → Bool → List Evidence → Bool → List ℕ
+known_verdict verdict shown evidence searched =
     if length evidence == 0 then plain_words verdict
     else (if not searched then plain_words verdict
-    else verdict_on verdict evidence ++ rejecting_words (count_by rejects evidence))
+    else verdict_on verdict shown evidence ++ rejecting_words (count_by rejects evidence))
 
 -- how many more precedences resolve, and how these are shown
 abbrev pub resolved_words : ℕ → List Evidence → Bool → List ℕ
@@ -90,22 +98,24 @@ resolved_words resolved evidence hint =
 abbrev pub decided_words : Bool → List ℕ
 decided_words decided = if decided then codes "; without precedences " ++ ambiguous_words else []
 
--- what is told of a verdict: with the conflicts that are left open, and what is known of them where texts were looked for; with
--- how many precedences resolve, and whether these decide a text
-abbrev pub verdict_words : Verdict → List Evidence → Bool → ℕ → Bool → Bool → List ℕ
-verdict_words verdict evidence searched resolved hint decided =
-    known_verdict verdict evidence searched ++ resolved_words resolved evidence hint ++ decided_words decided
+-- what is told of a verdict: with whether no sentence has two trees although there are conflicts; with the conflicts that are left
+-- open, and what is known of them where texts were looked for; with how many precedences resolve, and whether these decide a text
+abbrev pub verdict_words : Verdict → Bool → List Evidence → Bool → ℕ → Bool → Bool → List ℕ
+verdict_words verdict shown evidence searched resolved hint decided =
+    known_verdict verdict shown evidence searched ++ resolved_words resolved evidence hint ++ decided_words decided
 
 -- words of a verdict that tell nothing of the grammar and its table but what is proved
 pub record TellProved (g : Grammar) (b : Table) (words : List ℕ) : Type 0 where
   pub verdict : Verdict
+  pub shown : Bool
   pub evidence : List Evidence
   pub searched : Bool
   pub resolved : ℕ
   pub hint : Bool
   pub decided : Option Ambiguity
-  pub are : words ≡ verdict_words verdict evidence searched resolved hint (is_some decided)
+  pub are : words ≡ verdict_words verdict shown evidence searched resolved hint (is_some decided)
   pub unambiguous : verdict ≡ Unambiguous → IsUnambiguous g
+  pub yet_unambiguous : IsTrue shown → IsUnambiguous g
   pub texts : All (IsProved g) evidence
   pub lost : All (IsLostAtEntry g b) evidence
   -- a graph of the grammar, if one is kept

@@ -77,6 +77,7 @@ returns-clause-proved c = record {
   resolved = omega (arith, c.len.ensures, c.args.found.resolved.ok.0) ∙ so_many_resolved _ _ c.args.found c.requires.found;
   verdict = subst (λ counts. IsVerdict c.args.found.is_unambiguous counts c.beside-expected.result c.of-verdict.result) c.in_ok-known.ensures.counts c.of-verdict.ensures;
   unambiguous = c.requires.found.unambiguous;
+  yet_unambiguous = c.in_ok-known.ensures.unambiguous;
   known = λ plain none. known_without _ _ c.args.found c.requires.found plain (sym c.in_ok-known.ensures.left ∙ none_known _ none);
   texts = c.in_ok-known.ensures.proved;
   parts = each_of_kept c.requires.found.graph (PartsAtEntry c.args.found.grm) c.in_ok-known.known.evidence.items c.args.found.graph

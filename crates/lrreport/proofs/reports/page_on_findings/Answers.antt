@@ -5,15 +5,17 @@ use Rattle.lrreport.proofs.reports.page_on_findings.Goals as goal
 pub page-requires-clause-words : goal.page-requires-clause-words
 page-requires-clause-words g c = ∣ record {
   verdict = c.args.verdict;
+  shown = c.args.known.now.is_unambiguous;
   evidence = c.args.known.now.evidence.items;
   searched = nat_lt 0 c.told_of.result.options.steps;
   resolved = length c.args.found.now.resolved.items;
   hint = false;
   decided = c.args.known.now.decided;
   are =
-      rw (c.as_str.ensures.value, ← c.told_of.ensures.evidence, ← is_some_referred c.args.known.now.decided c.as_ref.result c.as_ref.ensures.value)
+      rw (c.as_str.ensures.value, ← c.told_of.ensures.shown, ← c.told_of.ensures.evidence, ← is_some_referred c.args.known.now.decided c.as_ref.result c.as_ref.ensures.value)
       c.in_ok-words.ensures.words;
   unambiguous = c.requires.unambiguous;
+  yet_unambiguous = c.requires.yet_unambiguous;
   texts = c.requires.proved;
   lost = c.requires.lost;
   graph = c.args.found.now.graph;

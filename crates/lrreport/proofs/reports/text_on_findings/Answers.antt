@@ -5,7 +5,7 @@ use Rattle.lrreport.proofs.reports.text_on_findings.Goals as goal
 
 pub returns-in-Json : goal.returns-in-Json
 returns-in-Json g c = record {
-  told = rw (c.in-Json.is, ← c.told_of.ensures.source, ← c.told_of.ensures.evidence) c.json_of_findings.ensures;
+  told = rw (c.in-Json.is, ← c.told_of.ensures.source, ← c.told_of.ensures.shown, ← c.told_of.ensures.evidence) c.json_of_findings.ensures;
 }
 
 pub returns-in-Summary : goal.returns-in-Summary
@@ -15,6 +15,7 @@ returns-in-Summary g c =
       told =
           rw (
             ← told.source,
+            ← told.shown,
             ← told.evidence,
             ← told.steps,
             ← told.hint,
@@ -32,6 +33,7 @@ returns g c =
       told =
           rw (
             ← told.source,
+            ← told.shown,
             ← told.evidence,
             ← told.steps,
             ← told.hint,
