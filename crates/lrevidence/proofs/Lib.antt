@@ -1,6 +1,9 @@
--- sentences with two trees, entries that are listed, what is known of one after the other, values in boxes, and what is decided
+-- sentences with two trees, entries that are listed, what is known of one after the other, values in boxes, what is decided, cells,
+-- and sentences that are lost
 pub mod NumberedTexts
 pub mod ListedEntries
 pub mod EvidenceInTurn
 pub mod Boxes
 pub mod FoundDecisions
+pub mod CellsInTurn
+pub mod FoundLosses

@@ -1,5 +1,8 @@
--- sentences with two trees, which part somewhere, those that are rejected, entries that are decided, and those that a table lists
+-- sentences with two trees, which part somewhere, those that are rejected, sets of cells, entries that are decided, those that a
+-- table lists, and what searches share
 pub mod Ambiguities
 pub mod Losses
+pub mod Cells
 pub mod DecidedEntries
 pub mod Entries
+pub mod Searches

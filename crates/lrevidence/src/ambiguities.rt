@@ -105,19 +105,19 @@ pub(crate) fn ambiguity_at(
     }
 }
 
-/// A text with two trees, by the moves to them, if these part at the conflict.
+/// A text with two trees, by the moves to both, if these part at the conflict.
 pub(crate) fn ambiguity_by(
     alloc: Global,
     reasons: &Reasons<'_>,
     conflict: Conflict<u32>,
     text: &[TIdx<u32>],
-    one: &[Move<u32>],
-    other: &[Move<u32>],
+    moves: (&[Move<u32>], &[Move<u32>]),
 ) -> Result<Option<Ambiguity>, AllocError>
     ensures trees { IfOk result (λ o. IfSome o (HasTwoTrees reasons.now.grammar)) }
     ensures parts { IfOk result (λ o. IfSome o (PartsAt reasons.now.grammar reasons.now.graph
         conflict.state.0 conflict.token.0)) }
 {
+    let (one, other) = moves;
     match reasons.ambiguity_by(conflict, text, one, other)? {
         Some(proved) => {
             let ambiguity = numbered(alloc, &proved);

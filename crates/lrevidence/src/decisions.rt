@@ -5,6 +5,7 @@ ghost use Rattle.lrspec.specs.merging.Graph.{IsGraphOf};
 ghost use Rattle.lrconflicts.specs.StoredMoves.{move_of};
 ghost use Rattle.lrdecided.specs.Entries.{entry_of};
 ghost use Rattle.lrreasons.specs.Numbers.{number_of};
+ghost use Rattle.lrsearches.specs.StoredWays.{AreWaysOf};
 ghost use Rattle.lrshown.specs.Ambiguities.{against};
 ghost use Rattle.lrshown.specs.Steps.{move_by};
 ghost use Rattle.lrevidence.specs.DecidedEntries.{IsDecidedEntry, meeting_of};
@@ -26,7 +27,6 @@ use std::marker::Model;
 pub(crate) struct Decisions<'a> {
     grm: &'a YaccGrammar<u32>,
     graph: &'a StateGraph<u32>,
-    ways: Ways<u32>,
     /// How many nodes a search looks at.
     nodes: usize,
     /// For how many more entries it is searched.
@@ -34,18 +34,14 @@ pub(crate) struct Decisions<'a> {
 }
 
 impl<'a> Model for Decisions<'a> {
-    ghost use Rattle.std.specs.Prelude.{◌≡◌};
     ghost use Rattle.lrspec.specs.merging.Graph.{IsGraphOf};
-    ghost use Rattle.lrsearches.specs.StoredWays.{AreWaysOf};
     ghost use Rattle.lrcontests.specs.Contests.{Contested};
-    ghost use Rattle.lrreasons.specs.Numbers.{number_of};
 
     ghost Value = { Contested };
 
     ghost view = { λ d. record { grammar = d.grm.now; graph = d.graph.now } };
 
-    ghost invariant = { λ d. IsGraphOf d.grm.now d.graph.now
-        × AreWaysOf number_of d.grm.now d.graph.now d.ways };
+    ghost invariant = { λ d. IsGraphOf d.grm.now d.graph.now };
 }
 
 /// What meets the reduction of an entry; None where its number is too large for 32 bits.
@@ -79,22 +75,22 @@ impl<'a> Decisions<'a> {
         graph: &'a StateGraph<u32>,
         entries: usize,
         nodes: usize,
-    ) -> Result<Decisions<'a>, AllocError>
+    ) -> Decisions<'a>
         requires { IsGraphOf grm.now graph.now }
-        ensures grammar { IfOk result (λ d. d.grammar ≡ grm.entry.now) }
-        ensures graph { IfOk result (λ d. d.graph ≡ graph.entry.now) }
+        ensures grammar { result.grammar ≡ grm.entry.now }
+        ensures graph { result.graph ≡ graph.entry.now }
     {
-        Ok(Decisions {
+        Decisions {
             grm,
             graph,
-            ways: Ways::new(grm, graph)?,
             nodes,
             left: Cell::new(entries),
-        })
+        }
     }
 
-    /// How the entry is decided, if that is asked for and found.
-    pub(crate) fn of(&self, entry: Entry, is_asked: bool) -> Result<Option<Decided>, AllocError>
+    /// How the entry is decided, if that is found. These are the ways into the states of the graph.
+    pub(crate) fn of(&self, ways: &Ways<u32>, entry: Entry) -> Result<Option<Decided>, AllocError>
+        requires { AreWaysOf number_of self.now.grammar self.now.graph ways.now }
         ensures { IfOk result (λ o.
             IfSome o (IsDecidedEntry self.now.grammar self.now.graph entry)) }
     {
@@ -102,14 +98,14 @@ impl<'a> Decisions<'a> {
         let Some(meeting) = meeting(entry) else {
             return Ok(None);
         };
-        if left == 0 || !is_asked {
+        if left == 0 {
             return Ok(None);
         }
         if usize::from(meeting.state) >= usize::from(self.graph.all_states_len()) {
             return Ok(None);
         }
         self.left.set(left - 1);
-        let decided = decide(self.grm, self.graph, &self.ways, &meeting, self.nodes)?;
+        let decided = decide(self.grm, self.graph, ways, &meeting, self.nodes)?;
         Ok(decided)
     }
 }

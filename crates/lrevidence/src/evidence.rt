@@ -8,20 +8,21 @@ ghost use Rattle.lrconflicts.specs.Entries.{entry_of, IsListed};
 ghost use Rattle.lrreasons.specs.Numbers.{number_of};
 ghost use Rattle.lrevidence.specs.Entries.{AreListedIn};
 ghost use Rattle.lrevidence.specs.Ambiguities.{HasTwoTrees, IsProved, PartsAtEntry};
-ghost use Rattle.lrevidence.specs.Losses.{IsLostAtEntry};
-ghost use Rattle.lrevidence.specs.DecidedEntries.{IsDecidedOf, IsToldDecided};
+ghost use Rattle.lrevidence.specs.Losses.{IsFoundAtEntry, IsLostAtEntry, ResolvesPairs, StopsAtEntry};
+ghost use Rattle.lrevidence.specs.DecidedEntries.{IsDecidedEntry, IsDecidedOf, IsToldDecided};
+ghost use Rattle.lrevidence.specs.Searches.{AreFor, AreOfOne};
 
 use crate::ambiguities::ambiguity_at;
 use crate::conflicts::conflict_of;
 use crate::decisions::Decisions;
 use crate::examples::Numbering;
 use crate::losses::LossSearch;
-use crate::texts::{Shown, shown_at};
+use crate::searches::Searches;
+use crate::texts::shown_at;
 use lrfindings::{Entry, Findings, is_among};
-use lrgrammar::grammar::YaccGrammar;
 use lrreasons::{Conflict, Reasons};
-use lrshown::Ambiguity;
 pub use lrshown::Evidence;
+use lrshown::{Ambiguity, Decided, Example};
 use lrtable::StateGraph;
 use lryacc::FileGrammar;
 use std::alloc::{AllocError, Global};
@@ -48,23 +49,6 @@ pub struct Effort {
 }
 
 impl Effort {
-    /// What gives the reasons for conflicts.
-    fn reasons<'a>(
-        self,
-        grm: &'a YaccGrammar<u32>,
-        graph: &'a StateGraph<u32>,
-    ) -> Result<Reasons<'a>, AllocError>
-        requires { IsGraphOf grm.now graph.now }
-        ensures grammar { IfOk result (λ r. r.grammar ≡ grm.entry.now) }
-        ensures graph { IfOk result (λ r. r.graph ≡ graph.entry.now) }
-    {
-        if self.examples > 0 || self.losses > 0 {
-            Reasons::new(grm, graph)
-        } else {
-            Reasons::without_examples(grm, graph)
-        }
-    }
-
     /// Whether an entry counts behind the last of those before it.
     fn counts(self, before: &[Evidence], entry: &Entry) -> bool {
         match before.last() {
@@ -85,6 +69,13 @@ struct Wanted {
     has_texts: bool,
 }
 
+impl Wanted {
+    /// Whether something is looked for where there is no such sentence.
+    fn has_more(self) -> bool {
+        self.has_example || self.has_texts
+    }
+}
+
 /// A value in a box, if there is one.
 fn boxed<T: Drop>(alloc: Global, value: Option<T>) -> Result<Option<Box<T>>, AllocError>
     ensures { IfOk result (λ o. option_map (λ b. b.value) o ≡ value) }
@@ -95,43 +86,67 @@ fn boxed<T: Drop>(alloc: Global, value: Option<T>) -> Result<Option<Box<T>>, All
     }
 }
 
+/// After what the conflict is real, by the numbers of the file.
+fn told_example(
+    searches: &Searches<'_>,
+    example: &lrreasons::Example,
+) -> Result<Box<Example>, AllocError> {
+    let alloc = searches.allocator();
+    let told = searches.numbering.example(alloc, example)?;
+    Ok(Box::new(alloc, told)?)
+}
+
+/// How the entry is decided, if that is asked for and found.
+fn decided(
+    searches: &Searches<'_>,
+    entry: Entry,
+    is_asked: bool,
+) -> Result<Option<Decided>, AllocError>
+    requires { AreOfOne searches.now }
+    ensures { IfOk result (λ o. IfSome o
+        (IsDecidedEntry searches.now.decisions.grammar searches.now.decisions.graph entry)) }
+{
+    let (Some(ways), true) = (searches.reasons.ways(), is_asked) else {
+        return Ok(None);
+    };
+    searches.decisions.of(ways, entry)
+}
+
 /// What is known of an entry of which no sentence with two trees was found: what texts show there, and, if that is asked for, after
 /// what it is real.
 fn with_texts(
-    reasons: &Reasons<'_>,
-    numbering: Numbering<'_>,
-    found: &Findings<u32>,
-    search: &LossSearch<'_>,
-    decisions: &Decisions<'_>,
+    searches: &Searches<'_>,
     conflict: Conflict<u32>,
     before: Evidence,
     has_example: bool,
 ) -> Result<Evidence, AllocError>
-    requires listed { IsListed reasons.now.grammar reasons.now.graph (entry_of number_of conflict) }
-    requires contested { AreReductionsContested reasons.now.grammar reasons.now.graph }
-    requires table { IsTableFor found.now.grm found.now.table }
+    requires one { AreOfOne searches.now }
+    requires listed { IsListed searches.now.reasons.grammar searches.now.reasons.graph
+        (entry_of number_of conflict) }
     requires state { conflict.state.0 ≡ before.entry.state }
     requires token { conflict.token.0 ≡ before.entry.token }
     ensures entry { IfOk result (λ e. e.entry ≡ before.entry) }
-    ensures proved { IfOk result (IsProved reasons.now.grammar) }
-    ensures parts { IfOk result (PartsAtEntry reasons.now.grammar reasons.now.graph) }
-    ensures lost { IfOk result (IsLostAtEntry found.now.grm found.now.table) }
-    ensures decided { IfOk result (IsDecidedOf decisions.now.grammar decisions.now.graph) }
+    ensures proved { IfOk result (IsProved searches.now.reasons.grammar) }
+    ensures parts { IfOk result
+        (PartsAtEntry searches.now.reasons.grammar searches.now.reasons.graph) }
+    ensures lost { IfOk result (IsFoundAtEntry searches.now.losses) }
+    ensures decided { IfOk result
+        (IsDecidedOf searches.now.decisions.grammar searches.now.decisions.graph) }
 {
-    let alloc = found.grm.allocator();
-    let example = reasons.example(conflict)?;
-    let shown = shown_at(alloc, reasons, found, search, conflict, &example)?;
+    let alloc = searches.allocator();
+    let example = searches.reasons.example(conflict)?;
+    let shown = shown_at(searches, conflict, &example)?;
     let is_open = shown.ambiguity.is_none();
     let told = if has_example && is_open {
-        Some(numbering.example(alloc, &example)?)
+        Some(told_example(searches, &example)?)
     } else {
         None
     };
-    let decided = decisions.of(before.entry, is_open)?;
+    let decided = decided(searches, before.entry, is_open)?;
     Ok(Evidence {
         entry: before.entry,
         ambiguity: boxed(alloc, shown.ambiguity)?,
-        example: boxed(alloc, told)?,
+        example: told,
         loss: boxed(alloc, shown.loss)?,
         decided,
         is_cut_off: before.is_cut_off && is_open,
@@ -140,22 +155,19 @@ fn with_texts(
 
 /// What is known of an entry.
 fn evidence_of(
-    reasons: &Reasons<'_>,
-    numbering: Numbering<'_>,
-    found: &Findings<u32>,
-    search: &LossSearch<'_>,
-    decisions: &Decisions<'_>,
+    searches: &mut Searches<'_>,
     entry: Entry,
     wanted: Wanted,
 ) -> Result<Evidence, AllocError>
-    requires listed { AreListedIn reasons.now.grammar reasons.now.graph found.now.conflicts.items }
-    requires contested { AreReductionsContested reasons.now.grammar reasons.now.graph }
-    requires table { IsTableFor found.now.grm found.now.table }
+    requires { AreOfOne searches.old }
+    ensures same { searches.new ≡ searches.old }
     ensures entry { IfOk result (λ e. e.entry ≡ entry) }
-    ensures proved { IfOk result (IsProved reasons.now.grammar) }
-    ensures parts { IfOk result (PartsAtEntry reasons.now.grammar reasons.now.graph) }
-    ensures lost { IfOk result (IsLostAtEntry found.now.grm found.now.table) }
-    ensures decided { IfOk result (IsDecidedOf decisions.now.grammar decisions.now.graph) }
+    ensures proved { IfOk result (IsProved searches.new.reasons.grammar) }
+    ensures parts { IfOk result
+        (PartsAtEntry searches.new.reasons.grammar searches.new.reasons.graph) }
+    ensures lost { IfOk result (IsFoundAtEntry searches.new.losses) }
+    ensures decided { IfOk result
+        (IsDecidedOf searches.new.decisions.grammar searches.new.decisions.graph) }
 {
     let mut evidence = Evidence {
         entry,
@@ -168,66 +180,54 @@ fn evidence_of(
     let Some(conflict) = conflict_of(entry) else {
         return Ok(evidence);
     };
-    let alloc = found.grm.allocator();
+    let alloc = searches.allocator();
     if wanted.steps > 0 {
-        match ambiguity_at(alloc, reasons, conflict, wanted.steps)? {
+        match ambiguity_at(alloc, &searches.reasons, conflict, wanted.steps)? {
             Some(ambiguity) => {
                 evidence.ambiguity = Some(Box::new(alloc, ambiguity)?);
                 return Ok(evidence);
             }
-            None => evidence.is_cut_off = reasons.is_used_up(),
+            None => evidence.is_cut_off = searches.reasons.is_used_up(),
         }
     }
-    let listed = found.conflicts.as_slice();
+    if !wanted.has_more() {
+        return Ok(evidence);
+    }
+    let listed = searches.found.conflicts.as_slice();
     if !is_among(listed, &entry) {
         return Ok(evidence);
     }
-    let has_example = wanted.has_example;
+    searches.prepare()?;
     if wanted.has_texts {
-        return with_texts(
-            reasons,
-            numbering,
-            found,
-            search,
-            decisions,
-            conflict,
-            evidence,
-            has_example,
-        );
+        return with_texts(searches, conflict, evidence, wanted.has_example);
     }
-    if has_example {
-        let example = reasons.example(conflict)?;
-        evidence.example = Some(Box::new(alloc, numbering.example(alloc, &example)?)?);
-    }
+    let example = searches.reasons.example(conflict)?;
+    evidence.example = Some(told_example(searches, &example)?);
     Ok(evidence)
 }
 
 /// Adds what is known of entries.
 fn push_evidence(
     list: &mut Vec<Evidence>,
-    reasons: &Reasons<'_>,
-    numbering: Numbering<'_>,
-    found: &Findings<u32>,
-    search: &LossSearch<'_>,
-    decisions: &Decisions<'_>,
+    searches: &mut Searches<'_>,
     entries: &[Entry],
     effort: Effort,
 ) -> Result<(), AllocError>
-    requires listed { AreListedIn reasons.now.grammar reasons.now.graph found.now.conflicts.items }
-    requires contested { AreReductionsContested reasons.now.grammar reasons.now.graph }
-    requires table { IsTableFor found.now.grm found.now.table }
-    requires proved { All (IsProved reasons.now.grammar) list.now.items }
-    requires parts { All (PartsAtEntry reasons.now.grammar reasons.now.graph) list.now.items }
-    requires lost { All (IsLostAtEntry found.now.grm found.now.table) list.now.items }
-    requires decided { All (IsDecidedOf decisions.now.grammar decisions.now.graph) list.now.items }
+    requires one { AreOfOne searches.old }
+    requires proved { All (IsProved searches.old.reasons.grammar) list.old.items }
+    requires parts { All (PartsAtEntry searches.old.reasons.grammar searches.old.reasons.graph)
+        list.old.items }
+    requires lost { All (IsFoundAtEntry searches.old.losses) list.old.items }
+    requires decided { All (IsDecidedOf searches.old.decisions.grammar
+        searches.old.decisions.graph) list.old.items }
     ensures entries { OnOk result (map (λ e. e.entry) list.new.items
         ≡ map (λ e. e.entry) list.old.items ++ entries.now) }
-    ensures proved { OnOk result (All (IsProved reasons.now.grammar) list.new.items) }
-    ensures parts { OnOk result
-        (All (PartsAtEntry reasons.now.grammar reasons.now.graph) list.new.items) }
-    ensures lost { OnOk result (All (IsLostAtEntry found.now.grm found.now.table) list.new.items) }
-    ensures decided { OnOk result
-        (All (IsDecidedOf decisions.now.grammar decisions.now.graph) list.new.items) }
+    ensures proved { OnOk result (All (IsProved searches.old.reasons.grammar) list.new.items) }
+    ensures parts { OnOk result (All
+        (PartsAtEntry searches.old.reasons.grammar searches.old.reasons.graph) list.new.items) }
+    ensures lost { OnOk result (All (IsFoundAtEntry searches.old.losses) list.new.items) }
+    ensures decided { OnOk result (All (IsDecidedOf searches.old.decisions.grammar
+        searches.old.decisions.graph) list.new.items) }
 {
     let (mut told, mut unknown): (usize, usize) = (0, 0);
     for entry in entries {
@@ -238,7 +238,7 @@ fn push_evidence(
             has_example,
             has_texts: effort.steps > 0 && (has_example || unknown < effort.losses),
         };
-        let evidence = evidence_of(reasons, numbering, found, search, decisions, *entry, wanted)?;
+        let evidence = evidence_of(searches, *entry, wanted)?;
         let is_known = evidence.ambiguity.is_some();
         list.push(evidence)?;
         if counts {
@@ -249,6 +249,29 @@ fn push_evidence(
         }
     }
     Ok(())
+}
+
+/// What all searches of a file share.
+fn searches_for<'a>(
+    file: &'a FileGrammar,
+    found: &'a Findings<u32>,
+    graph: &'a StateGraph<u32>,
+    effort: Effort,
+) -> Result<Searches<'a>, AllocError>
+    requires graph { IsGraphOf found.now.grm graph.now }
+    requires table { IsTableFor found.now.grm found.now.table }
+    ensures { IfOk result (AreFor found.entry.now graph.entry.now) }
+{
+    let grm = &found.grm;
+    let reasons = Reasons::without_examples(grm, graph)?;
+    reasons.allow(effort.work);
+    Ok(Searches {
+        found,
+        numbering: Numbering { grm, file },
+        reasons,
+        losses: LossSearch::new(found, graph, effort.work),
+        decisions: Decisions::new(grm, graph, effort.decisions, effort.nodes),
+    })
 }
 
 /// What is known of entries of the findings in a file's grammar, in their order. The error says that memory was refused.
@@ -269,22 +292,19 @@ pub fn evidence_for(
     ensures parts { IfOk result (λ v. MatchOption found.now.graph (v.items ≡ [])
         (λ h. All (PartsAtEntry found.now.grm h) v.items)) }
     ensures lost { IfOk result (λ v. All (IsLostAtEntry found.now.grm found.now.table) v.items) }
+    ensures stops { IfOk result (λ v. MatchOption found.now.graph (v.items ≡ [])
+        (λ h. All (StopsAtEntry found.now.grm h found.now.table) v.items)) }
+    ensures pairs { IfOk result (λ v.
+        All (λ e. IfSome e.loss (λ l. ResolvesPairs found.now)) v.items) }
     ensures decided { IfOk result (λ v.
         All (IsToldDecided found.now.grm found.now.graph) v.items) }
 {
     let (Some(graph), false) = (&found.graph, entries.is_empty()) else {
         return Ok(Vec::new(alloc));
     };
-    let grm = &found.grm;
     let mut list = Vec::with_capacity(alloc, entries.len())?;
-    let reasons = effort.reasons(grm, graph)?;
-    reasons.allow(effort.work);
-    let numbering = Numbering { grm, file };
-    let search = LossSearch::new(alloc, found, graph, effort.work)?;
-    let decisions = Decisions::new(grm, graph, effort.decisions, effort.nodes)?;
-    push_evidence(
-        &mut list, &reasons, numbering, found, &search, &decisions, entries, effort,
-    )?;
+    let mut searches = searches_for(file, found, graph, effort)?;
+    push_evidence(&mut list, &mut searches, entries, effort)?;
     Ok(list)
 }
 

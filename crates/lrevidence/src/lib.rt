@@ -9,6 +9,7 @@ mod evidence;
 mod examples;
 mod losses;
 mod machine;
+mod searches;
 mod texts;
 mod unambiguity;
 

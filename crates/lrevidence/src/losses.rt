@@ -1,65 +1,64 @@
 //! Sentences that the parser rejects.
 
-ghost use Rattle.std.specs.Prelude.{◌≡◌, IsTrue, IfOk, IfSome};
+ghost use Rattle.std.specs.Prelude.{◌≡◌, IsTrue, All, IfOk, IfSome, None, false};
+ghost use Rattle.lrspec.specs.grammars.Grammar as math;
+ghost use Rattle.lrspec.specs.merging.Graph.{edge};
 ghost use Rattle.lrspec.specs.tables.Table.{IsTableFor};
-ghost use Rattle.lrevidence.specs.Losses.{IsLostAt};
+ghost use Rattle.lrevidence.specs.Cells.{HasCell, LacksCell};
+ghost use Rattle.lrevidence.specs.Losses.{IsFoundLoss, cell_of, searched, ResolvesPairs};
 
 use crate::ambiguities::numbers_of;
 use lrconflicts::{Move, Written};
-use lrfindings::{Entry, Findings};
-use lrgrammar::idx::{StIdx, TIdx};
+use lrfindings::{Entry, Findings, Resolved};
+use lrgrammar::idx::Symbol;
 use lrlosses::{Candidate, Find, Losses, Place, check_lost};
 use lrreasons::Conflict;
 use lrshown::{Loss, step_of, steps_of};
 use lrtable::{Action, StateGraph};
 use std::alloc::{AllocError, Global};
 use std::collections::BTreeSet;
+use std::marker::Model;
 
 /// How many pairs of stacks a search for a sentence that the parser rejects looks at.
 const PAIRS: usize = 200;
 
-/// The cells in which precedences resolve something.
-#[derive(Drop)]
-struct ResolvedCells {
-    /// State and token of each.
-    cells: BTreeSet<(usize, usize)>,
-    /// Whether a shift meets several reductions in one of them. Bison tries each reduction by itself against the shift, so its table
-    /// may do something else there.
-    are_crowded: bool,
+/// The cell of an entry: its state and token.
+fn cell(entry: &Entry) -> (usize, usize)
+    ensures { result ≡ cell_of entry.now }
+{
+    (entry.state, entry.token)
 }
 
-impl ResolvedCells {
-    /// Those of what was found.
-    fn new(alloc: Global, found: &Findings<u32>) -> Result<ResolvedCells, AllocError> {
-        let mut resolved = ResolvedCells {
-            cells: BTreeSet::new(alloc),
-            are_crowded: false,
-        };
-        for one in &found.resolved {
-            resolved.add(one.entry)?;
+/// The cells in which precedences resolve something.
+fn cells_of(alloc: Global, resolved: &[Resolved]) -> Result<BTreeSet<(usize, usize)>, AllocError>
+    ensures { IfOk result (λ cells. All (λ r. HasCell cells (cell_of r.entry)) resolved.now) }
+{
+    let mut cells = BTreeSet::new(alloc);
+    for one in resolved {
+        cells.insert(cell(&one.entry))?;
+    }
+    Ok(cells)
+}
+
+/// Whether the cell of an entry is one of these.
+fn has_any(cells: &BTreeSet<(usize, usize)>, entries: &[Entry]) -> bool
+    ensures { result ≡ false → All (λ e. LacksCell cells.now (cell_of e)) entries.now }
+{
+    for entry in entries {
+        if cells.contains(&cell(entry)) {
+            return true;
         }
-        let listed = &found.conflicts;
-        resolved.are_crowded |= listed.iter().any(|entry| resolved.has(*entry));
-        Ok(resolved)
     }
+    false
+}
 
-    /// Adds the cell of an entry.
-    fn add(&mut self, entry: Entry) -> Result<(), AllocError> {
-        let is_new = self.cells.insert((entry.state, entry.token))?;
-        self.are_crowded |= !is_new;
-        Ok(())
-    }
-
-    /// Whether the cell of an entry is one.
-    fn has(&self, entry: Entry) -> bool {
-        self.cells.contains(&(entry.state, entry.token))
-    }
-
-    /// Whether this cell is one. Where it is an error, that is what precedences make of it, by `%nonassoc`.
-    fn has_cell(&self, state: StIdx<u32>, token: TIdx<u32>) -> bool {
-        let cell = (usize::from(state), usize::from(token));
-        self.cells.contains(&cell)
-    }
+/// Whether a shift meets several reductions in a cell in which precedences resolve something: the table lists a conflict there too.
+/// Bison tries each reduction by itself against the shift, so its table may do something else.
+fn are_crowded(alloc: Global, found: &Findings<u32>) -> Result<bool, AllocError>
+    ensures { IfOk result (λ are. are ≡ false → ResolvesPairs found.now) }
+{
+    let cells = cells_of(alloc, found.resolved.as_slice())?;
+    Ok(has_any(&cells, found.conflicts.as_slice()))
 }
 
 /// Whether the table takes the candidate of the conflict.
@@ -74,36 +73,80 @@ fn is_taken(found: &Findings<u32>, conflict: Conflict<u32>, action: Move<u32>) -
 /// What finds sentences that the parser rejects.
 #[derive(Drop)]
 pub(crate) struct LossSearch<'a> {
+    found: &'a Findings<u32>,
+    graph: &'a StateGraph<u32>,
     losses: Losses<'a>,
-    cells: ResolvedCells,
+    /// Whether Bison's table may be another one; None until that is looked at.
+    are_crowded: Option<bool>,
+}
+
+impl<'a> Model for LossSearch<'a> {
+    ghost use Rattle.std.specs.Prelude.{◌≡◌, Some, false};
+    ghost use Rattle.lrspec.specs.tables.Table.{IsTableFor};
+    ghost use Rattle.lrevidence.specs.Losses.{Searched, searched, ResolvesPairs};
+
+    ghost Value = { Searched };
+
+    ghost view = { λ l. searched l.found.now l.graph.now };
+
+    ghost invariant = { λ l. IsTableFor l.found.now.grm l.found.now.table
+        × (l.are_crowded ≡ Some false → ResolvesPairs l.found.now) };
+}
+
+/// Whether the place is at the conflict.
+fn is_at(place: Place<u32>, conflict: Conflict<u32>) -> bool
+    ensures state { IsTrue result → place.state.0 ≡ conflict.state.0 }
+    ensures token { IsTrue result → place.token.0 ≡ conflict.token.0 }
+{
+    place.state == conflict.state && place.token == conflict.token
 }
 
 impl<'a> LossSearch<'a> {
-    /// In the table that was found, with so much work for all searches together.
+    /// In the table that was found, which is one of the graph, with so much work for all searches together.
     pub(crate) fn new(
-        alloc: Global,
         found: &'a Findings<u32>,
         graph: &'a StateGraph<u32>,
         work: usize,
-    ) -> Result<LossSearch<'a>, AllocError>
+    ) -> LossSearch<'a>
         requires { IsTableFor found.now.grm found.now.table }
+        ensures { result ≡ searched found.entry.now graph.entry.now }
     {
         let losses = Losses::new(&found.grm, graph, &found.table);
         losses.allow(work);
-        Ok(LossSearch {
+        LossSearch {
+            found,
+            graph,
             losses,
-            cells: ResolvedCells::new(alloc, found)?,
-        })
+            are_crowded: None,
+        }
+    }
+
+    /// Looks whether Bison's table may be another one, where that isn't known yet: before, nothing is found.
+    pub(crate) fn prepare(&mut self) -> Result<(), AllocError>
+        ensures { self.new ≡ self.old }
+    {
+        if self.are_crowded.is_none() {
+            self.are_crowded = Some(are_crowded(self.found.grm.allocator(), self.found)?);
+        }
+        Ok(())
+    }
+
+    /// Whether precedences make the cell of the place, which is an error, one, by `%nonassoc`: its token could be shifted there.
+    fn has_shift(&self, place: Place<u32>) -> bool
+        ensures { result ≡ false
+            → edge self.now.graph place.state.0 (math.Token place.token.0) ≡ None }
+    {
+        let symbol = Symbol::Token(place.token);
+        self.graph.edge(place.state, symbol).is_some()
     }
 
     /// A text that may be lost at the conflict by this candidate, where one is found.
     pub(crate) fn text_at(
         &self,
-        found: &Findings<u32>,
         conflict: Conflict<u32>,
         action: Move<u32>,
     ) -> Result<Option<Written<u32>>, AllocError> {
-        if self.cells.are_crowded || is_taken(found, conflict, action) {
+        if self.are_crowded != Some(false) || is_taken(self.found, conflict, action) {
             return Ok(None);
         }
         let candidate = Candidate {
@@ -118,48 +161,42 @@ impl<'a> LossSearch<'a> {
         loss.take_apart();
         Ok(Some(text))
     }
-}
 
-/// Whether the place is at the conflict.
-fn is_at(place: Place<u32>, conflict: Conflict<u32>) -> bool
-    ensures state { IsTrue result → place.state.0 ≡ conflict.state.0 }
-    ensures token { IsTrue result → place.token.0 ≡ conflict.token.0 }
-{
-    place.state == conflict.state && place.token == conflict.token
-}
-
-/// The loss at the conflict that a text and the moves of its tree show. None where it is an error by `%nonassoc` that rejects the
-/// text, since that is what this is for; nor where Bison's table may be another one.
-pub(crate) fn loss_by(
-    alloc: Global,
-    found: &Findings<u32>,
-    search: &LossSearch<'_>,
-    conflict: Conflict<u32>,
-    text: &Written<u32>,
-    steps: usize,
-) -> Result<Option<Loss>, AllocError>
-    requires table { IsTableFor found.now.grm found.now.table }
-    ensures { IfOk result (λ o. IfSome o (IsLostAt found.now.grm found.now.table
-        conflict.state.0 conflict.token.0)) }
-{
-    if search.cells.are_crowded {
-        return Ok(None);
+    /// The loss at the conflict that a text and the moves of its tree show. None where it is an error by `%nonassoc` that rejects
+    /// the text, since that is what this is for; nor where Bison's table may be another one.
+    pub(crate) fn loss_by(
+        &self,
+        conflict: Conflict<u32>,
+        text: &Written<u32>,
+        steps: usize,
+    ) -> Result<Option<Loss>, AllocError>
+        ensures { IfOk result (λ o.
+            IfSome o (IsFoundLoss self.now conflict.state.0 conflict.token.0)) }
+    {
+        let Some(false) = self.are_crowded else {
+            return Ok(None);
+        };
+        let (grm, table) = (&self.found.grm, &self.found.table);
+        let alloc = grm.allocator();
+        let (tokens, moves) = (text.tokens.as_slice(), text.moves.as_slice());
+        let Some(loss) = check_lost(alloc, grm, table, tokens, moves, steps)? else {
+            return Ok(None);
+        };
+        let (parting, lost, rejected) = (loss.parting, loss.lost, loss.rejected);
+        loss.take_apart();
+        if !is_at(parting, conflict) {
+            return Ok(None);
+        }
+        if self.has_shift(rejected) {
+            return Ok(None);
+        }
+        Ok(Some(Loss {
+            tokens: numbers_of(alloc, tokens)?,
+            steps: steps_of(alloc, moves)?,
+            made: parting.steps,
+            dot: parting.used,
+            stop: rejected.used,
+            lost: step_of(lost),
+        }))
     }
-    let (tokens, moves) = (text.tokens.as_slice(), text.moves.as_slice());
-    let Some(loss) = check_lost(alloc, &found.grm, &found.table, tokens, moves, steps)? else {
-        return Ok(None);
-    };
-    let (parting, lost, rejected) = (loss.parting, loss.lost, loss.rejected);
-    loss.take_apart();
-    if !is_at(parting, conflict) || search.cells.has_cell(rejected.state, rejected.token) {
-        return Ok(None);
-    }
-    Ok(Some(Loss {
-        tokens: numbers_of(alloc, tokens)?,
-        steps: steps_of(alloc, moves)?,
-        made: parting.steps,
-        dot: parting.used,
-        stop: rejected.used,
-        lost: step_of(lost),
-    }))
 }

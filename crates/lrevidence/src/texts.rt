@@ -1,16 +1,14 @@
 //! What texts show at conflicts: the input of an example with the rest by which a candidate goes on, or what a search finds.
 
 ghost use Rattle.std.specs.Prelude.{◌≡◌, ◌++◌, IfOk, IfSome};
-ghost use Rattle.lrspec.specs.tables.Table.{IsTableFor};
 ghost use Rattle.lrevidence.specs.Ambiguities.{HasTwoTrees, PartsAt};
-ghost use Rattle.lrevidence.specs.Losses.{IsLostAt};
+ghost use Rattle.lrevidence.specs.Losses.{IsFoundLoss};
 
 use crate::ambiguities::ambiguity_by;
-use crate::losses::{LossSearch, loss_by};
 use crate::machine::accepting_moves;
+use crate::searches::Searches;
 use lrconflicts::{Move, Written, other_move};
-use lrfindings::Findings;
-use lrreasons::{Conflict, Outlook, Reasons};
+use lrreasons::{Conflict, Outlook};
 use lrshown::{Ambiguity, Loss};
 use std::alloc::{AllocError, Global};
 
@@ -78,51 +76,49 @@ fn in_order<'m>(
     (one, other)
 }
 
-/// What a text and the moves of its tree show at the conflict. Where the machine accepts it, its own moves lead to a tree of it too.
+/// What a text and the moves of its tree show at the conflict. Where the machine accepts it, its own moves lead to a tree of it too;
+/// or else it may be lost.
 fn shown_by(
-    alloc: Global,
-    reasons: &Reasons<'_>,
-    found: &Findings<u32>,
-    search: &LossSearch<'_>,
+    searches: &Searches<'_>,
     conflict: Conflict<u32>,
     text: &Written<u32>,
 ) -> Result<Shown, AllocError>
-    requires table { IsTableFor found.now.grm found.now.table }
-    ensures trees { IfOk result (λ s. IfSome s.ambiguity (HasTwoTrees reasons.now.grammar)) }
-    ensures parts { IfOk result (λ s. IfSome s.ambiguity (PartsAt reasons.now.grammar
-        reasons.now.graph conflict.state.0 conflict.token.0)) }
-    ensures lost { IfOk result (λ s. IfSome s.loss (IsLostAt found.now.grm found.now.table
-        conflict.state.0 conflict.token.0)) }
+    ensures trees { IfOk result (λ s.
+        IfSome s.ambiguity (HasTwoTrees searches.now.reasons.grammar)) }
+    ensures parts { IfOk result (λ s. IfSome s.ambiguity (PartsAt searches.now.reasons.grammar
+        searches.now.reasons.graph conflict.state.0 conflict.token.0)) }
+    ensures lost { IfOk result (λ s. IfSome s.loss
+        (IsFoundLoss searches.now.losses conflict.state.0 conflict.token.0)) }
 {
+    let (alloc, found) = (searches.allocator(), searches.found);
     let (tokens, moves) = (text.tokens.as_slice(), text.moves.as_slice());
     let steps = steps_for(moves.len());
-    let loss = loss_by(alloc, found, search, conflict, text, steps)?;
-    let ambiguity = match accepting_moves(alloc, &found.grm, &found.table, tokens, steps)? {
-        Some(own) => {
-            let (one, other) = in_order(own.as_slice(), moves);
-            ambiguity_by(alloc, reasons, conflict, tokens, one, other)?
-        }
-        None => None,
+    let Some(own) = accepting_moves(alloc, &found.grm, &found.table, tokens, steps)? else {
+        return Ok(Shown {
+            ambiguity: None,
+            loss: searches.losses.loss_by(conflict, text, steps)?,
+        });
     };
-    Ok(Shown { ambiguity, loss })
+    let both = in_order(own.as_slice(), moves);
+    Ok(Shown {
+        ambiguity: ambiguity_by(alloc, &searches.reasons, conflict, tokens, both)?,
+        loss: None,
+    })
 }
 
 /// What the input shows at the conflict with the rest behind it by which a candidate goes on, where both are known.
 fn shown_behind(
-    alloc: Global,
-    reasons: &Reasons<'_>,
-    found: &Findings<u32>,
-    search: &LossSearch<'_>,
+    searches: &Searches<'_>,
     conflict: Conflict<u32>,
     input: &Written<u32>,
     outlook: Option<&Outlook>,
 ) -> Result<Shown, AllocError>
-    requires table { IsTableFor found.now.grm found.now.table }
-    ensures trees { IfOk result (λ s. IfSome s.ambiguity (HasTwoTrees reasons.now.grammar)) }
-    ensures parts { IfOk result (λ s. IfSome s.ambiguity (PartsAt reasons.now.grammar
-        reasons.now.graph conflict.state.0 conflict.token.0)) }
-    ensures lost { IfOk result (λ s. IfSome s.loss (IsLostAt found.now.grm found.now.table
-        conflict.state.0 conflict.token.0)) }
+    ensures trees { IfOk result (λ s.
+        IfSome s.ambiguity (HasTwoTrees searches.now.reasons.grammar)) }
+    ensures parts { IfOk result (λ s. IfSome s.ambiguity (PartsAt searches.now.reasons.grammar
+        searches.now.reasons.graph conflict.state.0 conflict.token.0)) }
+    ensures lost { IfOk result (λ s. IfSome s.loss
+        (IsFoundLoss searches.now.losses conflict.state.0 conflict.token.0)) }
 {
     let Some(
         Outlook {
@@ -133,32 +129,28 @@ fn shown_behind(
     else {
         return Ok(Shown::NOTHING);
     };
-    let text = joined(alloc, input, rest)?;
-    shown_by(alloc, reasons, found, search, conflict, &text)
+    let text = joined(searches.allocator(), input, rest)?;
+    shown_by(searches, conflict, &text)
 }
 
 /// What the example of a conflict shows: the text of each candidate is tried, since the parser goes on by one of them only.
 fn shown_by_example(
-    alloc: Global,
-    reasons: &Reasons<'_>,
-    found: &Findings<u32>,
-    search: &LossSearch<'_>,
+    searches: &Searches<'_>,
     conflict: Conflict<u32>,
     example: &lrreasons::Example,
 ) -> Result<Shown, AllocError>
-    requires table { IsTableFor found.now.grm found.now.table }
-    ensures trees { IfOk result (λ s. IfSome s.ambiguity (HasTwoTrees reasons.now.grammar)) }
-    ensures parts { IfOk result (λ s. IfSome s.ambiguity (PartsAt reasons.now.grammar
-        reasons.now.graph conflict.state.0 conflict.token.0)) }
-    ensures lost { IfOk result (λ s. IfSome s.loss (IsLostAt found.now.grm found.now.table
-        conflict.state.0 conflict.token.0)) }
+    ensures trees { IfOk result (λ s.
+        IfSome s.ambiguity (HasTwoTrees searches.now.reasons.grammar)) }
+    ensures parts { IfOk result (λ s. IfSome s.ambiguity (PartsAt searches.now.reasons.grammar
+        searches.now.reasons.graph conflict.state.0 conflict.token.0)) }
+    ensures lost { IfOk result (λ s. IfSome s.loss
+        (IsFoundLoss searches.now.losses conflict.state.0 conflict.token.0)) }
 {
     let Some(input) = &example.input else {
         return Ok(Shown::NOTHING);
     };
-    let (one, other) = (example.one.as_ref(), example.other.as_ref());
-    let first = shown_behind(alloc, reasons, found, search, conflict, input, one)?;
-    let second = shown_behind(alloc, reasons, found, search, conflict, input, other)?;
+    let first = shown_behind(searches, conflict, input, example.one.as_ref())?;
+    let second = shown_behind(searches, conflict, input, example.other.as_ref())?;
     Ok(Shown {
         ambiguity: first.ambiguity.or(second.ambiguity),
         loss: first.loss.or(second.loss),
@@ -167,57 +159,43 @@ fn shown_by_example(
 
 /// What a text shows that a search finds for the candidate.
 fn shown_by_search(
-    alloc: Global,
-    reasons: &Reasons<'_>,
-    found: &Findings<u32>,
-    search: &LossSearch<'_>,
+    searches: &Searches<'_>,
     conflict: Conflict<u32>,
     action: Move<u32>,
 ) -> Result<Shown, AllocError>
-    requires table { IsTableFor found.now.grm found.now.table }
-    ensures trees { IfOk result (λ s. IfSome s.ambiguity (HasTwoTrees reasons.now.grammar)) }
-    ensures parts { IfOk result (λ s. IfSome s.ambiguity (PartsAt reasons.now.grammar
-        reasons.now.graph conflict.state.0 conflict.token.0)) }
-    ensures lost { IfOk result (λ s. IfSome s.loss (IsLostAt found.now.grm found.now.table
-        conflict.state.0 conflict.token.0)) }
+    ensures trees { IfOk result (λ s.
+        IfSome s.ambiguity (HasTwoTrees searches.now.reasons.grammar)) }
+    ensures parts { IfOk result (λ s. IfSome s.ambiguity (PartsAt searches.now.reasons.grammar
+        searches.now.reasons.graph conflict.state.0 conflict.token.0)) }
+    ensures lost { IfOk result (λ s. IfSome s.loss
+        (IsFoundLoss searches.now.losses conflict.state.0 conflict.token.0)) }
 {
-    match search.text_at(found, conflict, action)? {
-        Some(text) => shown_by(alloc, reasons, found, search, conflict, &text),
+    match searches.losses.text_at(conflict, action)? {
+        Some(text) => shown_by(searches, conflict, &text),
         None => Ok(Shown::NOTHING),
     }
 }
 
 /// What is shown at the conflict: by its example, or else by what a search finds for either of its candidates.
 pub(crate) fn shown_at(
-    alloc: Global,
-    reasons: &Reasons<'_>,
-    found: &Findings<u32>,
-    search: &LossSearch<'_>,
+    searches: &Searches<'_>,
     conflict: Conflict<u32>,
     example: &lrreasons::Example,
 ) -> Result<Shown, AllocError>
-    requires table { IsTableFor found.now.grm found.now.table }
-    ensures trees { IfOk result (λ s. IfSome s.ambiguity (HasTwoTrees reasons.now.grammar)) }
-    ensures parts { IfOk result (λ s. IfSome s.ambiguity (PartsAt reasons.now.grammar
-        reasons.now.graph conflict.state.0 conflict.token.0)) }
-    ensures lost { IfOk result (λ s. IfSome s.loss (IsLostAt found.now.grm found.now.table
-        conflict.state.0 conflict.token.0)) }
+    ensures trees { IfOk result (λ s.
+        IfSome s.ambiguity (HasTwoTrees searches.now.reasons.grammar)) }
+    ensures parts { IfOk result (λ s. IfSome s.ambiguity (PartsAt searches.now.reasons.grammar
+        searches.now.reasons.graph conflict.state.0 conflict.token.0)) }
+    ensures lost { IfOk result (λ s. IfSome s.loss
+        (IsFoundLoss searches.now.losses conflict.state.0 conflict.token.0)) }
 {
-    let shown = shown_by_example(alloc, reasons, found, search, conflict, example)?;
+    let shown = shown_by_example(searches, conflict, example)?;
     if shown.is_something() {
         return Ok(shown);
     }
-    let reduction = Move::Reduce(conflict.production);
-    let shown = shown_by_search(alloc, reasons, found, search, conflict, reduction)?;
+    let shown = shown_by_search(searches, conflict, Move::Reduce(conflict.production))?;
     if shown.is_something() {
         return Ok(shown);
     }
-    shown_by_search(
-        alloc,
-        reasons,
-        found,
-        search,
-        conflict,
-        other_move(&conflict),
-    )
+    shown_by_search(searches, conflict, other_move(&conflict))
 }

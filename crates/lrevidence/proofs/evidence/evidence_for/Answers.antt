@@ -1,15 +1,33 @@
+use Rattle.std.proofs.Common.{refl}
+use Rattle.lrevidence.proofs.FoundLosses.{are_lost, stop_so, are_apart}
 use Rattle.lrevidence.proofs.evidence.evidence_for.Goals as goal
 
-pub push_evidence-requires-clause-listed : goal.push_evidence-requires-clause-listed
-push_evidence-requires-clause-listed c =
-    rw (c.in_ok-reasons.ensures.grammar, c.in_ok-reasons.ensures.graph) (rw c.in-Some-false.is-0 at c.requires.listed)
+pub push_evidence-requires-clause-one : goal.push_evidence-requires-clause-one
+push_evidence-requires-clause-one c =
+    let made = c.in_ok-searches.ensures in
+    record {
+      listed = rw (made.grammar, made.graph, made.found) (rw c.in-Some-false.is-0 at c.requires.listed);
+      contested = rw (made.grammar, made.graph) (rw c.in-Some-false.is-0 at c.requires.contested);
+      grammar = rw (made.decided, made.grammar) refl;
+      graph = rw (made.in_graph, made.graph) refl;
+    }
 
-pub push_evidence-requires-clause-contested : goal.push_evidence-requires-clause-contested
-push_evidence-requires-clause-contested c = rw (c.in_ok-reasons.ensures.grammar, c.in_ok-reasons.ensures.graph) (rw c.in-Some-false.is-0 at c.requires.contested)
+pub returns-clause-proved : goal.returns-clause-proved
+returns-clause-proved c = rw c.in_ok-searches.ensures.grammar at c.in_ok-push_evidence.ensures.proved
+
+pub returns-clause-parts : goal.returns-clause-parts
+returns-clause-parts c =
+    rw c.in-Some-false.is-0 (rw (c.in_ok-searches.ensures.grammar, c.in_ok-searches.ensures.graph) at c.in_ok-push_evidence.ensures.parts)
+
+pub returns-clause-lost : goal.returns-clause-lost
+returns-clause-lost c = are_lost _ _ (rw c.in_ok-searches.ensures.lost at c.in_ok-push_evidence.ensures.lost)
+
+pub returns-clause-stops : goal.returns-clause-stops
+returns-clause-stops c = rw c.in-Some-false.is-0 (stop_so _ _ (rw c.in_ok-searches.ensures.lost at c.in_ok-push_evidence.ensures.lost))
+
+pub returns-clause-pairs : goal.returns-clause-pairs
+returns-clause-pairs c = are_apart _ _ (rw c.in_ok-searches.ensures.lost at c.in_ok-push_evidence.ensures.lost)
 
 pub returns-clause-decided : goal.returns-clause-decided
 returns-clause-decided c =
-    rw c.in-Some-false.is-0 (rw (c.in_ok-decisions.ensures.grammar, c.in_ok-decisions.ensures.graph) at c.in_ok-push_evidence.ensures.decided)
-
-pub returns-clause-proved : goal.returns-clause-proved
-returns-clause-proved c = rw c.in_ok-reasons.ensures.grammar at c.in_ok-push_evidence.ensures.proved
+    rw c.in-Some-false.is-0 (rw (c.in_ok-searches.ensures.decided, c.in_ok-searches.ensures.in_graph) at c.in_ok-push_evidence.ensures.decided)

@@ -1,15 +1,17 @@
--- those so far
+-- those so far, and the searches, which stay of the same
 use Rattle.std.proofs.Common.{◌≡◌, ◌++◌, map, take}
 use Rattle.std.specs.Prelude.{All}
 use Rattle.lrevidence.specs.Ambiguities.{IsProved, PartsAtEntry}
-use Rattle.lrevidence.specs.Losses.{IsLostAtEntry}
+use Rattle.lrevidence.specs.Losses.{IsFoundAtEntry}
 use Rattle.lrevidence.specs.DecidedEntries.{IsDecidedOf}
 use Rattle.lrevidence.proofs.evidence.push_evidence.Given as goal
 
 abbrev pub invariant-loop-entry : goal.invariant-loop-entry
 invariant-loop-entry l =
+    let s = l.initial.searches in
     (map (λ e. e.entry) l.list.items ≡ map (λ e. e.entry) l.initial.list.items ++ take l.entry-index l.entries)
-    × All (IsProved l.reasons.grammar) l.list.items
-    × All (PartsAtEntry l.reasons.grammar l.reasons.graph) l.list.items
-    × All (IsLostAtEntry l.found.grm l.found.table) l.list.items
-    × All (IsDecidedOf l.decisions.grammar l.decisions.graph) l.list.items
+    × All (IsProved s.reasons.grammar) l.list.items
+    × All (PartsAtEntry s.reasons.grammar s.reasons.graph) l.list.items
+    × All (IsFoundAtEntry s.losses) l.list.items
+    × All (IsDecidedOf s.decisions.grammar s.decisions.graph) l.list.items
+    × (l.searches ≡ s)

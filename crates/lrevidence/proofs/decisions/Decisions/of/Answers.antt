@@ -3,6 +3,9 @@ use Rattle.lrreasons.specs.Numbers.{number_of}
 use Rattle.lrevidence.proofs.FoundDecisions.{found_so}
 use Rattle.lrevidence.proofs.decisions.Decisions.of.Goals as goal
 
+pub decide-requires-clause-ways : goal.decide-requires-clause-ways
+decide-requires-clause-ways c = rw (← c.self.view_is) at c.requires
+
 pub returns : goal.returns
 returns c =
     rw (← c.self.view_is)

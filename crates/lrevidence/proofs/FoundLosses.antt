@@ -1,0 +1,35 @@
+-- what holds of each sentence that is found to be lost
+use Rattle.std.proofs.Common.{◌≡◌, ℕ, Bool, false, List, Option, None, Some}
+use Rattle.std.specs.Prelude.{All, IfSome, is_some, slice_index_or}
+use Rattle.std.specs.Option.{option_map}
+use Rattle.lrshown.specs.declared.evidence.Evidence.{Evidence}
+use Rattle.lrevidence.specs.Losses.{Searched, IsLostAt, IsLostAtEntry, IsFoundLoss, IsFoundAtEntry, StopsWithoutShift, StopsAtEntry, AreApart}
+
+-- what follows for a value follows for one that there may be
+some_so : {T : Type 0} (P Q : T → Type 0) (o : Option T) → ((x : T) → P x → Q x) → IfSome o P → IfSome o Q
+some_so P Q None f h = tt
+some_so P Q (Some x) f h = f x h
+
+-- without an image there is no value
+pub no_image : {A B : Type 0} (f : A → B) (o : Option A) (e : Option B) → option_map f o ≡ e → is_some o ≡ false → e ≡ None
+no_image f None e image none = cc
+no_image f (Some a) e image none = absurd (cc)
+
+module _ (x : Searched) (es : List Evidence) (found : All (IsFoundAtEntry x) es) where
+  pub are_lost : All (IsLostAtEntry x.grammar x.table) es
+  are_lost = λ k d l.
+      let e = slice_index_or es k d in
+      some_so (λ b. IsFoundLoss x e.entry.state e.entry.token b.value) (λ b. IsLostAt x.grammar x.table e.entry.state e.entry.token b.value)
+      e.loss (λ b known. known.lost) (found k d l)
+
+  pub stop_so : All (StopsAtEntry x.grammar x.graph x.table) es
+  stop_so = λ k d l.
+      let e = slice_index_or es k d in
+      some_so (λ b. IsFoundLoss x e.entry.state e.entry.token b.value) (λ b. StopsWithoutShift x.grammar x.graph x.table b.value)
+      e.loss (λ b known. known.stops) (found k d l)
+
+  pub are_apart : All (λ e. IfSome e.loss (λ b. AreApart x.resolved x.listed)) es
+  are_apart = λ k d l.
+      let e = slice_index_or es k d in
+      some_so (λ b. IsFoundLoss x e.entry.state e.entry.token b.value) (λ b. AreApart x.resolved x.listed)
+      e.loss (λ b known. known.apart) (found k d l)
