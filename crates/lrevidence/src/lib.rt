@@ -16,7 +16,7 @@ mod unambiguity;
 pub use crate::evidence::{Effort, Evidence, evidence_for, find_ambiguity};
 pub use crate::unambiguity::shows_unambiguous;
 pub use lrshown::{
-    Ambiguity, Decided, Example, Loss, Node, Outlook, Step, Tree, TwoTrees, Visit, body_of,
-    candidates_of, list_of, name_of_rule, names_of, names_of_tokens, node_name, rule_name,
-    start_of, symbol_name, text_of, token_name, tree_words,
+    Ambiguity, Decided, Example, Loss, Node, Outlook, ShownTree, Step, Tree, TwoTrees, Visit,
+    body_of, candidates_of, list_of, name_of_rule, names_of, names_of_tokens, node_name, rule_name,
+    shown_trees, start_of, symbol_name, text_of, token_name, tree_words,
 };

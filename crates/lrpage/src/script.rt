@@ -48,7 +48,7 @@ function addBody(parent, { body }, dot) {
 function treeOf(steps) {
   const open = [];
   let leaves = 0;
-  for (const step of steps) {
+  for (const [place, step] of steps.entries()) {
     if (step === 's') {
       open.push({ from: leaves, to: ++leaves, below: [], height: 0 });
       continue;
@@ -58,7 +58,7 @@ function treeOf(steps) {
     below.forEach((node, k) => { node.symbol = body[k]; });
     const from = below.length ? below[0].from : leaves;
     const height = 1 + below.reduce((most, node) => Math.max(most, node.height), 0);
-    open.push({ symbol: rule, production: step, from, to: leaves, below, height });
+    open.push({ symbol: rule, production: step, from, to: leaves, below, height, place });
   }
   return open.pop();
 }
@@ -98,11 +98,27 @@ function markDiffering(one, other) {
   }
 }
 
-/* Says how wide each node is, by itself and with what is below it. */
+/* Puts a node in place of the nodes between the first and the last of a chain, in which each stands alone below the one above it;
+   but not of the one by which the tree parts from the other. */
+function foldChains(nodes, parting) {
+  const isAbove = node => node.below.length === 1 && node.below[0].height > 0;
+  for (const node of nodes) {
+    const chain = [];
+    let last = node;
+    while (isAbove(last) && isAbove(last.below[0]) && last.below[0].place !== parting) chain.push(last = last.below[0]);
+    if (chain.length < 2 || node.isLeftOut) continue;
+    for (const link of chain) link.isLeftOut = true;
+    const title = chain.map(link => nameOf(link.symbol)).join(' '), differs = chain.some(link => link.differs);
+    node.below = [{ ...node, name: '\u2026', above: node, chain, title, differs, below: last.below }];
+  }
+}
+
+/* Says how many nodes stand below each other at the most, and how wide each is, by itself and with what is below it. */
 function measure(nodes) {
   pen.font = FONT;
   for (const node of nodes.slice().reverse()) {
-    node.name = nameOf(node.symbol);
+    if (node.height) node.height = 1 + node.below.reduce((most, child) => Math.max(most, child.height), 0);
+    node.name ??= nameOf(node.symbol);
     node.box = pen.measureText(node.name).width + 16;
     node.row = node.below.reduce((sum, child) => sum + child.width + GAP, -GAP);
     node.width = Math.max(node.box, node.row);
@@ -149,19 +165,26 @@ function svg(parent, name, attributes, text) {
   return parent.appendChild(made);
 }
 
-/* Draws a tree, with its dot before that leaf. */
-function drawTree(figure, root, nodes, dot, isWide) {
+/* Draws a tree, with its dot before that leaf; a node for a chain opens that, and has all drawn again. */
+function drawTree(figure, root, nodes, dot, isWide, redraw) {
   const { width, height } = (isWide ? arrangeRows : arrange)(root, nodes);
   const drawing = svg(figure, 'svg', { width, height, viewBox: `0 0 ${width} ${height}` });
   drawing.style.minWidth = (isWide ? 1 : 0.7) * width + 'px';
   for (const node of nodes) {
     for (const child of node.below) svg(drawing, 'path', { d: child.line, class: node.differs ? 'differs' : '' });
   }
-  for (const { symbol, differs, name, x, y, box } of nodes) {
-    const link = svg(drawing, 'a', { href: '#' + idOf(symbol), class: differs ? 'differs' : '' });
+  for (const { symbol, differs, name, x, y, box, above, chain, title } of nodes) {
+    const link = svg(drawing, 'a', { href: chain ? '#' : '#' + idOf(symbol), class: differs ? 'differs' : '' });
     const rect = { x: x - box / 2, y: y - BOX / 2, width: box, height: BOX, rx: 5 };
     svg(link, 'rect', { ...rect, class: symbol % 2 ? '' : 'token' });
     svg(link, 'text', { x, y: y + 4.5 }, name);
+    if (!chain) continue;
+    svg(link, 'title', {}, title);
+    link.addEventListener('click', event => {
+      event.preventDefault();
+      above.below = [chain[0]];
+      redraw();
+    });
   }
   const leaves = nodes.filter(node => node.height === 0), next = leaves[dot];
   const x = next ? next.left - GAP / 2 : width - 1, y = next ? next.y - BOX / 2 - 2 : height - 1;
@@ -174,11 +197,17 @@ function drawTrees(trees) {
   const dot = before.filter(step => step === 's').length;
   const figures = [...trees.querySelectorAll('figure')];
   const roots = figures.map(figure => innerOf(treeOf(before.concat(figure.dataset.steps.split(' ')))));
-  const nodes = roots.map(nodesOf);
-  if (nodes.length > 1) markDiffering(...nodes);
-  nodes.forEach(measure);
-  const isWide = roots.some(root => root.width > WIDEST);
-  figures.forEach((figure, k) => drawTree(figure, roots[k], nodes[k], dot - roots[k].from, isWide));
+  const whole = roots.map(nodesOf);
+  if (whole.length > 1) markDiffering(...whole);
+  whole.forEach(nodes => foldChains(nodes, before.length));
+  const redraw = () => {
+    trees.querySelectorAll('svg').forEach(drawing => drawing.remove());
+    const nodes = roots.map(nodesOf);
+    nodes.forEach(measure);
+    const isWide = roots.some(root => root.width > WIDEST);
+    figures.forEach((figure, k) => drawTree(figure, roots[k], nodes[k], dot - roots[k].from, isWide, redraw));
+  };
+  redraw();
 }
 
 /* What fills a part of the grammar or a state, until that is done: when it comes into sight, or is looked for. */

@@ -19,9 +19,6 @@ use lrtable::Action;
 use lrwriter::Text;
 use std::alloc::{AllocError, Global};
 
-/// How many productions are told that go on by a shift.
-const GOING_ON: usize = 3;
-
 /// What is said of what the table does.
 pub(crate) const DONE: &str = "; the table does this";
 
@@ -57,20 +54,6 @@ pub(crate) struct Checked<'a, T: IndexStorage> {
     pub(crate) found: &'a Findings<T>,
 }
 
-/// What is said where a state goes on by a shift: at the first such place, what follows from that too.
-fn shift_label(
-    alloc: Global,
-    is_first: bool,
-    is_start: bool,
-    so: &str,
-) -> Result<String, AllocError> {
-    match (is_first, is_start) {
-        (true, false) => format!(in alloc; "shift: or go on{so}"),
-        (true, true) => format!(in alloc; "shift: or the input ends here{so}"),
-        _ => String::from_str(alloc, "or go on here"),
-    }
-}
-
 /// What is said of what the table does, where it is the same for all entries: behind their production, and behind what that meets.
 fn said_of(choice: Option<Choice>, is_shift: bool) -> (&'static str, &'static str) {
     match choice {
@@ -99,55 +82,6 @@ impl Told<'_> {
         let column = indent.saturating_add(kinds.len()).saturating_add(4);
         names.lay_out(text, self.layout(), column, indent);
         text.add_char('\n');
-    }
-
-    /// The place of a production by which a state can reduce, and what follows from that.
-    pub(crate) fn reduction_mark(
-        &self,
-        alloc: Global,
-        production: usize,
-        so: &str,
-    ) -> Result<Mark, AllocError> {
-        let rule = self.rule_name(production);
-        Ok(Mark {
-            span: self.place(production),
-            mark: '^',
-            style: Style::Red,
-            label: format!(in alloc; "reduce: {rule} can end here{so}")?,
-        })
-    }
-
-    /// The place of another production by which it could reduce, and what follows from that.
-    fn other_mark(&self, alloc: Global, production: usize, so: &str) -> Result<Mark, AllocError> {
-        let rule = self.rule_name(production);
-        Ok(Mark {
-            span: self.place(production),
-            mark: '-',
-            style: Style::Blue,
-            label: format!(in alloc; "reduce: or {rule}{so}")?,
-        })
-    }
-
-    /// Adds the places of the first of the items by which a state goes on, and what follows from that.
-    fn push_items(
-        &self,
-        marks: &mut Vec<Mark>,
-        items: &[(usize, usize)],
-        so: &str,
-    ) -> Result<(), AllocError> {
-        let alloc = *marks.allocator();
-        let mut is_first = true;
-        for (production, dot) in items.iter().take(GOING_ON) {
-            let is_start = self.is_start(*production);
-            marks.push(Mark {
-                span: self.symbol_place(*production, *dot),
-                mark: '-',
-                style: Style::Blue,
-                label: shift_label(alloc, is_first, is_start, so)?,
-            })?;
-            is_first = false;
-        }
-        Ok(())
     }
 }
 
@@ -221,7 +155,7 @@ impl<T: IndexStorage> Checked<'_, T> {
         let (reduced, met) = said_of(self.choice_of(entries), first.other.is_none());
         marks.push(self.told.reduction_mark(alloc, first.production, reduced)?)?;
         match first.other {
-            Some(other) => marks.push(self.told.other_mark(alloc, other, met)?)?,
+            Some(other) => marks.push(self.told.other_mark(alloc, first.production, other, met)?)?,
             None => self.push_shifts(&mut marks, entries, met)?,
         }
         Ok(marks)

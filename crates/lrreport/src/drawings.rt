@@ -1,7 +1,7 @@
 //! Drawings of trees, a line a node.
 
 use lrdiagnostics::add_shown;
-use lrevidence::{Tree, Visit, node_name};
+use lrevidence::{ShownTree, Visit, node_name};
 use lrwriter::Text;
 use lryacc::FileGrammar;
 use std::alloc::AllocError;
@@ -15,6 +15,8 @@ struct Pen {
     end: &'static str,
     /// Before what stands below a node that has others behind it.
     past: &'static str,
+    /// Where nodes are left out.
+    cut: &'static str,
 }
 
 /// Box drawing characters.
@@ -22,6 +24,7 @@ const BOXES: Pen = Pen {
     branch: "├─ ",
     end: "└─ ",
     past: "│  ",
+    cut: "… ",
 };
 
 /// Characters of ASCII.
@@ -29,13 +32,14 @@ const PLAIN: Pen = Pen {
     branch: "|- ",
     end: "`- ",
     past: "|  ",
+    cut: "... ",
 };
 
 /// A tree that is drawn.
 #[derive(Clone, Copy)]
 struct Drawing<'a> {
     file: &'a FileGrammar,
-    tree: &'a Tree,
+    shown: &'a ShownTree,
     pen: Pen,
     indent: usize,
 }
@@ -49,7 +53,7 @@ impl Drawing<'_> {
             text.add(if *is_last { "   " } else { self.pen.past });
         }
         if !above.is_empty() {
-            let is_last = self.tree.is_last(number);
+            let is_last = self.shown.tree.is_last(number);
             text.add(if is_last {
                 self.pen.end
             } else {
@@ -58,40 +62,53 @@ impl Drawing<'_> {
         }
     }
 
-    /// Adds the line of a node below such nodes.
+    /// Adds the line of a node below such nodes. One above which others are left out stands right before the one above these.
     fn push_line(&self, text: &mut Text, number: usize, above: &[bool], has_dot: bool) {
         self.push_branch(text, number, above);
         if has_dot {
             text.add(". ");
         }
-        add_shown(text, node_name(self.file, self.tree, number));
+        if self.shown.is_cut(number.saturating_add(1)) {
+            text.add(self.pen.cut);
+        }
+        add_shown(text, node_name(self.file, &self.shown.tree, number));
         text.add_char('\n');
     }
+}
+
+/// What stands in brackets where nodes are left out.
+pub(crate) fn cut_mark(is_plain: bool) -> &'static str {
+    pen_for(is_plain).cut
+}
+
+/// What trees are drawn with.
+fn pen_for(is_plain: bool) -> Pen {
+    if is_plain { PLAIN } else { BOXES }
 }
 
 /// Adds the drawing of a tree behind so many blanks, with the dot before that leaf.
 pub(crate) fn push_drawing(
     text: &mut Text,
     file: &FileGrammar,
-    tree: &Tree,
+    shown: &ShownTree,
     dot: usize,
     indent: usize,
     is_plain: bool,
 ) -> Result<(), AllocError> {
     let drawing = Drawing {
         file,
-        tree,
-        pen: if is_plain { PLAIN } else { BOXES },
+        shown,
+        pen: pen_for(is_plain),
         indent,
     };
-    let visits = tree.visits(text.allocator())?;
+    let visits = shown.tree.visits(text.allocator())?;
     let mut above = Vec::new(text.allocator());
     let mut leaves: usize = 0;
     for visit in &visits {
         match visit {
             Visit::Enter(number) => {
                 drawing.push_line(text, *number, above.as_slice(), false);
-                above.push(tree.is_last(*number))?;
+                above.push(shown.tree.is_last(*number))?;
             }
             Visit::Leaf(number) => {
                 drawing.push_line(text, *number, above.as_slice(), leaves == dot);

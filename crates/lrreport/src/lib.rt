@@ -12,6 +12,7 @@ mod json_parts;
 mod json_reasons;
 mod json_texts;
 mod levels;
+mod marks;
 mod notes;
 mod options;
 mod pages;

@@ -8,7 +8,7 @@ ghost use Rattle.lrevidence.specs.DecidedEntries.{IsToldDecided};
 ghost use Rattle.lrshown.specs.DecidedEntries.{is_decided, tokens_of};
 
 use crate::conflicts::{Checked, are_decided, tokens_of_each};
-use crate::drawings::push_drawing;
+use crate::drawings::{cut_mark, push_drawing};
 use crate::levels::Trials;
 use crate::texts::{
     Label, add_list, add_loss, add_names, add_shortened, add_start, add_text, add_tree_words,
@@ -19,8 +19,8 @@ use crate::verdicts::own_sentences;
 use crate::words::Words;
 use lrdiagnostics::{Layout, Mark};
 use lrevidence::{
-    Ambiguity, Evidence, Example, Loss, Outlook, Step, Tree, TwoTrees, candidates_of, list_of,
-    names_of_tokens, start_of, text_of,
+    Ambiguity, Evidence, Example, Loss, Outlook, ShownTree, Step, TwoTrees, candidates_of, list_of,
+    names_of_tokens, shown_trees, start_of, text_of,
 };
 use lrfindings::Entry;
 use lrgrammar::idx::IndexStorage;
@@ -111,25 +111,19 @@ impl Told<'_> {
         text: &mut Text,
         notes: Notes,
         label: Label<'_>,
-        tree: &Tree,
+        shown: &ShownTree,
         dot: usize,
     ) -> Result<(), AllocError> {
+        let is_plain = self.options.lines.is_plain;
         if self.options.detail.trees {
             text.add_times(' ', notes.indent.saturating_add(2));
             label.push(text);
             text.add_char('\n');
             let indent = notes.indent.saturating_add(6);
-            return push_drawing(
-                text,
-                self.file,
-                tree,
-                dot,
-                indent,
-                self.options.lines.is_plain,
-            );
+            return push_drawing(text, self.file, shown, dot, indent, is_plain);
         }
         let mut words = Words::new(text.allocator());
-        add_tree_words(&mut words, self.file, tree, dot)?;
+        add_tree_words(&mut words, self.file, shown, cut_mark(is_plain), dot)?;
         notes.push_labelled(text, label, &words);
         Ok(())
     }
@@ -143,7 +137,7 @@ impl Told<'_> {
     ) -> Result<(), AllocError> {
         let (candidates, dot) = (trees.candidates(), trees.dot());
         let (label, other_label) = labels(self.file, candidates, ":");
-        let (one, other) = Tree::both(text.allocator(), self.file, trees)?;
+        let (one, other) = shown_trees(text.allocator(), self.file, trees)?;
         let (one, other) = ((label, &one), (other_label, &other));
         let (first, second) = if candidates.1 == Step::Shift {
             (other, one)

@@ -2,7 +2,7 @@
 
 use crate::words::Words;
 use lrevidence::{
-    Ambiguity, Loss, Node, Step, Tree, name_of_rule, names_of, names_of_tokens, symbol_name,
+    Ambiguity, Loss, Node, ShownTree, Step, Tree, name_of_rule, names_of, names_of_tokens, symbol_name,
     text_of, token_name, tree_words,
 };
 use lrgrammar::grammar::PartSymbol;
@@ -152,14 +152,16 @@ pub(crate) fn add_list(
     Ok(())
 }
 
-/// Adds the words of a tree in brackets, as `E(E(E '+' E) . '+' E)`, with a dot before that leaf.
+/// Adds the words of a tree in brackets, as `E(E(E '+' E) . '+' E)`, with a dot before that leaf, and the mark where nodes are left
+/// out.
 pub(crate) fn add_tree_words(
     words: &mut Words,
     file: &FileGrammar,
-    tree: &Tree,
+    shown: &ShownTree,
+    mark: &str,
     dot: usize,
 ) -> Result<(), AllocError> {
-    for word in &tree_words(words.allocator(), file, tree, dot)? {
+    for word in &tree_words(words.allocator(), file, shown, mark, dot)? {
         words.add(word.as_str());
     }
     Ok(())

@@ -14,25 +14,25 @@ use Rattle.lrshown.specs.declared.trees.Node.{Node}
 use Rattle.lrshown.specs.declared.trees.Node.TheVariants as code
 use Rattle.lrshown.specs.DrawnTrees.{Drawn, Row, Leaf, Over, Bare, And, nodes, row_nodes, size}
 use Rattle.lrshown.specs.StoredTrees.{with_first, entered, row_entered}
-use Rattle.lrshown.specs.BracketTexts.{Word, symbol_text, production_text, with_front, with_closing, tree_words, row_words, with_dot}
-use Rattle.lrshown.specs.BracketSteps.{node_text, name_at, fronts, closed, with_word, with_node}
+use Rattle.lrshown.specs.BracketTexts.{Word, symbol_text, front_text, cut_text, with_front, with_closing, tree_words, row_words, with_dot}
+use Rattle.lrshown.specs.BracketSteps.{node_text, front_at, fronts, closed, with_word, with_node}
 use Rattle.lrshown.proofs.Rows.{row_entered-length, Starts, starts-append, starts-row, nodes-some}
 
 -- words with nodes, before each of which what is listed is entered
-abbrev pub words_by : FileGrammar → List Node → List Word → List Node → List (List ℕ) → List Word
-words_by file all ws [] es = ws
-words_by file all ws (x ∷ xs) es = words_by file all (with_node file all ws x (get_or es 0 [])) xs (drop 1 es)
+abbrev pub words_by : FileGrammar → List Node → List ℕ → List Bool → List Word → List Node → List (List ℕ) → List Word
+words_by file all mark cuts ws [] es = ws
+words_by file all mark cuts ws (x ∷ xs) es = words_by file all mark cuts (with_node file all mark cuts ws x (get_or es 0 [])) xs (drop 1 es)
 
-words_by-cons : (file : FileGrammar) (all : List Node) (ws : List Word) (x : Node) (xs : List Node) (es : List (List ℕ))
-    → words_by file all ws (x ∷ xs) es ≡ words_by file all (with_node file all ws x (get_or es 0 [])) xs (drop 1 es)
-words_by-cons file all ws x xs es = refl
+words_by-cons : (file : FileGrammar) (all : List Node) (mark : List ℕ) (cuts : List Bool) (ws : List Word) (x : Node) (xs : List Node) (es : List (List ℕ))
+    → words_by file all mark cuts ws (x ∷ xs) es ≡ words_by file all mark cuts (with_node file all mark cuts ws x (get_or es 0 [])) xs (drop 1 es)
+words_by-cons file all mark cuts ws x xs es = refl
 
-pub words_by-next : (file : FileGrammar) (all : List Node) (ws : List Word) (xs : List Node) (es : List (List ℕ)) (i : ℕ) (d : Node) → i < length xs
-    → words_by file all ws (drop i xs) (drop i es)
-    ≡ words_by file all (with_node file all ws (get_or xs i d) (get_or es i [])) (drop (i + 1) xs) (drop (i + 1) es)
-words_by-next file all ws xs es i d h =
-    ap (λ l. words_by file all ws l (drop i es)) (drop-cons xs i d h)
-    ∙ (words_by-cons file all ws (get_or xs i d) (drop (suc i) xs) (drop i es) ∙ simp (get_or-drop, drop-drop, add-zero, add-one))
+pub words_by-next : (file : FileGrammar) (all : List Node) (mark : List ℕ) (cuts : List Bool) (ws : List Word) (xs : List Node) (es : List (List ℕ)) (i : ℕ) (d : Node) → i < length xs
+    → words_by file all mark cuts ws (drop i xs) (drop i es)
+    ≡ words_by file all mark cuts (with_node file all mark cuts ws (get_or xs i d) (get_or es i [])) (drop (i + 1) xs) (drop (i + 1) es)
+words_by-next file all mark cuts ws xs es i d h =
+    ap (λ l. words_by file all mark cuts ws l (drop i es)) (drop-cons xs i d h)
+    ∙ (words_by-cons file all mark cuts ws (get_or xs i d) (drop (suc i) xs) (drop i es) ∙ simp (get_or-drop, drop-drop, add-zero, add-one))
 
 with_closing-length : (w : Word) (ws : List Word) → length (with_closing (w ∷ ws)) ≡ length (w ∷ ws)
 with_closing-length w [] = refl
@@ -65,103 +65,103 @@ closed-front front [] h = absurd (omega arith)
 closed-front front (w ∷ []) h = ap (λ b. record { bytes = b; has_leaf = w.has_leaf } ∷ []) (append_assoc front w.bytes (codes ")"))
 closed-front front (w ∷ v ∷ ws) h = refl
 
-tree_words-some : (file : FileGrammar) (t : Drawn) → 0 < length (tree_words file t)
-tree_words-some file (Leaf s) = omega arith
-tree_words-some file (Over p ts) =
-    omega (arith, with_front-length (production_text file p ++ codes "(") (with_closing (row_words file ts)), with_closing-some (row_words file ts))
+tree_words-some : (file : FileGrammar) (mark : List ℕ) (cuts : List Bool) (n : ℕ) (t : Drawn) → 0 < length (tree_words file mark cuts n t)
+tree_words-some file mark cuts n (Leaf s) = omega arith
+tree_words-some file mark cuts n (Over p ts) =
+    omega (arith, with_front-length (front_text file mark cuts (n + size ts) p) (with_closing (row_words file mark cuts n ts)), with_closing-some (row_words file mark cuts n ts))
 
 pushed-length : (n : ℕ) (ts : Row) (p : ℕ) → length (row_entered n ts ++ [] ∷ []) ≡ length (row_nodes ts ++ code.Inner p ∷ [])
 pushed-length n ts p =
     omega (arith, length-append (row_entered n ts) ([] ∷ []), length-append (row_nodes ts) (code.Inner p ∷ []), row_entered-length n ts)
 
-module _ (file : FileGrammar) (all : List Node) where
+module _ (file : FileGrammar) (all : List Node) (mark : List ℕ) (cuts : List Bool) where
   by-append :
       (xs ys : List Node) (es fs : List (List ℕ)) (ws : List Word) → length es ≡ length xs
-      → words_by file all ws (xs ++ ys) (es ++ fs) ≡ words_by file all (words_by file all ws xs es) ys fs
+      → words_by file all mark cuts ws (xs ++ ys) (es ++ fs) ≡ words_by file all mark cuts (words_by file all mark cuts ws xs es) ys fs
   by-append [] ys [] fs ws h = refl
   by-append [] ys (e ∷ es) fs ws h = absurd (omega arith)
   by-append (x ∷ xs) ys [] fs ws h = absurd (omega arith)
-  by-append (x ∷ xs) ys (e ∷ es) fs ws h = by-append xs ys es fs (with_node file all ws x e) (omega arith)
+  by-append (x ∷ xs) ys (e ∷ es) fs ws h = by-append xs ys es fs (with_node file all mark cuts ws x e) (omega arith)
 
-  word-length : (ws : List Word) (e text : List ℕ) (b : Bool) → length (with_word file all ws e text b) ≡ length ws + 1
+  word-length : (ws : List Word) (e text : List ℕ) (b : Bool) → length (with_word file all mark cuts ws e text b) ≡ length ws + 1
   word-length ws e text b = length-append ws _
 
-  node-some : (ws : List Word) (x : Node) (e : List ℕ) → 0 < length ws → 0 < length (with_node file all ws x e)
+  node-some : (ws : List Word) (x : Node) (e : List ℕ) → 0 < length ws → 0 < length (with_node file all mark cuts ws x e)
   node-some ws (code.Leaf s) e h = omega (arith, word-length ws e (symbol_text file s) true)
   node-some ws (code.Inner p) [] h = omega (arith, closed-length ws)
   node-some ws (code.Inner p) (m ∷ ms) h = omega (arith, word-length ws (m ∷ ms) (codes ")") false)
 
   node-append :
-      (vs ws : List Word) (x : Node) (e : List ℕ) → 0 < length ws → with_node file all (vs ++ ws) x e ≡ vs ++ with_node file all ws x e
+      (vs ws : List Word) (x : Node) (e : List ℕ) → 0 < length ws → with_node file all mark cuts (vs ++ ws) x e ≡ vs ++ with_node file all mark cuts ws x e
   node-append vs ws (code.Leaf s) e h = append_assoc vs ws _
   node-append vs ws (code.Inner p) [] h = closed-append vs ws h
   node-append vs ws (code.Inner p) (m ∷ ms) h = append_assoc vs ws _
 
   word-front :
       (front : List ℕ) (ws : List Word) (e text : List ℕ) (b : Bool) → 0 < length ws
-      → with_word file all (with_front front ws) e text b ≡ with_front front (with_word file all ws e text b)
+      → with_word file all mark cuts (with_front front ws) e text b ≡ with_front front (with_word file all mark cuts ws e text b)
   word-front front [] e text b h = absurd (omega arith)
   word-front front (w ∷ ws) e text b h = refl
 
   node-front :
       (front : List ℕ) (ws : List Word) (x : Node) (e : List ℕ) → 0 < length ws
-      → with_node file all (with_front front ws) x e ≡ with_front front (with_node file all ws x e)
+      → with_node file all mark cuts (with_front front ws) x e ≡ with_front front (with_node file all mark cuts ws x e)
   node-front front ws (code.Leaf s) e h = word-front front ws e (symbol_text file s) true h
   node-front front ws (code.Inner p) [] h = closed-front front ws h
   node-front front ws (code.Inner p) (m ∷ ms) h = word-front front ws (m ∷ ms) (codes ")") false h
 
   by-behind :
       (xs : List Node) (es : List (List ℕ)) (vs ws : List Word) → 0 < length ws
-      → words_by file all (vs ++ ws) xs es ≡ vs ++ words_by file all ws xs es
+      → words_by file all mark cuts (vs ++ ws) xs es ≡ vs ++ words_by file all mark cuts ws xs es
   by-behind [] es vs ws h = refl
   by-behind (x ∷ xs) es vs ws h =
-      ap (λ l. words_by file all l xs (drop 1 es)) (node-append vs ws x (get_or es 0 []) h)
-      ∙ by-behind xs (drop 1 es) vs (with_node file all ws x (get_or es 0 [])) (node-some ws x (get_or es 0 []) h)
+      ap (λ l. words_by file all mark cuts l xs (drop 1 es)) (node-append vs ws x (get_or es 0 []) h)
+      ∙ by-behind xs (drop 1 es) vs (with_node file all mark cuts ws x (get_or es 0 [])) (node-some ws x (get_or es 0 []) h)
 
   by-front :
       (xs : List Node) (es : List (List ℕ)) (front : List ℕ) (ws : List Word) → 0 < length ws
-      → words_by file all (with_front front ws) xs es ≡ with_front front (words_by file all ws xs es)
+      → words_by file all mark cuts (with_front front ws) xs es ≡ with_front front (words_by file all mark cuts ws xs es)
   by-front [] es front ws h = refl
   by-front (x ∷ xs) es front ws h =
-      ap (λ l. words_by file all l xs (drop 1 es)) (node-front front ws x (get_or es 0 []) h)
-      ∙ by-front xs (drop 1 es) front (with_node file all ws x (get_or es 0 [])) (node-some ws x (get_or es 0 []) h)
+      ap (λ l. words_by file all mark cuts l xs (drop 1 es)) (node-front front ws x (get_or es 0 []) h)
+      ∙ by-front xs (drop 1 es) front (with_node file all mark cuts ws x (get_or es 0 [])) (node-some ws x (get_or es 0 []) h)
 
   -- one more production is entered before a word
   word-first :
       (m : ℕ) (vs : List Word) (e text : List ℕ) (b : Bool)
-      → with_word file all vs (e ++ m ∷ []) text b ≡ vs ++ with_front (name_at file all m ++ codes "(") (with_word file all [] e text b)
+      → with_word file all mark cuts vs (e ++ m ∷ []) text b ≡ vs ++ with_front (front_at file all mark cuts m) (with_word file all mark cuts [] e text b)
   word-first m vs e text b =
-      ap (λ l. vs ++ record { bytes = fronts file all l ++ text; has_leaf = b } ∷ []) (reverse-append e (m ∷ []))
-      ∙ ap (λ l. vs ++ record { bytes = l; has_leaf = b } ∷ []) (append_assoc (name_at file all m ++ codes "(") (fronts file all (reverse e)) text)
+      ap (λ l. vs ++ record { bytes = fronts file all mark cuts l ++ text; has_leaf = b } ∷ []) (reverse-append e (m ∷ []))
+      ∙ ap (λ l. vs ++ record { bytes = l; has_leaf = b } ∷ []) (append_assoc (front_at file all mark cuts m) (fronts file all mark cuts (reverse e)) text)
 
   node-first :
       (m : ℕ) (vs : List Word) (x : Node) (xs : List Node) (e : List ℕ) (es : List (List ℕ)) → Starts (x ∷ xs) (e ∷ es)
-      → with_node file all vs x (e ++ m ∷ []) ≡ vs ++ with_front (name_at file all m ++ codes "(") (with_node file all [] x e)
+      → with_node file all mark cuts vs x (e ++ m ∷ []) ≡ vs ++ with_front (front_at file all mark cuts m) (with_node file all mark cuts [] x e)
   node-first m vs (code.Leaf s) xs e es h = word-first m vs e (symbol_text file s) true
   node-first m vs (code.Inner p) xs [] es h = absurd (omega arith)
   node-first m vs (code.Inner p) xs (k ∷ ks) es h = word-first m vs (k ∷ ks) (codes ")") false
 
-  node-new : (x : Node) (xs : List Node) (e : List ℕ) (es : List (List ℕ)) → Starts (x ∷ xs) (e ∷ es) → 0 < length (with_node file all [] x e)
+  node-new : (x : Node) (xs : List Node) (e : List ℕ) (es : List (List ℕ)) → Starts (x ∷ xs) (e ∷ es) → 0 < length (with_node file all mark cuts [] x e)
   node-new (code.Leaf s) xs e es h = omega arith
   node-new (code.Inner p) xs [] es h = absurd (omega arith)
   node-new (code.Inner p) xs (k ∷ ks) es h = omega arith
 
   by-first :
       (m : ℕ) (xs : List Node) (es : List (List ℕ)) (vs : List Word) → length es ≡ length xs → Starts xs es
-      → words_by file all vs xs (with_first m es) ≡ vs ++ with_front (name_at file all m ++ codes "(") (words_by file all [] xs es)
+      → words_by file all mark cuts vs xs (with_first m es) ≡ vs ++ with_front (front_at file all mark cuts m) (words_by file all mark cuts [] xs es)
   by-first m [] es vs k h = absurd h
   by-first m (x ∷ xs) [] vs k h = absurd (omega arith)
   by-first m (x ∷ xs) (e ∷ es) vs k h =
-      let front = name_at file all m ++ codes "(" in
+      let front = front_at file all mark cuts m in
       let new = node-new x xs e es h in
-      ap (λ l. words_by file all l xs es) (node-first m vs x xs e es h)
-      ∙ (by-behind xs es vs (with_front front (with_node file all [] x e)) (omega (arith, new, with_front-length front (with_node file all [] x e)))
-      ∙ ap (λ l. vs ++ l) (by-front xs es front (with_node file all [] x e) new))
+      ap (λ l. words_by file all mark cuts l xs es) (node-first m vs x xs e es h)
+      ∙ (by-behind xs es vs (with_front front (with_node file all mark cuts [] x e)) (omega (arith, new, with_front-length front (with_node file all mark cuts [] x e)))
+      ∙ ap (λ l. vs ++ l) (by-front xs es front (with_node file all mark cuts [] x e) new))
 
-  name-is :
+  front-is :
       (n p : ℕ) (ts : Row) (before behind : List Node) → all ≡ before ++ ((row_nodes ts ++ code.Inner p ∷ []) ++ behind) → length before ≡ n
-      → name_at file all (n + size ts) ≡ production_text file p
-  name-is n p ts before behind e k =
+      → front_at file all mark cuts (n + size ts) ≡ front_text file mark cuts (n + size ts) p
+  front-is n p ts before behind e k =
       let whole : all ≡ (before ++ row_nodes ts) ++ code.Inner p ∷ behind = e ∙ simp append_assoc in
       let at : n + size ts ≡ length (before ++ row_nodes ts) = omega (arith, length-append before (row_nodes ts)) in
       let is : slice_get all (n + size ts) ≡ Some (code.Inner p) =
@@ -170,31 +170,33 @@ module _ (file : FileGrammar) (all : List Node) where
       ∙ (slice_get-get_or ((before ++ row_nodes ts) ++ code.Inner p ∷ behind) (length (before ++ row_nodes ts)) (code.Inner p)
       (omega (arith, length-append (before ++ row_nodes ts) (code.Inner p ∷ behind)))
       ∙ ap Some (get_or-append_seam (before ++ row_nodes ts) (code.Inner p) behind (code.Inner p)))) in
-      ap (λ o. node_text file o) is
+      ap (λ o. (node_text file o ++ codes "(") ++ cut_text mark cuts (n + size ts)) is
 
   words-over :
       (n p : ℕ) (ts : Row) (vs : List Word) (before behind : List Node) → all ≡ before ++ ((row_nodes ts ++ code.Inner p ∷ []) ++ behind) → length before ≡ n
-      → words_by file all [] (row_nodes ts) (row_entered n ts) ≡ row_words file ts
-      → words_by file all vs (nodes (Over p ts)) (entered n (Over p ts)) ≡ vs ++ tree_words file (Over p ts)
+      → words_by file all mark cuts [] (row_nodes ts) (row_entered n ts) ≡ row_words file mark cuts n ts
+      → words_by file all mark cuts vs (nodes (Over p ts)) (entered n (Over p ts)) ≡ vs ++ tree_words file mark cuts n (Over p ts)
   words-over n p Bare vs before behind e k h =
       word-first (n + 0) vs [] (codes ")") false
-      ∙ ap (λ l. vs ++ with_front (l ++ codes "(") (with_closing [])) (name-is n p Bare before behind e k)
+      ∙ ap (λ l. vs ++ with_front l (with_closing [])) (front-is n p Bare before behind e k)
   words-over n p (And ts t) vs before behind e k h =
       let us = And ts t in
       let m = n + size us in
+      let row = row_words file mark cuts n us in
       let some : 0 < size us = omega (arith, nodes-some t, length-append (row_nodes ts) (nodes t)) in
-      let words : 0 < length (row_words file us) = omega (arith, tree_words-some file t, length-append (row_words file ts) (tree_words file t)) in
+      let words : 0 < length row =
+      omega (arith, tree_words-some file mark cuts (n + size ts) t, length-append (row_words file mark cuts n ts) (tree_words file mark cuts (n + size ts) t)) in
       by-first m (row_nodes us ++ code.Inner p ∷ []) (row_entered n us ++ [] ∷ []) vs (pushed-length n us p)
       (starts-append (row_nodes us) (code.Inner p ∷ []) (row_entered n us) ([] ∷ []) (row_entered-length n us) (starts-row n us some))
-      ∙ (ap (λ l. vs ++ with_front (name_at file all m ++ codes "(") l)
+      ∙ (ap (λ l. vs ++ with_front (front_at file all mark cuts m) l)
       (by-append (row_nodes us) (code.Inner p ∷ []) (row_entered n us) ([] ∷ []) [] (row_entered-length n us)
-      ∙ (ap (λ l. closed l) h ∙ closed-some (row_words file us) words))
-      ∙ ap (λ l. vs ++ with_front (l ++ codes "(") (with_closing (row_words file us))) (name-is n p us before behind e k))
+      ∙ (ap (λ l. closed l) h ∙ closed-some row words))
+      ∙ ap (λ l. vs ++ with_front l (with_closing row)) (front-is n p us before behind e k))
 
   mutual
     words-tree :
         (n : ℕ) (t : Drawn) (vs : List Word) (before behind : List Node) → all ≡ before ++ (nodes t ++ behind) → length before ≡ n
-        → words_by file all vs (nodes t) (entered n t) ≡ vs ++ tree_words file t
+        → words_by file all mark cuts vs (nodes t) (entered n t) ≡ vs ++ tree_words file mark cuts n t
     words-tree n (Leaf s) vs before behind e k = refl
     words-tree n (Over p ts) vs before behind e k =
         let inside : all ≡ before ++ (row_nodes ts ++ (code.Inner p ∷ [] ++ behind)) =
@@ -203,23 +205,26 @@ module _ (file : FileGrammar) (all : List Node) where
 
     words-row :
         (n : ℕ) (ts : Row) (vs : List Word) (before behind : List Node) → all ≡ before ++ (row_nodes ts ++ behind) → length before ≡ n
-        → words_by file all vs (row_nodes ts) (row_entered n ts) ≡ vs ++ row_words file ts
+        → words_by file all mark cuts vs (row_nodes ts) (row_entered n ts) ≡ vs ++ row_words file mark cuts n ts
     words-row n Bare vs before behind e k = sym (append-nil vs)
     words-row n (And ts t) vs before behind e k =
+        let row = row_words file mark cuts n ts in
         by-append (row_nodes ts) (nodes t) (row_entered n ts) (entered (n + size ts) t) vs (row_entered-length n ts)
-        ∙ (ap (λ l. words_by file all l (nodes t) (entered (n + size ts) t))
+        ∙ (ap (λ l. words_by file all mark cuts l (nodes t) (entered (n + size ts) t))
         (words-row n ts vs before (nodes t ++ behind) (e ∙ ap (λ l. before ++ l) (append_assoc (row_nodes ts) (nodes t) behind)) k)
-        ∙ (words-tree (n + size ts) t (vs ++ row_words file ts) (before ++ row_nodes ts) behind (e ∙ simp append_assoc) (omega (arith, length-append before (row_nodes ts)))
-        ∙ append_assoc vs (row_words file ts) (tree_words file t)))
+        ∙ (words-tree (n + size ts) t (vs ++ row) (before ++ row_nodes ts) behind (e ∙ simp append_assoc) (omega (arith, length-append before (row_nodes ts)))
+        ∙ append_assoc vs row (tree_words file mark cuts (n + size ts) t)))
 
-pub words-of_row : (file : FileGrammar) (ts : Row) → words_by file (row_nodes ts) [] (row_nodes ts) (row_entered 0 ts) ≡ row_words file ts
-words-of_row file ts = words-row file (row_nodes ts) 0 ts [] [] [] (sym (append-nil (row_nodes ts))) refl
+pub words-of_row : (file : FileGrammar) (mark : List ℕ) (cuts : List Bool) (ts : Row)
+    → words_by file (row_nodes ts) mark cuts [] (row_nodes ts) (row_entered 0 ts) ≡ row_words file mark cuts 0 ts
+words-of_row file mark cuts ts = words-row file (row_nodes ts) mark cuts 0 ts [] [] [] (sym (append-nil (row_nodes ts))) refl
 
-pub fronts-append : (file : FileGrammar) (all : List Node) (ms ks : List ℕ) → fronts file all (ms ++ ks) ≡ fronts file all ms ++ fronts file all ks
-fronts-append file all [] ks = refl
-fronts-append file all (m ∷ ms) ks =
-    ap (λ l. (name_at file all m ++ codes "(") ++ l) (fronts-append file all ms ks)
-    ∙ sym (append_assoc (name_at file all m ++ codes "(") (fronts file all ms) (fronts file all ks))
+pub fronts-append : (file : FileGrammar) (all : List Node) (mark : List ℕ) (cuts : List Bool) (ms ks : List ℕ)
+    → fronts file all mark cuts (ms ++ ks) ≡ fronts file all mark cuts ms ++ fronts file all mark cuts ks
+fronts-append file all mark cuts [] ks = refl
+fronts-append file all mark cuts (m ∷ ms) ks =
+    ap (λ l. front_at file all mark cuts m ++ l) (fronts-append file all mark cuts ms ks)
+    ∙ sym (append_assoc (front_at file all mark cuts m) (fronts file all mark cuts ms) (fronts file all mark cuts ks))
 
 -- the last word is one that ends with a closing bracket
 pub closed_at : {V : Type 0} (f : V → Word) (vs : List V) (v w : V) → 0 < length vs → v ≡ get_or vs (length vs - 1) v

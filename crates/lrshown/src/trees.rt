@@ -296,7 +296,7 @@ impl Tree {
     }
 
     /// The tree that the steps put together, without the node of `$accept` and the token that ends all.
-    fn inner(
+    pub(crate) fn inner(
         alloc: Global,
         file: &FileGrammar,
         before: &[Step],

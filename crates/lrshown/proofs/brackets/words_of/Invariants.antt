@@ -6,6 +6,8 @@ use Rattle.lrshown.proofs.brackets.words_of.Given as goal
 
 abbrev pub invariant-loop-number : goal.invariant-loop-number
 invariant-loop-number l =
-    let ns = l.tree.nodes.items in
-    let es = map (λ v. v.items) l.tree.entered.items in
-    words_by l.file ns [] ns es ≡ words_by l.file ns (map word_of l.words.items) (drop l.number ns) (drop l.number es)
+    let ns = l.shown.tree.nodes.items in
+    let es = map (λ v. v.items) l.shown.tree.entered.items in
+    let cuts = l.shown.cuts.items in
+    words_by l.file ns l.mark cuts [] ns es
+    ≡ words_by l.file ns l.mark cuts (map word_of l.words.items) (drop l.number ns) (drop l.number es)

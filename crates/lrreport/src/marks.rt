@@ -1,0 +1,184 @@
+//! What stands under the lines of productions that meet: their places, and what is said of them.
+
+use crate::told::Told;
+use lrdiagnostics::{Mark, Style};
+use lrwriter::Text;
+use lryacc::Span;
+use std::alloc::{AllocError, Global};
+
+/// How many productions are told that go on by a shift.
+const GOING_ON: usize = 3;
+
+/// How many of the bytes stand before an action, and before the blanks before that.
+fn before_action(bytes: &[u8]) -> usize {
+    let mut count = 0;
+    for (place, byte) in bytes.iter().enumerate() {
+        if *byte == b'{' {
+            return count;
+        }
+        if !byte.is_ascii_whitespace() {
+            count = place.saturating_add(1);
+        }
+    }
+    count
+}
+
+impl Told<'_> {
+    /// Where the body of a production stands, up to the action behind its symbols.
+    fn symbols_place(&self, production: usize) -> Span {
+        let place = self.place(production);
+        let last = match self.file.symbol_places.get(production) {
+            Some(places) => places.last().copied(),
+            None => None,
+        };
+        let from = match last {
+            Some(last) => last.end,
+            None => place.start,
+        };
+        let count = before_action(self.source.part(from, place.end));
+        Span::new(place.start, from.saturating_add(count))
+    }
+
+    /// Whether the body of a production has no symbol.
+    fn is_empty(&self, production: usize) -> bool {
+        match self.production(production) {
+            Some(prod) => prod.symbols.is_empty(),
+            None => false,
+        }
+    }
+
+    /// Whether two productions of one rule have the same body.
+    fn are_same(&self, one: usize, other: usize) -> bool {
+        match (self.production(one), self.production(other)) {
+            (Some(one), Some(other)) =>
+                one.rule == other.rule && one.symbols.as_slice() == other.symbols.as_slice(),
+            _ => false,
+        }
+    }
+
+    /// Whether the name of the rule of a production stands in the line of a place, where it is first one.
+    fn is_named_in_line(&self, production: usize, at: usize) -> bool {
+        let Some(prod) = self.production(production) else {
+            return true;
+        };
+        match self.file.rule_places.get(prod.rule) {
+            Some(place) => self.source.line(place.start) == self.source.line(at),
+            None => true,
+        }
+    }
+
+    /// The place of a production by which a state can reduce, and what follows from that.
+    pub(crate) fn reduction_mark(
+        &self,
+        alloc: Global,
+        production: usize,
+        so: &str,
+    ) -> Result<Mark, AllocError> {
+        let rule = self.rule_name(production);
+        let how = if self.is_empty(production) {
+            "be empty here"
+        } else {
+            "end here"
+        };
+        Ok(Mark {
+            span: self.symbols_place(production),
+            mark: '^',
+            style: Style::Red,
+            label: format!(in alloc; "reduce: {rule} can {how}{so}")?,
+        })
+    }
+
+    /// The place of another production by which it could reduce, and what follows from that.
+    pub(crate) fn other_mark(
+        &self,
+        alloc: Global,
+        production: usize,
+        other: usize,
+        so: &str,
+    ) -> Result<Mark, AllocError> {
+        let rule = self.rule_name(other);
+        let how = if self.are_same(production, other) {
+            ", by the same production again"
+        } else if self.is_empty(other) {
+            ", which can be empty here"
+        } else {
+            ""
+        };
+        Ok(Mark {
+            span: self.symbols_place(other),
+            mark: '-',
+            style: Style::Blue,
+            label: format!(in alloc; "reduce: or {rule}{how}{so}")?,
+        })
+    }
+
+    /// What is said where a state goes on by a shift: which rule goes on, where the line doesn't show it.
+    fn shift_label(
+        &self,
+        alloc: Global,
+        production: usize,
+        at: usize,
+        is_first: bool,
+    ) -> Result<String, AllocError> {
+        let mut text = Text::new(alloc);
+        let is_start = self.is_start(production);
+        let is_named = is_start || self.is_named_in_line(production, at);
+        text.add(match (is_first, is_start) {
+            (true, true) => "shift: or the input ends here",
+            (true, false) => "shift: or go on",
+            (false, _) if is_named => "or go on here",
+            (false, _) => "or go on",
+        });
+        if !is_named {
+            text.add(" in ");
+            text.add(self.rule_name(production));
+        }
+        text.finish()
+    }
+
+    /// The place at which an item goes on, and what follows from that where it is the first one, with how many there are besides.
+    fn item_mark(
+        &self,
+        alloc: Global,
+        item: (usize, usize),
+        so: Option<&str>,
+        more: usize,
+    ) -> Result<Mark, AllocError> {
+        let (production, dot) = item;
+        let span = self.symbol_place(production, dot);
+        let mut label = self.shift_label(alloc, production, span.start, so.is_some())?;
+        label.push_str(so.unwrap_or(""))?;
+        if more > 0 {
+            let and = format!(in alloc; ", and {more} more")?;
+            label.push_str(and.as_str())?;
+        }
+        Ok(Mark {
+            span,
+            mark: '-',
+            style: Style::Blue,
+            label,
+        })
+    }
+
+    /// Adds the places of the first of the items by which a state goes on, and what follows from that; at the last of these, how many
+    /// there are besides.
+    pub(crate) fn push_items(
+        &self,
+        marks: &mut Vec<Mark>,
+        items: &[(usize, usize)],
+        so: &str,
+    ) -> Result<(), AllocError> {
+        let alloc = *marks.allocator();
+        for (place, item) in items.iter().take(GOING_ON).enumerate() {
+            let first = if place == 0 { Some(so) } else { None };
+            let is_last = place.saturating_add(1) == GOING_ON;
+            let more = if is_last {
+                items.len().saturating_sub(GOING_ON)
+            } else {
+                0
+            };
+            marks.push(self.item_mark(alloc, *item, first, more)?)?;
+        }
+        Ok(())
+    }
+}
