@@ -10,8 +10,8 @@ _lrcheck_files() {
 
 _lrcheck() {
     local word=$2 option=$3 names='' name
-    local options='--summary --states --json --grammar --page --all --settled --trees --steps --without-precedences --plain
-        --grmtools --expect --help --version'
+    local options='--summary --states --json --grammar --sarif --parse --page --all --settled --trees --steps --without-precedences
+        --plain --grmtools --expect --help --version'
     [[ $option != '=' ]] || option=${COMP_WORDS[COMP_CWORD - 2]}
     COMPREPLY=()
     case " ${COMP_WORDS[*]:1:COMP_CWORD - 1} " in *' -- '*) option=-- ;; esac

@@ -11,9 +11,11 @@ end
 
 complete -c lrcheck -k -x -a '(__lrcheck_files "(?:y|yy|ypp)")'
 complete -c lrcheck -l summary -d 'Tells the verdict of each file alone'
-complete -c lrcheck -l states -d 'Shows the states of the parser'
+complete -c lrcheck -l states -d 'Shows the states of the parser, or adds them to --json'
 complete -c lrcheck -l json -d 'Tells what was found as JSON'
 complete -c lrcheck -l grammar -d 'Prints the grammar alone, as lrt reads it, or adds it to --json'
+complete -c lrcheck -l sarif -d 'Tells what was found as a log of SARIF 2.1.0'
+complete -c lrcheck -l parse -d 'Parses each line of standard input by the grammar, and tells its tree'
 complete -c lrcheck -l page -k -x -a '(__lrcheck_files html)' -d 'Writes a page for a browser, of one file'
 complete -c lrcheck -l all -d 'Shows each conflict by itself, and not the first 20 alone'
 complete -c lrcheck -l settled -d 'Shows also what precedences resolve'

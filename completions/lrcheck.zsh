@@ -3,9 +3,11 @@
 
 _arguments -S \
     '--summary[Tells the verdict of each file alone]' \
-    '--states[Shows the states of the parser]' \
+    '--states[Shows the states of the parser, or adds them to --json]' \
     '--json[Tells what was found as JSON]' \
     '--grammar[Prints the grammar alone, as lrt reads it, or adds it to --json]' \
+    '--sarif[Tells what was found as a log of SARIF 2.1.0]' \
+    '--parse[Parses each line of standard input by the grammar, and tells its tree]' \
     '--page=[Writes a page for a browser, of one file]:page:_files -g "*.html(-.)"' \
     '--all[Shows each conflict by itself, and not the first 20 alone]' \
     '--settled[Shows also what precedences resolve]' \

@@ -5,12 +5,16 @@ from collections import namedtuple
 # `words` are the arguments, and of these `names`, at the end, the names of files, which lie in the folder of the call by
 # `files`. `given` is standard input: where it is not to be read, another grammar. `status` is how the call ends where nothing
 # fails, and `told` with what standard error then begins; where it is empty, nothing is there. `pages` are files of the folder
-# that are written, of which older ones lie there.
-FIELDS = "name words names files given status told pages"
+# that are written, of which older ones lie there, and `unread` what is answered in place of a file that can't be read.
+FIELDS = "name words names files given status told pages unread"
 
 
-class CheckCase(namedtuple("CheckCase", FIELDS, defaults=(b"%% other: 'other';", 0, b"", ()))):
+class CheckCase(namedtuple("CheckCase", FIELDS, defaults=(b"%% other: 'other';", 0, b"", (), b""))):
     program = "lrcheck"
+
+    @property
+    def answers_lines(self):
+        return "--parse" in self.words
 
     @property
     def lone_words(self):
@@ -27,6 +31,20 @@ SETTLED = b"%left 'a' %% s: s 'a' s | 'b';"
 NOT_AMBIGUOUS = b"%% s: x 'c' | y 'c' 'd'; x: 'a'; y: 'a';"
 IDLE = b"%token t u\n%left 'a' t\n%% s: 'b' %prec u | 'a';"
 FAULTY = b"%token a a\n%%\ns: t 'x;\n"
+
+# Lines: sentences, one that is none, and an unknown word.
+LINES = b"a a\n\nb\na"
+
+# A log of SARIF without results.
+NO_RESULTS = (
+    b'{"$schema":"https://json.schemastore.org/sarif-2.1.0.json","version":"2.1.0","runs":[{"tool":{"driver":{"name":"lrcheck",'
+    b'"version":"0.2.0","rules":[{"id":"shift-reduce","shortDescription":{"text":"A state can both shift and reduce at a token."}},'
+    b'{"id":"reduce-reduce","shortDescription":{"text":"A state can reduce by two productions at a token."}},{"id":"error",'
+    b'"shortDescription":{"text":"The file is no grammar."}},{"id":"warning","shortDescription":{"text":"A part of the grammar has no '
+    b'use, or not the one that it seems to have."}},{"id":"useless-precedence","shortDescription":{"text":"A precedence resolves '
+    b'nothing."}},{"id":"unused-token","shortDescription":{"text":"A token is in no rule, or in useless ones alone."}}]}},'
+    b'"columnKind":"utf16CodeUnits","results":[]}]}\n'
+)
 
 FILES = {
     "none.y": None,
@@ -62,6 +80,13 @@ def cases():
     yield case("grammar", ["--grammar"], ["a.y"])
     yield case("page", ["--page", "out.html"], ["u.y"], pages=("out.html",))
     yield case("states", ["--states"], ["a.y"], status=1)
+    yield case("json-states", ["--json", "--states"], ["a.y"], status=1)
+    yield case("sarif", ["--sarif"], ["a.y"], status=1, unread=NO_RESULTS)
+    yield case("sarif-warnings", ["--sarif"], ["i.y"], unread=NO_RESULTS)
+    yield case("sarif-faults", ["--sarif"], ["f.y"], status=2, unread=NO_RESULTS)
+    yield case("parse", ["--parse"], ["a.y"], given=LINES, status=1)
+    yield case("parse-trees", ["--parse", "--trees"], ["a.y"], given=LINES, status=1)
+    yield case("parse-faults", ["--parse"], ["f.y"], status=2)
     yield case("help", ["--help"], [])
     yield case("usage", ["--wrong", "a.y"], [], status=2, told=b"error: ")
     yield case("usage-input-twice", ["-", "-"], [], status=2, told=b"error: ")

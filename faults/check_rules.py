@@ -36,10 +36,10 @@ def has_no_page(case, whole, found):
     return any(found[:3] == joined(parts) for parts in without_page(case, whole))
 
 
-def unread(name):
+def unread(name, out=b""):
     """The answer to a file that can't be read."""
     named = "standard input" if name == "-" else name
-    return Part(2, b"", f"lrcheck: cannot read {named}: {os.strerror(errno.EIO)} (os error {errno.EIO})\n".encode())
+    return Part(2, out, f"lrcheck: cannot read {named}: {os.strerror(errno.EIO)} (os error {errno.EIO})\n".encode())
 
 
 def joined(parts):
@@ -56,8 +56,8 @@ def is_whole(case, found):
 
 
 def leaves_input(case, found):
-    """Standard input is read only where a file is named so."""
-    return "-" in case.names or not (found.input_read or found.faults[INPUT])
+    """Standard input is read only where a file is named so, or lines are answered."""
+    return "-" in case.names or case.answers_lines and case.status != 2 or not (found.input_read or found.faults[INPUT])
 
 
 def memory_used_up(case, whole, found):
@@ -80,12 +80,18 @@ def are_told_unread(case, whole, found, files):
     """Each of the files that can't be read, as many in a row as there were faults, is told, and the others are answered."""
     count = found.faults[INPUT] + found.faults[ELSEWHERE]
     rows = [files[k : k + count] for k in range(len(files) + 1 - count)]
-    return any(are_unread(whole, found, {k: unread(case.names[k]) for k in row}) for row in rows)
+    return any(are_unread(whole, found, {k: unread(case.names[k], case.unread) for k in row}) for row in rows)
 
 
 def opening(case, whole, found):
     """The file is told, and the others are answered."""
     return are_told_unread(case, whole, found, range(len(case.names))) or has_no_page(case, whole, found)
+
+
+def reading_lines(case, whole, found):
+    """Behind the answers to the lines that were whole by then it is told that there are no more."""
+    lines = case.given[: found.input_read].count(b"\n")
+    return found[:3] == joined([*whole.parts[:lines], unread("-")])
 
 
 def reading(case, whole, found):
@@ -126,4 +132,27 @@ def writing(case, whole, found):
     return any(found[:2] == joined(it)[:2] and are_told([part.err for part in it], found) for it in answers)
 
 
-FAULTS = rules.faults_by(memory_used_up, opening, reading, writing)
+def in_lines(case, whole):
+    """The whole answer, where lines are answered with these as its parts."""
+    if not (case.answers_lines and whole.status != 2):
+        return whole
+    lines = whole.out.splitlines(keepends=True)
+    statuses = [0] * (len(lines) - 1) + [whole.status]
+    return whole._replace(parts=tuple(Part(*it, b"") for it in zip(statuses, lines)))
+
+
+def by_parts(rule, of_lines=None):
+    """The rule, where lines are answered by these: that of the answers to a file, or one of its own."""
+
+    def ruled(case, whole, found):
+        whole = in_lines(case, whole)
+        if of_lines and case.answers_lines and found.faults[INPUT]:
+            return of_lines(case, whole, found)
+        if case.answers_lines and found.faults[ELSEWHERE] and rule in (opening, reading):
+            return found[:3] == joined([unread(case.names[0])])
+        return rule(case, whole, found)
+
+    return ruled
+
+
+FAULTS = rules.faults_by(by_parts(memory_used_up), by_parts(opening), by_parts(reading, reading_lines), by_parts(writing))

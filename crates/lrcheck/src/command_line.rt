@@ -4,6 +4,9 @@ use clap::{Arg, ArgAction, ArgMatches, Command, value_parser};
 use lrreport::{Detail, Dialect, Lines, Options, Output};
 use std::alloc::{AllocError, Global};
 
+/// The version of the program.
+pub(crate) const VERSION: &str = "0.2.0";
+
 /// What the help ends with.
 const AFTER_HELP: &str = "Example:
   $ lrcheck --summary a.y b.y
@@ -11,12 +14,15 @@ const AFTER_HELP: &str = "Example:
   b.y: unambiguous (proved): no sentence has two trees
 
 Exit status, the greatest over the files:
-  0  no conflicts, or just those that are expected
-  1  conflicts, or others than are expected
+  0  no conflicts, or just those that are expected; each line is a sentence
+  1  conflicts, or others than are expected; a line is no sentence
   2  a file is no grammar or can't be read; memory or output fails; wrong usage";
 
 /// How many steps a search takes where nothing else is said.
 const STEPS: usize = 10_000;
+
+/// How many steps a parser makes on a line where nothing else is said.
+const LINE_STEPS: usize = 1_000_000;
 
 /// An option without a value.
 fn flag<'a>(alloc: Global, name: &'a str, help: &'a str) -> Arg<'a> {
@@ -26,26 +32,45 @@ fn flag<'a>(alloc: Global, name: &'a str, help: &'a str) -> Arg<'a> {
         .help(help)
 }
 
-/// An option that tells neither the verdict alone nor the states.
+/// An option that doesn't tell the verdict alone.
 fn output<'a>(alloc: Global, name: &'a str, help: &'a str) -> Result<Arg<'a>, AllocError> {
-    flag(alloc, name, help)
-        .conflicts_with("summary")?
-        .conflicts_with("states")
+    flag(alloc, name, help).conflicts_with("summary")
 }
 
-/// The option for the states.
-fn states<'a>(alloc: Global) -> Result<Arg<'a>, AllocError> {
-    flag(alloc, "states", "Shows the states of the parser").conflicts_with("summary")
+/// Makes an option go with none of others.
+fn without<'a>(mut arg: Arg<'a>, others: &[&'a str]) -> Result<Arg<'a>, AllocError> {
+    for other in others {
+        arg = arg.conflicts_with(other)?;
+    }
+    Ok(arg)
+}
+
+/// The option for results of SARIF.
+fn sarif<'a>(alloc: Global) -> Result<Arg<'a>, AllocError> {
+    let arg = flag(
+        alloc,
+        "sarif",
+        "Tells what was found as a log of SARIF 2.1.0",
+    );
+    without(
+        arg,
+        &[
+            "summary", "states", "json", "grammar", "settled", "trees", "page",
+        ],
+    )
 }
 
 /// Adds the options that say what is told of each file. One of them can be given at most.
 fn add_outputs<'a>(args: &mut Vec<Arg<'a>>) -> Result<(), AllocError> {
     let alloc = *args.allocator();
     args.push(flag(alloc, "summary", "Tells the verdict of each file alone"))?;
-    args.push(states(alloc)?)?;
+    let help = "Shows the states of the parser, or adds them to --json";
+    args.push(output(alloc, "states", help)?)?;
     args.push(output(alloc, "json", "Tells what was found as JSON")?)?;
     let help = "Prints the grammar alone, as lrt reads it, or adds it to --json";
     args.push(output(alloc, "grammar", help)?)?;
+    args.push(sarif(alloc)?)?;
+    args.push(parse(alloc)?)?;
     Ok(())
 }
 
@@ -117,6 +142,17 @@ fn files<'a>(alloc: Global) -> Arg<'a> {
         .help("Grammar files of Yacc or Bison; - is standard input")
 }
 
+/// The option for sentences that are tried.
+fn parse<'a>(alloc: Global) -> Result<Arg<'a>, AllocError> {
+    let help = "Parses each line of standard input by the grammar, and tells its tree";
+    without(
+        flag(alloc, "parse", help),
+        &[
+            "summary", "states", "json", "grammar", "sarif", "page", "all", "settled", "expect",
+        ],
+    )
+}
+
 /// The words that the program can be called with.
 pub(crate) fn command_line<'a>(alloc: Global) -> Result<Command<'a>, AllocError> {
     let mut args = Vec::new(alloc);
@@ -129,7 +165,7 @@ pub(crate) fn command_line<'a>(alloc: Global) -> Result<Command<'a>, AllocError>
     args.push(page(alloc)?)?;
     Command::new(alloc, "lrcheck")
         .bin_name("lrcheck")?
-        .version("0.2.0")
+        .version(VERSION)
         .about(
             "Tells whether grammars have conflicts, where they are, and which grammars are unambiguous",
         )
@@ -141,17 +177,24 @@ pub(crate) fn command_line<'a>(alloc: Global) -> Result<Command<'a>, AllocError>
 fn output_of(matches: &ArgMatches<'_>) -> Output {
     if matches.get_flag("summary") {
         Output::Summary
-    } else if matches.get_flag("states") {
-        Output::States
+    } else if matches.get_flag("sarif") {
+        Output::Sarif
     } else if matches.get_flag("json") {
         Output::Json {
             has_grammar: matches.get_flag("grammar"),
         }
+    } else if matches.get_flag("states") {
+        Output::States
     } else if matches.get_flag("grammar") {
         Output::Grammar
     } else {
         Output::Report
     }
+}
+
+/// How many steps a parser may make on a line.
+pub(crate) fn line_steps(matches: &ArgMatches<'_>) -> usize {
+    matches.get_one::<usize>("steps").unwrap_or(LINE_STEPS)
 }
 
 /// How a report is made, where it goes to no terminal.
@@ -162,6 +205,7 @@ pub(crate) fn options_of(matches: &ArgMatches<'_>) -> Options {
             all: matches.get_flag("all"),
             resolved: matches.get_flag("settled"),
             trees: matches.get_flag("trees"),
+            states: matches.get_flag("states") && matches.get_flag("json"),
         },
         lines: Lines {
             columns: None,

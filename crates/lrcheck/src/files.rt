@@ -29,7 +29,7 @@ impl From<AllocError> for Stop {
 
 /// What comes of a file.
 #[derive(Drop)]
-enum Outcome {
+pub(crate) enum Outcome {
     Checked(Report),
     Unread(io::Error),
 }
@@ -68,7 +68,7 @@ impl Files for HostRuntime {
 }
 
 /// Reads a file and checks it.
-fn check<F: Files>(
+pub(crate) fn check<F: Files>(
     alloc: Global,
     files: &F,
     name: &str,
@@ -98,6 +98,27 @@ fn write_report<W: Write>(output: &mut W, report: &Report) -> Result<u8, Stop>
     }
 }
 
+/// Writes a text.
+pub(crate) fn write<W: Write>(output: &mut W, text: &str) -> Result<(), Stop> {
+    match output.write_all(text.as_bytes()) {
+        Ok(()) => Ok(()),
+        Err(_) => Err(Stop::Output),
+    }
+}
+
+/// Tells why a file can't be read, and answers the exit status.
+pub(crate) fn tell_unread(rt: &HostRuntime, name: &str, error: &io::Error) -> u8
+    ensures { result ≡ 2 }
+{
+    let name = if name == INPUT {
+        "standard input"
+    } else {
+        name
+    };
+    let _ = eprintln!(rt; "lrcheck: cannot read {name}: {error}");
+    2
+}
+
 /// Tells what came of a file, and answers the exit status.
 fn tell<W: Write>(
     rt: &HostRuntime,
@@ -111,15 +132,7 @@ fn tell<W: Write>(
 {
     match outcome {
         Outcome::Checked(report) => write_report(output, report),
-        Outcome::Unread(error) => {
-            let name = if name == INPUT {
-                "standard input"
-            } else {
-                name
-            };
-            let _ = eprintln!(rt; "lrcheck: cannot read {name}: {error}");
-            Ok(2)
-        }
+        Outcome::Unread(error) => Ok(tell_unread(rt, name, error)),
     }
 }
 

@@ -4,15 +4,19 @@
 mod command_line;
 mod files;
 mod pages;
+mod sarif;
+mod sentences;
 mod terminals;
 
-use crate::command_line::{command_line, options_of};
+use crate::command_line::{command_line, line_steps, options_of};
 use crate::files::{INPUT, Stop, check_all};
 use crate::pages::is_over_input;
+use crate::sarif::write_log;
+use crate::sentences::try_sentences;
 use crate::terminals::{Progress, lines_of};
 use clap::error::ErrorKind;
 use clap::{ArgMatches, Command};
-use lrreport::Options;
+use lrreport::{Options, Output};
 use std::process::ExitCode;
 use std::{env, io};
 
@@ -41,7 +45,7 @@ fn tell_usage(rt: &HostRuntime, error: &clap::Error) -> Result<u8, Stop> {
 }
 
 /// Why files of these names can't be checked in one call; None where they can.
-fn refusal(rt: &HostRuntime, names: &[&str], page: Option<&str>) -> Option<&'static str> {
+fn refusal_of_files(rt: &HostRuntime, names: &[&str], page: Option<&str>) -> Option<&'static str> {
     if names.iter().filter(|name| **name == INPUT).count() > 1 {
         return Some("standard input, -, can be read once only");
     }
@@ -55,6 +59,35 @@ fn refusal(rt: &HostRuntime, names: &[&str], page: Option<&str>) -> Option<&'sta
     None
 }
 
+/// Why sentences can't be tried by files of these names; None where they can.
+fn refusal_of_sentences(names: &[&str]) -> Option<&'static str> {
+    match names {
+        [INPUT] => Some("the file can't be standard input, -, which has the lines for --parse"),
+        [_] => None,
+        _ => Some("lines, --parse, can be tried with one file only"),
+    }
+}
+
+/// Why what the options and names say can't be done, and what kind of fault that is; None where it can.
+fn refusal(
+    rt: &HostRuntime,
+    matches: &ArgMatches<'_>,
+    names: &[&str],
+    page: Option<&str>,
+) -> Option<(ErrorKind, &'static str)> {
+    let has_states = matches.get_flag("states") && !matches.get_flag("json");
+    if has_states && matches.get_flag("grammar") {
+        let message = "the argument '--states' cannot be used with '--grammar'";
+        return Some((ErrorKind::ArgumentConflict, message));
+    }
+    let message = if matches.get_flag("parse") {
+        refusal_of_sentences(names)
+    } else {
+        refusal_of_files(rt, names, page)
+    };
+    Some((ErrorKind::TooManyValues, message?))
+}
+
 /// Does what the options and names say, and answers the exit status.
 fn check_named(
     rt: &HostRuntime,
@@ -64,8 +97,9 @@ fn check_named(
 ) -> Result<u8, Stop> {
     let names: &[&str] = matches.get_strs("FILE").unwrap_or(&[]);
     let page = matches.get_str("page");
-    if let Some(message) = refusal(rt, names, page) {
-        let error = command.error(ErrorKind::TooManyValues, message)?;
+    let is_parsing = matches.get_flag("parse");
+    if let Some((kind, message)) = refusal(rt, matches, names, page) {
+        let error = command.error(kind, message)?;
         return tell_usage(rt, &error);
     }
     let options = options_of(matches);
@@ -73,7 +107,15 @@ fn check_named(
         lines: lines_of(rt, options)?,
         ..options
     };
-    check_all(rt, rt, &mut rt.stdout(), names, options, page, progress)
+    match names {
+        [name] if is_parsing => {
+            try_sentences(rt, name, options, line_steps(matches), &mut rt.stdout())
+        }
+        _ if options.output == Output::Sarif => {
+            write_log(rt, rt, &mut rt.stdout(), names, options, progress)
+        }
+        _ => check_all(rt, rt, &mut rt.stdout(), names, options, page, progress),
+    }
 }
 
 /// Does what the words say, and answers the exit status.

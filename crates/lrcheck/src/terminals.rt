@@ -38,7 +38,10 @@ fn columns(rt: &HostRuntime, options: Options) -> Result<Option<usize>, AllocErr
 
 /// Whether a report has colours. What other programs read has none.
 fn has_colours(rt: &HostRuntime, options: Options) -> Result<bool, AllocError> {
-    let is_for_programs = matches!(options.output, Output::Json { .. } | Output::Grammar);
+    let is_for_programs = matches!(
+        options.output,
+        Output::Json { .. } | Output::Grammar | Output::Sarif
+    );
     if is_for_programs || options.lines.is_plain || !rt.stdout().is_terminal() {
         return Ok(false);
     }

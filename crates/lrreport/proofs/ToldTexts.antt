@@ -4,7 +4,7 @@ use Rattle.std.specs.Prelude.{IfOk, IsTrue, string_bytes}
 use Rattle.std.specs.declared.alloc.AllocError.{AllocError}
 use Rattle.lrwriter.specs.Texts.{Adds, Held}
 use Rattle.lrreport.specs.declared.options.Output.{Output}
-use Rattle.lrreport.specs.declared.options.Output.TheVariants.{Report, Summary, Json, Grammar, States}
+use Rattle.lrreport.specs.declared.options.Output.TheVariants.{Report, Summary, Json, Grammar, States, Sarif}
 use Rattle.lrreport.specs.ToldConclusions.{EndsIn, Tells}
 
 -- a text to which the line is added at last ends in it
@@ -30,6 +30,7 @@ tells_lines (Json grammar) columns line head text no_summary no_json ends = absu
 tells_lines Grammar columns line head text no_summary no_json ends = tt
 tells_lines States None line head text no_summary no_json ends = ends refl
 tells_lines States (Some n) line head text no_summary no_json ends = tt
+tells_lines Sarif columns line head text no_summary no_json ends = tt
 
 -- lines that are no summary tell it by their last one
 pub lines_tell :

@@ -22,8 +22,8 @@ pub(crate) struct Cell {
 /// A symbol, and the state that it leads to.
 #[derive(Clone, Copy)]
 pub(crate) struct Target<'a> {
-    name: &'a str,
-    state: usize,
+    pub(crate) name: &'a str,
+    pub(crate) state: usize,
 }
 
 /// What the table does in a state, token by token.
@@ -31,8 +31,8 @@ pub(crate) struct Target<'a> {
 pub(crate) struct Row<'a> {
     pub(crate) shifts: Vec<Target<'a>>,
     /// By production, and then by token.
-    reductions: Vec<Cell>,
-    accepts: bool,
+    pub(crate) reductions: Vec<Cell>,
+    pub(crate) accepts: bool,
 }
 
 /// The cells that entries are about.

@@ -87,7 +87,7 @@ fn pen_for(is_plain: bool) -> Pen {
 }
 
 /// Adds the drawing of a tree behind so many blanks, with the dot before that leaf.
-pub(crate) fn push_drawing(
+pub fn push_drawing(
     text: &mut Text,
     file: &FileGrammar,
     shown: &ShownTree,

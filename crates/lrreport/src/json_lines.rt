@@ -117,19 +117,27 @@ fn add_nothing_found(json: &mut JsonText) {
     }
 }
 
-/// Ends the line of a file, with its grammar where that is asked for.
-fn end_line(
-    mut json: JsonText,
-    file: Option<&FileGrammar>,
-    has_grammar: bool,
-) -> Result<String, AllocError> {
+/// Adds the grammar, where it is asked for.
+fn add_grammar_of(json: &mut JsonText, file: Option<&FileGrammar>, has_grammar: bool) {
     if has_grammar {
         json.key("grammar");
         match file {
-            Some(file) => add_grammar(&mut json, file),
+            Some(file) => add_grammar(json, file),
             None => json.null(),
         }
     }
+}
+
+/// Adds that there are no states, where they are asked for.
+fn add_no_states(json: &mut JsonText, has_states: bool) {
+    if has_states {
+        json.key("automaton");
+        json.null();
+    }
+}
+
+/// Ends the line of a file.
+fn end_line(mut json: JsonText) -> Result<String, AllocError> {
     json.end_object();
     let mut line = json.finish()?;
     line.push('\n')?;
@@ -142,6 +150,7 @@ pub(crate) fn json_of_faults(
     source: &Source<'_>,
     faults: &[Fault],
     has_grammar: bool,
+    has_states: bool,
 ) -> Result<String, AllocError> {
     let mut json = JsonText::new(alloc);
     json.begin_object();
@@ -155,7 +164,9 @@ pub(crate) fn json_of_faults(
     add_faults(&mut json, source, &[])?;
     json.key("errors");
     add_faults(&mut json, source, faults)?;
-    end_line(json, None, has_grammar)
+    add_grammar_of(&mut json, None, has_grammar);
+    add_no_states(&mut json, has_states);
+    end_line(json)
 }
 
 /// The line of a file with a grammar in which nothing could be found, and why.
@@ -166,6 +177,7 @@ pub(crate) fn json_of_refusal(
     warnings: &[Fault],
     message: &str,
     has_grammar: bool,
+    has_states: bool,
 ) -> Result<String, AllocError> {
     let mut json = JsonText::new(alloc);
     json.begin_object();
@@ -181,7 +193,9 @@ pub(crate) fn json_of_refusal(
     json.begin_array();
     add_unplaced(&mut json, message);
     json.end_array();
-    end_line(json, Some(file), has_grammar)
+    add_grammar_of(&mut json, Some(file), has_grammar);
+    add_no_states(&mut json, has_states);
+    end_line(json)
 }
 
 /// The line of a file in whose grammar this was found, with so many conflicts expected.
@@ -216,7 +230,9 @@ pub(crate) fn json_of_findings<T: IndexStorage>(
     add_faults(&mut json, told.source, warnings)?;
     json.key("errors");
     add_faults(&mut json, told.source, &[])?;
-    let line = end_line(json, Some(told.file), has_grammar)?;
+    add_grammar_of(&mut json, Some(told.file), has_grammar);
+    checked.add_automaton(&mut json)?;
+    let line = end_line(json)?;
     let head = checked.head(alloc, verdict)?;
     begun_with(alloc, line, head.as_str())
 }

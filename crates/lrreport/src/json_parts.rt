@@ -88,7 +88,7 @@ pub(crate) fn add_faults(
 
 impl Told<'_> {
     /// Adds a production, and where its body stands, as members of an object.
-    fn add_members(&self, json: &mut JsonText, production: usize) {
+    pub(crate) fn add_members(&self, json: &mut JsonText, production: usize) {
         json.key("rule");
         json.string(self.rule_name(production));
         json.key("body");

@@ -20,6 +20,8 @@ pub enum Output {
     Grammar,
     /// The states of the graph, and the verdict.
     States,
+    /// Results for a log of SARIF, with commas between them.
+    Sarif,
 }
 
 /// What is told beside that.
@@ -31,6 +33,8 @@ pub struct Detail {
     pub resolved: bool,
     /// Whether both trees of each text are drawn.
     pub trees: bool,
+    /// Whether JSON has the states of the graph too.
+    pub states: bool,
 }
 
 /// How lines are written.
@@ -74,7 +78,11 @@ impl Options {
     {
         match self.output {
             Output::Report => !self.detail.resolved,
-            Output::Summary | Output::Json { .. } | Output::Grammar | Output::States => false,
+            Output::Summary
+            | Output::Json { .. }
+            | Output::Grammar
+            | Output::States
+            | Output::Sarif => false,
         }
     }
 

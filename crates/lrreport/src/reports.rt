@@ -28,6 +28,7 @@ ghost use Rattle.lrreport.specs.Conclusions.{IsConcluded, IsSaidBy, conclusion_o
 use crate::conflicts::Checked;
 use crate::json_lines::{json_of_faults, json_of_findings, json_of_refusal};
 use crate::options::{Options, Output};
+use crate::sarif::{sarif_of_faults, sarif_of_refusal};
 use crate::told::Told;
 use lrdiagnostics::{Layout, Source, TOLD, Teller, Weight, add_shown, messages_of};
 use lrevidence::{Ambiguity, Effort, Evidence, evidence_for, find_ambiguity, shows_unambiguous};
@@ -115,8 +116,11 @@ fn report_on_faults(
     ensures status { IfOk result (λ r. r.status ≡ 2) }
 {
     if let Output::Json { has_grammar } = options.output {
-        let text = json_of_faults(alloc, source, faults, has_grammar)?;
+        let text = json_of_faults(alloc, source, faults, has_grammar, options.detail.states)?;
         return Ok(Report::unread(text));
+    }
+    if options.output == Output::Sarif {
+        return Ok(Report::unread(sarif_of_faults(alloc, source, faults)?));
     }
     let teller = Teller {
         source,
@@ -155,7 +159,10 @@ fn report_on_refusal(
             read.warnings,
             why.as_str(),
             has_grammar,
+            options.detail.states,
         )?
+    } else if options.output == Output::Sarif {
+        sarif_of_refusal(alloc, read.source, read.warnings, why.as_str())?
     } else {
         format!(in alloc; "{name}: error: {why}\n")?
     };
@@ -203,7 +210,7 @@ fn effort_of(options: Options) -> Effort {
         _ if options.makes_page => usize::MAX,
         Output::Report => most_told(options),
         Output::Json { .. } => usize::MAX,
-        Output::Summary | Output::Grammar | Output::States => 0,
+        Output::Summary | Output::Grammar | Output::States | Output::Sarif => 0,
     };
     Effort {
         steps: options.steps,
@@ -468,6 +475,7 @@ fn text_on_findings<T: IndexStorage>(
             )
         }
         Output::Summary => summary(alloc, line.as_str()),
+        Output::Sarif => checked.sarif(alloc, read.warnings, verdict),
         _ => lines(alloc, &checked, read.warnings, line.as_str()),
     }
 }
@@ -591,7 +599,8 @@ fn outcome_of(alloc: Global, read: Read<'_>, options: Options) -> Result<Outcome
     ensures unlost { splits read.entry.parser.now ≡ true → IfOk result (λ o.
         All (λ e. e.loss ≡ None) o.evidence.items) }
 {
-    let wants_graph = options.makes_page || options.output == Output::States;
+    let has_states = options.output == Output::States || options.detail.states;
+    let wants_graph = options.makes_page || has_states;
     let has_precedences = !options.ignores_precedences;
     let found = find::<u32>(alloc, read.file, has_precedences, wants_graph)?;
     Ok(outcome_on_findings(alloc, read, found, options)?)

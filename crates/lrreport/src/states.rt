@@ -80,7 +80,10 @@ impl Told<'_> {
 
 impl<'a, T: IndexStorage> Listing<'a, T> {
     /// Shows the states of what was found.
-    fn new(alloc: Global, checked: &'a Checked<'a, T>) -> Result<Listing<'a, T>, AllocError> {
+    pub(crate) fn new(
+        alloc: Global,
+        checked: &'a Checked<'a, T>,
+    ) -> Result<Listing<'a, T>, AllocError> {
         let conflicts = entries_of(alloc, checked.told.evidence)?;
         let errors = won_by(alloc, checked.found.resolved.as_slice(), Winner::Neither)?;
         Ok(Listing {

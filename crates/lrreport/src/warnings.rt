@@ -41,7 +41,7 @@ impl<'a> Told<'a> {
     }
 
     /// Adds a message for each precedence line with tokens that resolve nothing.
-    fn add_useless_lines(&self, messages: &mut Vec<Message>) -> Result<(), AllocError> {
+    pub(crate) fn add_useless_lines(&self, messages: &mut Vec<Message>) -> Result<(), AllocError> {
         let alloc = *messages.allocator();
         for line in self
             .useless_levels()
@@ -83,7 +83,7 @@ impl<'a> Told<'a> {
     }
 
     /// Adds a message of the `%prec` that resolve nothing.
-    fn add_useless_productions(
+    pub(crate) fn add_useless_productions(
         &self,
         messages: &mut Vec<Message>,
         faults: &[Fault],
@@ -109,7 +109,7 @@ impl<'a> Told<'a> {
     }
 
     /// Adds a message of the tokens that are in no rule, and one of those that are in useless rules alone.
-    fn add_unused(&self, messages: &mut Vec<Message>) -> Result<(), AllocError> {
+    pub(crate) fn add_unused(&self, messages: &mut Vec<Message>) -> Result<(), AllocError> {
         let alloc = *messages.allocator();
         add_message(
             messages,

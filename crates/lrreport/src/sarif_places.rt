@@ -1,0 +1,93 @@
+//! Places of a file as SARIF tells them.
+
+use crate::json_texts::JsonText;
+use lrdiagnostics::Source;
+use lryacc::Span;
+use std::alloc::{AllocError, Global};
+
+/// How many code units of UTF-16 the character has that begins with a byte; none where the byte goes on with one.
+fn units(byte: u8) -> usize {
+    match byte {
+        0x80..=0xBF => 0,
+        0xF0..=0xFF => 2,
+        _ => 1,
+    }
+}
+
+/// The column of a place in code units of UTF-16, from 1.
+fn column(bytes: &[u8], at: usize) -> usize {
+    let before = bytes.get(..at).unwrap_or(bytes);
+    let mut column: usize = 1;
+    for byte in before.iter().rev() {
+        if *byte == b'\n' {
+            break;
+        }
+        column = column.saturating_add(units(*byte));
+    }
+    column
+}
+
+/// Adds a place as the value of a key: from its first character to behind its last one.
+fn add_region(json: &mut JsonText, source: &Source<'_>, place: Span) {
+    json.key("region");
+    json.begin_object();
+    json.key("startLine");
+    json.number(source.position(place.start).line);
+    json.key("startColumn");
+    json.number(column(source.bytes, place.start));
+    json.key("endLine");
+    json.number(source.position(place.end).line);
+    json.key("endColumn");
+    json.number(column(source.bytes, place.end));
+    json.end_object();
+}
+
+/// Adds a byte of a path to a reference: by its number where it may not stand there.
+fn push_byte(uri: &mut String, byte: u8) -> Result<(), AllocError> {
+    let stays = byte.is_ascii_alphanumeric() || matches!(byte, b'-' | b'.' | b'_' | b'~' | b'/');
+    if stays {
+        return uri.push(char::from(byte));
+    }
+    uri.push('%')?;
+    for digit in [byte / 16, byte % 16] {
+        uri.push(
+            char::from_digit(u32::from(digit), 16)
+                .unwrap_or('0')
+                .to_ascii_uppercase(),
+        )?;
+    }
+    Ok(())
+}
+
+/// A path as a reference: a relative one stays so.
+fn uri_of(alloc: Global, name: &str) -> Result<String, AllocError> {
+    let mut uri = String::new(alloc);
+    if name.starts_with('/') {
+        uri.push_str("file://")?;
+    }
+    for byte in name.as_bytes() {
+        push_byte(&mut uri, *byte)?;
+    }
+    Ok(uri)
+}
+
+/// Adds a file, or a place in it, as a member of an object.
+pub(crate) fn add_location(
+    json: &mut JsonText,
+    source: &Source<'_>,
+    place: Option<Span>,
+) -> Result<(), AllocError> {
+    let uri = uri_of(json.allocator(), source.name)?;
+    json.key("physicalLocation");
+    json.begin_object();
+    json.key("artifactLocation");
+    json.begin_object();
+    json.key("uri");
+    json.string(uri.as_str());
+    json.end_object();
+    if let Some(place) = place {
+        add_region(json, source, place);
+    }
+    json.end_object();
+    Ok(())
+}
