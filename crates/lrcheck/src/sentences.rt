@@ -16,7 +16,7 @@ fn parser_of(
     options: Options,
     steps: usize,
 ) -> Result<Option<Parser>, AllocError> {
-    let FileRead::Grammar(file, _, _) = read_file(alloc, bytes, options.dialect)? else {
+    let FileRead::Grammar(file, ..) = read_file(alloc, bytes, options.dialect)? else {
         return Ok(None);
     };
     match Parser::new(alloc, bytes, file, !options.ignores_precedences, steps) {

@@ -9,10 +9,9 @@ use Rattle.lrspec.specs.texts.Lines.{words}
 use Rattle.lrconflicts.specs.Moves.{moves_of}
 use Rattle.lryacc.specs.declared.numbering.FileGrammar.{FileGrammar}
 use Rattle.lrshown.specs.declared.steps.Step.{Step}
-use Rattle.lrshown.specs.declared.trees.Tree.{Tree}
+use Rattle.lrshown.specs.declared.chains.ShownTree.{ShownTree}
 use Rattle.lrshown.specs.Steps.{moves_by}
-use Rattle.lrshown.specs.DrawnTrees.{drawn_by}
-use Rattle.lrshown.specs.StoredTrees.{IsDrawn}
+use Rattle.lrshown.specs.ShownTrees.{IsWhole}
 use Rattle.lrparsing.specs.declared.answers.Answer.{Answer}
 use Rattle.lrparsing.specs.declared.answers.Answer.TheVariants.{Sentence, Rejected, Unfinished, Unknown}
 use Rattle.lrparsing.specs.declared.answers.Rejection.{Rejection}
@@ -26,11 +25,11 @@ text_of_line p ts = numbers p.front.items ++ ts ++ numbers p.behind.items
 
 -- the text is a sentence, and the tree that is told is that of it, drawn without what stands around the tokens of the line: so many
 -- steps stand before these
-pub record IsSentenceTold (g : Grammar) (file : FileGrammar) (text : List ℕ) (before : ℕ) (t : Tree) : Type 0 where
+pub record IsSentenceTold (g : Grammar) (file : FileGrammar) (text : List ℕ) (before : ℕ) (t : ShownTree) : Type 0 where
   pub sentence : IsSentence g text
   pub steps : List Step
   pub moves : moves_by steps ≡ moves_of sentence.tree
-  pub drawn : IsDrawn t (drawn_by file [] (drop before steps))
+  pub drawn : IsWhole file [] (drop before steps) t
 
 -- the machine rejects the text of a line of these tokens, at the one that is told, where those could stand that are told
 pub record IsRejectionTold (p : Parser) (ts : List ℕ) (r : Rejection) : Type 0 where

@@ -1,12 +1,10 @@
 //! What a line comes to.
 
-ghost use Rattle.std.specs.Prelude.{◌≡◌, [], IfOk, length};
+ghost use Rattle.std.specs.Prelude.{◌≡◌, IfOk, length};
 ghost use Rattle.lrspec.specs.grammars.Trees.{IsSentence};
 ghost use Rattle.lrspec.specs.tables.Machine as math;
 ghost use Rattle.lrspec.specs.tables.Machine.{Rejected};
 ghost use Rattle.lrspec.specs.tables.Recognition.{AreNamed};
-ghost use Rattle.lrshown.specs.DrawnTrees.{drawn_by};
-ghost use Rattle.lrshown.specs.StoredTrees.{IsDrawn};
 ghost use Rattle.lrtree.specs.StoredTrees.{tree_of};
 ghost use Rattle.lrparsing.specs.Answers.{IsAnswer, IsAnswerTo, IsRejectionTold, IsSentenceTold, text_of_line};
 ghost use Rattle.lrparsing.specs.Expected.{numbers};
@@ -16,7 +14,7 @@ use crate::parsers::Parser;
 use crate::spellings::tokens_of_line;
 use crate::steps::steps_of_tree;
 use lrgrammar::idx::TIdx;
-use lrshown::{Step, Tree, TwoTrees};
+use lrshown::{ShownTree, Step};
 use lrtable::machine::run;
 use lrtree::{Parsed, parse};
 use lryacc::FileGrammar;
@@ -37,25 +35,13 @@ pub struct Rejection {
 #[derive(Debug, Drop)]
 pub enum Answer<'a> {
     /// It is a sentence, and this is its tree.
-    Sentence(Tree),
+    Sentence(ShownTree),
     /// The parser rejects it.
     Rejected(Rejection),
     /// The parser comes to no end in so many steps.
     Unfinished,
     /// This word of it names no token.
     Unknown(&'a [u8]),
-}
-
-/// The tree that steps put together, without the node of `$accept` and the token that ends all.
-fn tree_by(alloc: Global, file: &FileGrammar, steps: &[Step]) -> Result<Tree, AllocError>
-    ensures { IfOk result (λ t. IsDrawn t (drawn_by file.now [] steps.now)) }
-{
-    let trees = TwoTrees {
-        before: Vec::new(alloc),
-        one: steps.to_vec(alloc)?,
-        other: Vec::new(alloc),
-    };
-    Ok(Tree::both(alloc, file, &trees)?.0)
 }
 
 impl Parser {
@@ -73,7 +59,7 @@ impl Parser {
     }
 
     /// The tree of a sentence, without what stands around its tokens.
-    fn shown(&self, tree: &lrtree::Tree<u32>, text: &[TIdx<u32>]) -> Result<Tree, AllocError>
+    fn shown(&self, tree: &lrtree::Tree<u32>, text: &[TIdx<u32>]) -> Result<ShownTree, AllocError>
         requires { (s : IsSentence self.now.grm (numbers text.now))
             × (s.tree ≡ tree_of (λ n. n) tree.now) }
         ensures { IfOk result (IsSentenceTold self.now.grm self.now.file (numbers text.now)
@@ -82,7 +68,7 @@ impl Parser {
         let alloc = self.grm.allocator();
         let steps = steps_of_tree(alloc, tree)?;
         let behind = steps.get(self.front.len()..).unwrap_or(&[]);
-        tree_by(alloc, &self.file, behind)
+        ShownTree::whole(alloc, &self.file, &[], behind)
     }
 
     /// Where the text of a line of tokens is rejected.

@@ -3,15 +3,15 @@
 use crate::answers::{Answer, Rejection};
 use crate::parsers::Parser;
 use lrdiagnostics::add_shown;
-use lrshown::{Tree, token_name, tree_words};
+use lrshown::{ShownTree, token_name, tree_words};
 use lrwriter::Text;
 use std::alloc::AllocError;
 use std::str;
 
 impl Parser {
     /// Adds a tree in brackets.
-    fn add_tree(&self, text: &mut Text, tree: &Tree) -> Result<(), AllocError> {
-        let mut words = tree_words(text.allocator(), &self.file, tree, usize::MAX)?;
+    fn add_tree(&self, text: &mut Text, tree: &ShownTree) -> Result<(), AllocError> {
+        let mut words = tree_words(text.allocator(), &self.file, tree, "", usize::MAX)?;
         // the last one is the dot
         let _ = words.pop();
         for (place, word) in words.iter().enumerate() {

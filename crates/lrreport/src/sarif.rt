@@ -121,7 +121,7 @@ pub(crate) fn sarif_of_faults(
     faults: &[Fault],
 ) -> Result<String, AllocError> {
     let mut results = Results::new(alloc, source);
-    let messages = messages_of(alloc, faults)?;
+    let messages = messages_of(alloc, source, faults)?;
     results.add_all(Rule::Error, "error", messages.as_slice())?;
     results.finish()
 }
@@ -139,7 +139,7 @@ pub(crate) fn sarif_of_refusal(
         places: Vec::new(alloc),
     };
     results.add(Rule::Error, "error", &why)?;
-    let messages = messages_of(alloc, warnings)?;
+    let messages = messages_of(alloc, source, warnings)?;
     results.add_all(Rule::Warning, "warning", messages.as_slice())?;
     results.finish()
 }
@@ -148,7 +148,7 @@ impl Told<'_> {
     /// Adds what the file is warned of.
     fn add_warnings(&self, results: &mut Results<'_>, faults: &[Fault]) -> Result<(), AllocError> {
         let alloc = results.allocator();
-        let messages = messages_of(alloc, faults)?;
+        let messages = messages_of(alloc, self.source, faults)?;
         results.add_all(Rule::Warning, "warning", messages.as_slice())?;
         let mut messages = Vec::new(alloc);
         self.add_unused(&mut messages)?;

@@ -147,7 +147,7 @@ pub struct ShownTree {
 
 impl ShownTree {
     /// The whole tree that steps put together, without the node of `$accept` and the token that ends all.
-    pub(crate) fn whole(
+    pub fn whole(
         alloc: Global,
         file: &FileGrammar,
         before: &[Step],
