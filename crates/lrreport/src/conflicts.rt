@@ -7,6 +7,7 @@ ghost use Rattle.lrevidence.specs.Losses.{IsLoss, IsLostAtEntry};
 ghost use Rattle.lrevidence.specs.DecidedEntries.{IsToldDecided};
 ghost use Rattle.lrshown.specs.DecidedEntries.{tokens_of};
 ghost use Rattle.lrshown.specs.Ambiguities.{has_sentence};
+ghost use Rattle.lrreport.specs.Sentences.{IsKnownAt};
 
 use crate::levels::Trials;
 use crate::told::Told;
@@ -169,7 +170,8 @@ impl<T: IndexStorage> Checked<'_, T> {
         but: Option<usize>,
     ) -> Option<(usize, &'e Ambiguity)>
         requires proved { All (IsProved self.now.found.now.grm) meeting.now }
-        ensures { IfSome result (λ told. HasTwoTrees self.now.found.now.grm told.1.now) }
+        ensures trees { IfSome result (λ told. HasTwoTrees self.now.found.now.grm told.1.now) }
+        ensures known { IfSome result (λ told. IsKnownAt meeting.now told.0 told.1.now) }
     {
         for evidence in meeting {
             let token = evidence.entry.token;
