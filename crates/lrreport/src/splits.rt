@@ -186,31 +186,36 @@ impl<'a> Told<'a> {
         }
     }
 
-    /// Adds what can be said of two trees with these productions at their roots.
-    fn add_dynamics(&self, words: &mut Words, one: usize, other: usize) {
-        let (line, against) = (
-            self.source.line(self.place(one).start),
-            self.source.line(self.place(other).start),
-        );
-        let (first, last) = (line.min(against), line.max(against));
-        let rule = self.rule_name(one);
-        if one == other {
-            words.add_all("give the production of");
-            words.add(rule);
+    /// Adds in which lines two productions stand.
+    fn add_lines(&self, words: &mut Words, one: usize, other: usize) {
+        let line = self.source.line(self.place(one).start);
+        let against = self.source.line(self.place(other).start);
+        if line == against {
             words.add_all("in line");
             words.begin();
             write!(words, "{line}");
-            words.add_all("a %merge function, which makes one value of both");
         } else {
-            words.add_all("give both productions of");
-            words.add(rule);
+            let (first, last) = (line.min(against), line.max(against));
             words.add_all("in lines");
             words.begin();
             write!(words, "{first} and {last}");
-            words.add_all(
-                "a %dprec number, the one to be kept the greater, or one %merge function",
-            );
         }
+    }
+
+    /// Adds what can be said of two trees with these productions at their roots.
+    fn add_dynamics(&self, words: &mut Words, one: usize, other: usize) {
+        words.add_all(if one == other {
+            "give the production of"
+        } else {
+            "give both productions of"
+        });
+        words.add(self.rule_name(one));
+        self.add_lines(words, one, other);
+        words.add_all(if one == other {
+            "a %merge function, which makes one value of both"
+        } else {
+            "a %dprec number, the one to be kept the greater, or one %merge function"
+        });
     }
 
     /// What becomes of the trees of the first own sentence of entries, and the productions at their roots.
