@@ -18,7 +18,7 @@ use crate::decisions::Decisions;
 use crate::examples::Numbering;
 use crate::losses::LossSearch;
 use crate::searches::Searches;
-use crate::texts::shown_at;
+use crate::texts::{loss_found, shown_at};
 use lrfindings::{Entry, Findings, is_among};
 use lrreasons::{Conflict, Reasons};
 pub use lrshown::Evidence;
@@ -46,6 +46,9 @@ pub struct Effort {
     /// Whether each entry counts, and not only the first of those that stand together, because the same meets at them in the same
     /// state.
     pub counts_each: bool,
+    /// Whether a sentence that the parser rejects is looked for at each entry, also where it has one with two trees, or where no
+    /// list of the table has it.
+    pub seeks_losses: bool,
 }
 
 impl Effort {
@@ -67,6 +70,8 @@ struct Wanted {
     has_example: bool,
     /// Whether other texts are tried then: they may have two trees, or be rejected by the parser.
     has_texts: bool,
+    /// Whether a sentence that the parser rejects is looked for in any case.
+    has_loss: bool,
 }
 
 impl Wanted {
@@ -206,6 +211,56 @@ fn evidence_of(
     Ok(evidence)
 }
 
+/// What is known of an entry, with a sentence that the parser rejects, if one is found.
+fn with_loss(searches: &mut Searches<'_>, before: Evidence) -> Result<Evidence, AllocError>
+    requires proved { IsProved searches.old.reasons.grammar before }
+    requires parts { PartsAtEntry searches.old.reasons.grammar searches.old.reasons.graph before }
+    requires lost { IsFoundAtEntry searches.old.losses before }
+    requires decided { IsDecidedOf searches.old.decisions.grammar searches.old.decisions.graph
+        before }
+    ensures same { searches.new ≡ searches.old }
+    ensures entry { IfOk result (λ e. e.entry ≡ before.entry) }
+    ensures proved { IfOk result (IsProved searches.old.reasons.grammar) }
+    ensures parts { IfOk result
+        (PartsAtEntry searches.old.reasons.grammar searches.old.reasons.graph) }
+    ensures lost { IfOk result (IsFoundAtEntry searches.old.losses) }
+    ensures decided { IfOk result
+        (IsDecidedOf searches.old.decisions.grammar searches.old.decisions.graph) }
+{
+    let Some(conflict) = conflict_of(before.entry) else {
+        return Ok(before);
+    };
+    searches.losses.prepare()?;
+    let loss = loss_found(searches, conflict)?;
+    Ok(Evidence {
+        loss: boxed(searches.allocator(), loss)?,
+        ..before
+    })
+}
+
+/// What is known of an entry, and a sentence that the parser rejects where one is looked for in any case.
+fn known_of(
+    searches: &mut Searches<'_>,
+    entry: Entry,
+    wanted: Wanted,
+) -> Result<Evidence, AllocError>
+    requires { AreOfOne searches.old }
+    ensures same { searches.new ≡ searches.old }
+    ensures entry { IfOk result (λ e. e.entry ≡ entry) }
+    ensures proved { IfOk result (IsProved searches.new.reasons.grammar) }
+    ensures parts { IfOk result
+        (PartsAtEntry searches.new.reasons.grammar searches.new.reasons.graph) }
+    ensures lost { IfOk result (IsFoundAtEntry searches.new.losses) }
+    ensures decided { IfOk result
+        (IsDecidedOf searches.new.decisions.grammar searches.new.decisions.graph) }
+{
+    let evidence = evidence_of(searches, entry, wanted)?;
+    if wanted.has_loss && evidence.loss.is_none() {
+        return with_loss(searches, evidence);
+    }
+    Ok(evidence)
+}
+
 /// Adds what is known of entries.
 fn push_evidence(
     list: &mut Vec<Evidence>,
@@ -237,8 +292,9 @@ fn push_evidence(
             steps: effort.steps,
             has_example,
             has_texts: effort.steps > 0 && (has_example || unknown < effort.losses),
+            has_loss: effort.steps > 0 && effort.seeks_losses,
         };
-        let evidence = evidence_of(searches, *entry, wanted)?;
+        let evidence = known_of(searches, *entry, wanted)?;
         let is_known = evidence.ambiguity.is_some();
         list.push(evidence)?;
         if counts {

@@ -176,6 +176,21 @@ fn shown_by_search(
     }
 }
 
+/// A sentence that the parser rejects, which a search finds at the conflict for either of its candidates.
+pub(crate) fn loss_found(
+    searches: &Searches<'_>,
+    conflict: Conflict<u32>,
+) -> Result<Option<Loss>, AllocError>
+    ensures { IfOk result (λ o. IfSome o
+        (IsFoundLoss searches.now.losses conflict.state.0 conflict.token.0)) }
+{
+    let shown = shown_by_search(searches, conflict, Move::Reduce(conflict.production))?;
+    match shown.loss {
+        Some(loss) => Ok(Some(loss)),
+        None => Ok(shown_by_search(searches, conflict, other_move(&conflict))?.loss),
+    }
+}
+
 /// What is shown at the conflict: by its example, or else by what a search finds for either of its candidates.
 pub(crate) fn shown_at(
     searches: &Searches<'_>,

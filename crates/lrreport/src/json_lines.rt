@@ -213,6 +213,8 @@ pub(crate) fn json_of_findings<T: IndexStorage>(
     requires entries { All (IsToldDecided checked.now.found.now.grm checked.now.found.now.graph)
         checked.now.told.evidence.now }
     requires resolved { All (IsProved checked.now.found.now.grm) checked.now.told.resolved.now }
+    requires settled { All (IsLostAtEntry checked.now.found.now.grm checked.now.found.now.table)
+        checked.now.told.resolved.now }
     requires unambiguous { verdict ≡ Unambiguous → IsUnambiguous checked.now.found.now.grm }
     requires yet_unambiguous { IsTrue checked.now.told.is_unambiguous
         → IsUnambiguous checked.now.found.now.grm }
@@ -325,6 +327,8 @@ impl<'a, T: IndexStorage> Checked<'a, T> {
         requires entries { All (IsToldDecided self.now.found.now.grm self.now.found.now.graph)
             self.now.told.evidence.now }
         requires resolved { All (IsProved self.now.found.now.grm) self.now.told.resolved.now }
+        requires settled { All (IsLostAtEntry self.now.found.now.grm self.now.found.now.table)
+            self.now.told.resolved.now }
     {
         let alternatives = alternatives(json.allocator(), self.told.file)?;
         json.key("conflicts");
@@ -442,6 +446,8 @@ impl<'a, T: IndexStorage> Checked<'a, T> {
     /// Adds what precedences resolve, in the order of the file.
     fn add_resolved(&self, json: &mut JsonText, alternatives: &[usize]) -> Result<(), AllocError>
         requires proved { All (IsProved self.now.found.now.grm) self.now.told.resolved.now }
+        requires lost { All (IsLostAtEntry self.now.found.now.grm self.now.found.now.table)
+            self.now.told.resolved.now }
     {
         json.begin_array();
         for meeting in self
@@ -468,6 +474,8 @@ impl<'a, T: IndexStorage> Checked<'a, T> {
         alternatives: &[usize],
     ) -> Result<(), AllocError>
         requires proved { All (IsProved self.now.found.now.grm) self.now.told.resolved.now }
+        requires lost { All (IsLostAtEntry self.now.found.now.grm self.now.found.now.table)
+            self.now.told.resolved.now }
     {
         let Some(first) = entries.first() else {
             return Ok(());
@@ -480,6 +488,8 @@ impl<'a, T: IndexStorage> Checked<'a, T> {
         self.add_ambiguity(json, first, self.decided(entries), alternatives)?;
         json.key("searched");
         json.boolean(self.told.options.steps > 0 && self.are_searched(entries));
+        json.key("lost");
+        self.add_loss(json, self.lost(entries));
         json.end_object();
         Ok(())
     }

@@ -50,8 +50,8 @@ impl Told<'_> {
     /// Whether two productions of one rule have the same body.
     fn are_same(&self, one: usize, other: usize) -> bool {
         match (self.production(one), self.production(other)) {
-            (Some(one), Some(other)) =>
-                one.rule == other.rule && one.symbols.as_slice() == other.symbols.as_slice(),
+            (Some(one), Some(other)) => one.rule == other.rule
+                && one.symbols.as_slice() == other.symbols.as_slice(),
             _ => false,
         }
     }

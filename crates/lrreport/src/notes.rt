@@ -71,6 +71,17 @@ impl Notes {
     }
 }
 
+/// What is known of entries that precedences resolve.
+#[derive(Clone, Copy)]
+pub(crate) struct KnownResolved<'a> {
+    /// A sentence with two trees that part by what meets in one of them.
+    pub(crate) ambiguity: Option<&'a Ambiguity>,
+    /// A sentence that the parser rejects, since one of them is resolved.
+    pub(crate) loss: Option<&'a Loss>,
+    /// Whether sentences were not looked for to the end.
+    pub(crate) is_cut_off: bool,
+}
+
 /// The tokens of the entries that are not decided, and for which there is no sentence with two trees that part by what meets in
 /// them.
 fn unknown(alloc: Global, meeting: &[Evidence]) -> Result<Vec<usize>, AllocError> {
@@ -531,29 +542,33 @@ impl<T: IndexStorage> Checked<'_, T> {
         self.push_sentence(text, notes, ambiguity)
     }
 
-    /// Adds notes on what precedences resolve: why, and a sentence with two trees, of which one is kept.
+    /// Adds notes on what precedences resolve: why, a sentence with two trees, of which one is kept, and one that is rejected.
     pub(crate) fn push_decided(
         &self,
         text: &mut Text,
         marks: &[Mark],
         why: &str,
         kept: &str,
-        ambiguity: Option<&Ambiguity>,
-        is_cut_off: bool,
+        known: KnownResolved<'_>,
     ) -> Result<(), AllocError>
-        requires proved { IfSome ambiguity (λ a. HasTwoTrees self.now.found.now.grm a.now) }
+        requires proved { IfSome known.ambiguity (λ a. HasTwoTrees self.now.found.now.grm a.now) }
+        requires lost { IfSome known.loss (λ l.
+            IsLoss self.now.found.now.grm self.now.found.now.table l.now) }
     {
         let mut lines = Text::new(text.allocator());
         let notes = self.told.notes(marks);
         notes.push_text(&mut lines, why);
-        if is_cut_off {
+        if known.is_cut_off {
             notes.push_text(
                 &mut lines,
                 "no sentence was looked for to the end, since the allowance of this file was used up",
             );
         }
-        if let Some(ambiguity) = ambiguity {
+        if let Some(ambiguity) = known.ambiguity {
             self.push_decided_sentence(&mut lines, notes, kept, ambiguity)?;
+        }
+        if let Some(loss) = known.loss {
+            self.push_loss(&mut lines, notes, loss)?;
         }
         let lines = lines.finish()?;
         self.told.teller().add_notes(text, marks, lines.as_str());

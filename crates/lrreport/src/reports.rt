@@ -226,6 +226,7 @@ fn effort_of(options: Options, parser: &Parser) -> Effort {
         counts_each: options.detail.all
             || options.makes_page
             || matches!(options.output, Output::Json { .. }),
+        seeks_losses: false,
     }
 }
 
@@ -285,6 +286,8 @@ fn known_of(
     ensures entries { IfOk result (λ k.
         All (IsToldDecided found.now.grm found.now.graph) k.evidence.items) }
     ensures resolved { IfOk result (λ k. All (IsProved found.now.grm) k.resolved.items) }
+    ensures settled { IfOk result (λ k.
+        All (IsLostAtEntry found.now.grm found.now.table) k.resolved.items) }
     ensures decided { IfOk result (λ k. IfSome k.decided (HasTwoTrees found.now.grm)) }
     ensures unlost { splits read.entry.parser.now ≡ true → IfOk result (λ k.
         All (λ e. e.loss ≡ None) k.evidence.items) }
@@ -302,6 +305,11 @@ fn known_of(
         None
     };
     let resolved = if options.detail.resolved {
+        let seeks_losses = !read.parser.splits();
+        let effort = Effort {
+            seeks_losses,
+            ..effort
+        };
         evidence_for(alloc, file, found, resolved.as_slice(), effort)?
     } else {
         Vec::new(alloc)
@@ -365,6 +373,8 @@ impl<T: IndexStorage> Checked<'_, T> {
         requires entries { All (IsToldDecided self.now.found.now.grm self.now.found.now.graph)
             self.now.told.evidence.now }
         requires resolved { All (IsProved self.now.found.now.grm) self.now.told.resolved.now }
+        requires settled { All (IsLostAtEntry self.now.found.now.grm self.now.found.now.table)
+            self.now.told.resolved.now }
     {
         let options = self.told.options;
         if options.output == Output::States {
@@ -429,6 +439,8 @@ fn lines<T: IndexStorage>(
     requires entries { All (IsToldDecided checked.now.found.now.grm checked.now.found.now.graph)
         checked.now.told.evidence.now }
     requires resolved { All (IsProved checked.now.found.now.grm) checked.now.told.resolved.now }
+    requires settled { All (IsLostAtEntry checked.now.found.now.grm checked.now.found.now.table)
+        checked.now.told.resolved.now }
     ensures { checked.now.told.options.lines.columns ≡ None → IfOk result (λ s.
         EndsIn (shown_text line.now ++ codes "\n") (string_bytes s)) }
 {
@@ -451,6 +463,7 @@ fn text_on_findings<T: IndexStorage>(
     requires lost { All (IsLostAtEntry found.now.grm found.now.table) known.now.evidence.items }
     requires entries { All (IsToldDecided found.now.grm found.now.graph) known.now.evidence.items }
     requires resolved { All (IsProved found.now.grm) known.now.resolved.items }
+    requires settled { All (IsLostAtEntry found.now.grm found.now.table) known.now.resolved.items }
     requires decided { IfSome known.now.decided (HasTwoTrees found.now.grm) }
     requires unambiguous { verdict ≡ Unambiguous → IsUnambiguous found.now.grm }
     requires yet_unambiguous { IsTrue known.now.is_unambiguous → IsUnambiguous found.now.grm }

@@ -2,12 +2,14 @@
 
 ghost use Rattle.std.specs.Prelude.{All, IfSome};
 ghost use Rattle.lrevidence.specs.Ambiguities.{HasTwoTrees, IsProved};
-ghost use Rattle.lrreport.specs.Sentences.{IsOfOne};
+ghost use Rattle.lrevidence.specs.Losses.{IsLoss, IsLostAtEntry};
+ghost use Rattle.lrreport.specs.Sentences.{IsLostAtOne, IsOfOne};
 
 use crate::conflicts::{Checked, DONE, push_more};
+use crate::notes::KnownResolved;
 use crate::told::Told;
 use lrdiagnostics::add_shown;
-use lrevidence::Ambiguity;
+use lrevidence::{Ambiguity, Loss};
 use lrfindings::{Entry, Resolved, Winner, source_of};
 use lrgrammar::idx::IndexStorage;
 use lrwriter::Text;
@@ -179,6 +181,26 @@ impl<'a, T: IndexStorage> Checked<'a, T> {
         None
     }
 
+    /// A sentence that the parser rejects since precedences resolve one of the entries, where one is found.
+    pub(crate) fn lost(&self, entries: &[Entry]) -> Option<&'a Loss>
+        requires lost { All (IsLostAtEntry self.now.found.now.grm self.now.found.now.table)
+            self.now.told.resolved.now }
+        ensures loss { IfSome result (λ l.
+            IsLoss self.now.found.now.grm self.now.found.now.table l.now) }
+        ensures at { IfSome result (λ l.
+            IsLostAtOne self.now.found.now.grm self.now.found.now.table entries.now l.now) }
+    {
+        let resolved = self.told.resolved;
+        for entry in entries {
+            if let Ok(at) = resolved.binary_search_by_key(entry, |it| it.entry) {
+                if let Some(loss) = &resolved[at].loss {
+                    return Some(&**loss);
+                }
+            }
+        }
+        None
+    }
+
     /// Whether a text was looked for at each of the entries.
     pub(crate) fn are_searched(&self, entries: &[Entry]) -> bool {
         let resolved = self.told.resolved;
@@ -190,6 +212,8 @@ impl<'a, T: IndexStorage> Checked<'a, T> {
     /// Adds what is resolved.
     fn push_resolution(&self, text: &mut Text, resolution: &Resolution) -> Result<(), AllocError>
         requires proved { All (IsProved self.now.found.now.grm) self.now.told.resolved.now }
+        requires lost { All (IsLostAtEntry self.now.found.now.grm self.now.found.now.table)
+            self.now.told.resolved.now }
     {
         let entries = resolution.entries.as_slice();
         let Some(first) = entries.first() else {
@@ -206,14 +230,12 @@ impl<'a, T: IndexStorage> Checked<'a, T> {
             self.told.reason(alloc, resolution)?,
             resolution.reason.kept(),
         );
-        self.push_decided(
-            text,
-            marks.as_slice(),
-            why.as_str(),
-            kept,
-            self.decided(entries),
-            self.told.options.steps > 0 && !self.are_searched(entries),
-        )?;
+        let known = KnownResolved {
+            ambiguity: self.decided(entries),
+            loss: self.lost(entries),
+            is_cut_off: self.told.options.steps > 0 && !self.are_searched(entries),
+        };
+        self.push_decided(text, marks.as_slice(), why.as_str(), kept, known)?;
         text.add_char('\n');
         Ok(())
     }
@@ -221,6 +243,8 @@ impl<'a, T: IndexStorage> Checked<'a, T> {
     /// Adds what precedences resolve: the first ones, so many at the most, and how many there are besides.
     pub(crate) fn push_resolved(&self, text: &mut Text, most: usize) -> Result<(), AllocError>
         requires proved { All (IsProved self.now.found.now.grm) self.now.told.resolved.now }
+        requires lost { All (IsLostAtEntry self.now.found.now.grm self.now.found.now.table)
+            self.now.told.resolved.now }
     {
         let resolved = self.found.resolved.as_slice();
         let resolutions = self.told.resolutions(text.allocator(), resolved)?;

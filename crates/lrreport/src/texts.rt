@@ -2,8 +2,8 @@
 
 use crate::words::Words;
 use lrevidence::{
-    Ambiguity, Loss, Node, ShownTree, Step, Tree, name_of_rule, names_of, names_of_tokens, symbol_name,
-    text_of, token_name, tree_words,
+    Ambiguity, Loss, Node, ShownTree, Step, Tree, name_of_rule, names_of, names_of_tokens,
+    symbol_name, text_of, token_name, tree_words,
 };
 use lrgrammar::grammar::PartSymbol;
 use lrwriter::Text;

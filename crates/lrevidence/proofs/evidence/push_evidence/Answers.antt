@@ -6,8 +6,8 @@ use Rattle.lrevidence.specs.DecidedEntries.{IsDecidedOf}
 use Rattle.lrevidence.proofs.EvidenceInTurn.{one_more}
 use Rattle.lrevidence.proofs.evidence.push_evidence.Goals as goal
 
-pub evidence_of-requires : goal.evidence_of-requires
-evidence_of-requires c = rw c.loop-entry.invariant.5 c.requires.one
+pub known_of-requires : goal.known_of-requires
+known_of-requires c = rw c.loop-entry.invariant.5 c.requires.one
 
 pub loop-entry-preserved : goal.loop-entry-preserved
 loop-entry-preserved c =
