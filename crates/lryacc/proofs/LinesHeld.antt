@@ -24,7 +24,7 @@ use Rattle.lryacc.proofs.NamesOfOne.{names-turned, number-kept}
 -- lines that declarations begin, and then others
 levels-append : (xs ys : List Statement) → levels_of (xs ++ ys) ≡ levels_of xs ++ levels_of ys
 levels-append [] ys = refl
-levels-append (says.Level kind directive ∷ xs) ys = ap (λ (ks : List LevelKind). kind ∷ ks) (levels-append xs ys)
+levels-append (says.Level kind ∷ xs) ys = ap (λ (ks : List LevelKind). kind ∷ ks) (levels-append xs ys)
 levels-append (_ ∷ xs) ys = levels-append xs ys
 
 -- what declarations say of bodies without `%prec`, and then others
@@ -50,7 +50,7 @@ longer some last old new keeps number line h = record {
 
 -- whether a declaration begins a line, whether it puts a symbol into one, and whether it decides of bodies without `%prec`
 abbrev pub begins : Statement → Bool
-begins (says.Level kind directive) = true
+begins (says.Level kind) = true
 begins _ = false
 
 abbrev pub puts : Statement → Bool
@@ -70,7 +70,7 @@ default-other so_far statement other =
     sym (default-append true so_far (statement ∷ []) ∙ no-default (has_default_after true so_far) statement other)
 
 no-level : (statement : Statement) → begins statement ≡ false → levels_of (statement ∷ []) ≡ []
-no-level (says.Level kind directive) other = absurd (false≢true (sym other))
+no-level (says.Level kind) other = absurd (false≢true (sym other))
 no-level _ other = refl
 
 levels-other : (so_far : List Statement) (statement : Statement) → begins statement ≡ false → levels_of so_far ≡ levels_of (so_far ++ statement ∷ [])
@@ -113,15 +113,15 @@ takes_default is_on {old} {new} keeps levels lines decided =
     }
 
 -- one that begins a line
-pub takes_level : (kind : LevelKind) (directive : Lexeme) {old new : Meaning} → KeepsNames old.symbols new.symbols → BeginsLine kind old new → TakesLines (says.Level kind directive ∷ []) old new
-takes_level kind directive {old} {new} keeps begun =
+pub takes_level : (kind : LevelKind) {old new : Meaning} → KeepsNames old.symbols new.symbols → BeginsLine kind old new → TakesLines (says.Level kind ∷ []) old new
+takes_level kind {old} {new} keeps begun =
     let own = own-same old new begun.lines in
     record {
       lines = λ so_far h. record {
-        levels = begun.levels ∙ ap (λ (ks : List LevelKind). ks ++ kind ∷ []) h.levels ∙ sym (levels-append so_far (says.Level kind directive ∷ []));
-        has_default = begun.has_default ∙ h.has_default ∙ default-other so_far (says.Level kind directive) refl;
-        given = λ number line e. longer so_far (says.Level kind directive) old new keeps number line (h.given number line (sym (own number) ∙ e));
-        some = some-other so_far (says.Level kind directive) old new refl keeps (λ number line e. own number ∙ e) h;
+        levels = begun.levels ∙ ap (λ (ks : List LevelKind). ks ++ kind ∷ []) h.levels ∙ sym (levels-append so_far (says.Level kind ∷ []));
+        has_default = begun.has_default ∙ h.has_default ∙ default-other so_far (says.Level kind) refl;
+        given = λ number line e. longer so_far (says.Level kind) old new keeps number line (h.given number line (sym (own number) ∙ e));
+        some = some-other so_far (says.Level kind) old new refl keeps (λ number line e. own number ∙ e) h;
       };
     }
 

@@ -26,7 +26,7 @@ line_of meaning number =
 -- the precedence lines that declarations begin
 abbrev pub levels_of : List Statement → List LevelKind
 levels_of [] = []
-levels_of (says.Level kind directive ∷ statements) = kind ∷ levels_of statements
+levels_of (says.Level kind ∷ statements) = kind ∷ levels_of statements
 levels_of (_ ∷ statements) = levels_of statements
 
 -- whether bodies without `%prec` have a precedence behind some declarations, if they had one before these: the last one that says

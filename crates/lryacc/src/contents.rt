@@ -28,8 +28,8 @@ pub(crate) enum Statement {
     Code(Lexeme, Lexeme),
     /// The token has this text for another name.
     Alias(Lexeme, Lexeme),
-    /// A precedence line begins with this directive.
-    Level(LevelKind, Lexeme),
+    /// A precedence line begins.
+    Level(LevelKind),
     /// The symbol is one of the precedence line in hand.
     InLevel(Lexeme),
     /// The symbol is named.

@@ -92,7 +92,7 @@ impl<'a> Reader<'a> {
         match form {
             Form::Tokens => self.listing(Said::DeclaredToken),
             Form::Rules => self.listing(Said::DeclaredRule),
-            Form::Level(kind) => self.level(kind, directive),
+            Form::Level(kind) => self.level(kind),
             Form::Types => self.listing(Said::Mention),
             Form::Starts => self.said(Said::Start),
             Form::DefaultPrecedence(is_on) => Ok(self.state(Statement::DefaultPrecedence(is_on))?),
@@ -275,11 +275,11 @@ impl<'a> Reader<'a> {
     }
 
     /// Reads the tokens of a precedence line.
-    fn level(&mut self, kind: LevelKind, directive: Lexeme) -> Result<(), Halt>
+    fn level(&mut self, kind: LevelKind) -> Result<(), Halt>
         ensures over { PassesNoDelimiter self.old self.new }
         ensures told { IfErr result (λ halt. IsTold halt self.new) }
     {
-        self.state(Statement::Level(kind, directive))?;
+        self.state(Statement::Level(kind))?;
         self.listing(Said::Operator)
     }
 

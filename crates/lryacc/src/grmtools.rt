@@ -57,7 +57,7 @@ impl<'a> Reader<'a> {
         match self.form(directive) {
             Some(Form::Tokens) => self.said(Said::Token),
             Some(Form::PassedOver) => self.said(Said::PassedOver),
-            Some(Form::Level(kind)) => self.grmtools_level(kind, directive),
+            Some(Form::Level(kind)) => self.grmtools_level(kind),
             Some(Form::NotInRules) => self.said(Said::NotInRules),
             Some(Form::ShownText) => self.shown_text(),
             Some(Form::Starts) => self.once(directive, Form::Starts),
@@ -71,11 +71,11 @@ impl<'a> Reader<'a> {
     }
 
     /// Reads the tokens of a precedence line.
-    fn grmtools_level(&mut self, kind: LevelKind, directive: Lexeme) -> Result<(), Halt>
+    fn grmtools_level(&mut self, kind: LevelKind) -> Result<(), Halt>
         ensures over { PassesNoDelimiter self.old self.new }
         ensures told { IfErr result (λ halt. IsTold halt self.new) }
     {
-        self.state(Statement::Level(kind, directive))?;
+        self.state(Statement::Level(kind))?;
         self.said(Said::InLevel)
     }
 

@@ -256,7 +256,7 @@ impl<'a> Meaning<'a> {
             Statement::Rule(symbol) => self.take_rule_name(symbol),
             Statement::Code(symbol, number) => self.take_code(symbol, number),
             Statement::Alias(symbol, text) => self.take_alias(symbol, text),
-            Statement::Level(kind, _) => self.begin_level(kind),
+            Statement::Level(kind) => self.begin_level(kind),
             Statement::InLevel(symbol) => self.take_in_level(symbol),
             Statement::Mention(_) | Statement::NotInRules(_) => Ok(()),
             Statement::Tagged(symbol, tag) => self.take_tag(symbol, tag),

@@ -242,7 +242,7 @@ impl<'a> Symbols<'a> {
             | Statement::LeftSide(symbol)
             | Statement::NamedPrecedence(symbol)
             | Statement::Start(symbol) => self.add(symbol),
-            Statement::Level(..)
+            Statement::Level(_)
             | Statement::NotInRules(_)
             | Statement::ExpectShiftReduce(_)
             | Statement::ExpectReduceReduce(_)

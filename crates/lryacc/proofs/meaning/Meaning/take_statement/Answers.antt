@@ -119,7 +119,7 @@ returns-in-Level-clause-lines c =
     let old = c.args.self.now in
     let new = c.begin_level.new.self in
     ok-both c.begin_level.result
-    (λ keeps begun. subst (λ (s : Statement). TakesLines (s ∷ []) old new) (sym c.in-Level.is) (takes_level c.in-Level.kind _ keeps.symbols.names begun))
+    (λ keeps begun. subst (λ (s : Statement). TakesLines (s ∷ []) old new) (sym c.in-Level.is) (takes_level c.in-Level.kind keeps.symbols.names begun))
     c.begin_level.ensures.keeps c.begin_level.ensures.begins
 
 pub returns-in-InLevel-clause-lines : goal.returns-in-InLevel-clause-lines
