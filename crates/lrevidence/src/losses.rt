@@ -19,9 +19,6 @@ use std::alloc::{AllocError, Global};
 use std::collections::BTreeSet;
 use std::marker::Model;
 
-/// How many pairs of stacks a search for a sentence that the parser rejects looks at.
-const PAIRS: usize = 200;
-
 /// The cell of an entry: its state and token.
 fn cell(entry: &Entry) -> (usize, usize)
     ensures { result ≡ cell_of entry.now }
@@ -140,11 +137,12 @@ impl<'a> LossSearch<'a> {
         self.graph.edge(place.state, symbol).is_some()
     }
 
-    /// A text that may be lost at the conflict by this candidate, where one is found.
+    /// A text that may be lost at the conflict by this candidate, where one is found; at most so many pairs of stacks are looked at.
     pub(crate) fn text_at(
         &self,
         conflict: Conflict<u32>,
         action: Move<u32>,
+        pairs: usize,
     ) -> Result<Option<Written<u32>>, AllocError> {
         if self.are_crowded != Some(false) || is_taken(self.found, conflict, action) {
             return Ok(None);
@@ -154,7 +152,7 @@ impl<'a> LossSearch<'a> {
             token: conflict.token,
             action,
         };
-        let Some(find) = self.losses.loss_at(candidate, PAIRS)? else {
+        let Some(find) = self.losses.loss_at(candidate, pairs)? else {
             return Ok(None);
         };
         let Find { text, loss } = find;

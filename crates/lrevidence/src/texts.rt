@@ -12,6 +12,12 @@ use lrreasons::{Conflict, Outlook};
 use lrshown::{Ambiguity, Loss};
 use std::alloc::{AllocError, Global};
 
+/// How many pairs of stacks a search for a sentence that the parser rejects looks at, at a conflict; and how many where such a
+/// sentence is looked for in any case, as at each entry that precedences resolve: these are many.
+const PAIRS: usize = 200;
+
+const FEW_PAIRS: usize = 10;
+
 /// What texts show at a conflict.
 #[derive(Drop)]
 pub(crate) struct Shown {
@@ -157,11 +163,12 @@ fn shown_by_example(
     })
 }
 
-/// What a text shows that a search finds for the candidate.
+/// What a text shows that a search finds for the candidate, over so many pairs of stacks at the most.
 fn shown_by_search(
     searches: &Searches<'_>,
     conflict: Conflict<u32>,
     action: Move<u32>,
+    pairs: usize,
 ) -> Result<Shown, AllocError>
     ensures trees { IfOk result (λ s.
         IfSome s.ambiguity (HasTwoTrees searches.now.reasons.grammar)) }
@@ -170,7 +177,7 @@ fn shown_by_search(
     ensures lost { IfOk result (λ s. IfSome s.loss
         (IsFoundLoss searches.now.losses conflict.state.0 conflict.token.0)) }
 {
-    match searches.losses.text_at(conflict, action)? {
+    match searches.losses.text_at(conflict, action, pairs)? {
         Some(text) => shown_by(searches, conflict, &text),
         None => Ok(Shown::NOTHING),
     }
@@ -184,10 +191,11 @@ pub(crate) fn loss_found(
     ensures { IfOk result (λ o. IfSome o
         (IsFoundLoss searches.now.losses conflict.state.0 conflict.token.0)) }
 {
-    let shown = shown_by_search(searches, conflict, Move::Reduce(conflict.production))?;
+    let (reduced, other) = (Move::Reduce(conflict.production), other_move(&conflict));
+    let shown = shown_by_search(searches, conflict, reduced, FEW_PAIRS)?;
     match shown.loss {
         Some(loss) => Ok(Some(loss)),
-        None => Ok(shown_by_search(searches, conflict, other_move(&conflict))?.loss),
+        None => Ok(shown_by_search(searches, conflict, other, FEW_PAIRS)?.loss),
     }
 }
 
@@ -208,9 +216,10 @@ pub(crate) fn shown_at(
     if shown.is_something() {
         return Ok(shown);
     }
-    let shown = shown_by_search(searches, conflict, Move::Reduce(conflict.production))?;
+    let (reduced, other) = (Move::Reduce(conflict.production), other_move(&conflict));
+    let shown = shown_by_search(searches, conflict, reduced, PAIRS)?;
     if shown.is_something() {
         return Ok(shown);
     }
-    shown_by_search(searches, conflict, other_move(&conflict))
+    shown_by_search(searches, conflict, other, PAIRS)
 }
