@@ -1,5 +1,6 @@
 -- which symbol of a file is its end token
-use Rattle.std.specs.Prelude.{◌≡◌, ℕ, ◌<◌, ◌≤◌, ◌⊎◌, ◌||◌, Bool, List, Option, Some, None, Contains, if◌then◌else◌, codes, length, slice_range, vec_len}
+use Rattle.std.specs.Prelude.{◌≡◌, ℕ, ◌<◌, ◌≤◌, ◌⊎◌, ◌||◌, All, Bool, List, Option, Some, None, Contains, if◌then◌else◌, codes, length, slice_range, vec_len}
+use Rattle.std.specs.Char.{IsAsciiDigit}
 use Rattle.std.specs.Str.{bytes_eq}
 use Rattle.std.specs.Str.Parse.{digits_value}
 use Rattle.lryacc.specs.declared.contents.Statement.{Statement}
@@ -21,6 +22,11 @@ abbrev pub written_number : List ℕ → ℕ
 written_number bytes =
     if is_hexadecimal bytes then digits_value 16 (slice_range bytes 2 (length bytes))
     else digits_value 10 bytes
+
+-- decimal digits mean a number that is at most the greatest `i32`
+pub record IsSmallDecimal (bytes : List ℕ) : Type 0 where
+  pub digits : All IsAsciiDigit bytes
+  pub small : digits_value 10 bytes ≤ 2147483647
 
 -- a declaration gives the symbol of that number the value 0
 pub record IsGivenZero (text : List ℕ) (statements : List Statement)

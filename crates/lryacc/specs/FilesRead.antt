@@ -21,7 +21,7 @@ use Rattle.lryacc.specs.Headers.{IsReadAs}
 use Rattle.lryacc.specs.KeptProductions.{IsWithout}
 use Rattle.lryacc.specs.Levels.{IsInLine, has_default_after, levels_of}
 use Rattle.lryacc.specs.NamedSymbols.{AreDeclaredRules, AreOneEach, HasEndToken, NameOne, Names, called}
-use Rattle.lryacc.specs.Parsers.{IsParserBy}
+use Rattle.lryacc.specs.Parsers.{IsParserOf}
 use Rattle.lryacc.specs.ProductionPlaces.{file_places, start_rules_of}
 use Rattle.lryacc.specs.StartSymbols.{AreStarts}
 
@@ -86,7 +86,7 @@ abbrev pub HasBodies : List ℕ → Dialect → List Statement → List Alternat
 HasBodies text dialect statements bodies (Grammar file expected parser warnings) =
     (starts : List Lexeme) × IsGrammarOf text dialect statements starts bodies file warnings.items
     × AreStarts text dialect statements starts × AreExpected text dialect statements expected
-    × IsParserBy text dialect (is_generalized statements) parser
+    × IsParserOf text dialect (is_generalized statements) parser
 HasBodies text dialect statements bodies (Faults faults) = Unit {0}
 
 -- the bodies of a text: all that stand among all its lexemes
@@ -98,7 +98,8 @@ pub record AreBodiesRead (text : List ℕ) (dialect : Dialect) (bodies : List Al
 
 -- if a text comes to a grammar, these are its bodies
 abbrev pub AreBodiesOf : List ℕ → Dialect → List Alternative → FileRead → Type 0
-AreBodiesOf text dialect bodies (Grammar file expected parser warnings) = AreBodiesRead text dialect bodies
+AreBodiesOf text dialect bodies (Grammar file expected parser warnings) =
+    AreBodiesRead text dialect bodies
 AreBodiesOf text dialect bodies (Faults faults) = Unit {0}
 
 -- what a text comes to that is taken for one of a dialect: it is read as one, or as one of grmtools where it says so

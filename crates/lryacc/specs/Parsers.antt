@@ -1,5 +1,5 @@
 -- which parser a file asks for, and what its bodies say to a generalized one
-use Rattle.std.specs.Prelude.{◌≡◌, ℕ, ◌+◌, Bool, true, false, List, All, Some, codes, slice_get}
+use Rattle.std.specs.Prelude.{◌≡◌, ℕ, ◌+◌, Bool, true, false, List, All, Contains, Some, codes, slice_get}
 use Rattle.std.specs.Str.{bytes_eq}
 use Rattle.lryacc.specs.declared.dialects.Dialect.{Dialect}
 use Rattle.lryacc.specs.declared.lexemes.Lexeme.{Lexeme}
@@ -9,8 +9,8 @@ use Rattle.lryacc.specs.declared.parsers.DynamicKind.{DynamicKind}
 use Rattle.lryacc.specs.declared.parsers.DynamicKind.TheVariants.{Precedence, Merger}
 use Rattle.lryacc.specs.declared.parsers.Parser.{Parser}
 use Rattle.lryacc.specs.declared.parsers.Parser.TheVariants.{Deterministic, Generalized}
-use Rattle.lryacc.specs.EndTokens.{written_number}
-use Rattle.lryacc.specs.Lexemes.{AreLexemesOf}
+use Rattle.lryacc.specs.AllLexemes.{AreAllLexemesOf}
+use Rattle.lryacc.specs.EndTokens.{IsSmallDecimal, written_number}
 use Rattle.lryacc.specs.NamedSymbols.{text_at}
 
 -- whether a parser splits where more than one thing can be done
@@ -41,14 +41,27 @@ pub record StandsAmong (text : List ℕ) (lexemes : List Lexeme) (dynamic : Dyna
   pub next : slice_get lexemes (at + 1) ≡ Some behind
   pub is : IsDynamic text directive behind dynamic
 
--- the lexemes of a text say this
-pub record AreDynamicsOf (text : List ℕ) (dialect : Dialect) (dynamics : List Dynamic) : Type 0 where
-  pub lexemes : List Lexeme
-  pub of_text : AreLexemesOf text dialect lexemes
-  pub among : All (StandsAmong text lexemes) dynamics
+-- what they say is read: a tag, and a number that is small enough
+abbrev pub IsRead : List ℕ → Lexeme → DynamicKind → Type 0
+IsRead text behind (Precedence number) = IsSmallDecimal (text_at text behind.span)
+IsRead text behind (Merger place) = Unit {0}
 
--- the parser of a file, where a declaration says or doesn't that it is a generalized one
-abbrev pub IsParserBy : List ℕ → Dialect → Bool → Parser → Type 0
-IsParserBy text dialect generalized Deterministic = generalized ≡ false
-IsParserBy text dialect generalized (Generalized dynamics) =
-    (generalized ≡ true) × AreDynamicsOf text dialect dynamics.items
+-- lexemes say this and nothing else: each stands among them, and all is there that stands there and is read
+pub record AreDynamicsOf (text : List ℕ) (lexemes : List Lexeme) (dynamics : List Dynamic)
+    : Type 0 where
+  pub among : All (StandsAmong text lexemes) dynamics
+  pub each : (dynamic : Dynamic) (stands : StandsAmong text lexemes dynamic)
+      → IsRead text stands.behind dynamic.kind → Contains dynamics dynamic
+
+-- a declaration says or doesn't that the parser is a generalized one, to which lexemes say something
+abbrev pub IsParserBy : List ℕ → List Lexeme → Bool → Parser → Type 0
+IsParserBy text lexemes generalized Deterministic = generalized ≡ false
+IsParserBy text lexemes generalized (Generalized dynamics) =
+    (generalized ≡ true) × AreDynamicsOf text lexemes dynamics.items
+
+-- the parser of a file: by all its lexemes
+pub record IsParserOf (text : List ℕ) (dialect : Dialect) (generalized : Bool) (parser : Parser)
+    : Type 0 where
+  pub lexemes : List Lexeme
+  pub of_text : AreAllLexemesOf text dialect lexemes
+  pub by : IsParserBy text lexemes generalized parser

@@ -2,9 +2,11 @@
 
 ghost use Rattle.std.specs.Prelude.{◌≡◌, ◌<◌, All, IfOk, length, vec_len};
 ghost use Rattle.lryacc.specs.Aliases.{AreSettled};
+ghost use Rattle.lryacc.specs.AllBodies.{AreAllBodies};
+ghost use Rattle.lryacc.specs.AllLexemes.{AreAllLexemesOf};
 ghost use Rattle.lryacc.specs.EndTokens.{HasEndBy};
 ghost use Rattle.lryacc.specs.FileProductions.{HasProductions};
-ghost use Rattle.lryacc.specs.FilesRead.{AreBodiesRead, ComesTo, HasBodies, HasNoGrammar};
+ghost use Rattle.lryacc.specs.FilesRead.{ComesTo, HasBodies, HasNoGrammar};
 ghost use Rattle.lryacc.specs.LinesTaken.{HasLines};
 ghost use Rattle.lryacc.specs.NamedSymbols.{AreApart, ArePartnered};
 ghost use Rattle.lryacc.specs.ProductionPlaces.{IsPlaced, file_places};
@@ -15,6 +17,7 @@ ghost use Rattle.lryacc.specs.Told.{HasFaults, HasPlaces, told};
 use crate::contents::Contents;
 use crate::dialects::{Dialect, dialect_of};
 use crate::faults::{Fault, FaultKind};
+use crate::lexemes::Lexeme;
 use crate::meaning::{Expected, Meaning};
 use crate::numbering::{FileGrammar, NoProductions, file_grammar};
 use crate::parsers::{Parser, parser_of};
@@ -35,15 +38,21 @@ pub enum FileRead {
     Faults(Vec<Fault>),
 }
 
-/// What the file says.
-fn contents(alloc: Global, text: &[u8], dialect: Dialect) -> Result<Contents, AllocError>
+/// What the file says that has these lexemes and faults.
+fn contents(
+    alloc: Global,
+    text: &[u8],
+    dialect: Dialect,
+    lexemes: &[Lexeme],
+    faults: Vec<Fault>,
+) -> Result<Contents, AllocError>
     ensures some { IfOk result (λ contents. vec_len contents.faults ≡ 0
         → 0 < vec_len contents.alternatives) }
+    ensures faults { IfOk result (λ contents. vec_len contents.faults ≡ 0 → vec_len faults ≡ 0) }
     ensures read { IfOk result (λ contents. vec_len contents.faults ≡ 0
-        → AreBodiesRead text.now dialect contents.alternatives.items) }
+        → AreAllBodies text.now lexemes.now dialect contents.alternatives.items) }
 {
-    let Scanned { lexemes, faults } = scan(alloc, text, dialect)?;
-    let mut reader = Reader::new(alloc, text, dialect, lexemes.as_slice(), faults);
+    let mut reader = Reader::new(alloc, text, dialect, lexemes, faults);
     reader.file()?;
     let Reader { contents, .. } = reader;
     Ok(contents)
@@ -96,11 +105,13 @@ pub fn read_file(alloc: Global, text: &[u8], dialect: Dialect) -> Result<FileRea
     ensures bodies { IfOk result (ComesTo text.now dialect) }
 {
     let dialect = dialect_of(text, dialect);
-    let contents = contents(alloc, text, dialect)?;
+    let Scanned { lexemes, faults } = scan(alloc, text, dialect)?;
+    let lexemes = lexemes.as_slice();
+    let contents = contents(alloc, text, dialect, lexemes, faults)?;
     if !contents.faults.is_empty() {
         return faults_read(alloc, text, to_tell(contents.faults.as_slice()));
     }
-    contents_read(alloc, text, dialect, &contents)
+    contents_read(alloc, text, dialect, lexemes, &contents)
 }
 
 /// What a file comes to that can be read, and says this.
@@ -108,9 +119,11 @@ fn contents_read(
     alloc: Global,
     text: &[u8],
     dialect: Dialect,
+    lexemes: &[Lexeme],
     contents: &Contents,
 ) -> Result<FileRead, AllocError>
-    requires { 0 < vec_len contents.now.alternatives }
+    requires some { 0 < vec_len contents.now.alternatives }
+    requires all { AreAllLexemesOf text.now dialect lexemes.now }
     ensures inside { IfOk result (λ read. All (λ fault. IsInside fault.span text.now) (told read)) }
     ensures faults { IfOk result HasFaults }
     ensures placed { IfOk result HasPlaces }
@@ -122,7 +135,7 @@ fn contents_read(
     if !meaning.faults.is_empty() {
         return faults_read(alloc, text, meaning.faults.as_slice());
     }
-    grammar_read(alloc, text, dialect, &mut meaning, contents)
+    grammar_read(alloc, text, dialect, lexemes, &mut meaning, contents)
 }
 
 /// What a file without faults comes to, once its names have their meaning.
@@ -130,10 +143,12 @@ fn grammar_read(
     alloc: Global,
     text: &[u8],
     dialect: Dialect,
+    lexemes: &[Lexeme],
     meaning: &mut Meaning<'_>,
     contents: &Contents,
 ) -> Result<FileRead, AllocError>
     requires some { 0 < vec_len contents.now.alternatives }
+    requires all { AreAllLexemesOf text.now dialect lexemes.now }
     requires text { meaning.old.symbols.text.now ≡ text.now }
     requires dialect { meaning.old.symbols.dialect ≡ dialect }
     requires apart { AreApart meaning.old.symbols }
@@ -150,7 +165,7 @@ fn grammar_read(
         contents.now.alternatives.items) }
 {
     match file_grammar(alloc, meaning, contents) {
-        Ok(whole) => useful_read(alloc, text, dialect, meaning, contents, whole),
+        Ok(whole) => useful_read(alloc, text, dialect, lexemes, meaning, contents, whole),
         Err(NoProductions::Undefined(span)) => {
             let kind = FaultKind::Undefined(None);
             faults_read(alloc, text, &[Fault { kind, span }])
@@ -164,11 +179,13 @@ fn useful_read(
     alloc: Global,
     text: &[u8],
     dialect: Dialect,
+    lexemes: &[Lexeme],
     meaning: &mut Meaning<'_>,
     contents: &Contents,
     whole: FileGrammar,
 ) -> Result<FileRead, AllocError>
     requires some { 0 < vec_len contents.now.alternatives }
+    requires all { AreAllLexemesOf text.now dialect lexemes.now }
     requires text { meaning.old.symbols.text.now ≡ text.now }
     requires dialect { meaning.old.symbols.dialect ≡ dialect }
     requires apart { AreApart meaning.old.symbols }
@@ -194,7 +211,7 @@ fn useful_read(
     if !meaning.faults.is_empty() {
         return faults_read(alloc, text, meaning.faults.as_slice());
     }
-    let parser = parser_of(alloc, text, dialect, is_glr)?;
+    let parser = parser_of(alloc, text, lexemes, is_glr)?;
     let warnings = in_order(alloc, text, meaning.warnings.as_slice())?;
     Ok(FileRead::Grammar(grammar, expected, parser, warnings))
 }

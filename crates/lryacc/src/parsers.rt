@@ -1,14 +1,13 @@
 //! Which parser a file asks for, and what its bodies say to a generalized one.
 
-ghost use Rattle.std.specs.Prelude.{◌≡◌, All, IfOk, IfSome};
+ghost use Rattle.std.specs.Prelude.{◌≡◌, IfOk, IfSome};
 ghost use Rattle.lryacc.specs.NamedSymbols.{text_at};
-ghost use Rattle.lryacc.specs.Parsers.{IsDynamic, IsParserBy, StandsAmong, splits};
+ghost use Rattle.lryacc.specs.Parsers.{AreDynamicsOf, IsDynamic, IsParserBy, IsRead, splits};
+ghost use Rattle.lryacc.specs.declared.parsers.Dynamic.{Dynamic};
 
-use crate::dialects::Dialect;
 use crate::lexemes::{Lexeme, LexemeKind};
 use crate::numbers::value_of;
 use crate::places::Span;
-use crate::scanner::scan;
 use std::alloc::{AllocError, Global};
 
 /// What a body says of two trees of one text that end with its production and another one.
@@ -55,7 +54,9 @@ fn bytes(text: &[u8], place: Span) -> &[u8]
 
 /// What a directive and the lexeme behind it say to a generalized parser.
 fn said_by(text: &[u8], directive: Lexeme, behind: Lexeme) -> Option<Dynamic>
-    ensures { IfSome result (IsDynamic text.now directive behind) }
+    ensures is { IfSome result (IsDynamic text.now directive behind) }
+    ensures only { (dynamic : Dynamic) → IsDynamic text.now directive behind dynamic
+        → IsRead text.now behind dynamic.kind → result ≡ Some dynamic }
 {
     let word = bytes(text, directive.span);
     let kind = match behind.kind {
@@ -73,7 +74,7 @@ fn said_by(text: &[u8], directive: Lexeme, behind: Lexeme) -> Option<Dynamic>
 
 /// What bodies among lexemes say to a generalized parser.
 fn dynamics(alloc: Global, text: &[u8], lexemes: &[Lexeme]) -> Result<Vec<Dynamic>, AllocError>
-    ensures { IfOk result (λ list. All (StandsAmong text.now lexemes.now) list.items) }
+    ensures { IfOk result (λ list. AreDynamicsOf text.now lexemes.now list.items) }
 {
     let mut list = Vec::new(alloc);
     for at in 1..lexemes.len() {
@@ -84,19 +85,18 @@ fn dynamics(alloc: Global, text: &[u8], lexemes: &[Lexeme]) -> Result<Vec<Dynami
     Ok(list)
 }
 
-/// The parser that a file of this text asks for, which says so or doesn't.
+/// The parser that a file with these lexemes asks for, which says so or doesn't.
 pub(crate) fn parser_of(
     alloc: Global,
     text: &[u8],
-    dialect: Dialect,
+    lexemes: &[Lexeme],
     is_glr: bool,
 ) -> Result<Parser, AllocError>
-    ensures { IfOk result (IsParserBy text.now dialect is_glr) }
+    ensures { IfOk result (IsParserBy text.now lexemes.now is_glr) }
 {
-    if !is_glr {
-        return Ok(Parser::Deterministic);
+    if is_glr {
+        Ok(Parser::Generalized(dynamics(alloc, text, lexemes)?))
+    } else {
+        Ok(Parser::Deterministic)
     }
-    let scanned = scan(alloc, text, dialect)?;
-    let dynamics = dynamics(alloc, text, scanned.lexemes.as_slice())?;
-    Ok(Parser::Generalized(dynamics))
 }

@@ -1,9 +1,11 @@
-use Rattle.std.proofs.Common.{◌≡◌, ℕ, List, IfOk, Ok, Err, Result, Bool, true, ◌==◌, arith, vec_len}
+use Rattle.std.proofs.Common.{◌≡◌, ℕ, List, [], IfOk, Ok, Err, Result, Bool, true, ◌==◌, arith, subst, sym, vec_len}
 use Rattle.lryacc.specs.declared.contents.Alternative.{Alternative}
 use Rattle.lryacc.specs.declared.dialects.Dialect.{Dialect}
 use Rattle.lryacc.specs.declared.file.FileRead.{FileRead}
 use Rattle.lryacc.specs.declared.file.FileRead.TheVariants.{Grammar, Faults}
-use Rattle.lryacc.specs.FilesRead.{AreBodiesOf, AreBodiesRead}
+use Rattle.lryacc.specs.AllLexemes.{AreAllLexemesOf}
+use Rattle.lryacc.specs.FilesRead.{AreBodiesOf, AreBodiesRead, ComesTo, HasNoGrammar}
+use Rattle.lryacc.specs.Headers.{IsReadAs}
 use Rattle.lryacc.proofs.file.read_file.Goals as goal
 
 -- what holds of all that comes of a call holds in other words
@@ -18,6 +20,17 @@ bodies-of text dialect bodies (Faults faults) h = tt
 none-told : (n : ℕ) (is : Bool) → is ≡ (n == 0) → is ≡ true → n ≡ 0
 none-told n is same empty = grind arith
 
+-- faults come to nothing
+faults-alone : (text : List ℕ) (taken dialect : Dialect) (read : FileRead) → IsReadAs text taken dialect → HasNoGrammar read → ComesTo text taken read
+faults-alone text taken dialect (Grammar file expected parser warnings) is none = absurd none
+faults-alone text taken dialect (Faults faults) is none = record { dialect = dialect; is = is; statements = []; bodies = []; are_read = tt; has = tt }
+
+pub returns-then-not-is_empty-clause-bodies : goal.returns-then-not-is_empty-clause-bodies
+returns-then-not-is_empty-clause-bodies c =
+    each-ok _ _ c.faults_read.result
+    (λ read none. faults-alone c.args.text.now c.args.dialect c.dialect_of-dialect.result read c.dialect_of-dialect.ensures none)
+    c.faults_read.ensures.none
+
 pub returns-clause-bodies : goal.returns-clause-bodies
 returns-clause-bodies c =
     let contents = c.in_ok-contents.contents in
@@ -28,7 +41,13 @@ returns-clause-bodies c =
       is = c.dialect_of-dialect.ensures;
       statements = contents.statements.items;
       bodies = contents.alternatives.items;
-      are_read = bodies-of c.args.text.now c.dialect_of-dialect.result contents.alternatives.items read (c.in_ok-contents.ensures.read none);
+      are_read = bodies-of c.args.text.now c.dialect_of-dialect.result contents.alternatives.items read record {
+        lexemes = c.as_slice-lexemes.result.now;
+        of_text =
+            subst (AreAllLexemesOf c.args.text.now c.dialect_of-dialect.result) (sym c.as_slice-lexemes.ensures.value)
+            (c.in_ok-lexemes.ensures.all (c.in_ok-contents.ensures.faults none));
+        all = c.in_ok-contents.ensures.read none;
+      };
       has = has;
     })
     c.contents_read.ensures.bodies

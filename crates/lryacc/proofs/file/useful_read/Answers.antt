@@ -75,5 +75,9 @@ returns-clause-bodies c =
       },
       said.0,
       said.1,
-      subst (λ (b : Bool). IsParserBy c.args.text.now c.args.dialect b c.in_ok-parser.parser) c.requires.said.generalized c.in_ok-parser.ensures,
+      record {
+        lexemes = c.args.lexemes.now;
+        of_text = c.requires.all;
+        by = subst (λ (b : Bool). IsParserBy c.args.text.now c.args.lexemes.now b c.in_ok-parser.parser) c.requires.said.generalized c.in_ok-parser.ensures;
+      },
     )
