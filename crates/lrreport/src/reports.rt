@@ -203,8 +203,8 @@ fn work_of(options: Options) -> usize {
     options.steps.saturating_mul(WORK)
 }
 
-/// What is looked for of the conflicts that such a parser meets. One that splits there rejects no sentence because of them.
-fn effort_of(options: Options, parser: &Parser) -> Effort {
+/// What is looked for of the conflicts.
+fn effort_of(options: Options) -> Effort {
     let examples = match options.output {
         _ if options.steps == 0 => 0,
         _ if options.makes_page => usize::MAX,
@@ -216,11 +216,7 @@ fn effort_of(options: Options, parser: &Parser) -> Effort {
         steps: options.steps,
         work: work_of(options),
         examples,
-        losses: if options.steps == 0 || parser.splits() {
-            0
-        } else {
-            LOSSES
-        },
+        losses: if options.steps == 0 { 0 } else { LOSSES },
         decisions: DECISIONS,
         nodes: options.steps / STEPS_A_NODE,
         counts_each: options.detail.all
@@ -293,7 +289,7 @@ fn known_of(
         All (λ e. e.loss ≡ None) k.evidence.items) }
 {
     let file = read.file;
-    let (entries, effort) = (found.left.as_slice(), effort_of(options, read.parser));
+    let (entries, effort) = (found.left.as_slice(), effort_of(options));
     let all = evidence_for(alloc, file, found, entries, effort)?;
     let evidence = evidence_by(alloc, read.parser, all)?;
     let is_unambiguous = shows_unambiguous(found, evidence.as_slice(), effort)?;
