@@ -20,7 +20,7 @@ import subprocess
 import sys
 from collections import Counter
 from dataclasses import dataclass
-from itertools import groupby
+from itertools import groupby, product
 from pathlib import Path
 
 import brackets
@@ -45,10 +45,6 @@ class Known:
     def __init__(self, grammar):
         self.grammar, self.least, self.canonical = grammar, Least(grammar), Canonical(grammar, MOST_STATES)
         self.rests, self.behind = None, {}
-
-    def body_of(self, move):
-        """What moves are told apart by in brackets: for a reduction the rule and the body, and None for a shift."""
-        return None if move is None else texts.body_of(*self.grammar.prods[move])
 
     def shared(self, conflict, pair):
         """A short text with two trees that part at the conflict by these moves, if there is one."""
@@ -126,10 +122,15 @@ def check_after(known, told, entry, counts):
 # Ambiguities.
 
 
+def pair_of(told, ambiguity):
+    """The moves by which both trees part."""
+    _, moves = texts.parting(told, ambiguity)
+    return tuple(None if isinstance(move, int) else move[0] for move in moves)
+
+
 def check_pair(told, conflict, ambiguity):
     """The trees part by two candidates of the entry's cell."""
-    _, moves = texts.parting(told, ambiguity)
-    pair = tuple(None if isinstance(move, int) else move[0] for move in moves)
+    pair = pair_of(told, ambiguity)
     hold(pair in conflict.pairs(), f"the trees part by {pair}")
     return pair
 
@@ -150,16 +151,33 @@ def check_printed_text(ambiguity, printed):
     hold(shown in whole and (shown == whole or "..." in printed), f"{printed} is printed, and not {whole}")
 
 
-def labels_of(known, one, other):
+def labels_of(told, one, other):
     """What stands before the trees that part by these moves."""
     if other is None:
         return ["reduce", "shift"]
-    rules = [known.grammar.prods[move][0].decode() for move in (one, other)]
+    rules = [told.grammar.prods[move][0].decode() for move in (one, other)]
     return ["first", "second"] if rules[0] == rules[1] else [f"as {rule}" for rule in rules]
 
 
+def body_by(told, move):
+    """What moves are told apart by in brackets: for a reduction the rule and the body, and None for a shift."""
+    return None if move is None else texts.body_of(*told.grammar.prods[move])
+
+
+def undone(form, tree):
+    """The trees in brackets of which this may be the one with marks, by the nodes that stand in the tree in place of these."""
+    if isinstance(form, str):
+        return [form] if texts.root_of(tree) == form else []
+    rule, children = form
+    if isinstance(tree, str) or len(children) != len(tree[2]):
+        return []
+    if rule == brackets.MARK:
+        return [(tree[0], [it]) for below in (form, *children) for it in undone(below, *tree[2])]
+    return [(rule, [*it]) for it in product(*map(undone, children, tree[2]))] if rule == tree[0] else []
+
+
 def left_out(form, tree):
-    """What a tree in brackets leaves out of a tree, in a row; None where it is no part of that."""
+    """What a tree in brackets without marks leaves out of a tree, in a row; None where it is no part of that."""
     if isinstance(form, str):
         return [tree] if texts.root_of(tree) == form else None
     if isinstance(tree, str) or form[0] != tree[0] or len(form[1]) != len(tree[2]):
@@ -177,40 +195,46 @@ def moves_of(told, form):
     return [move for child in children for move in moves_of(told, child)] + [texts.body_of(told.symbol(rule), body)]
 
 
-def do_part(one, other, dot, bodies):
-    """Whether the moves part behind so many leaves by nodes of these bodies, where None stands for a leaf. Two productions of
-    one rule and body aren't told apart."""
-    read = 0
-    for moves in zip(one, other):
+def partings(one, other, dot, bodies):
+    """At which places the moves may part behind so many leaves by nodes of these bodies, where None stands for a leaf. Two
+    productions of one rule and body aren't told apart."""
+    read, found = 0, []
+    for place, moves in enumerate(zip(one, other)):
         if read == dot and [it if isinstance(it, tuple) else None for it in moves] == bodies:
-            return True
+            found.append(place)
         if moves[0] != moves[1]:
-            return False
+            break
         read += not isinstance(moves[0], tuple)
-    return False
+    return found
 
 
-def check_brackets(known, told, ambiguity, pair, trees):
+def check_brackets(told, ambiguity, pair, trees):
     """The trees in brackets are parts of both trees below a node of the rule that is told, and leave out the same in both. They
-    part at the dot by the pair of moves. The end of the text is not printed."""
+    part at the dot by the pair of moves. The end of the text is not printed. Marks stand in place of the middle of chains."""
     labels, forms, (dot, other_dot) = zip(*trees)
-    hold([*labels] == labels_of(known, *pair), f"{labels} stand before trees that part by {pair}")
+    hold([*labels] == labels_of(told, *pair), f"{labels} stand before trees that part by {pair}")
     is_whole = ambiguity["rule"] == "$accept"
     rule = texts.root_of(ambiguity["trees"][0]) if is_whole else ambiguity["rule"]
     hold({*map(texts.root_of, forms)} == {rule}, f"the trees in brackets are none of {rule}")
-    parts = ([left_out(*it) for it in zip(forms, nodes)] for nodes in texts.nodes_of_both(ambiguity))
-    hold(any(one is not None and one == other for one, other in parts), "the trees in brackets are no part of both trees")
-    ways = ([*moves_of(told, form), *([END] if is_whole else [])] for form in forms)
-    bodies = [known.body_of(move) for move in pair]
-    hold(dot == other_dot and do_part(*ways, dot, bodies), "the trees in brackets part elsewhere")
+    parts = [
+        whole
+        for nodes in texts.nodes_of_both(ambiguity)
+        for whole in product(*map(undone, forms, nodes))
+        if left_out(whole[0], nodes[0]) == left_out(whole[1], nodes[1])
+    ]
+    hold(parts, "the trees in brackets are no part of both trees")
+    bodies, end = [body_by(told, move) for move in pair], [END] if is_whole else []
+    places = [(whole, place) for whole in parts for place in partings(*(moves_of(told, it) + end for it in whole), dot, bodies)]
+    hold(dot == other_dot and places, "the trees in brackets part elsewhere")
+    hold(any(brackets.shown(*whole, place) == forms for whole, place in places), "other nodes are left out, with marks")
 
 
-def check_ambiguity(known, told, entry, counts):
+def check_ambiguity(told, entry, counts):
     """The text and its trees, and what is printed of them."""
     ambiguity = entry.told["ambiguity"]
     pair = check_two_trees(told, entry.conflict, entry.told)
     check_printed_text(ambiguity, entry.lines.text)
-    check_brackets(known, told, ambiguity, pair, entry.lines.trees)
+    check_brackets(told, ambiguity, pair, entry.lines.trees)
     hold(ambiguity["own"] == (pair == entry.conflict.pair), f"the trees part by {pair}, which is told otherwise")
     counts["by two others of three candidates"] += not ambiguity["own"]
 
@@ -247,7 +271,7 @@ def check_entry(known, told, entry, counts):
     check_after(known, told, entry, counts)
     counts["ambiguous" if entry.told["ambiguity"] else "not known"] += 1
     if entry.told["ambiguity"]:
-        check_ambiguity(known, told, entry, counts)
+        check_ambiguity(told, entry, counts)
     else:
         hold(entry.told["after"] == entry.by_one_step["after"], "another list is told where a text was looked for")
         check_missed(known, entry.conflict, counts)
