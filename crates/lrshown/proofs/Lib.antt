@@ -1,4 +1,5 @@
--- texts without their ends, trees in a row, and the words of these
+-- texts without their ends, trees in a row, the words of these, and texts that are the same
 pub mod TextEnds
 pub mod Rows
 pub mod TreeWords
+pub mod SameTexts

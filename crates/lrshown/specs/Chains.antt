@@ -1,5 +1,5 @@
 -- chains: productions, each of which alone stands below the one above it, and which of them are shown
-use Rattle.std.specs.Prelude.{ℕ, zero, suc, ◌+◌, ◌-◌, ◌==◌, nat_lt, Bool, true, false, List, [], ◌∷◌, length, map, take_while, if◌then◌else◌}
+use Rattle.std.specs.Prelude.{ℕ, zero, suc, ◌-◌, ◌==◌, nat_lt, Bool, true, false, List, [], ◌∷◌, length, map, take_while, if◌then◌else◌}
 use Rattle.lryacc.specs.declared.numbering.FileGrammar.{FileGrammar}
 use Rattle.lrshown.specs.declared.steps.Step.{Step}
 use Rattle.lrshown.specs.declared.steps.Step.TheVariants.{Shift, Reduce}

@@ -74,7 +74,7 @@ fn new_word(
 ) -> Result<Word, AllocError>
     ensures { IfOk result (λ w. word_of w ≡ record {
       bytes = fronts file.now shown.now.tree.nodes.items mark.now shown.now.cuts.items
-        (reverse entered.now) ++ end.now;
+          (reverse entered.now) ++ end.now;
       has_leaf = has_leaf;
     }) }
 {

@@ -1,10 +1,10 @@
 //! Trees without the middle of their chains: of productions each of which alone stands below the one above it, the first one and
 //! the last one are shown.
 
-ghost use Rattle.std.specs.Prelude.{◌≡◌, ◌+◌, ◌++◌, ◌∷◌, drop, false};
+ghost use Rattle.std.specs.Prelude.{◌≡◌, ◌+◌, ◌++◌, ◌∷◌, drop, false, map};
 ghost use Rattle.std.specs.Prelude.{slice_index_or as get_or, IfOk};
-ghost use Rattle.lrshown.specs.Chains.{is_unit, units, left_out_behind, kept, kept_by};
-ghost use Rattle.lrshown.specs.Chains.{steps_kept, cuts_of};
+ghost use Rattle.lrshown.specs.Chains.{is_unit, units, all_but_last, left_out_behind};
+ghost use Rattle.lrshown.specs.Chains.{kept, kept_by, steps_kept, cuts_of};
 ghost use Rattle.lrshown.specs.ShownTrees.{IsCut, IsWhole};
 
 use crate::names::body_of;
@@ -50,17 +50,21 @@ fn units(file: &FileGrammar, steps: &[Step]) -> usize
         .count()
 }
 
+/// How many of so many nodes, each over the one before it, are left out: all but the last, if these are two at the least.
+fn all_but_last(count: usize) -> usize
+    ensures { result ≡ all_but_last count }
+{
+    if count > 2 { count - 1 } else { 0 }
+}
+
 /// How many steps are left out behind one: of nodes each of which is put over the one before it, all but the last, if there are
 /// more than two.
 fn left_out_behind(file: &FileGrammar, step: Step, behind: &[Step]) -> usize
     ensures { result ≡ left_out_behind file.now step behind.now }
 {
-    if step == Step::Shift {
-        return 0;
-    }
-    match units(file, behind) {
-        count if count > 2 => count - 1,
-        _ => 0,
+    match step {
+        Step::Shift => 0,
+        Step::Reduce(_) => all_but_last(units(file, behind)),
     }
 }
 
@@ -124,6 +128,20 @@ struct Short {
     cuts: Vec<bool>,
 }
 
+/// The steps by themselves.
+fn steps_in(alloc: Global, list: &[Kept]) -> Result<Vec<Step>, AllocError>
+    ensures { IfOk result (λ v. v.items ≡ map (λ k. k.step) list.now) }
+{
+    list.iter().map(|it| it.step).collect(alloc)
+}
+
+/// Whether others are left out before each.
+fn cuts_in(alloc: Global, list: &[Kept]) -> Result<Vec<bool>, AllocError>
+    ensures { IfOk result (λ v. v.items ≡ map (λ k. k.is_cut) list.now) }
+{
+    list.iter().map(|it| it.is_cut).collect(alloc)
+}
+
 /// The steps that are kept, and whether others are left out before each.
 fn short_steps(alloc: Global, file: &FileGrammar, steps: &[Step]) -> Result<Short, AllocError>
     ensures steps { IfOk result (λ s. s.steps.items ≡ steps_kept file.now steps.now) }
@@ -131,8 +149,8 @@ fn short_steps(alloc: Global, file: &FileGrammar, steps: &[Step]) -> Result<Shor
 {
     let list = kept_steps(alloc, file, steps)?;
     Ok(Short {
-        steps: list.iter().map(|it| it.step).collect(alloc)?,
-        cuts: list.iter().map(|it| it.is_cut).collect(alloc)?,
+        steps: steps_in(alloc, list.as_slice())?,
+        cuts: cuts_in(alloc, list.as_slice())?,
     })
 }
 

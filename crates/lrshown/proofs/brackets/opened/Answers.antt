@@ -20,10 +20,10 @@ loop-number-preserved c =
     let front = front_at file ns mark cuts m in
     let named : string_bytes c.push_str.new.self ≡ before ++ name =
     c.in_ok-push_str.ensures.bytes ∙ (ap (λ l. string_bytes c.loop-number.text ++ l) c.node_name.ensures ∙ ap (λ l. l ++ name) c.loop-number.invariant) in
-    let bracket : string_bytes c.push_str-2.new.self ≡ (before ++ name) ++ codes "(" =
+    let bracket : string_bytes c.push_str-in-loop-number.new.self ≡ (before ++ name) ++ codes "(" =
     c.in_ok-push_str-2.ensures.bytes ∙ ap (λ l. l ++ codes "(") named in
     c.in_ok-push_str-3.ensures.bytes
-    ∙ (ap (λ l. string_bytes c.push_str-2.new.self ++ l) c.cut_mark.ensures
+    ∙ (ap (λ l. string_bytes c.push_str-in-loop-number.new.self ++ l) c.cut_mark.ensures
     ∙ (ap (λ l. l ++ cut) bracket
     ∙ (ap (λ l. l ++ cut) (append_assoc before name (codes "("))
     ∙ (append_assoc before (name ++ codes "(") cut

@@ -21,7 +21,7 @@ loop-number-preserved c =
     let within : i < length ns = omega (arith, c.loop-number-test.true, ap length c.deref-node-items.ensures.value) in
     let added : map word_of c.add_node.new.words.items ≡ with_node file ns mark cuts words (get_or ns i d) (get_or es i []) =
     c.in_ok-add_node.ensures
-    ∙ (ap (λ e. with_node file ns mark cuts words (get_or c.deref-node-items.result.now i d) e) c.entered_before.ensures
+    ∙ (ap (λ e. with_node file ns mark cuts words (get_or c.deref-node-items.result.now i d) e) c.entered_before-entered.ensures
     ∙ ap (λ l. with_node file ns mark cuts words (get_or l i d) (get_or es i [])) c.deref-node-items.ensures.value) in
     c.loop-number.invariant
     ∙ (words_by-next file ns mark cuts words ns es i d within ∙ ap (λ l. words_by file ns mark cuts l (drop (i + 1) ns) (drop (i + 1) es)) (sym added))

@@ -1,5 +1,5 @@
 -- one more step
-use Rattle.std.proofs.Common.{arith, ◌≡◌, ◌++◌, ◌∷◌, ◌+◌, ◌<◌, ◌≤◌, [], drop, length, get_or, sym, ap, ◌∙◌, add-one}
+use Rattle.std.proofs.Common.{arith, ◌++◌, ◌∷◌, ◌<◌, ◌≤◌, drop, length, get_or, sym, ap, ◌∙◌, add-one}
 use Rattle.std.proofs.lemmas.List.{append-nil, drop_all}
 use Rattle.std.proofs.Math.Seq.{drop-cons}
 use Rattle.lrshown.specs.declared.steps.Step.TheVariants.{Shift}
@@ -18,7 +18,7 @@ loop-place-preserved c =
     c.loop-place.invariant
     ∙ (ap (λ l. list ++ kept_by file cutting l) (drop-cons ss i Shift within ∙ ap (λ k. step ∷ drop k ss) (sym (add-one i)))
     ∙ (ap (λ l. list ++ kept_by file cutting (step ∷ l)) (sym c.steps_behind.ensures)
-    ∙ (c.in_ok-add_kept.ensures ∙ ap (λ l. c.add_kept.new.list.items ++ kept_by file c.in_ok-add_kept.result l) c.steps_behind.ensures)))
+    ∙ (c.in_ok-cutting.ensures ∙ ap (λ l. c.add_kept.new.list.items ++ kept_by file c.in_ok-cutting.cutting l) c.steps_behind.ensures)))
 
 pub returns : goal.returns
 returns c =
