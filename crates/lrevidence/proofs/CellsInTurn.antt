@@ -1,5 +1,5 @@
 -- cells that are put into a set one after the other, and what it means that others are not in it
-use Rattle.std.proofs.Common.{◌≡◌, ◌≢◌, ◌+◌, ◌<◌, ℕ, Bool, true, false, cond, List, length, take, get_or, map, refl, ap, ◌∙◌, arith}
+use Rattle.std.proofs.Common.{◌≡◌, ◌≢◌, ◌+◌, ◌<◌, ℕ, Bool, true, false, cond, List, length, take, get_or, refl, ap, ◌∙◌, arith}
 use Rattle.std.specs.Prelude.{All}
 use Rattle.std.specs.Ordering.{nat_cmp}
 use Rattle.std.specs.declared.cmp.Ordering.TheVariants.{Equal}
@@ -9,7 +9,6 @@ use Rattle.std.proofs.lemmas.Bool.Decides.{nat_tests}
 use Rattle.std.proofs.lemmas.List.Elements.{All-more, All-map}
 use Rattle.lrfindings.specs.declared.cells.Resolved.{Resolved}
 use Rattle.lrfindings.specs.declared.findings.Findings.{Findings}
-use Rattle.lrverdicts.specs.declared.conflicts.Entry.{Entry}
 use Rattle.lrevidence.specs.Cells.{cell_cmp, HasCell, LacksCell}
 use Rattle.lrevidence.specs.Losses.{Cell, cell_of, listed_cells, ResolvesPairs}
 

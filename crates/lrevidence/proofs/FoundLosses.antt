@@ -1,5 +1,5 @@
 -- what holds of each sentence that is found to be lost
-use Rattle.std.proofs.Common.{◌≡◌, ℕ, Bool, false, List, Option, None, Some}
+use Rattle.std.proofs.Common.{◌≡◌, false, List, Option, None, Some}
 use Rattle.std.specs.Prelude.{All, IfSome, is_some, slice_index_or}
 use Rattle.std.specs.Option.{option_map}
 use Rattle.lrshown.specs.declared.evidence.Evidence.{Evidence}

@@ -1,5 +1,5 @@
 -- sentences that the parser rejects
-use Rattle.std.specs.Prelude.{◌≡◌, ◌≢◌, ℕ, List, None, All, IfSome, MatchOption, [], map}
+use Rattle.std.specs.Prelude.{◌≡◌, ◌≢◌, ℕ, List, None, All, IfSome, map}
 use Rattle.lrspec.specs.grammars.Grammar.{Token, Grammar}
 use Rattle.lrspec.specs.merging.Graph.{Graph, edge}
 use Rattle.lrspec.specs.tables.Table.{Table}

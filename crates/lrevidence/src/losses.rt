@@ -5,7 +5,7 @@ ghost use Rattle.lrspec.specs.grammars.Grammar as math;
 ghost use Rattle.lrspec.specs.merging.Graph.{edge};
 ghost use Rattle.lrspec.specs.tables.Table.{IsTableFor};
 ghost use Rattle.lrevidence.specs.Cells.{HasCell, LacksCell};
-ghost use Rattle.lrevidence.specs.Losses.{IsFoundLoss, cell_of, searched, ResolvesPairs};
+ghost use Rattle.lrevidence.specs.Losses.{AreApart, IsFoundLoss, cell_of, searched, ResolvesPairs};
 
 use crate::ambiguities::numbers_of;
 use lrconflicts::{Move, Written};
@@ -128,6 +128,13 @@ impl<'a> LossSearch<'a> {
         Ok(())
     }
 
+    /// Whether it is known that precedences resolve nothing where the table lists a conflict, so that Bison's table is the same.
+    fn is_uncrowded(&self) -> bool
+        ensures { IsTrue result → AreApart self.now.resolved self.now.listed }
+    {
+        self.are_crowded == Some(false)
+    }
+
     /// Whether precedences make the cell of the place, which is an error, one, by `%nonassoc`: its token could be shifted there.
     fn has_shift(&self, place: Place<u32>) -> bool
         ensures { result ≡ false
@@ -144,7 +151,7 @@ impl<'a> LossSearch<'a> {
         action: Move<u32>,
         pairs: usize,
     ) -> Result<Option<Written<u32>>, AllocError> {
-        if self.are_crowded != Some(false) || is_taken(self.found, conflict, action) {
+        if !self.is_uncrowded() || is_taken(self.found, conflict, action) {
             return Ok(None);
         }
         let candidate = Candidate {
@@ -171,9 +178,9 @@ impl<'a> LossSearch<'a> {
         ensures { IfOk result (λ o.
             IfSome o (IsFoundLoss self.now conflict.state.0 conflict.token.0)) }
     {
-        let Some(false) = self.are_crowded else {
+        if !self.is_uncrowded() {
             return Ok(None);
-        };
+        }
         let (grm, table) = (&self.found.grm, &self.found.table);
         let alloc = grm.allocator();
         let (tokens, moves) = (text.tokens.as_slice(), text.moves.as_slice());

@@ -192,11 +192,12 @@ pub(crate) fn loss_found(
         (IsFoundLoss searches.now.losses conflict.state.0 conflict.token.0)) }
 {
     let (reduced, other) = (Move::Reduce(conflict.production), other_move(&conflict));
-    let shown = shown_by_search(searches, conflict, reduced, FEW_PAIRS)?;
-    match shown.loss {
-        Some(loss) => Ok(Some(loss)),
-        None => Ok(shown_by_search(searches, conflict, other, FEW_PAIRS)?.loss),
+    let Shown { loss, .. } = shown_by_search(searches, conflict, reduced, FEW_PAIRS)?;
+    if loss.is_some() {
+        return Ok(loss);
     }
+    let Shown { loss, .. } = shown_by_search(searches, conflict, other, FEW_PAIRS)?;
+    Ok(loss)
 }
 
 /// What is shown at the conflict: by its example, or else by what a search finds for either of its candidates.

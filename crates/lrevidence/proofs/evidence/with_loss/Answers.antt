@@ -7,4 +7,4 @@ returns-clause-lost c =
     let losses = c.args.searches.now.losses in
     let entry = c.args.before.entry in
     boxed_so _ (IsFoundLoss losses entry.state entry.token) _ _
-    c.in_ok-boxed.ensures (rw (c.in-Some.ensures.state, c.in-Some.ensures.token) at c.in_ok-loss.ensures)
+    c.in_ok-boxed.ensures (rw (c.in_ok-prepare.ensures, c.in-Some.ensures.state, c.in-Some.ensures.token) at c.in_ok-loss.ensures)

@@ -30,5 +30,5 @@ returns c =
         stop = refl;
         no_shift = rw (← c.self.view_is) at (c.has_shift.ensures c.if-has_shift.false);
       };
-      apart = c.self.invariant.1 (cc);
+      apart = rw (← c.self.view_is) at (c.is_uncrowded.ensures c.if-not-is_uncrowded.false);
     })
