@@ -1,5 +1,6 @@
--- what is kept of findings, entries that are told in groups, and tokens of JSON that are added
+-- what is kept of findings, entries that are told in groups or pass a test, and tokens of JSON that are added
 mod Groups
+mod Filtered
 mod KeptGraph
 mod KnownBy
 mod KeptFindings

@@ -96,8 +96,13 @@ fn decided(alloc: Global, meeting: &[Evidence]) -> Result<Vec<usize>, AllocError
     ensures { IfOk result (λ tokens.
         tokens.items ≡ map (λ e. e.entry.token) (filter is_decided meeting.now)) }
 {
-    let decided = meeting.iter().filter(|it| it.is_decided());
-    decided.map(|it| it.entry.token).collect(alloc)
+    let mut tokens = Vec::new(alloc);
+    for evidence in meeting {
+        if evidence.is_decided() {
+            tokens.push(evidence.entry.token)?;
+        }
+    }
+    Ok(tokens)
 }
 
 /// Whether each of the entries has a sentence with two trees that part by what meets in it.
