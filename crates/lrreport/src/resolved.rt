@@ -193,8 +193,10 @@ impl<'a, T: IndexStorage> Checked<'a, T> {
         let resolved = self.told.resolved;
         for entry in entries {
             if let Ok(at) = resolved.binary_search_by_key(entry, |it| it.entry) {
-                if let Some(loss) = &resolved[at].loss {
-                    return Some(&**loss);
+                let known = &resolved[at];
+                match &known.loss {
+                    Some(loss) if known.entry == *entry => return Some(&**loss),
+                    _ => {}
                 }
             }
         }

@@ -1,5 +1,6 @@
-use Rattle.std.proofs.Common.{◌∙◌, ap}
+use Rattle.std.proofs.Common.{◌∙◌, ap, sym}
 use Rattle.lrspec.specs.merging.Graph.{IsGraphOf}
+use Rattle.lrverdicts.specs.Verdicts.{counts_of}
 use Rattle.lrfindings.specs.Findings.{FindNothing}
 use Rattle.lrevidence.specs.Ambiguities.{IsProved, PartsAtEntry}
 use Rattle.lrevidence.specs.Losses.{IsLostAtEntry}
@@ -44,3 +45,8 @@ returns-clause-entries c =
 
 pub returns-clause-unlost : goal.returns-clause-unlost
 returns-clause-unlost c = λ is. rw c.in_ok-evidence.ensures (known_unlost c.args.read.parser.now c.in_ok-all.all.items is)
+
+pub returns-clause-counts : goal.returns-clause-counts
+returns-clause-counts c =
+    rw c.in_ok-evidence.ensures
+    (c.of.ensures ∙ ap counts_of (sym (known_entries c.args.read.parser.now c.in_ok-all.all.items ∙ c.in_ok-all.ensures.entries)))

@@ -23,3 +23,6 @@ page-requires-clause-words g c = ∣ record {
   entries = c.requires.entries;
   without = c.requires.decided;
 } ∣₁
+
+pub verdict_words-requires-clause-yet_unambiguous : goal.verdict_words-requires-clause-yet_unambiguous
+verdict_words-requires-clause-yet_unambiguous g c = rw c.told_of.ensures.shown c.requires.yet_unambiguous
