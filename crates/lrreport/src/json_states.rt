@@ -24,7 +24,8 @@ fn add_targets(json: &mut JsonText, targets: &[Target<'_>], kind: &str) {
 impl<'a, T: IndexStorage> Listing<'a, T> {
     /// Adds the items by which the rule that stands around the grammar begins: those of `$accept`.
     fn add_start_items(&self, items: &mut Vec<(usize, usize)>) -> Result<(), AllocError> {
-        let file = self.checked.told.file;
+        let checked = self.checked;
+        let file = checked.told.file;
         for (production, prod) in file.parts.prods.iter().enumerate() {
             if prod.rule == 0 {
                 items.push((production, 0))?;
@@ -42,7 +43,8 @@ impl<'a, T: IndexStorage> Listing<'a, T> {
         if usize::from(state) >= usize::from(graph.all_states_len()) {
             return Ok(items);
         }
-        let file = self.checked.told.file;
+        let checked = self.checked;
+        let file = checked.told.file;
         let count = file.parts.prods.len();
         for key in graph.core_state(state).items.keys() {
             let (production, dot) = (usize::from(key.0), usize::from(key.1));
@@ -57,7 +59,8 @@ impl<'a, T: IndexStorage> Listing<'a, T> {
 
     /// Adds the names of the tokens of cells. The one behind all of the file has none.
     fn add_names_of_cells(&self, json: &mut JsonText, cells: &[Cell]) {
-        let file = self.checked.told.file;
+        let checked = self.checked;
+        let file = checked.told.file;
         json.begin_array();
         for cell in cells {
             if let Some(token) = file.parts.tokens.get(cell.token) {
