@@ -44,3 +44,9 @@ returns g c =
           (lines_tell c.lines.result c.args.options.output c.args.options.lines.columns _ _ c.in_default.not-Summary c.in_default.not-Json
           (λ unfolded. c.lines.ensures (told.columns ∙ unfolded)));
     }
+
+pub line-requires-clause-yet_unambiguous : goal.line-requires-clause-yet_unambiguous
+line-requires-clause-yet_unambiguous g c = rw c.told_of.ensures.shown c.requires.yet_unambiguous
+
+pub json_of_findings-requires-clause-yet_unambiguous : goal.json_of_findings-requires-clause-yet_unambiguous
+json_of_findings-requires-clause-yet_unambiguous g c = rw c.told_of.ensures.shown c.requires.yet_unambiguous
