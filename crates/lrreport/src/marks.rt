@@ -23,6 +23,29 @@ fn before_action(bytes: &[u8]) -> usize {
     count
 }
 
+/// Whether a byte may stand in a name.
+fn is_of_name(byte: u8) -> bool {
+    byte.is_ascii_alphanumeric() || matches!(byte, b'_' | b'.' | b'-' | 0x80..=0xFF)
+}
+
+/// Whether bytes end with a name, but for blanks.
+fn ends_with_name(bytes: &[u8], name: &[u8]) -> bool {
+    let text = bytes.trim_ascii_end();
+    let before = text.get(..text.len().saturating_sub(name.len()));
+    let last = before.unwrap_or(b"").last().copied();
+    text.ends_with(name) && !is_of_name(last.unwrap_or(b' '))
+}
+
+/// Whether a name stands before a colon, as where a rule begins.
+fn is_before_colon(bytes: &[u8], name: &[u8]) -> bool {
+    for (place, byte) in bytes.iter().enumerate() {
+        if *byte == b':' && ends_with_name(bytes.get(..place).unwrap_or(b""), name) {
+            return true;
+        }
+    }
+    false
+}
+
 impl Told<'_> {
     /// Where the body of a production stands, up to the action behind its symbols.
     fn symbols_place(&self, production: usize) -> Span {
@@ -56,15 +79,17 @@ impl Told<'_> {
         }
     }
 
-    /// Whether the name of the rule of a production stands in the line of a place, where it is first one.
+    /// Whether the rule of a production begins in the line of a place: for the first time, or once more.
     fn is_named_in_line(&self, production: usize, at: usize) -> bool {
         let Some(prod) = self.production(production) else {
             return true;
         };
-        match self.file.rule_places.get(prod.rule) {
+        let is_first_there = match self.file.rule_places.get(prod.rule) {
             Some(place) => self.source.line(place.start) == self.source.line(at),
             None => true,
-        }
+        };
+        let line = self.source.part(self.source.line_start(at), at);
+        is_first_there || is_before_colon(line, self.rule_name(production).as_bytes())
     }
 
     /// The place of a production by which a state can reduce, and what follows from that.
