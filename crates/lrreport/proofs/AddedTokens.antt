@@ -1,5 +1,5 @@
 -- tokens that are added one after the other
-use Rattle.std.proofs.Common.{◌++◌, List, append_assoc, ap, sym, ◌∙◌}
+use Rattle.std.proofs.Common.{◌++◌, List, append_assoc, ap, ◌∙◌}
 use Rattle.json.specs.Token.{Token}
 use Rattle.lrreport.specs.JsonTexts.{AddsTokens, HeldJson}
 

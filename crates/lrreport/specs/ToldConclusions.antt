@@ -1,5 +1,5 @@
 -- how a conclusion is told
-use Rattle.std.specs.Prelude.{◌≡◌, ⊤, ℕ, ◌&&◌, not, Bool, true, false, List, ◌++◌, Option, None, Some, codes, is_some, nat_lt}
+use Rattle.std.specs.Prelude.{◌≡◌, ⊤, ℕ, ◌&&◌, not, Bool, true, false, List, ◌++◌, Option, None, codes, is_some, nat_lt}
 use Rattle.lrdiagnostics.specs.ShownTexts.{shown_text}
 use Rattle.lrshown.specs.VerdictWords.{verdict_words}
 use Rattle.lrreport.specs.declared.options.Options.{Options}
