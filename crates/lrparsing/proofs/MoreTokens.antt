@@ -2,24 +2,29 @@
 use Rattle.std.proofs.Common.{◌≡◌, ⊎_elim, ℕ, ◌+◌, ◌<◌, ◌≤◌, List, [], ◌∷◌, ◌++◌, subst, arith}
 use Rattle.std.specs.Prelude.{All, Contains}
 use Rattle.std.proofs.lemmas.Bool.{cases_lt}
-use Rattle.std.proofs.lemmas.List.Elements.{All-nil, All-cons, All-append, Contains-append_left, Contains-push}
-use Rattle.lrspec.specs.grammars.Grammar.{Grammar}
-use Rattle.lrspec.specs.tables.Table.{Table}
+use Rattle.std.proofs.lemmas.List.Elements.{All-nil, All-push, All-weaker, Contains-append_left, Contains-push}
+use Rattle.lrparsing.specs.Machines.{Tabled}
 use Rattle.lrparsing.specs.Expected.{IsShiftedBehind, AreShiftedBehind}
 
-module _ (g : Grammar) (b : Table) (n : ℕ) (w : List ℕ) where
+module _ (m : Tabled) (w : List ℕ) where
   -- before the first token
-  pub none_yet : AreShiftedBehind g b n w 0 []
+  pub none_yet : AreShiftedBehind m w 0 []
   none_yet = record {
-    are = All-nil (IsShiftedBehind g b n w);
+    below = All-nil (λ t. t < 0);
+    are = All-nil (IsShiftedBehind m w);
     all = λ t below shifted. absurd (omega (arith, below));
   }
 
-  module _ (k : ℕ) (ts : List ℕ) (a : AreShiftedBehind g b n w k ts) where
+  module _ (k : ℕ) (ts : List ℕ) (a : AreShiftedBehind m w k ts) where
+    -- those so far are below the next bound too
+    still_below : All (λ t. t < k + 1) ts
+    still_below = All-weaker (λ t. t < k) (λ t. t < k + 1) (λ t below. omega (arith, below)) ts a.below
+
     -- one that it shifts
-    pub one_more : IsShiftedBehind g b n w k → AreShiftedBehind g b n w (k + 1) (ts ++ k ∷ [])
+    pub one_more : IsShiftedBehind m w k → AreShiftedBehind m w (k + 1) (ts ++ k ∷ [])
     one_more here = record {
-      are = All-append (IsShiftedBehind g b n w) ts (k ∷ []) a.are (All-cons (IsShiftedBehind g b n w) k [] here (All-nil (IsShiftedBehind g b n w)));
+      below = All-push (λ t. t < k + 1) ts k still_below (omega arith);
+      are = All-push (IsShiftedBehind m w) ts k a.are here;
       all = λ t below shifted.
           ⊎_elim
           (λ (l : t < k). Contains-append_left ts (k ∷ []) t (a.all t l shifted))
@@ -28,12 +33,13 @@ module _ (g : Grammar) (b : Table) (n : ℕ) (w : List ℕ) where
     }
 
     -- one that it doesn't
-    pub none_more : (IsShiftedBehind g b n w k → ⊥) → AreShiftedBehind g b n w (k + 1) ts
+    pub none_more : (IsShiftedBehind m w k → ⊥) → AreShiftedBehind m w (k + 1) ts
     none_more not_here = record {
+      below = still_below;
       are = a.are;
       all = λ t below shifted.
           ⊎_elim
           (λ (l : t < k). a.all t l shifted)
-          (λ (l : k ≤ t). let same : t ≡ k = omega (arith, below, l) in absurd (not_here (subst (IsShiftedBehind g b n w) same shifted)))
+          (λ (l : k ≤ t). let same : t ≡ k = omega (arith, below, l) in absurd (not_here (subst (IsShiftedBehind m w) same shifted)))
           (cases_lt t k);
     }

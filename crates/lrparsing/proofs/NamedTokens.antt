@@ -1,34 +1,35 @@
 -- the tokens that words name are of the grammar
-use Rattle.std.proofs.Common.{◌≡◌, ℕ, ◌<◌, Bool, true, false, List, [], ◌∷◌, Option, None, Some, refl, ap, subst, if◌then◌else◌, rules}
-use Rattle.std.specs.Prelude.{All, bytes_eq, string_bytes}
-use Rattle.std.specs.List.{cons_option}
+use Rattle.std.proofs.Common.{◌≡◌, ℕ, ◌<◌, Bool, true, false, nat_lt, List, [], ◌∷◌, ◌++◌, length, Option, None, Some, refl, ap, subst, if◌then◌else◌}
+use Rattle.std.specs.Prelude.{string_bytes}
 use Rattle.std.specs.Option.{option_map_or}
-use Rattle.std.proofs.lemmas.List.Elements.{All-nil, All-cons, All-head, All-rest}
+use Rattle.std.proofs.lemmas.List.Elements.{All-head, All-rest, All-push}
 use Rattle.lrspec.specs.grammars.Grammar.{Grammar, end_token}
 use Rattle.lrspec.specs.tables.Recognition.{AreNamed}
+use Rattle.lrspec.specs.texts.Lines.{words}
 use Rattle.lrparsing.specs.declared.spellings.Spelling.{Spelling}
-use Rattle.lrparsing.specs.Lines.{named, tokens_of, AreSpelled}
+use Rattle.lrparsing.specs.Lines.{AreSpelled, Front, behind, front_of, first_named, first_of, taken}
 
--- a choice of a number below a bound, or of another one that is below it too
-chosen_below :
-    (b : Bool) (o : Option ℕ) (k t n : ℕ) → k < n → (o ≡ Some t → t < n) → (if b then Some k else o) ≡ Some t → t < n
-chosen_below true o k t n below rest e = subst (λ m. m < n) (ap (λ o. option_map_or (λ m. m) o 0) e) below
-chosen_below false o k t n below rest e = rest e
+module _ (g : Grammar) where
+  -- one token more
+  pub named_more : (ts : List ℕ) (t : ℕ) → AreNamed g ts → t < end_token g → AreNamed g (ts ++ t ∷ [])
+  named_more ts t named below = All-push (λ t. t < end_token g) ts t named below
 
--- the token of a word is a named one
-token_below : (g : Grammar) (ss : List Spelling) (w : List ℕ) (t : ℕ) → AreSpelled g ss → named ss w ≡ Some t → t < end_token g
-token_below g [] w t spelled e = absurd (search rules)
-token_below g (s ∷ ss) w t spelled e =
-    let P : Spelling → Type 0 = λ s. s.token.0 < end_token g in
-    chosen_below (bytes_eq (string_bytes s.word) w) (named ss w) s.token.0 t (end_token g) (All-head P s ss spelled)
-    (λ e. token_below g ss w t (All-rest P s ss (s ∷ ss) refl spelled) e) e
+  module _ (t : ℕ) (other : Option Front) (f : Front) (below : t < end_token g) (rest_below : other ≡ Some f → f.token < end_token g) where
+    -- where the words behind a name are fewer, or not
+    by_length : (b : Bool) (rest : List (List ℕ))
+        → first_of (if b then Some (front_of t rest) else None) other ≡ Some f → f.token < end_token g
+    by_length true rest e = subst (λ m. m < end_token g) (ap (λ o. option_map_or (λ m. m.token) o 0) e) below
+    by_length false rest e = rest_below e
 
-named_more : (g : Grammar) (o : Option ℕ) (ts : List ℕ) → ((t : ℕ) → o ≡ Some t → t < end_token g) → AreNamed g ts → AreNamed g (cons_option o ts)
-named_more g None ts h named = named
-named_more g (Some t) ts h named = All-cons (λ t. t < end_token g) t ts (h t refl) named
+    -- where a name stands there, or not
+    by_name : (ws : List (List ℕ)) (o : Option (List (List ℕ))) → first_of (taken t ws o) other ≡ Some f → f.token < end_token g
+    by_name ws None e = rest_below e
+    by_name ws (Some rest) e = by_length (nat_lt (length rest) (length ws)) rest e
 
--- so are those of words
-pub tokens_named : (g : Grammar) (ss : List Spelling) (ws : List (List ℕ)) → AreSpelled g ss → AreNamed g (tokens_of ss ws)
-tokens_named g ss [] spelled = All-nil (λ t. t < end_token g)
-tokens_named g ss (w ∷ ws) spelled =
-    named_more g (named ss w) (tokens_of ss ws) (λ t e. token_below g ss w t spelled e) (tokens_named g ss ws spelled)
+  -- what words begin with names a token of it
+  pub first_below : (ss : List Spelling) (ws : List (List ℕ)) (f : Front) → AreSpelled g ss → first_named ss ws ≡ Some f → f.token < end_token g
+  first_below [] ws f spelled e = cc
+  first_below (s ∷ ss) ws f spelled e =
+      let P : Spelling → Type 0 = λ s. s.token.0 < end_token g in
+      by_name s.token.0 (first_named ss ws) f (All-head P s ss spelled)
+      (λ e. first_below ss ws f (All-rest P s ss (s ∷ ss) refl spelled) e) ws (behind (words (string_bytes s.name)) ws) e

@@ -1,5 +1,5 @@
 -- the moves that the visits of a tree tell
-use Rattle.std.proofs.Common.{◌≡◌, ℕ, List, [], ◌∷◌, ◌++◌, ap, ◌∙◌, sym, refl, append_assoc, append-nil}
+use Rattle.std.proofs.Common.{◌≡◌, List, [], ◌∷◌, ◌++◌, ap, ◌∙◌, sym, refl, append_assoc, append-nil}
 use Rattle.lrspec.specs.grammars.Trees.{Tree, Forest, Leaf, Node, Bare, And}
 use Rattle.lrconflicts.specs.Moves.{Move, Shift, Reduce, moves_of, forest_moves}
 use Rattle.lrtree.specs.Visits.{Visit, Token, Enter, Leave, tree_visits, forest_visits}

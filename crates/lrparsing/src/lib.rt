@@ -3,10 +3,12 @@
 
 mod answers;
 mod expected;
+mod machines;
+mod making;
 mod parsers;
 mod spellings;
 mod steps;
 mod texts;
 
-pub use crate::answers::{Answer, Rejection};
+pub use crate::answers::{Answer, Refused, Rejection};
 pub use crate::parsers::Parser;

@@ -1,12 +1,18 @@
-use Rattle.std.proofs.Common.{◌≡◌, ◌++◌}
+use Rattle.std.proofs.Common.{◌-◌, ◌≤◌, drop, length, map}
+use Rattle.lrspec.specs.grammars.Grammar.{Grammar}
+use Rattle.lrspec.specs.tables.Recognition.{AreNamed}
 use Rattle.lrspec.specs.texts.Lines.{words}
-use Rattle.lrparsing.specs.Expected.{numbers}
-use Rattle.lrparsing.specs.Lines.{tokens_of, first_unknown}
+use Rattle.lrparsing.specs.Machines.{numbers}
+use Rattle.lrparsing.specs.Lines.{AreSpelled, NameUpTo}
 use Rattle.lrparsing.proofs.spellings.tokens_of_line.Given as goal
 
-abbrev pub invariant-loop-word : goal.invariant-loop-word
-invariant-loop-word l =
+abbrev pub invariant-loop-at : goal.invariant-loop-at
+invariant-loop-at l =
     record {
-      unknown : first_unknown l.spellings (words l.line) ≡ first_unknown l.spellings l.word-iterator;
-      tokens : tokens_of l.spellings (words l.line) ≡ numbers l.tokens.items ++ tokens_of l.spellings l.word-iterator;
+      names : NameUpTo l.spellings (words l.line) (numbers l.tokens.items) (drop l.at (map (λ w. w.now) l.words.items));
+      within : l.at ≤ length l.words.items;
+      named : (g : Grammar) → AreSpelled g l.spellings → AreNamed g (numbers l.tokens.items);
     }
+
+abbrev pub decreases-loop-at : goal.decreases-loop-at
+decreases-loop-at l = length l.words.items - l.at
