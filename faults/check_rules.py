@@ -17,6 +17,8 @@ Part = namedtuple("Part", "status out err")
 OUT_OF_MEMORY = Part(2, b"", b"lrcheck: out of memory\n")
 CANNOT_WRITE = Part(2, b"", b"lrcheck: cannot write standard output\n")
 
+# With what the lines of a drawn tree begin, but for its first one.
+DRAWN = tuple(it.encode() for it in (" ", "\u2502", "\u251c", "\u2514"))
 
 # Why a page is not written.
 NO_PAGE = (
@@ -68,12 +70,13 @@ def memory_used_up(case, whole, found):
 
 def are_unread(whole, found, unread_parts):
     """Whether the parts of these numbers are in place of those of the whole answer, and nothing is behind an output that
-    fails."""
+    fails. What stands in place of a part is told before its output."""
     parts = [unread_parts.get(k, part) for k, part in enumerate(whole.parts)]
     if not found.faults[OUTPUT]:
         return found[:3] == joined(parts)
     ends = [k for k in range(max(unread_parts), len(parts)) if parts[k].out][:1]
-    return found.faults[OUTPUT] == 1 and any(found[:3] == joined([*parts[:k], CANNOT_WRITE]) for k in ends)
+    told = {k: [part._replace(out=b"")] for k, part in unread_parts.items()}
+    return found.faults[OUTPUT] == 1 and any(found[:3] == joined([*parts[:k], *told.get(k, []), CANNOT_WRITE]) for k in ends)
 
 
 def are_told_unread(case, whole, found, files):
@@ -89,9 +92,11 @@ def opening(case, whole, found):
 
 
 def reading_lines(case, whole, found):
-    """Behind the answers to the lines that were whole by then it is told that there are no more."""
-    lines = case.given[: found.input_read].count(b"\n")
-    return found[:3] == joined([*whole.parts[:lines], unread("-")])
+    """Behind the answers to the lines that were whole by then it is told that there are no more. The last one, which nothing ends,
+    may be whole once all is read: at the end of the input."""
+    read = case.given[: found.input_read]
+    counts = [read.count(b"\n"), *([len(whole.parts)] if read == case.given else [])]
+    return any(found[:3] == joined([*whole.parts[:k], unread("-")]) for k in counts)
 
 
 def reading(case, whole, found):
@@ -132,13 +137,24 @@ def writing(case, whole, found):
     return any(found[:2] == joined(it)[:2] and are_told([part.err for part in it], found) for it in answers)
 
 
+def answers_in(out):
+    """The answers to lines: a tree that is drawn has several lines."""
+    answers = []
+    for line in out.splitlines(keepends=True):
+        if answers and line.startswith(DRAWN):
+            answers[-1] += line
+        else:
+            answers.append(line)
+    return answers
+
+
 def in_lines(case, whole):
-    """The whole answer, where lines are answered with these as its parts."""
+    """The whole answer, where lines are answered with the answers as its parts."""
     if not (case.answers_lines and whole.status != 2):
         return whole
-    lines = whole.out.splitlines(keepends=True)
-    statuses = [0] * (len(lines) - 1) + [whole.status]
-    return whole._replace(parts=tuple(Part(*it, b"") for it in zip(statuses, lines)))
+    answers = answers_in(whole.out)
+    statuses = [0] * (len(answers) - 1) + [whole.status]
+    return whole._replace(parts=tuple(Part(*it, b"") for it in zip(statuses, answers)))
 
 
 def by_parts(rule, of_lines=None):

@@ -37,27 +37,20 @@ fn output<'a>(alloc: Global, name: &'a str, help: &'a str) -> Result<Arg<'a>, Al
     flag(alloc, name, help).conflicts_with("summary")
 }
 
-/// Makes an option go with none of others.
-fn without<'a>(mut arg: Arg<'a>, others: &[&'a str]) -> Result<Arg<'a>, AllocError> {
-    for other in others {
-        arg = arg.conflicts_with(other)?;
-    }
-    Ok(arg)
+/// Makes an option go with none of the others that say what is told.
+fn alone<'a>(arg: Arg<'a>) -> Result<Arg<'a>, AllocError> {
+    arg.conflicts_with("summary")?
+        .conflicts_with("states")?
+        .conflicts_with("json")?
+        .conflicts_with("grammar")?
+        .conflicts_with("settled")?
+        .conflicts_with("page")
 }
 
 /// The option for results of SARIF.
 fn sarif<'a>(alloc: Global) -> Result<Arg<'a>, AllocError> {
-    let arg = flag(
-        alloc,
-        "sarif",
-        "Tells what was found as a log of SARIF 2.1.0",
-    );
-    without(
-        arg,
-        &[
-            "summary", "states", "json", "grammar", "settled", "trees", "page",
-        ],
-    )
+    let help = "Tells what was found as a log of SARIF 2.1.0";
+    alone(flag(alloc, "sarif", help))?.conflicts_with("trees")
 }
 
 /// Adds the options that say what is told of each file. One of them can be given at most.
@@ -145,12 +138,10 @@ fn files<'a>(alloc: Global) -> Arg<'a> {
 /// The option for sentences that are tried.
 fn parse<'a>(alloc: Global) -> Result<Arg<'a>, AllocError> {
     let help = "Parses each line of standard input by the grammar, and tells its tree";
-    without(
-        flag(alloc, "parse", help),
-        &[
-            "summary", "states", "json", "grammar", "sarif", "page", "all", "settled", "expect",
-        ],
-    )
+    alone(flag(alloc, "parse", help))?
+        .conflicts_with("sarif")?
+        .conflicts_with("all")?
+        .conflicts_with("expect")
 }
 
 /// The words that the program can be called with.
