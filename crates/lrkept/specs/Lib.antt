@@ -1,0 +1,10 @@
+-- grammars in which no rule derives itself alone
+pub mod Acyclicity
+-- rules with those that they derive alone, as pairs
+pub mod Pairs
+-- cells that take all that contends for them
+pub mod Choices
+-- how a stack goes on, and which losers of cells are kept
+pub mod Kept
+-- tables whose machine accepts exactly the sentences
+pub mod Exactness
