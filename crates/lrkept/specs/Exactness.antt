@@ -2,11 +2,12 @@
 use Rattle.std.specs.Prelude.{◌≡◌, ℕ, ◌≤◌, List, length, ◌↔◌, ◌⊎◌}
 use Rattle.lrspec.specs.grammars.Grammar.{Grammar}
 use Rattle.lrspec.specs.grammars.Trees.{IsSentence}
-use Rattle.lrspec.specs.merging.Graph.{Graph}
-use Rattle.lrspec.specs.tables.Table.{Table, IsCrowded}
+use Rattle.lrspec.specs.merging.Graph.{Graph, IsGraphOf}
+use Rattle.lrspec.specs.tables.Table.{Table, IsCrowded, IsTableOf}
 use Rattle.lrspec.specs.tables.Machine.{Accepted, run}
 use Rattle.lrspec.specs.tables.Recognition.{AreNamed, IsSound}
 use Rattle.lrlosses.specs.Losses.{Place, StopsAt}
+use Rattle.lrkept.specs.Kept.{AreKept, AreKeptButAtErrors}
 
 -- the machine of the table accepts exactly the sentences of the grammar
 pub record IsExact (g : Grammar) (b : Table) : Type 0 where
@@ -34,3 +35,14 @@ pub record IsExactButAtErrors (g : Grammar) (h : Graph) (b : Table) : Type 0 whe
   pub within :
       (text : List ℕ) (n : ℕ) → IsSentence g text → steps (length text) ≤ n
       → ((run g b n text).verdict ≡ Accepted) ⊎ StopsAtCrowdedError g h b text
+
+-- each table of the grammar is exact for which all is kept that its cells don't take
+abbrev pub IsExactWhereKept : Grammar → Type 0
+IsExactWhereKept g =
+    (h : Graph) (b : Table) → IsGraphOf g h → IsTableOf g h b → AreKept g h b → IsExact g b
+
+-- and it is but for crowded errors where that is so of the other cells
+abbrev pub IsExactWhereKeptButAtErrors : Grammar → Type 0
+IsExactWhereKeptButAtErrors g =
+    (h : Graph) (b : Table) → IsGraphOf g h → IsTableOf g h b → AreKeptButAtErrors g h b
+    → IsExactButAtErrors g h b
