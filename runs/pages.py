@@ -97,7 +97,7 @@ class Page(HTMLParser):
         if tag == "pre":
             self.rows[values["id"]] = ""
         if "data-state" in values:
-            self.cards.append([int(values["data-state"]), None])
+            self.cards.append([int(values["data-state"]), None, values["id"][0] == "c"])
         if values.get("class") == "title":
             self.end_line()
         if "data-before" in values:
@@ -191,8 +191,10 @@ class Page(HTMLParser):
     def graph(self):
         """The lines of the states."""
         for state, (items, edges) in enumerate(self.states):
-            cards = [title for number, title in self.cards if number == state]
-            yield f"State {state}" + (f" {len(cards)} conflict{'s' * (len(cards) > 1)}" if cards else "")
+            cards = [title for number, title, _ in self.cards if number == state]
+            count = sum(is_conflict for number, _, is_conflict in self.cards if number == state)
+            conflicts = f" {count} conflict{'s' * (count > 1)}" if count else ""
+            yield f"State {state}" + conflicts + (f" {len(cards) - count} resolved" if count < len(cards) else "")
             for production, dot in items:
                 yield from self.item(production, dot)
             yield from cards
@@ -277,7 +279,7 @@ def check(page):
     made |= {f"r{rule}" for rule in range(len(page.rows["rules"]))} | {f"s{state}" for state in range(len(page.states))}
     if made & set(page.ids):
         page.faults.append(f"twice: {made & set(page.ids)}")
-    wanted = {link.removeprefix("#") for link in page.links} | {f"s{state}" for state, _ in page.cards}
+    wanted = {link.removeprefix("#") for link in page.links} | {f"s{state}" for state, *_ in page.cards}
     page.faults += [f"not there: {name}" for name in sorted(wanted - set(page.ids) - made)]
     symbols = [symbol for symbols, *_ in page.productions for symbol in symbols]
     symbols += [symbol for _, edges in page.states for symbol, _ in edges]

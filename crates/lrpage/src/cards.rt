@@ -8,7 +8,7 @@ ghost use Rattle.lrshown.specs.DecidedEntries.{AreShownDecided, IsShownDecided};
 
 use crate::pages::{Card, Page, add_count};
 use crate::symbols::DOT;
-use lrdiagnostics::add_escaped_name;
+use lrdiagnostics::{Mark, add_escaped_name};
 use lrfindings::Entry;
 use lrgrammar::idx::IndexStorage;
 use lrshown::{
@@ -16,13 +16,13 @@ use lrshown::{
     text_of,
 };
 use lrwriter::Text;
-use std::alloc::AllocError;
+use std::alloc::{AllocError, Global};
 
 /// How many tokens a heading names at the most.
 const NAMED: usize = 12;
 
 /// How many cards are open from the beginning.
-const OPEN: usize = 3;
+pub(crate) const OPEN: usize = 3;
 
 /// The place of the first of the entries for which a sentence with two trees is known that part by what meets in it, or else of the
 /// first that has any, or one that the parser rejects; or else of the first of all.
@@ -33,6 +33,13 @@ fn first_with_sentence(meeting: &[Evidence]) -> usize {
     own.or(any).or(lost).unwrap_or(0)
 }
 
+impl Card<'_> {
+    /// The tokens of its entries.
+    fn tokens(&self, alloc: Global) -> Result<Vec<usize>, AllocError> {
+        self.meeting.iter().map(|it| it.entry.token).collect(alloc)
+    }
+}
+
 /// Adds a line of help.
 fn add_help(page: &mut Text, line: &str) {
     page.add("<p class=\"help\">");
@@ -40,38 +47,76 @@ fn add_help(page: &mut Text, line: &str) {
     page.add("</p>\n");
 }
 
+/// How a card begins.
+#[derive(Clone, Copy)]
+pub(crate) struct Head<'h> {
+    /// What tells it from cards of another section.
+    pub(crate) letter: &'static str,
+    /// Its number in that section, from 1.
+    pub(crate) number: usize,
+    /// Whether it is open from the beginning.
+    pub(crate) is_open: bool,
+    /// The first of the entries, at which the same meets in the same state.
+    pub(crate) first: &'h Entry,
+    /// Their tokens.
+    pub(crate) tokens: &'h [usize],
+    /// The places of what meets.
+    pub(crate) marks: &'h [Mark],
+}
+
+/// Adds in which state the entries of a card are, and ends it.
+pub(crate) fn end_card(page: &mut Text, first: &Entry) {
+    let state = first.state;
+    write!(
+        page,
+        "<p>In <a href=\"#s{state}\">state {state}</a></p>\n</details>\n"
+    );
+}
+
 impl<T: IndexStorage> Page<'_, T> {
     /// Adds what meets, and the tokens at which it does.
-    pub(crate) fn add_heading(&self, page: &mut Text, meeting: &[Evidence]) {
-        let is_reduction = meeting.iter().any(|it| it.entry.other.is_some());
-        let kind = if is_reduction {
+    fn add_title(&self, page: &mut Text, first: &Entry, tokens: &[usize]) {
+        let kind = if first.other.is_some() {
             "reduce or reduce"
         } else {
             "shift or reduce"
         };
         write!(page, "<b>{kind}</b> at ");
         let mut is_first = true;
-        for it in meeting.iter().take(NAMED) {
+        for token in tokens.iter().take(NAMED) {
             page.add(if is_first { "<code>" } else { ", <code>" });
-            self.add_token(page, it.entry.token);
+            self.add_token(page, *token);
             page.add("</code>");
             is_first = false;
         }
-        let more = meeting.len().saturating_sub(NAMED);
+        let more = tokens.len().saturating_sub(NAMED);
         if more > 0 {
             write!(page, " and {more} more");
         }
     }
 
     /// Adds which rule the production of the reduction is of, and in which line that stands.
-    fn add_rule_and_line(&self, page: &mut Text, card: &Card<'_>) {
-        if let (Some(first), Some(mark)) = (card.meeting.first(), card.marks.first()) {
+    fn add_rule_and_line(&self, page: &mut Text, production: usize, marks: &[Mark]) {
+        if let Some(mark) = marks.first() {
             page.add(" <span class=\"soft\">");
-            let rule = self.rule_of(first.entry.production);
-            add_escaped_name(page, rule_name(self.file, rule));
+            add_escaped_name(page, rule_name(self.file, self.rule_of(production)));
             let line = self.source.line(mark.span.start);
             write!(page, ", line {line}</span>");
         }
+    }
+
+    /// Adds how a card begins.
+    pub(crate) fn begin_card(&self, page: &mut Text, head: Head<'_>) {
+        let (letter, number, state) = (head.letter, head.number, head.first.state);
+        let open = if head.is_open { " open" } else { "" };
+        write!(
+            page,
+            "<details class=\"part\" id=\"{letter}{number}\" data-state=\"{state}\"{open}>"
+        );
+        page.add("<summary><span class=\"title\">");
+        self.add_title(page, head.first, head.tokens);
+        page.add("</span>");
+        self.add_rule_and_line(page, head.first.production, head.marks);
     }
 
     /// Adds that the grammar is ambiguous at an entry, which that text shows.
@@ -111,7 +156,7 @@ impl<T: IndexStorage> Page<'_, T> {
     }
 
     /// Adds that the parser rejects that sentence.
-    fn add_lost_tag(&self, page: &mut Text, _loss: &Loss)
+    pub(crate) fn add_lost_tag(&self, page: &mut Text, _loss: &Loss)
         requires proved { IsShownLoss self.now.found.now.grm self.now.found.now.table _loss.now }
     {
         page.add(" <span class=\"tag marked\">rejects a sentence (proved)</span>");
@@ -260,16 +305,21 @@ impl<T: IndexStorage> Page<'_, T> {
         requires decided { AreShownDecided self.now.found.now.grm self.now.found.now.graph
             card.now.meeting.now }
     {
-        write!(page, "<details class=\"part\" id=\"c{number}\"");
-        if let Some(first) = card.meeting.first() {
-            let state = first.entry.state;
-            write!(page, " data-state=\"{state}\"");
-        }
-        page.add(if number <= OPEN { " open" } else { "" });
-        page.add("><summary><span class=\"title\">");
-        self.add_heading(page, card.meeting);
-        page.add("</span>");
-        self.add_rule_and_line(page, card);
+        let Some(first) = card.meeting.first() else {
+            return Ok(());
+        };
+        let tokens = card.tokens(page.allocator())?;
+        self.begin_card(
+            page,
+            Head {
+                letter: "c",
+                number,
+                is_open: number <= OPEN,
+                first: &first.entry,
+                tokens: tokens.as_slice(),
+                marks: card.marks.as_slice(),
+            },
+        );
         if let Some(evidence) = card.meeting.get(first_with_sentence(card.meeting)) {
             self.add_tags(page, evidence);
         }
@@ -279,11 +329,7 @@ impl<T: IndexStorage> Page<'_, T> {
         if !card.help.is_empty() {
             add_help(page, card.help.as_str());
         }
-        if let Some(first) = card.meeting.first() {
-            let state = first.entry.state;
-            write!(page, "<p>In <a href=\"#s{state}\">state {state}</a></p>\n");
-        }
-        page.add("</details>\n");
+        end_card(page, &first.entry);
         Ok(())
     }
 

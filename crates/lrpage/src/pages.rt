@@ -1,15 +1,17 @@
 //! The page, from its head to its end.
 
 ghost use Rattle.std.specs.Prelude.{◌≡◌, ⊤, All};
-ghost use Rattle.lrshown.specs.Ambiguities.{AreShown};
-ghost use Rattle.lrshown.specs.Losses.{AreShownLosses};
+ghost use Rattle.std.specs.Option.{ForSome};
+ghost use Rattle.lrshown.specs.Ambiguities.{AreShown, IsShown};
+ghost use Rattle.lrshown.specs.Losses.{AreShownLosses, IsShownLoss};
 ghost use Rattle.lrshown.specs.DecidedEntries.{AreShownDecided};
 ghost use Rattle.lrshown.specs.VerdictWords.{AreProvedWords};
 
 use crate::grammars::is_of_file;
+use crate::resolved::ResolvedCard;
 use crate::script::SCRIPT;
 use crate::style::STYLE;
-use lrdiagnostics::{Mark, Source, add_escaped_name};
+use lrdiagnostics::{Mark, Message, Source, add_escaped_name};
 use lrfindings::Findings;
 use lrgrammar::idx::IndexStorage;
 use lrshown::Evidence;
@@ -27,9 +29,8 @@ const HEAD: &str = "<!DOCTYPE html>
  content=\"default-src 'none'; style-src 'unsafe-inline'; script-src 'unsafe-inline'\">
 <title>";
 
-/// What stands before what it tells of conflicts.
-const BAR: &str = "<nav><div>
-<a href=\"#conflicts\">Conflicts</a> <a href=\"#grammar\">Grammar</a> <a href=\"#states\">States</a>
+/// What stands behind the links to what is told of conflicts and warnings.
+const BAR: &str = " <a href=\"#grammar\">Grammar</a> <a href=\"#states\">States</a>
 <input id=\"filter\" type=\"search\" placeholder=\"Filter conflicts, rules and states\"
  aria-label=\"Filter conflicts, rules and states\">
 <span id=\"told\" class=\"soft\" role=\"status\"></span>
@@ -75,6 +76,10 @@ pub struct Page<'a, T: IndexStorage> {
     pub notes: &'a [String],
     /// The conflicts.
     pub cards: &'a [Card<'a>],
+    /// What precedences resolve, where that is shown.
+    pub resolved: &'a [ResolvedCard<'a>],
+    /// What the file is warned of.
+    pub warnings: &'a [Message],
     /// How many steps a search for a sentence with two trees could take; with 0 nothing is told of texts.
     pub steps: usize,
     /// Each text that is shown as one with two trees has them.
@@ -85,6 +90,12 @@ pub struct Page<'a, T: IndexStorage> {
     /// Of each entry that is shown as one that is not ambiguous it is proved.
     pub ghost decided: { All (λ card.
         AreShownDecided found.now.grm found.now.graph card.meeting.now) cards.now },
+    /// Each text that is shown of what precedences resolve as one with two trees has them.
+    pub ghost resolved_texts: { All (λ card.
+        ForSome card.ambiguity (λ a. IsShown found.now.grm a.now)) resolved.now },
+    /// Each that is shown there as one that the parser rejects is a sentence, and rejected.
+    pub ghost resolved_lost: { All (λ card.
+        ForSome card.loss (λ l. IsShownLoss found.now.grm found.now.table l.now)) resolved.now },
     /// And the verdict tells nothing as proved but what is so.
     pub ghost told: { AreProvedWords found.now.grm found.now.table verdict.now },
 }
@@ -129,6 +140,18 @@ impl<T: IndexStorage> Page<'_, T> {
         page.add(". ");
     }
 
+    /// Adds the bar, which leads to what is shown.
+    fn add_bar(&self, page: &mut Text) {
+        page.add("<nav><div>\n<a href=\"#conflicts\">Conflicts</a>");
+        if !self.resolved.is_empty() {
+            page.add(" <a href=\"#resolved\">Resolved</a>");
+        }
+        if !self.warnings.is_empty() {
+            page.add(" <a href=\"#warnings\">Warnings</a>");
+        }
+        page.add(BAR);
+    }
+
     /// Adds the verdict, how much there is, and the bar.
     fn add_header(&self, page: &mut Text) {
         page.add("<header>\n<h1>");
@@ -144,13 +167,15 @@ impl<T: IndexStorage> Page<'_, T> {
         self.add_counts(page);
         page.add(REAL);
         page.add("</p>\n</header>\n");
-        page.add(BAR);
+        self.add_bar(page);
     }
 
     /// Adds what is shown. The error says that memory for a list was refused.
     fn add_main(&self, page: &mut Text) -> Result<(), AllocError> {
         page.add("<main>\n");
         self.add_cards(page)?;
+        self.add_resolved(page)?;
+        self.add_warnings(page)?;
         self.add_grammar(page);
         self.add_states(page)?;
         page.add("</main>\n");

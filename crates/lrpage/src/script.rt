@@ -259,9 +259,21 @@ function addGrammar(section) {
   });
 }
 
-/* The cards by the states that they are about. */
-const cards = states.map(() => []);
-for (const card of document.querySelectorAll('[data-state]')) cards[card.dataset.state].push(card);
+/* The cards of a section by the states that they are about. */
+function cardsIn(section) {
+  const found = states.map(() => []);
+  for (const card of document.querySelectorAll(`#${section} > [data-state]`)) found[card.dataset.state].push(card);
+  return found;
+}
+const conflicts = cardsIn('conflicts'), resolved = cardsIn('resolved');
+
+/* Adds the titles of cards, which lead to them. */
+function addCards(part, cards, name) {
+  for (const card of cards) {
+    addLink(add(part, 'p', undefined, { class: name }), undefined, card.id).append(
+      ...card.querySelector('.title').cloneNode(true).childNodes);
+  }
+}
 
 /* Adds an item: of the production around the grammar with what the file knows of it. */
 function addItem(list, production, dot) {
@@ -281,10 +293,8 @@ function fillState(part, state) {
   const [items, edges] = states[state].map(pairsOf);
   const list = add(part, 'ul', undefined, { class: 'body' });
   for (const [production, dot] of items) addItem(list, production, dot);
-  for (const card of cards[state]) {
-    addLink(add(part, 'p', undefined, { class: 'conflict' }), undefined, card.id).append(
-      ...card.querySelector('.title').cloneNode(true).childNodes);
-  }
+  addCards(part, conflicts[state], 'conflict');
+  addCards(part, resolved[state], 'settled');
   if (!edges.length) return;
   const closed = add(part, 'details');
   add(closed, 'summary', count(edges.length, 'edge'));
@@ -295,8 +305,9 @@ function fillState(part, state) {
 function addStates(section) {
   states.forEach((row, state) => {
     const part = addPart(section, 'section', { id: 's' + state }, part => fillState(part, state));
-    const head = add(part, 'h3', 'State ' + state), conflicts = cards[state].length;
-    if (conflicts) add(head, 'span', count(conflicts, 'conflict'), { class: 'tag marked' });
+    const head = add(part, 'h3', 'State ' + state), open = conflicts[state].length, settled = resolved[state].length;
+    if (open) add(head, 'span', count(open, 'conflict'), { class: 'tag marked' });
+    if (settled) add(head, 'span', settled + ' resolved', { class: 'tag' });
   });
 }
 

@@ -5,11 +5,13 @@ pub(crate) const STYLE: &str = r#":root {
   color-scheme: light dark;
   --page: #f6f7f9; --card: #ffffff; --ink: #1b1f24; --soft: #57606a; --line: #d5dae0; --code: #f2f4f7;
   --link: #0a56b8; --one: #b3261e; --one-soft: #fdeceb; --other: #0a56b8; --other-soft: #e6f0fd; --good: #17702f;
+  --warned: #9a6700; --warned-soft: #fff1c2;
 }
 @media (prefers-color-scheme: dark) {
   :root {
     --page: #101316; --card: #1a1e23; --ink: #e7eaed; --soft: #a2acb6; --line: #353c44; --code: #22272d;
     --link: #82b4ff; --one: #ff9b92; --one-soft: #4a2120; --other: #82b4ff; --other-soft: #1c3557; --good: #63d388;
+    --warned: #e3b341; --warned-soft: #4a3a10;
   }
 }
 * { box-sizing: border-box; }
@@ -51,6 +53,8 @@ h3 { margin: 0; font-size: 1rem; }
 .place span { margin-left: auto; padding-left: 1.5rem; font-family: system-ui, sans-serif; overflow-wrap: anywhere; }
 mark { color: inherit; background: var(--other-soft); border-bottom: 2px solid var(--other); }
 .one mark { background: var(--one-soft); border-color: var(--one); }
+.warned code { white-space: pre-wrap; overflow-wrap: anywhere; }
+.warned mark { background: var(--warned-soft); border-color: var(--warned); }
 .text mark { background: var(--one-soft); border-color: var(--one); }
 .one > span, .one > figcaption { color: var(--one); }
 .other > span, .other > figcaption { color: var(--other); }
@@ -81,5 +85,6 @@ ol.body li:first-child::before { content: ': '; }
 dfn, section, .part { scroll-margin-top: calc(var(--bar, 4rem) + .5rem); }
 ::highlight(found) { background: #ffe08a; color: #1b1f24; }
 .part:has(:target) { border-color: var(--link); }
-.conflict { border-left: .25rem solid var(--one); padding-left: .7rem; }
+.conflict, .settled { border-left: .25rem solid var(--one); padding-left: .7rem; }
+.settled { border-color: var(--good); }
 "#;

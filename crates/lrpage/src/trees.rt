@@ -5,6 +5,7 @@ ghost use Rattle.lrshown.specs.Losses.{IsShownLoss};
 
 use crate::pages::Page;
 use crate::symbols::DOT;
+use lrdiagnostics::add_escaped_name;
 use lrfindings::Entry;
 use lrgrammar::grammar::PartSymbol;
 use lrgrammar::idx::IndexStorage;
@@ -22,6 +23,46 @@ fn class_of(entry: &Entry, step: Step) -> &'static str {
     match step {
         Step::Reduce(production) if production == entry.production => "one",
         _ => "other",
+    }
+}
+
+/// What is said of a sentence beside that it has two trees.
+#[derive(Clone, Copy)]
+enum Beside<'s> {
+    Nothing,
+    /// The trees part by something else than what meets in the entry.
+    ByOther,
+    /// Precedences resolve what meets there; with which of both trees is kept.
+    Resolved(&'s str),
+}
+
+/// The entry at the token behind a dot in a text, of entries that differ in their tokens alone.
+fn entry_at(first: &Entry, tokens: &[usize], dot: usize) -> Entry {
+    Entry {
+        token: tokens.get(dot).copied().unwrap_or(first.token),
+        ..*first
+    }
+}
+
+/// Adds how it is told of a sentence that it has two trees.
+fn begin_sentence(page: &mut Text, beside: Beside<'_>, is_long: bool) {
+    page.add(match (beside, is_long) {
+        (Beside::Resolved(_), true) => "<p>Without precedences a sentence",
+        (Beside::Resolved(_), false) => "<p>Without precedences this sentence",
+        (_, true) => "<p>A sentence",
+        (_, false) => "<p>This sentence",
+    });
+}
+
+/// Adds what is said beside that.
+fn add_beside(page: &mut Text, beside: Beside<'_>) {
+    match beside {
+        Beside::Nothing => {}
+        Beside::ByOther => page.add(", though by something else that meets here"),
+        Beside::Resolved(kept) => {
+            page.add("; ");
+            add_escaped_name(page, kept);
+        }
     }
 }
 
@@ -168,25 +209,25 @@ impl<T: IndexStorage> Page<'_, T> {
     }
 
     /// Adds a sentence with two trees, and both trees of the part of it in which they differ.
-    pub(crate) fn add_ambiguity(&self, page: &mut Text, entry: &Entry, ambiguity: &Ambiguity)
+    fn add_sentence(
+        &self,
+        page: &mut Text,
+        entry: &Entry,
+        ambiguity: &Ambiguity,
+        beside: Beside<'_>,
+    )
         requires proved { IsShown self.now.found.now.grm ambiguity.now }
     {
         let tokens = text_of(self.file, ambiguity.tokens.as_slice());
         let is_long = ambiguity.is_long();
-        page.add(if is_long {
-            "<p>A sentence"
-        } else {
-            "<p>This sentence"
-        });
+        begin_sentence(page, beside, is_long);
         self.add_start(page, ambiguity.start(self.file));
         if is_long {
             let count = tokens.len();
             write!(page, " of {count} tokens");
         }
         page.add(" has two trees (proved)");
-        if !ambiguity.is_of(entry) {
-            page.add(", though by something else that meets here");
-        }
+        add_beside(page, beside);
         if is_long {
             page.add(". ");
         } else {
@@ -196,5 +237,39 @@ impl<T: IndexStorage> Page<'_, T> {
         }
         page.add("They differ in this part of it:</p>\n");
         self.add_trees(page, entry, &ambiguity.form);
+    }
+
+    /// Adds a sentence that is known of an entry, and has two trees.
+    pub(crate) fn add_ambiguity(&self, page: &mut Text, entry: &Entry, ambiguity: &Ambiguity)
+        requires proved { IsShown self.now.found.now.grm ambiguity.now }
+    {
+        let beside = if ambiguity.is_of(entry) {
+            Beside::Nothing
+        } else {
+            Beside::ByOther
+        };
+        self.add_sentence(page, entry, ambiguity, beside);
+    }
+
+    /// Adds a sentence with two trees that is known of one of the entries that precedences resolve, and which tree is kept.
+    pub(crate) fn add_resolved_ambiguity(
+        &self,
+        page: &mut Text,
+        first: &Entry,
+        ambiguity: &Ambiguity,
+        kept: &str,
+    )
+        requires proved { IsShown self.now.found.now.grm ambiguity.now }
+    {
+        let entry = entry_at(first, ambiguity.tokens.as_slice(), ambiguity.trees.dot());
+        self.add_sentence(page, &entry, ambiguity, Beside::Resolved(kept));
+    }
+
+    /// Adds a sentence that the parser rejects since precedences resolve one of the entries.
+    pub(crate) fn add_resolved_loss(&self, page: &mut Text, first: &Entry, loss: &Loss)
+        requires proved { IsShownLoss self.now.found.now.grm self.now.found.now.table loss.now }
+    {
+        let entry = entry_at(first, loss.tokens.as_slice(), loss.dot);
+        self.add_loss(page, &entry, loss);
     }
 }

@@ -5,6 +5,8 @@ use Rattle.std.proofs.lemmas.List.{take_all}
 use Rattle.std.proofs.lemmas.List.Elements.{All-nil, All-cons, All-head, All-tail, All-take, All-drop}
 use Rattle.std.proofs.lemmas.List.Elements.{All-same, All-map, All-weaker}
 use Rattle.std.specs.List.{All, flat_map}
+use Rattle.std.specs.Option.{ForSome}
+use Rattle.std.specs.Prelude.{IfSome}
 use Rattle.lrspec.specs.grammars.Grammar.{Grammar}
 use Rattle.lrshown.specs.declared.evidence.Evidence.{Evidence}
 use Rattle.lrspec.specs.merging.Graph.{Graph}
@@ -51,6 +53,10 @@ module _ {A X : Type 0} (P : X → Type 0) (items : A → List X) where
         let same = are_those ∙ ap (map items) (take_all i groups past) in
         let images = All-map (All P) items groups in_groups in
         of_images (All P) told those (All-same (All P) (map told those) (map items groups) same images)
+
+-- what is proved of a value, if there is one, may be shown
+pub known_shown : {X : Type 0} (P : X → Type 0) (o : Option X) → IfSome o P → ForSome o (λ x. ∥ P x ∥₁)
+known_shown P o known x is = let so = rw is at known in ∣ so ∣₁
 
 -- what is proved of entries may be shown
 shown : (g : Grammar) (evidence : List Evidence) → All (IsProved g) evidence → AreShown g evidence

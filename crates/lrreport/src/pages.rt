@@ -13,6 +13,7 @@ use lrfindings::Verdict;
 use lrgrammar::idx::IndexStorage;
 use lrpage::{Card, Page};
 use lrwriter::Text;
+use lryacc::Fault;
 use std::alloc::{AllocError, Global};
 
 /// How entries at which the same meets can be resolved, in one line.
@@ -44,18 +45,22 @@ impl<T: IndexStorage> Checked<'_, T> {
         })
     }
 
-    /// The page, with that verdict in these words.
+    /// The page, with that verdict in these words, and what reading the file warned of.
     pub(crate) fn page(
         &self,
         alloc: Global,
         verdict: Verdict,
         words: &str,
+        warnings: &[Fault],
     ) -> Result<String, AllocError>
         requires proved { All (IsProved self.now.found.now.grm) self.now.told.evidence.now }
         requires lost { All (IsLostAtEntry self.now.found.now.grm self.now.found.now.table)
             self.now.told.evidence.now }
         requires entries { All (IsToldDecided self.now.found.now.grm self.now.found.now.graph)
             self.now.told.evidence.now }
+        requires resolved { All (IsProved self.now.found.now.grm) self.now.told.resolved.now }
+        requires settled { All (IsLostAtEntry self.now.found.now.grm self.now.found.now.table)
+            self.now.told.resolved.now }
         requires words { AreProvedWords self.now.found.now.grm self.now.found.now.table words.now }
     {
         let trials = Trials::new(alloc, self)?;
@@ -64,6 +69,8 @@ impl<T: IndexStorage> Checked<'_, T> {
             cards.push(self.card(alloc, meeting, &trials)?)?;
         }
         let notes = self.told.notes_on_all(alloc)?;
+        let resolved = self.resolved_cards(alloc)?;
+        let messages = self.told.warnings(alloc, warnings)?;
         let page = Page {
             source: self.told.source,
             file: self.told.file,
@@ -72,6 +79,8 @@ impl<T: IndexStorage> Checked<'_, T> {
             is_good: verdict.status() == 0,
             cards: cards.as_slice(),
             notes: notes.as_slice(),
+            resolved: resolved.as_slice(),
+            warnings: messages.as_slice(),
             steps: self.told.options.steps,
         };
         page.text(alloc)

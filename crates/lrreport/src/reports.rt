@@ -505,6 +505,8 @@ fn page_on_findings<T: IndexStorage>(
     requires proved { All (IsProved found.now.grm) known.now.evidence.items }
     requires lost { All (IsLostAtEntry found.now.grm found.now.table) known.now.evidence.items }
     requires entries { All (IsToldDecided found.now.grm found.now.graph) known.now.evidence.items }
+    requires resolved { All (IsProved found.now.grm) known.now.resolved.items }
+    requires settled { All (IsLostAtEntry found.now.grm found.now.table) known.now.resolved.items }
     requires graph { IfSome found.now.graph (IsGraphOf found.now.grm) }
     requires decided { IfSome known.now.decided (HasTwoTrees found.now.grm) }
     requires unambiguous { verdict ≡ Unambiguous → IsUnambiguous found.now.grm }
@@ -518,7 +520,7 @@ fn page_on_findings<T: IndexStorage>(
         found,
     };
     let words = checked.verdict_words(alloc, verdict, known.decided.as_ref(), false)?;
-    Ok(Some(checked.page(alloc, verdict, words.as_str())?))
+    Ok(Some(checked.page(alloc, verdict, words.as_str(), read.warnings)?))
 }
 
 /// What is told of a grammar, and was concluded of it.

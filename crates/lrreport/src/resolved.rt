@@ -1,17 +1,21 @@
 //! What precedences resolve, each with the places of the productions that meet, and why.
 
-ghost use Rattle.std.specs.Prelude.{All, IfSome};
+ghost use Rattle.std.specs.Prelude.{All, IfOk, IfSome};
+ghost use Rattle.std.specs.Option.{ForSome};
 ghost use Rattle.lrevidence.specs.Ambiguities.{HasTwoTrees, IsProved};
 ghost use Rattle.lrevidence.specs.Losses.{IsLoss, IsLostAtEntry};
+ghost use Rattle.lrshown.specs.Ambiguities.{IsShown};
+ghost use Rattle.lrshown.specs.Losses.{IsShownLoss};
 ghost use Rattle.lrreport.specs.Sentences.{IsLostAtOne, IsOfOne};
 
 use crate::conflicts::{Checked, DONE, push_more};
 use crate::notes::KnownResolved;
 use crate::told::Told;
-use lrdiagnostics::add_shown;
+use lrdiagnostics::{Mark, add_shown};
 use lrevidence::{Ambiguity, Loss};
 use lrfindings::{Entry, Resolved, Winner, source_of};
 use lrgrammar::idx::IndexStorage;
+use lrpage::ResolvedCard;
 use lrwriter::Text;
 use std::alloc::{AllocError, Global};
 
@@ -48,6 +52,15 @@ impl Reason {
             Reason::Token | Reason::Right => ("", DONE),
             Reason::Production | Reason::Left => (DONE, ""),
             Reason::Nonassoc => ("", ""),
+        }
+    }
+
+    /// What wins.
+    fn wins(self) -> &'static str {
+        match self {
+            Reason::Token | Reason::Right => "the shift wins",
+            Reason::Production | Reason::Left => "the reduction wins",
+            Reason::Nonassoc => "neither wins",
         }
     }
 
@@ -211,32 +224,51 @@ impl<'a, T: IndexStorage> Checked<'a, T> {
             .is_ok_and(|at| resolved.get(at).is_some_and(|it| !it.is_cut_off)))
     }
 
+    /// The places of what meets.
+    fn resolution_marks(
+        &self,
+        alloc: Global,
+        resolution: &Resolution,
+    ) -> Result<Vec<Mark>, AllocError> {
+        let entries = resolution.entries.as_slice();
+        let mut marks = Vec::new(alloc);
+        if let Some(first) = entries.first() {
+            let (reduced, shifted) = resolution.reason.done();
+            marks.push(self.told.reduction_mark(alloc, first.production, reduced)?)?;
+            self.push_shifts(&mut marks, entries, shifted)?;
+        }
+        Ok(marks)
+    }
+
+    /// What is known of entries that are resolved.
+    fn known_resolved(&self, entries: &[Entry]) -> KnownResolved<'a>
+        requires proved { All (IsProved self.now.found.now.grm) self.now.told.resolved.now }
+        requires lost { All (IsLostAtEntry self.now.found.now.grm self.now.found.now.table)
+            self.now.told.resolved.now }
+        ensures trees { IfSome result.ambiguity (λ a. HasTwoTrees self.now.found.now.grm a.now) }
+        ensures loss { IfSome result.loss (λ l.
+            IsLoss self.now.found.now.grm self.now.found.now.table l.now) }
+    {
+        KnownResolved {
+            ambiguity: self.decided(entries),
+            loss: self.lost(entries),
+            is_cut_off: self.told.options.steps > 0 && !self.are_searched(entries),
+        }
+    }
+
     /// Adds what is resolved.
     fn push_resolution(&self, text: &mut Text, resolution: &Resolution) -> Result<(), AllocError>
         requires proved { All (IsProved self.now.found.now.grm) self.now.told.resolved.now }
         requires lost { All (IsLostAtEntry self.now.found.now.grm self.now.found.now.table)
             self.now.told.resolved.now }
     {
-        let entries = resolution.entries.as_slice();
-        let Some(first) = entries.first() else {
-            return Ok(());
-        };
-        let alloc = text.allocator();
-        let (reduced, shifted) = resolution.reason.done();
-        let mut marks = Vec::new(alloc);
-        marks.push(self.told.reduction_mark(alloc, first.production, reduced)?)?;
-        self.push_shifts(&mut marks, entries, shifted)?;
+        let (alloc, entries) = (text.allocator(), resolution.entries.as_slice());
+        let marks = self.resolution_marks(alloc, resolution)?;
         self.told.push_heading(text, "resolved", entries);
         self.told.teller().add_placed(text, marks.as_slice())?;
-        let (why, kept) = (
-            self.told.reason(alloc, resolution)?,
-            resolution.reason.kept(),
-        );
-        let known = KnownResolved {
-            ambiguity: self.decided(entries),
-            loss: self.lost(entries),
-            is_cut_off: self.told.options.steps > 0 && !self.are_searched(entries),
-        };
+        let why = self.told.reason(alloc, resolution)?;
+        let kept = resolution.reason.kept();
+        let known = self.known_resolved(entries);
         self.push_decided(text, marks.as_slice(), why.as_str(), kept, known)?;
         text.add_char('\n');
         Ok(())
@@ -255,5 +287,56 @@ impl<'a, T: IndexStorage> Checked<'a, T> {
         }
         push_more(text, resolutions.len().saturating_sub(most));
         Ok(())
+    }
+
+    /// The card of what is resolved.
+    fn resolved_card(
+        &self,
+        alloc: Global,
+        resolution: Resolution,
+    ) -> Result<ResolvedCard<'a>, AllocError>
+        requires proved { All (IsProved self.now.found.now.grm) self.now.told.resolved.now }
+        requires lost { All (IsLostAtEntry self.now.found.now.grm self.now.found.now.table)
+            self.now.told.resolved.now }
+        ensures texts { IfOk result (λ card.
+            ForSome card.ambiguity (λ a. IsShown self.now.found.now.grm a.now)) }
+        ensures lost { IfOk result (λ card. ForSome card.loss
+            (λ l. IsShownLoss self.now.found.now.grm self.now.found.now.table l.now)) }
+    {
+        let known = self.known_resolved(resolution.entries.as_slice());
+        Ok(ResolvedCard {
+            marks: self.resolution_marks(alloc, &resolution)?,
+            why: self.told.reason(alloc, &resolution)?,
+            wins: resolution.reason.wins(),
+            kept: resolution.reason.kept(),
+            entries: resolution.entries,
+            ambiguity: known.ambiguity,
+            loss: known.loss,
+            is_cut_off: known.is_cut_off,
+        })
+    }
+
+    /// The cards of what precedences resolve, where that is asked for.
+    pub(crate) fn resolved_cards(&self, alloc: Global) -> Result<Vec<ResolvedCard<'a>>, AllocError>
+        requires proved { All (IsProved self.now.found.now.grm) self.now.told.resolved.now }
+        requires lost { All (IsLostAtEntry self.now.found.now.grm self.now.found.now.table)
+            self.now.told.resolved.now }
+        ensures texts { IfOk result (λ cards. All (λ card.
+            ForSome card.ambiguity (λ a. IsShown self.now.found.now.grm a.now)) cards.items) }
+        ensures lost { IfOk result (λ cards. All (λ card. ForSome card.loss
+            (λ l. IsShownLoss self.now.found.now.grm self.now.found.now.table l.now))
+            cards.items) }
+    {
+        let mut cards = Vec::new(alloc);
+        if !self.told.options.detail.resolved {
+            return Ok(cards);
+        }
+        for resolution in self
+            .told
+            .resolutions(alloc, self.found.resolved.as_slice())?
+        {
+            cards.push(self.resolved_card(alloc, resolution)?)?;
+        }
+        Ok(cards)
     }
 }

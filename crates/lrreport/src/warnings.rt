@@ -125,18 +125,28 @@ impl<'a> Told<'a> {
         )
     }
 
-    /// Adds what the file is warned of, in its order: the first warnings, so many at the most, and how many there are besides.
+    /// What the file is warned of, in its order.
+    pub(crate) fn warnings(
+        &self,
+        alloc: Global,
+        faults: &[Fault],
+    ) -> Result<Vec<Message>, AllocError> {
+        let mut messages = messages_of(alloc, self.source, faults)?;
+        self.add_unused(&mut messages)?;
+        self.add_useless_lines(&mut messages)?;
+        self.add_useless_productions(&mut messages, faults)?;
+        messages.sort_by_key(place_of)?;
+        Ok(messages)
+    }
+
+    /// Adds what the file is warned of: the first warnings, so many at the most, and how many there are besides.
     pub(crate) fn push_warnings(
         &self,
         text: &mut Text,
         faults: &[Fault],
         most: usize,
     ) -> Result<(), AllocError> {
-        let mut messages = messages_of(text.allocator(), self.source, faults)?;
-        self.add_unused(&mut messages)?;
-        self.add_useless_lines(&mut messages)?;
-        self.add_useless_productions(&mut messages, faults)?;
-        messages.sort_by_key(place_of)?;
+        let messages = self.warnings(text.allocator(), faults)?;
         let teller = self.teller();
         teller.add_messages(text, messages.as_slice(), Weight::Warning, most)?;
         if !messages.is_empty() {
