@@ -9,7 +9,7 @@ OBJECTS = {
     "run": ({"tool"}, {"results", "columnKind"}),
     "tool": ({"driver"}, set()),
     "driver": ({"name"}, {"version", "rules"}),
-    "rule": ({"id"}, {"shortDescription"}),
+    "rule": ({"id"}, {"shortDescription", "fullDescription", "help"}),
     "message": ({"text"}, set()),
     "result": ({"message"}, {"ruleId", "level", "locations", "relatedLocations"}),
     "location": (set(), {"physicalLocation", "message"}),
@@ -19,6 +19,7 @@ OBJECTS = {
 }
 LISTS = {"runs": "run", "rules": "rule", "results": "result", "locations": "location", "relatedLocations": "location"}
 PARTS = {"tool", "driver", "message", "physicalLocation", "artifactLocation", "region"}
+TEXTS = {"shortDescription", "fullDescription", "help"}
 
 
 def wrong(kind, it, path):
@@ -33,8 +34,8 @@ def wrong(kind, it, path):
                 yield f"{path}.{key} has something twice"
             for k, one in enumerate(value):
                 yield from wrong(LISTS[key], one, f"{path}.{key}[{k}]")
-        elif key in PARTS or key == "shortDescription":
-            yield from wrong("message" if key == "shortDescription" else key, value, f"{path}.{key}")
+        elif key in PARTS | TEXTS:
+            yield from wrong("message" if key in TEXTS else key, value, f"{path}.{key}")
     if kind == "region" and not (1 <= it["startLine"] <= it["endLine"] and min(it["startColumn"], it["endColumn"]) >= 1):
         yield f"{path} has no such place"
 
@@ -50,7 +51,7 @@ print(*wrong("log", log, "log"), sep="\n", end="")
 assert log["version"] == "2.1.0" and "2.1.0" in log["$schema"] and len(log["runs"]) == 1
 run = log["runs"][0]
 assert run["columnKind"] == "utf16CodeUnits"
-rules = [rule["id"] for rule in run["tool"]["driver"]["rules"]]
+rules = [rule["id"] for rule in run["tool"]["driver"]["rules"] if TEXTS <= rule.keys()]
 assert len({*rules}) == len(rules)
 for result in run["results"]:
     assert result["ruleId"] in rules and result["level"] in ("none", "note", "warning", "error")

@@ -51,6 +51,9 @@ impl Rule {
     }
 }
 
+/// What is told beside each of them.
+const HELP: &str = "Without --sarif lrcheck shows the lines, all that is known of them, and what helps.";
+
 /// Adds a text, as the value of a key.
 pub(crate) fn add_message(json: &mut JsonText, key: &str, words: &str) {
     json.key(key);
@@ -77,6 +80,8 @@ fn add_tool(json: &mut JsonText, version: &str) {
         json.key("id");
         json.string(rule.id());
         add_message(json, "shortDescription", rule.words());
+        add_message(json, "fullDescription", rule.words());
+        add_message(json, "help", HELP);
         json.end_object();
     }
     json.end_array();
