@@ -17,7 +17,7 @@ complete -c lrcheck -l grammar -d 'Prints the grammar alone, as lrt reads it, or
 complete -c lrcheck -l sarif -d 'Tells what was found as a log of SARIF 2.1.0'
 complete -c lrcheck -l parse -d 'Parses each line of standard input by the grammar, and tells its tree'
 complete -c lrcheck -l page -k -x -a '(__lrcheck_files html)' -d 'Writes a page for a browser, of one file'
-complete -c lrcheck -l all -d 'Shows each conflict by itself, and not the first 20 alone'
+complete -c lrcheck -l all -d 'Shows each conflict by itself, with its state, and all places of warnings'
 complete -c lrcheck -l settled -d 'Shows also what precedences resolve'
 complete -c lrcheck -l trees -d 'Draws both trees of each sentence'
 complete -c lrcheck -l steps -x -d 'Looks for a sentence with two trees for N steps a conflict; 0 for no search'

@@ -9,7 +9,7 @@ _arguments -S \
     '--sarif[Tells what was found as a log of SARIF 2.1.0]' \
     '--parse[Parses each line of standard input by the grammar, and tells its tree]' \
     '--page=[Writes a page for a browser, of one file]:page:_files -g "*.html(-.)"' \
-    '--all[Shows each conflict by itself, and not the first 20 alone]' \
+    '--all[Shows each conflict by itself, with its state, and all places of warnings]' \
     '--settled[Shows also what precedences resolve]' \
     '--trees[Draws both trees of each sentence]' \
     '--steps=[Looks for a sentence with two trees for N steps a conflict; 0 for no search]:number: ' \

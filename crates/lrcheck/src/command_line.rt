@@ -82,7 +82,7 @@ fn trees<'a>(alloc: Global) -> Result<Arg<'a>, AllocError> {
 /// Adds the options that say what is told more than that.
 fn add_details<'a>(args: &mut Vec<Arg<'a>>) -> Result<(), AllocError> {
     let alloc = *args.allocator();
-    let help = "Shows each conflict by itself, and not the first 20 alone";
+    let help = "Shows each conflict by itself, with its state, and all places of warnings";
     args.push(detail(alloc, "all", help)?)?;
     args.push(detail(alloc, "settled", "Shows also what precedences resolve")?)?;
     args.push(trees(alloc)?)?;

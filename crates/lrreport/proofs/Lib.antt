@@ -1,6 +1,8 @@
 -- what is kept of findings, entries that are told in groups or pass a test, and tokens of JSON that are added
 mod Groups
 mod Filtered
+mod JoinedInOrder
+mod OneCause
 mod KeptGraph
 mod KnownBy
 mod KeptFindings

@@ -6,3 +6,5 @@ pub mod JsonHeads
 pub mod ToldConclusions
 -- sentences that are told of entries
 pub mod Sentences
+-- conflicts of one cause
+pub mod Causes

@@ -8,7 +8,10 @@ ghost use Rattle.lrevidence.specs.DecidedEntries.{IsToldDecided};
 ghost use Rattle.lrshown.specs.DecidedEntries.{tokens_of};
 ghost use Rattle.lrshown.specs.Ambiguities.{has_sentence};
 ghost use Rattle.lrreport.specs.Sentences.{IsKnownAt};
+ghost use Rattle.lrreport.specs.Causes.{entries_in};
 
+use crate::alike::{Alike, Leads, kinds};
+use crate::causes::Cause;
 use crate::levels::Trials;
 use crate::told::Told;
 use crate::words::Words;
@@ -24,7 +27,7 @@ use std::alloc::{AllocError, Global};
 pub(crate) const DONE: &str = "; the table does this";
 
 /// What the table does in the cell of an entry.
-#[derive(Clone, Copy, PartialEq, Eq)]
+#[derive(Clone, Copy, PartialEq, Eq, PartialOrd, Ord)]
 pub(crate) enum Choice {
     /// It shifts.
     Shift,
@@ -67,15 +70,21 @@ fn said_of(choice: Option<Choice>, is_shift: bool) -> (&'static str, &'static st
 }
 
 impl Told<'_> {
-    /// Adds what is told first of entries that meet alike: a word, what meets, and the tokens at which it does.
-    pub(crate) fn push_heading(&self, text: &mut Text, word: &str, entries: &[Entry]) {
-        let kinds = match entries.first() {
-            Some(Entry { other: Some(_), .. }) => "reduce or reduce",
-            _ => "shift or reduce",
-        };
+    /// Adds what is told first of entries that meet alike: a word, what meets, the tokens at which it does, and in which states.
+    pub(crate) fn push_heading(
+        &self,
+        text: &mut Text,
+        word: &str,
+        entries: &[Entry],
+        cause: Option<&Cause<'_>>,
+    ) {
+        let kinds = kinds(entries);
         let mut names = Words::new(text.allocator());
         for (place, entry) in entries.iter().enumerate() {
             names.add_listed(place == 0, self.token_name(entry.token));
+        }
+        if let Some(cause) = cause {
+            self.add_states(&mut names, cause);
         }
         Style::Bold.add(text, word, self.options.lines.has_colours);
         write!(text, ": {kinds} at ");
@@ -102,7 +111,7 @@ impl<T: IndexStorage> Checked<'_, T> {
     }
 
     /// What it does in the cells of all the entries, where that is the same, and no more.
-    fn choice_of(&self, entries: &[Entry]) -> Option<Choice> {
+    pub(crate) fn choice_of(&self, entries: &[Entry]) -> Option<Choice> {
         if self.told.parser.splits() {
             return None;
         }
@@ -224,30 +233,63 @@ impl<T: IndexStorage> Checked<'_, T> {
         }
     }
 
-    /// Adds a conflict: entries at which the same meets in the same state, and what is known of them.
-    fn push_meeting(
+    /// Adds a conflict: a state in which it is, with the entries at which the same meets, what is known of them, how it can be
+    /// resolved, and which conflicts are like it.
+    fn push_cause(
         &self,
         text: &mut Text,
-        meeting: &[Evidence],
-        trials: &Trials<'_, '_, T>,
+        cause: &Cause<'_>,
+        help: &Words,
+        alike: &Alike,
     ) -> Result<(), AllocError>
-        requires proved { All (IsProved self.now.found.now.grm) meeting.now }
+        requires proved { All (IsProved self.now.found.now.grm) (entries_in cause.now) }
         requires lost { All (IsLostAtEntry self.now.found.now.grm self.now.found.now.table)
-            meeting.now }
+            (entries_in cause.now) }
         requires entries { All (IsToldDecided self.now.found.now.grm self.now.found.now.graph)
-            meeting.now }
+            (entries_in cause.now) }
     {
+        let Some(meeting) = cause.shown() else {
+            return Ok(());
+        };
         let alloc = text.allocator();
         let entries = entries_of(alloc, meeting)?;
         let marks = self.marks(alloc, entries.as_slice())?;
-        self.told.push_heading(text, "conflict", entries.as_slice());
+        self.told
+            .push_heading(text, "conflict", entries.as_slice(), Some(cause));
         self.told.teller().add_placed(text, marks.as_slice())?;
-        self.push_notes(text, marks.as_slice(), meeting, trials)?;
+        self.push_notes(text, marks.as_slice(), cause, meeting, help, alike)?;
         text.add_char('\n');
         Ok(())
     }
 
-    /// Adds the conflicts: the first ones, so many at the most, and how many there are besides.
+    /// Adds those of the conflicts that are told by themselves: so many at the most. Those that are told behind them stand in lines.
+    fn push_causes(
+        &self,
+        text: &mut Text,
+        causes: &[Cause<'_>],
+        leads: &Leads,
+        most: usize,
+        trials: &Trials<'_, '_, T>,
+    ) -> Result<(), AllocError>
+        requires proved { All (IsProved self.now.found.now.grm) (flat_map entries_in causes.now) }
+        requires lost { All (IsLostAtEntry self.now.found.now.grm self.now.found.now.table)
+            (flat_map entries_in causes.now) }
+        requires entries { All (IsToldDecided self.now.found.now.grm self.now.found.now.graph)
+            (flat_map entries_in causes.now) }
+    {
+        let mut told = 0;
+        for (place, cause) in causes.iter().enumerate() {
+            if leads.is_lead(place) && told < most {
+                told += 1;
+                let help = trials.help_on(text.allocator(), cause)?;
+                let alike = trials.alike(text.allocator(), causes, leads, place, &help)?;
+                self.push_cause(text, cause, &help, &alike)?;
+            }
+        }
+        Ok(())
+    }
+
+    /// Adds the conflicts: the first ones, so many at the most, further ones in a line each, and how many there are besides.
     pub(crate) fn push_conflicts(&self, text: &mut Text, most: usize) -> Result<(), AllocError>
         requires proved { All (IsProved self.now.found.now.grm) self.now.told.evidence.now }
         requires lost { All (IsLostAtEntry self.now.found.now.grm self.now.found.now.table)
@@ -255,16 +297,12 @@ impl<T: IndexStorage> Checked<'_, T> {
         requires entries { All (IsToldDecided self.now.found.now.grm self.now.found.now.graph)
             self.now.told.evidence.now }
     {
-        let tells_all = self.told.options.detail.all;
-        let meetings = meetings(text.allocator(), self.told.evidence, tells_all)?;
+        let causes = self.causes(text.allocator())?;
+        let causes = causes.as_slice();
+        let leads = self.told.leads(text.allocator(), causes)?;
         let trials = Trials::new(text.allocator(), self)?;
-        for (place, meeting) in meetings.iter().enumerate() {
-            if place < most {
-                self.push_meeting(text, meeting, &trials)?;
-            }
-        }
-        push_more(text, meetings.len().saturating_sub(most));
-        Ok(())
+        self.push_causes(text, causes, &leads, most, &trials)?;
+        trials.push_further(text, causes, &leads, most)
     }
 }
 
@@ -307,7 +345,7 @@ pub(crate) fn entries_of(alloc: Global, evidence: &[Evidence]) -> Result<Vec<Ent
     evidence.iter().map(|it| it.entry).collect(alloc)
 }
 
-/// Adds how many are not told.
+/// Adds how many are not told of what precedences resolve.
 pub(crate) fn push_more(text: &mut Text, more: usize) {
     if more > 0 {
         write!(text, "and {more} more, which --all shows\n\n");

@@ -3,6 +3,8 @@
 
 mod actions;
 mod advice;
+mod alike;
+mod causes;
 mod conflicts;
 mod drawings;
 mod grammars;
@@ -28,6 +30,7 @@ mod texts;
 mod told;
 mod trees;
 mod verdicts;
+mod warning_lines;
 mod warnings;
 mod words;
 

@@ -70,6 +70,15 @@ impl Told<'_> {
         }
     }
 
+    /// How a production can be reduced: as one that ends there, or that is empty.
+    pub(crate) fn ending(&self, production: usize) -> &'static str {
+        if self.is_empty(production) {
+            "be empty here"
+        } else {
+            "end here"
+        }
+    }
+
     /// Whether two productions of one rule have the same body.
     fn are_same(&self, one: usize, other: usize) -> bool {
         match (self.production(one), self.production(other)) {
@@ -99,12 +108,7 @@ impl Told<'_> {
         production: usize,
         so: &str,
     ) -> Result<Mark, AllocError> {
-        let rule = self.rule_name(production);
-        let how = if self.is_empty(production) {
-            "be empty here"
-        } else {
-            "end here"
-        };
+        let (rule, how) = (self.rule_name(production), self.ending(production));
         Ok(Mark {
             span: self.symbols_place(production),
             mark: '^',

@@ -6,10 +6,12 @@ ghost use Rattle.lrevidence.specs.Ambiguities.{HasTwoTrees, IsProved};
 ghost use Rattle.lrevidence.specs.Losses.{IsLoss, IsLostAtEntry};
 ghost use Rattle.lrevidence.specs.DecidedEntries.{IsToldDecided};
 ghost use Rattle.lrshown.specs.DecidedEntries.{is_decided, tokens_of};
+ghost use Rattle.lrreport.specs.Causes.{entries_in};
 
+use crate::alike::Alike;
+use crate::causes::Cause;
 use crate::conflicts::{Checked, are_decided, tokens_of_each};
 use crate::drawings::{cut_mark, push_drawing};
-use crate::levels::Trials;
 use crate::texts::{
     Label, add_list, add_loss, add_names, add_shortened, add_start, add_text, add_tree_words,
     add_two_trees, labels,
@@ -62,6 +64,39 @@ impl Notes {
         text.add_char('\n');
     }
 
+    /// Adds how many conflicts are like the one that is told, and the first of them, in a line each.
+    fn push_alike(self, text: &mut Text, alike: &Alike) {
+        let (count, lines) = (alike.count, alike.lines.as_slice());
+        if count == 0 {
+            return;
+        }
+        let mut words = Words::new(text.allocator());
+        words.begin();
+        write!(words, "{count}");
+        words.add_all(if count == 1 {
+            "more conflict like this:"
+        } else {
+            "more conflicts like this:"
+        });
+        self.push(text, &words);
+        for line in lines {
+            self.push_shown(text, line);
+        }
+        self.push_untold(text, count.saturating_sub(lines.len()));
+    }
+
+    /// Adds how many of those are not told, if some are not.
+    fn push_untold(self, text: &mut Text, more: usize) {
+        if more > 0 {
+            let mut words = Words::new(text.allocator());
+            words.add("and");
+            words.begin();
+            write!(words, "{more}");
+            words.add_all("more, which --all shows");
+            self.push_shown(text, &words);
+        }
+    }
+
     /// Adds a line of a note that is more indented.
     fn push_shown(self, text: &mut Text, words: &Words) {
         let column = self.indent.saturating_add(6);
@@ -80,6 +115,16 @@ pub(crate) struct KnownResolved<'a> {
     pub(crate) loss: Option<&'a Loss>,
     /// Whether sentences were not looked for to the end.
     pub(crate) is_cut_off: bool,
+}
+
+/// That a conflict is not known to be ambiguous in so many of its states.
+fn words_of_states(alloc: Global, count: usize) -> Words {
+    let mut words = Words::new(alloc);
+    words.add_all("not known to be ambiguous in");
+    words.begin();
+    write!(words, "{count}");
+    words.add_all("of these states");
+    words
 }
 
 /// The tokens of the entries that are not decided, and for which there is no sentence with two trees that part by what meets in
@@ -106,7 +151,7 @@ fn decided(alloc: Global, meeting: &[Evidence]) -> Result<Vec<usize>, AllocError
 }
 
 /// Whether each of the entries has a sentence with two trees that part by what meets in it.
-fn have_sentences(meeting: &[Evidence]) -> bool
+pub(crate) fn have_sentences(meeting: &[Evidence]) -> bool
     ensures { IsTrue result → All (λ evidence. IsSome evidence.ambiguity) meeting.now }
 {
     meeting.iter().all(|it| it.has_own_sentence())
@@ -500,29 +545,98 @@ impl<T: IndexStorage> Checked<'_, T> {
         }
     }
 
-    /// Adds what is known of entries at which the same meets, and how they can be resolved, as notes under such marks.
+    /// Adds that the same is so in the other states.
+    fn push_each_state(&self, text: &mut Text, notes: Notes, cause: &Cause<'_>)
+        requires proved { All (IsProved self.now.found.now.grm) (entries_in cause.now) }
+        requires each { All (λ evidence. IsSome evidence.ambiguity) (entries_in cause.now) }
+    {
+        notes.push_text(
+            text,
+            if cause.meetings.len() == 2 {
+                "so it is in the other state (proved; --all shows the sentences)"
+            } else {
+                "so it is in each other state (proved; --all shows the sentences)"
+            },
+        );
+    }
+
+    /// The sentence that the parser rejects of a state of a conflict, where that which is shown has none.
+    fn loss_elsewhere<'e>(&self, cause: &Cause<'e>, shown: &[Evidence]) -> Option<&'e Loss>
+        requires lost { All (IsLostAtEntry self.now.found.now.grm self.now.found.now.table)
+            (entries_in cause.now) }
+        requires lost_here { All (IsLostAtEntry self.now.found.now.grm self.now.found.now.table)
+            shown.now }
+        ensures { IfSome result (λ l.
+            IsLoss self.now.found.now.grm self.now.found.now.table l.now) }
+    {
+        if self.loss_in(shown).is_some() {
+            return None;
+        }
+        let meeting = cause.rejecting()?;
+        self.loss_in(meeting)
+    }
+
+    /// Adds what is known of the other states than the one that is shown, where that has a sentence with two trees.
+    fn push_other_states(
+        &self,
+        text: &mut Text,
+        notes: Notes,
+        cause: &Cause<'_>,
+        shown: &[Evidence],
+    ) -> Result<(), AllocError>
+        requires proved { All (IsProved self.now.found.now.grm) (entries_in cause.now) }
+        requires lost { All (IsLostAtEntry self.now.found.now.grm self.now.found.now.table)
+            (entries_in cause.now) }
+        requires lost_here { All (IsLostAtEntry self.now.found.now.grm self.now.found.now.table)
+            shown.now }
+    {
+        if cause.meetings.len() < 2 || own_sentences(shown) == 0 {
+            return Ok(());
+        }
+        if cause.has_sentences() {
+            self.push_each_state(text, notes, cause);
+        } else {
+            notes.push(
+                text,
+                &words_of_states(text.allocator(), cause.states_without()),
+            );
+        }
+        match self.loss_elsewhere(cause, shown) {
+            Some(loss) => self.push_loss(text, notes, loss),
+            None => Ok(()),
+        }
+    }
+
+    /// Adds what is known of a conflict, of which a state is shown, how it can be resolved, and which conflicts are like it, as notes
+    /// under such marks.
     pub(crate) fn push_notes(
         &self,
         text: &mut Text,
         marks: &[Mark],
-        meeting: &[Evidence],
-        trials: &Trials<'_, '_, T>,
+        cause: &Cause<'_>,
+        shown: &[Evidence],
+        help: &Words,
+        alike: &Alike,
     ) -> Result<(), AllocError>
-        requires proved { All (IsProved self.now.found.now.grm) meeting.now }
+        requires proved { All (IsProved self.now.found.now.grm) (entries_in cause.now) }
         requires lost { All (IsLostAtEntry self.now.found.now.grm self.now.found.now.table)
-            meeting.now }
-        requires entries { All (IsToldDecided self.now.found.now.grm self.now.found.now.graph)
-            meeting.now }
+            (entries_in cause.now) }
+        requires proved_here { All (IsProved self.now.found.now.grm) shown.now }
+        requires lost_here { All (IsLostAtEntry self.now.found.now.grm self.now.found.now.table)
+            shown.now }
+        requires entries_here { All (IsToldDecided self.now.found.now.grm self.now.found.now.graph)
+            shown.now }
     {
         let mut lines = Text::new(text.allocator());
         let notes = self.told.notes(marks);
         if self.told.options.steps > 0 {
-            self.push_known(&mut lines, notes, meeting)?;
+            self.push_known(&mut lines, notes, shown)?;
+            self.push_other_states(&mut lines, notes, cause, shown)?;
         }
-        let help = trials.help(text.allocator(), meeting)?;
         if !help.is_empty() {
-            notes.push(&mut lines, &help);
+            notes.push(&mut lines, help);
         }
+        notes.push_alike(&mut lines, alike);
         let lines = lines.finish()?;
         self.told.teller().add_notes(text, marks, lines.as_str());
         Ok(())

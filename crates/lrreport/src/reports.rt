@@ -90,9 +90,21 @@ impl Report {
     }
 }
 
-/// How many faults of a file, or conflicts, are told one by one at the most.
+/// How many conflicts are shown, of which no others are like them.
+const SHOWN: usize = 10;
+
+/// How many faults of a file, or warnings, are told one by one at the most.
 fn most_told(options: Options) -> usize {
     if options.detail.all { usize::MAX } else { TOLD }
+}
+
+/// How many conflicts are shown at the most; further ones are told in a line each.
+fn most_shown(options: Options) -> usize {
+    if options.detail.all {
+        usize::MAX
+    } else {
+        SHOWN
+    }
 }
 
 /// A file that was read as a grammar.
@@ -192,6 +204,10 @@ const WORK: usize = 1_000;
 /// shown.
 const LOSSES: usize = 1_000;
 
+/// Of how many conflicts at the most a report tells after what they are real: of more than it shows, since the same may meet in many
+/// states.
+const EXAMPLES: usize = 1_000;
+
 /// For how many of these it is searched whether no sentence has two trees there.
 const DECISIONS: usize = 100;
 
@@ -208,7 +224,8 @@ fn effort_of(options: Options) -> Effort {
     let examples = match options.output {
         _ if options.steps == 0 => 0,
         _ if options.makes_page => usize::MAX,
-        Output::Report => most_told(options),
+        Output::Report if !options.detail.all => EXAMPLES,
+        Output::Report => usize::MAX,
         Output::Json { .. } => usize::MAX,
         Output::Summary | Output::Grammar | Output::States | Output::Sarif => 0,
     };
@@ -377,13 +394,12 @@ impl<T: IndexStorage> Checked<'_, T> {
             return self.push_states(text);
         }
         let most = most_told(options);
-        self.told.push_warnings(text, warnings, most)?;
-        self.push_conflicts(text, most)?;
+        self.push_conflicts(text, most_shown(options))?;
         self.told.push_notes_on_all(text)?;
         if options.detail.resolved {
             self.push_resolved(text, most)?;
         }
-        Ok(())
+        self.told.push_warnings(text, warnings, most)
     }
 
     /// The line of the verdict.

@@ -264,7 +264,7 @@ impl<'a, T: IndexStorage> Checked<'a, T> {
     {
         let (alloc, entries) = (text.allocator(), resolution.entries.as_slice());
         let marks = self.resolution_marks(alloc, resolution)?;
-        self.told.push_heading(text, "resolved", entries);
+        self.told.push_heading(text, "resolved", entries, None);
         self.told.teller().add_placed(text, marks.as_slice())?;
         let why = self.told.reason(alloc, resolution)?;
         let kept = resolution.reason.kept();

@@ -65,7 +65,7 @@ impl<'a> Told<'a> {
         precedence_token(self.production(production)?)
     }
 
-    /// Whether the symbol behind the dot of an item is the token of one of the entries.
+    /// Whether the symbol behind the dot of an item is the token of one of the entries, which are in order and meet alike.
     pub(crate) fn is_shifted(&self, production: usize, dot: usize, entries: &[Entry]) -> bool {
         let Some(prod) = self.production(production) else {
             return false;
@@ -73,7 +73,9 @@ impl<'a> Told<'a> {
         let Some(PartSymbol::Token(token)) = prod.symbols.get(dot) else {
             return false;
         };
-        entries.iter().any(|entry| entry.token == *token)
+        entries
+            .binary_search_by_key(token, |entry| entry.token)
+            .is_ok()
     }
 
     /// Where the symbol behind the dot of an item stands.

@@ -147,8 +147,12 @@ impl<'a> Told<'a> {
         most: usize,
     ) -> Result<(), AllocError> {
         let messages = self.warnings(text.allocator(), faults)?;
-        let teller = self.teller();
-        teller.add_messages(text, messages.as_slice(), Weight::Warning, most)?;
+        if self.options.detail.all {
+            let teller = self.teller();
+            teller.add_messages(text, messages.as_slice(), Weight::Warning, most)?;
+        } else {
+            self.push_warning_lines(text, messages.as_slice(), most)?;
+        }
         if !messages.is_empty() {
             text.add_char('\n');
         }

@@ -31,6 +31,19 @@ impl Words {
         self.is_whole && self.list.is_empty()
     }
 
+    /// Whether they are the same as others. Where memory was refused for one of them, this is not known, and so not said.
+    pub(crate) fn is_same(&self, other: &Words) -> bool {
+        self.is_whole && other.is_whole && self.list == other.list
+    }
+
+    /// Adds other words.
+    pub(crate) fn append(&mut self, other: &Words) {
+        for word in &other.list {
+            self.add(word.as_str());
+        }
+        self.is_whole = self.is_whole && other.is_whole;
+    }
+
     /// How many columns they take, with a blank between them.
     pub(crate) fn width(&self) -> usize {
         width_of(self.list.as_slice())

@@ -1,0 +1,119 @@
+-- entries that stand together, and meetings that have one cause
+use Rattle.std.proofs.Common.{◌≡◌, ℕ, ◌<◌, List, [], ◌∷◌, ◌++◌, length, map, take, get_or, refl, sym, ap, subst, ◌∙◌, append-nil, ◌+◌, drop, add-one, arith}
+use Rattle.std.proofs.lemmas.List.{take-append-drop, take-take, drop-take}
+use Rattle.std.proofs.lemmas.List.Sorted.{IsPermutation-trans}
+use Rattle.std.specs.List.Sorted.{IsPermutation}
+use Rattle.lrreport.proofs.JoinedInOrder.{joined_in_order}
+use Rattle.std.proofs.lemmas.List.Concat.{flat_map-append}
+use Rattle.std.proofs.lemmas.List.Elements.{All-nil, All-append, All-cons, All-head, All-tail, All-map, All-same}
+use Rattle.std.proofs.lemmas.List.Folds.{flat_map-map}
+use Rattle.std.specs.List.{All, Contains, flat_map}
+use Rattle.lrverdicts.specs.declared.conflicts.Entry.{Entry}
+use Rattle.lrverdicts.specs.Listed.{MeetsLike, told}
+use Rattle.lrshown.specs.declared.evidence.Evidence.{Evidence}
+use Rattle.lrreport.specs.declared.causes.Cause.{Cause}
+use Rattle.lrreport.specs.declared.causes.Meeting.{Meeting}
+use Rattle.lrreport.proofs.Groups.{in_group}
+use Rattle.lrreport.specs.Causes.{entries_in, AreAlike, IsMet, IsOneCause, MeetTogether}
+
+-- an entry meets like itself
+pub meets_like_itself : (e : Entry) → MeetsLike e e
+meets_like_itself e = record { state = refl; production = refl; other = refl }
+
+-- what an entry tells that meets like the first one
+like_first : (first e : Entry) → MeetsLike first e → told e ≡ (e.token, first.production, first.other, first.state)
+like_first first e like = rw (like.state, like.production, like.other) refl
+
+-- what entries tell that meet like the first one
+all_like_first :
+    (first : Entry) (es : List Evidence) → All (λ e. MeetsLike first e.entry) es
+    → map (λ e. told e.entry) es ≡ map (λ token. (token, first.production, first.other, first.state)) (map (λ e. e.entry.token) es)
+all_like_first first [] each = refl
+all_like_first first (e ∷ es) each =
+    let one = like_first first e.entry (All-head (λ e. MeetsLike first e.entry) e es each) in
+    rw (one, all_like_first first es (All-tail (λ e. MeetsLike first e.entry) e es each)) refl
+
+pub meet_together :
+    (first : Entry) (tokens : List ℕ) (es : List Evidence) → All (λ e. MeetsLike first e.entry) es → tokens ≡ map (λ e. e.entry.token) es
+    → MeetTogether first.production first.other tokens es
+meet_together first tokens es each are = record {
+  state = first.state;
+  are = rw are (all_like_first first es each);
+}
+
+-- a meeting that keeps what the first one does has its cause
+of_first : (first m : Meeting) → AreAlike first m → IsMet m → MeetTogether first.production first.other first.tokens.items m.evidence.now
+of_first first m like met = rw (like.production, like.other, like.tokens) met
+
+pub are_one_cause :
+    (first : Meeting) (ms : List Meeting) (cause : Cause) → All (AreAlike first) ms → All IsMet ms
+    → cause.meetings.items ≡ map (λ m. m.evidence) ms → IsOneCause cause
+are_one_cause first ms cause like met are = record {
+  production = first.production;
+  other = first.other;
+  tokens = first.tokens.items;
+  alike =
+      let P = λ (meeting : _). MeetTogether first.production first.other first.tokens.items meeting.now in
+      All-same P _ _ are (All-map P (λ m. m.evidence) ms (λ k d inside. of_first first _ (like k d inside) (met k d inside)));
+}
+
+-- the entries of a cause are those of its meetings
+pub entries_of_meetings :
+    (ms : List Meeting) (cause : Cause) → cause.meetings.items ≡ map (λ m. m.evidence) ms → entries_in cause ≡ flat_map (λ m. m.evidence.now) ms
+entries_of_meetings ms cause are = ap (flat_map (λ meeting. meeting.now)) are ∙ flat_map-map (λ meeting. meeting.now) (λ m. m.evidence) ms
+
+-- the first ones, and some behind them
+taken_on : {X : Type 0} (xs : List X) (i n : ℕ) → take i xs ++ take n (drop i xs) ≡ take (i + n) xs
+taken_on xs i n = rw (take-take i (i + n) xs (omega arith), drop-take i n xs) at (take-append-drop i (take (i + n) xs))
+
+-- a step of joining: what stands next is the part of one more
+module _ {X B : Type 0} (f : X → List B) where
+  pub one_more :
+      (done : List X) (one : X) (all : List B) (i n : ℕ) → f one ≡ take n (drop i all) → flat_map f done ≡ take i all
+      → flat_map f (done ++ one ∷ []) ≡ take (i + n) all
+  one_more done one all i n is before =
+      flat_map-append f done (one ∷ []) ∙ ap (λ v. flat_map f done ++ v) (append-nil (f one) ∙ is) ∙ ap (λ v. v ++ take n (drop i all)) before ∙ taken_on all i n
+
+  -- the same of lists that are joined themselves
+  pub one_more_joined :
+      {Y : Type 0} (g : Y → List B) (done : List X) (one : X) (all : List Y) (i n : ℕ) → f one ≡ flat_map g (take n (drop i all))
+      → flat_map f done ≡ flat_map g (take i all) → flat_map f (done ++ one ∷ []) ≡ flat_map g (take (i + n) all)
+  one_more_joined g done one all i n is before =
+      flat_map-append f done (one ∷ []) ∙ ap (λ v. flat_map f done ++ v) (append-nil (f one) ∙ is) ∙ ap (λ v. v ++ flat_map g (take n (drop i all))) before
+      ∙ sym (flat_map-append g (take i all) (take n (drop i all))) ∙ ap (flat_map g) (taken_on all i n)
+
+-- the first one, and some of those behind it
+pub with_first :
+    {X : Type 0} (P : X → Type 0) (xs : List X) (first : X) (n : ℕ) → 0 < length xs → first ≡ get_or xs 0 first → P first → All P (take n (drop 1 xs))
+    → All P (take (n + 1) xs)
+with_first P [] first n some is one others = absurd (omega (arith, some))
+with_first P (x ∷ xs) first n some is one others = rw (add-one n) (All-cons P x (take n xs) (subst P is one) others)
+
+-- a meeting keeps what it keeps
+pub alike_itself : (m : Meeting) → AreAlike m m
+alike_itself m = record { production = refl; other = refl; tokens = refl }
+
+-- entries that are put together, these put in order, the causes that they have, and these put in order
+pub in_order :
+    (evidence : List Evidence) (met sorted : List Meeting) (causes told : List Cause) → flat_map (λ m. m.evidence.now) met ≡ evidence
+    → IsPermutation met sorted → flat_map entries_in causes ≡ flat_map (λ m. m.evidence.now) sorted → IsPermutation causes told
+    → IsPermutation evidence (flat_map entries_in told)
+in_order evidence met sorted causes told whole order parts later =
+    let one : IsPermutation evidence (flat_map (λ m. m.evidence.now) sorted) = rw whole at (joined_in_order (λ m. m.evidence.now) met sorted order) in
+    let two : IsPermutation (flat_map (λ m. m.evidence.now) sorted) (flat_map entries_in told) =
+    rw parts at (joined_in_order entries_in causes told later) in
+    IsPermutation-trans _ _ _ one two
+
+-- what holds of all the entries of lists that are joined holds of those of one of them
+pub among :
+    {X Y : Type 0} (P : X → Type 0) (items : Y → List X) (lists : List Y) (one : Y) → All P (flat_map items lists) → Contains lists one
+    → All P (items one)
+among P items lists one each (k, inside, is) = in_group P items lists (flat_map items lists) refl each k one inside (sym is)
+
+-- and what holds of those of each holds of all
+pub of_each :
+    {X Y : Type 0} (P : X → Type 0) (items : Y → List X) (lists : List Y) → All (λ one. All P (items one)) lists → All P (flat_map items lists)
+of_each P items [] each = All-nil P
+of_each P items (one ∷ lists) each =
+    All-append P (items one) (flat_map items lists) (All-head (λ one. All P (items one)) one lists each)
+    (of_each P items lists (All-tail (λ one. All P (items one)) one lists each))

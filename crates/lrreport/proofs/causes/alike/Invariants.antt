@@ -1,0 +1,8 @@
+-- those so far have the cause of the first one
+use Rattle.std.proofs.Common.{take}
+use Rattle.std.specs.List.{All}
+use Rattle.lrreport.specs.Causes.{AreAlike}
+use Rattle.lrreport.proofs.causes.alike.Given as goal
+
+abbrev pub invariant-loop-place : goal.invariant-loop-place
+invariant-loop-place l = All (AreAlike l.first) (take l.place l.others)
