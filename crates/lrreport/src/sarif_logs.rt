@@ -52,7 +52,8 @@ impl Rule {
 }
 
 /// What is told beside each of them.
-const HELP: &str = "Without --sarif lrcheck shows the lines, all that is known of them, and what helps.";
+const HELP: &str =
+    "Without --sarif lrcheck shows the lines, all that is known of them, and what helps.";
 
 /// Adds a text, as the value of a key.
 pub(crate) fn add_message(json: &mut JsonText, key: &str, words: &str) {
