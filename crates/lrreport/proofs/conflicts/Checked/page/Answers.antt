@@ -25,7 +25,7 @@ invariant_of-page g c =
           rw c.as_slice.ensures.value
           (all_shown_decided checked.found.now.grm checked.found.now.graph (λ card. card.meeting.now) cards
           (each_of (IsToldDecided checked.found.now.grm checked.found.now.graph) c.requires.entries));
-      resolved_texts = rw c.as_slice-resolved.ensures.value c.in_ok-resolved.ensures.texts;
-      resolved_lost = rw c.as_slice-resolved.ensures.value c.in_ok-resolved.ensures.lost;
+      resolved_texts = rw c.as_slice-3.ensures.value c.in_ok-resolved.ensures.texts;
+      resolved_lost = rw c.as_slice-3.ensures.value c.in_ok-resolved.ensures.lost;
       told = c.requires.words;
     }
