@@ -265,7 +265,7 @@ def check_decided(known, entry, counts):
 def check_entry(known, told, entry, counts):
     """All that is told of an entry."""
     kind = "reduce" if "other" in entry.told else "shift"
-    head = f"conflict: {kind} or reduce at {entry.told['tokens'][0]}"
+    head = f"conflict: {kind} or reduce at {entry.told['tokens'][0]} in state {entry.told['state']}"
     hold(entry.lines.head == head, f"{entry.lines.head} is printed, and not {head}")
     hold(entry.told["chosen"] == ("shift" if None in entry.conflict.cell else "reduce"), "the table does something else")
     check_after(known, told, entry, counts)
