@@ -1,5 +1,6 @@
 """The cases of lrcheck: with what it is called. Each has a name of its own, that begins with `check-`."""
 
+import json
 from collections import namedtuple
 
 # `words` are the arguments, and of these `names`, at the end, the names of files, which lie in the folder of the call by
@@ -35,16 +36,44 @@ FAULTY = b"%token a a\n%%\ns: t 'x;\n"
 # Lines: sentences, one that is none, and an unknown word.
 LINES = b"a a\n\nb\na"
 
-# A log of SARIF without results.
-NO_RESULTS = (
-    b'{"$schema":"https://json.schemastore.org/sarif-2.1.0.json","version":"2.1.0","runs":[{"tool":{"driver":{"name":"lrcheck",'
-    b'"version":"0.2.0","rules":[{"id":"shift-reduce","shortDescription":{"text":"A state can both shift and reduce at a token."}},'
-    b'{"id":"reduce-reduce","shortDescription":{"text":"A state can reduce by two productions at a token."}},{"id":"error",'
-    b'"shortDescription":{"text":"The file is no grammar."}},{"id":"warning","shortDescription":{"text":"A part of the grammar has no '
-    b'use, or not the one that it seems to have."}},{"id":"useless-precedence","shortDescription":{"text":"A precedence resolves '
-    b'nothing."}},{"id":"unused-token","shortDescription":{"text":"A token is in no rule, or in useless ones alone."}}]}},'
-    b'"columnKind":"utf16CodeUnits","results":[]}]}\n'
-)
+# A log of SARIF without results, and the rules that it names.
+RULES = {
+    "shift-reduce": "A state can both shift and reduce at a token.",
+    "reduce-reduce": "A state can reduce by two productions at a token.",
+    "error": "The file is no grammar.",
+    "warning": "A part of the grammar has no use, or not the one that it seems to have.",
+    "useless-precedence": "A precedence resolves nothing.",
+    "unused-token": "A token is in no rule, or in useless ones alone.",
+}
+RULE_HELP = "Without --sarif lrcheck shows the lines, all that is known of them, and what helps."
+
+
+def text(words):
+    """A message of SARIF."""
+    return {"text": words}
+
+
+LOG = {
+    "$schema": "https://json.schemastore.org/sarif-2.1.0.json",
+    "version": "2.1.0",
+    "runs": [
+        {
+            "tool": {
+                "driver": {
+                    "name": "lrcheck",
+                    "version": "0.2.0",
+                    "rules": [
+                        {"id": name, "shortDescription": text(words), "fullDescription": text(words), "help": text(RULE_HELP)}
+                        for name, words in RULES.items()
+                    ],
+                }
+            },
+            "columnKind": "utf16CodeUnits",
+            "results": [],
+        }
+    ],
+}
+NO_RESULTS = json.dumps(LOG, separators=(",", ":")).encode() + b"\n"
 
 FILES = {
     "none.y": None,
