@@ -16,8 +16,8 @@ use lrgraphs::stategraph::StateGraph;
 use std::alloc::AllocError;
 
 /// Whether no rule of the grammar derives itself alone, and each cell of the table takes all that contends for it: then the
-/// machine accepts exactly the sentences.
-pub fn is_exact<T: IndexStorage>(
+/// machine accepts exactly the sentences. Where it is not so, nothing is said: the table may be exact all the same.
+pub fn shows_exact<T: IndexStorage>(
     grm: &YaccGrammar<T>,
     graph: &StateGraph<T>,
     table: &StateTable<T>,

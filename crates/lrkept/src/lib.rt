@@ -8,4 +8,4 @@ mod exactness;
 mod peeling;
 
 pub use crate::acyclicity::is_acyclic;
-pub use crate::exactness::is_exact;
+pub use crate::exactness::shows_exact;

@@ -1,7 +1,7 @@
 -- by the theorem
 use Rattle.lrkept.proofs.ExactTables.{exact_taking}
 use Rattle.lrkept.proofs.Tests.{not_so}
-use Rattle.lrkept.proofs.exactness.is_exact.Goals as goal
+use Rattle.lrkept.proofs.exactness.shows_exact.Goals as goal
 
 pub returns-then-not-branch-clause-no_choice : goal.returns-then-not-branch-clause-no_choice
 returns-then-not-branch-clause-no_choice g c = not_so (λ all. c.in_ok-is_acyclic.ensures.cyclic c.if-not-branch.true all.0)
