@@ -1,6 +1,9 @@
 -- names that are spelt nearly as another one
-use Rattle.std.specs.Prelude.{◌≡◌, ℕ, ◌<◌, ◌≤◌, ◌*◌, ◌⊎◌, List, Option, Some, IfSome, length, nat_eq, slice_get}
+use Rattle.std.specs.Prelude.{◌≡◌, ℕ, ◌<◌, ◌≤◌, ◌*◌, ◌⊎◌, List, Option, None, Some, IfSome, length, nat_eq, slice_get}
 use Rattle.strsim.specs.Edits.{levenshtein_row}
+use Rattle.lryacc.specs.declared.faults.FaultKind.{FaultKind}
+use Rattle.lryacc.specs.declared.faults.FaultKind.TheVariants as fault
+use Rattle.lryacc.specs.declared.lexemes.Lexeme.{Lexeme}
 use Rattle.lryacc.specs.declared.places.Span.{Span}
 use Rattle.lryacc.specs.declared.spellings.Near.{Near}
 use Rattle.lryacc.specs.declared.symbols.Symbol.{Symbol}
@@ -42,3 +45,20 @@ pub record IsProposed (symbols : Symbols) (name : List ℕ) (place : Span) : Typ
   pub there : slice_get symbols.list.items number ≡ Some symbol
   pub at : symbol.mention.span ≡ place
   pub near : IsNear name (symbol_name symbols symbol)
+
+-- where the name stands first that a fault proposes, if it proposes one
+abbrev pub proposal : FaultKind → Option Span
+proposal (fault.Undefined near) = near
+proposal (fault.StartHasNoRule near) = near
+proposal (fault.UnknownPrecedence near) = near
+proposal _ = None
+
+-- a name that stands first at a place is near to the one that stands at another place
+pub record IsProposedAt (symbols : Symbols) (span place : Span) : Type 0 where
+  pub lexeme : Lexeme
+  pub at : lexeme.span ≡ span
+  pub is : IsProposed symbols (name_of symbols.text.now symbols.dialect lexeme) place
+
+-- a fault at a place proposes no name, or one that is near to that which stands there
+abbrev pub ProposesNear : Symbols → FaultKind → Span → Type 0
+ProposesNear symbols kind span = IfSome (proposal kind) (IsProposedAt symbols span)

@@ -9,6 +9,7 @@ ghost use Rattle.lryacc.specs.EndTokens.{HasEndBy, KeepsEnd, KeepsExpected, Keep
 ghost use Rattle.lryacc.specs.SaidTaken.{HasSaid, IsSaid, LeavesOutReductions, TakesSaid, TakesStart};
 ghost use Rattle.lryacc.specs.LinesTaken.{BeginsLine, PutsInLine, TakesLines};
 ghost use Rattle.lryacc.specs.NamedSymbols.{AreApart, BecomeOne, KeepsSymbols, TakesOne, TakesSome, first_name, partner_in, symbol_number, text_at};
+ghost use Rattle.lryacc.specs.Spellings.{ProposesNear, proposal};
 ghost use Rattle.lryacc.specs.declared.contents.Statement.{Statement};
 
 use crate::contents::{Alternative, BodyPart, Contents, LevelKind, Statement};
@@ -108,6 +109,7 @@ impl<'a> Meaning<'a> {
 
     /// Tells a fault.
     pub(crate) fn tell(&mut self, kind: FaultKind, span: Span) -> Result<(), AllocError>
+        requires { ProposesNear self.old.symbols kind span }
         ensures keeps { OnOk result (KeepsMeaning self.old self.new) }
         ensures told { OnOk result (0 < vec_len self.new.faults) }
     {
@@ -117,6 +119,7 @@ impl<'a> Meaning<'a> {
 
     /// Warns of something.
     pub(crate) fn warn(&mut self, kind: FaultKind, span: Span) -> Result<(), AllocError>
+        requires { ProposesNear self.old.symbols kind span }
         ensures { OnOk result (KeepsMeaning self.old self.new) }
     {
         self.warnings.push(Fault { kind, span })?;
@@ -160,7 +163,9 @@ impl<'a> Meaning<'a> {
     }
 
     /// Why the start symbol that is named at a place derives no text.
-    fn unproductive(&self, span: Span) -> Result<FaultKind, AllocError> {
+    fn unproductive(&self, span: Span) -> Result<FaultKind, AllocError>
+        ensures { IfOk result (λ kind. ProposesNear self.now.symbols kind span) }
+    {
         let kind = LexemeKind::RuleName;
         let name = Lexeme { kind, span };
         match self.symbols.find(name) {
@@ -551,7 +556,9 @@ impl<'a> Meaning<'a> {
     }
 
     /// Why a text can't become another name of a symbol.
-    fn second_name(&self, symbol: usize, text: usize) -> FaultKind {
+    fn second_name(&self, symbol: usize, text: usize) -> FaultKind
+        ensures { proposal result ≡ None }
+    {
         if let Some(holder) = self.symbols.partner(text) {
             return match self.span(holder) {
                 Some(span) => FaultKind::TextOfOther(span),
@@ -633,7 +640,9 @@ impl<'a> Meaning<'a> {
     }
 
     /// What is wrong where a symbol is named in a second precedence line.
-    fn level_twice(&self, number: usize, lexeme: Lexeme) -> FaultKind {
+    fn level_twice(&self, number: usize, lexeme: Lexeme) -> FaultKind
+        ensures { proposal result ≡ None }
+    {
         match self.line(number) {
             Some((_, first)) => FaultKind::LevelTwice(first),
             None => FaultKind::LevelTwice(lexeme.span),

@@ -1,7 +1,8 @@
 //! What actions refer to: the parts before them, by numbers or names.
 
-ghost use Rattle.std.specs.Prelude.{◌<◌, length, OnOk};
+ghost use Rattle.std.specs.Prelude.{◌≡◌, ◌<◌, length, IfSome, OnOk};
 ghost use Rattle.lryacc.specs.EndTokens.{KeepsMeaning};
+ghost use Rattle.lryacc.specs.Spellings.{proposal};
 
 use crate::code::{CodeReader, Ending};
 use crate::contents::{Alternative, BodyPart};
@@ -147,7 +148,9 @@ impl<'a> Meaning<'a> {
         alternative: &Alternative,
         before: usize,
         call: Call<'a>,
-    ) -> Option<FaultKind> {
+    ) -> Option<FaultKind>
+        ensures { IfSome result (λ kind. proposal kind ≡ None) }
+    {
         if let Call::Number(number) = call {
             let is_there = number as usize <= before;
             return if is_there {

@@ -2,7 +2,7 @@
 
 ghost use Rattle.std.specs.Prelude.{◌≡◌, ◌⊎◌, Some, IfOk, IfSome, slice_get};
 ghost use Rattle.lryacc.specs.NamedSymbols.{name_of};
-ghost use Rattle.lryacc.specs.Spellings.{IsNear, IsNearSymbol, IsNearer, IsProposed};
+ghost use Rattle.lryacc.specs.Spellings.{IsNear, IsNearSymbol, IsNearer, IsProposed, IsProposedAt};
 ghost use Rattle.lryacc.specs.declared.symbols.Symbol.{Symbol};
 
 use crate::lexemes::{Lexeme, LexemeKind};
@@ -116,8 +116,10 @@ impl<'a> Meaning<'a> {
 
     /// Where the symbol is named first whose name is nearest to that of a lexeme.
     pub(crate) fn near(&self, lexeme: Lexeme, meant: Meant) -> Result<Option<Span>, AllocError>
-        ensures { IfOk result (λ place. IfSome place (IsProposed self.now.symbols
+        ensures proposed { IfOk result (λ place. IfSome place (IsProposed self.now.symbols
             (name_of self.now.symbols.text.now self.now.symbols.dialect lexeme))) }
+        ensures at { IfOk result (λ place. IfSome place (IsProposedAt self.now.symbols
+            lexeme.span)) }
     {
         if !is_name(lexeme) || self.faults.len() >= SOUGHT || self.warnings.len() >= SOUGHT {
             return Ok(None);
