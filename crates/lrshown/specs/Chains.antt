@@ -1,5 +1,5 @@
 -- chains: productions, each of which alone stands below the one above it, and which of them are shown
-use Rattle.std.specs.Prelude.{ℕ, zero, suc, ◌-◌, ◌==◌, nat_lt, Bool, true, false, List, [], ◌∷◌, length, map, take_while, if◌then◌else◌}
+use Rattle.std.specs.Prelude.{ℕ, zero, suc, ◌-◌, ◌==◌, nat_lt, Bool, true, false, List, [], ◌∷◌, length, map, take_while, if◌then◌else◌, filter, not}
 use Rattle.lryacc.specs.declared.numbering.FileGrammar.{FileGrammar}
 use Rattle.lrshown.specs.declared.steps.Step.{Step}
 use Rattle.lrshown.specs.declared.steps.Step.TheVariants.{Shift, Reduce}
@@ -12,7 +12,11 @@ abbrev pub is_unit : FileGrammar → Step → Bool
 is_unit file Shift = false
 is_unit file (Reduce p) = length (body file p) == 1
 
--- how many such steps come first
+-- the steps that put a leaf there, or a node over none or several trees
+abbrev pub others : FileGrammar → List Step → List Step
+others file ss = filter (λ s. not (is_unit file s)) ss
+
+-- how many units come first
 abbrev pub units : FileGrammar → List Step → ℕ
 units file ss = length (take_while (λ s. is_unit file s) ss)
 

@@ -3,7 +3,7 @@
 
 ghost use Rattle.std.specs.Prelude.{◌≡◌, ◌+◌, ◌++◌, ◌∷◌, drop, false, map};
 ghost use Rattle.std.specs.Prelude.{slice_index_or as get_or, IfOk};
-ghost use Rattle.lrshown.specs.Chains.{is_unit, units, all_but_last, left_out_behind};
+ghost use Rattle.lrshown.specs.Chains.{is_unit, others, units, all_but_last, left_out_behind};
 ghost use Rattle.lrshown.specs.Chains.{kept, kept_by, steps_kept, cuts_of};
 ghost use Rattle.lrshown.specs.ShownTrees.{IsCut, IsWhole};
 
@@ -108,7 +108,9 @@ fn add_kept(
 
 /// The steps that are kept.
 fn kept_steps(alloc: Global, file: &FileGrammar, steps: &[Step]) -> Result<Vec<Kept>, AllocError>
-    ensures { IfOk result (λ v. v.items ≡ kept file.now steps.now) }
+    ensures kept { IfOk result (λ v. v.items ≡ kept file.now steps.now) }
+    ensures others { IfOk result (λ v.
+        others file.now (map (λ k. k.step) v.items) ≡ others file.now steps.now) }
 {
     let mut list = Vec::new(alloc);
     let mut cutting = Cutting {
