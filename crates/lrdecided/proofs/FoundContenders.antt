@@ -14,7 +14,7 @@ use Rattle.lrdecided.specs.Contenders.{KeepsCompletes, HasComplete, HasCompletes
 use Rattle.lrdecided.proofs.CollectedInTurn.{first_or_behind, none_contained}
 
 -- an item of a list that looks at a token is the first, or among the rest
-first_or_rest_looks :
+pub first_or_rest_looks :
     (p d : ℕ) (ctx : List Bool) (rest : Items) (i e t : ℕ) → LooksIn (((p, d), ctx) ∷ rest) i e t
     → ((p ≡ i) × (d ≡ e) × IsTrue (bit ctx t)) ⊎ LooksIn rest i e t
 first_or_rest_looks p d ctx rest i e t h = go ((i == p) && (e == d)) refl h

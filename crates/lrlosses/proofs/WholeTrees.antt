@@ -58,21 +58,21 @@ module _ (g : Grammar) (h : Graph) (b : Table) (m : IsGrammar g) (k : IsGraphOf 
   accept_contends s below within (table.IsContender.accept looks) = refl
 
   -- so the cell is not crowded
-  accepts_alone :
+  pub accepts_alone :
       (s : ℕ) → s < length h → LooksIn (closed_of h s) g.start_production (length (body_of g g.start_production)) (end_token g)
       → IsCrowded g h s (end_token g) → ⊥
   accepts_alone s below within c = c.differ (accept_contends s below within c.is_one ∙ sym (accept_contends s below within c.is_other))
 
   module _ (text : List ℕ) (named : AreNamed g text) where
     -- the machine has put together trees, by these moves
-    record HasRead (ms : List Move) (c : Config) : Type 0 where
-      steps : ℕ
-      trees : Forest
-      holds : Holds g h text steps c.stack c.left c.reductions trees
-      made : forest_moves trees ≡ ms
+    pub record HasRead (ms : List Move) (c : Config) : Type 0 where
+      pub steps : ℕ
+      pub trees : Forest
+      pub holds : Holds g h text steps c.stack c.left c.reductions trees
+      pub made : forest_moves trees ≡ ms
 
     -- where the cell takes a move, the machine makes it
-    read_on :
+    pub read_on :
         (ms : List Move) (c : Config) (x : Action) (n : Move) → HasRead ms c → cell_seen g b c ≡ x → Takes x n
         → (d : Config) × (step g b c ≡ Goes d) × HasRead (ms ++ n ∷ []) d
     read_on ms c x n a e (loss.Takes.shift {s = s}) = (
@@ -115,7 +115,7 @@ module _ (g : Grammar) (h : Graph) (b : Table) (m : IsGrammar g) (k : IsGraphOf 
         rw next (d, reached_next g b text n c d r goes, subst (λ l. HasRead l d) (sym (one_more ms n x is)) read)
 
     -- behind all moves to a tree of the text it accepts
-    whole_accepts :
+    pub whole_accepts :
         (ms : List Move) (t : Tree) (c : Config) → IsTreeBy g ms text t → HasRead ms c → cell_seen g b c ≡ table.Action.Accept
     whole_accepts ms t c tree a =
         let reads : Reads g ms (forest_leaves a.trees) a.holds.symbols a.trees = record { roots = a.holds.roots; used = refl; made = a.made } in
