@@ -7,7 +7,7 @@ use Rattle.lrspec.specs.tables.Conflicts.{IsAcceptContested}
 use Rattle.lrspec.specs.tables.Table.{IsContender}
 use Rattle.lrbits.specs.Bits.{bit}
 use Rattle.lrconflicts.specs.Moves.{Move, Reduce, candidate_of}
-use Rattle.lrdecided.specs.declared.contenders.Complete.{Complete}
+use Rattle.lrdecided.specs.declared.contending.Complete.{Complete}
 use Rattle.lrdecided.specs.Decided.{IsDecided}
 
 -- a complete item by its production, with its lookaheads

@@ -4,7 +4,7 @@
 
 mod beginnings;
 mod checking;
-mod contenders;
+mod contending;
 mod decided;
 mod impossibility;
 mod listing;
@@ -16,6 +16,7 @@ mod states;
 mod taking;
 mod unambiguity;
 
+pub use crate::contending::{Complete, completes, contenders};
 pub use crate::decided::{Decided, Entry, decide};
 pub use crate::nodes::{Node, Side};
 pub use crate::unambiguity::are_all_decided;

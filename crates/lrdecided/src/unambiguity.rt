@@ -9,7 +9,7 @@ ghost use Rattle.lrdecided.specs.Contenders.{AcceptsAlone, IsDecidedAgainst, Are
 ghost use Rattle.lrdecided.specs.Decided.{AreDecided};
 ghost use Rattle.lrdecided.specs.Entries.{entry_of, IsDecidedAt};
 
-use crate::contenders::{completes, contenders};
+use crate::contending::{completes, contenders};
 use crate::decided::{Entry, is_certified_by_all};
 use lrconflicts::Move;
 use lrgrammar::grammar::YaccGrammar;

@@ -4,7 +4,7 @@ use Rattle.lrconflicts.specs.StoredMoves.{move_of, moves_stored}
 use Rattle.lrdecided.specs.Contenders.{completes_of}
 use Rattle.lrdecided.proofs.CollectedInTurn.{kept, added}
 use Rattle.lrdecided.proofs.FoundContenders.{all_without_shift, all_with_shift}
-use Rattle.lrdecided.proofs.contenders.contenders.Goals as goal
+use Rattle.lrdecided.proofs.contending.contenders.Goals as goal
 
 pub returns-then-not-shifts : goal.returns-then-not-shifts
 returns-then-not-shifts g c =

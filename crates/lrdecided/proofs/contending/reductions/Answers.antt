@@ -4,7 +4,7 @@ use Rattle.lrclosing.proofs.SymbolsBehindDots.{left_at, left_none}
 use Rattle.lrconflicts.specs.StoredMoves.{moves_stored}
 use Rattle.lrdecided.specs.Contenders.{complete_of, completes_of}
 use Rattle.lrdecided.proofs.FoundContenders.{begin_reductions, next_reductions, end_reductions}
-use Rattle.lrdecided.proofs.contenders.reductions.Goals as goal
+use Rattle.lrdecided.proofs.contending.reductions.Goals as goal
 
 pub loop-complete-init : goal.loop-complete-init
 loop-complete-init g c =

@@ -5,7 +5,7 @@ use Rattle.lrspec.specs.merging.Graph.{closed_of}
 use Rattle.lritems.specs.ItemsOf.{items_of}
 use Rattle.lrdecided.specs.Contenders.{completes_of}
 use Rattle.lrdecided.proofs.FoundContenders.{HasCompletesBut, begin_completes, next_completes, end_completes}
-use Rattle.lrdecided.proofs.contenders.completes.Goals as goal
+use Rattle.lrdecided.proofs.contending.completes.Goals as goal
 
 pub loop-key-init : goal.loop-key-init
 loop-key-init g c =

@@ -2,7 +2,7 @@
 use Rattle.std.proofs.Common.{refl}
 use Rattle.lrconflicts.specs.StoredMoves.{move_of}
 use Rattle.lrdecided.proofs.CollectedInTurn.{kept, added}
-use Rattle.lrdecided.proofs.contenders.add_reduction.Goals as goal
+use Rattle.lrdecided.proofs.contending.add_reduction.Goals as goal
 
 pub returns-then-not-looks_at-clause-added : goal.returns-then-not-looks_at-clause-added
 returns-then-not-looks_at-clause-added g c = λ looks. let t = c.looks_at.ensures looks in absurd cc

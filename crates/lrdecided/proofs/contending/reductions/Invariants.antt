@@ -3,7 +3,7 @@ use Rattle.std.proofs.Common.{drop}
 use Rattle.lrconflicts.specs.StoredMoves.{moves_stored}
 use Rattle.lrdecided.specs.Contenders.{completes_of}
 use Rattle.lrdecided.proofs.FoundContenders.{HasReductionsBut}
-use Rattle.lrdecided.proofs.contenders.reductions.Given as goal
+use Rattle.lrdecided.proofs.contending.reductions.Given as goal
 
 abbrev pub invariant-loop-complete : goal.invariant-loop-complete
 invariant-loop-complete g l =

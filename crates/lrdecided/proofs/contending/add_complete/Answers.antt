@@ -2,7 +2,7 @@
 use Rattle.std.proofs.Common.{refl, arith}
 use Rattle.lrdecided.specs.Contenders.{complete_of}
 use Rattle.lrdecided.proofs.CollectedInTurn.{kept, added}
-use Rattle.lrdecided.proofs.contenders.add_complete.Goals as goal
+use Rattle.lrdecided.proofs.contending.add_complete.Goals as goal
 
 pub returns-then-goes_on-clause-added : goal.returns-then-goes_on-clause-added
 returns-then-goes_on-clause-added g c = λ whole. absurd (omega (arith, whole, c.goes_on.ensures c.if-goes_on.true))

@@ -17,7 +17,7 @@ use std::alloc::AllocError;
 
 /// A complete item of a state.
 #[derive(Clone, Copy)]
-pub(crate) struct Complete<'a, T> {
+pub struct Complete<'a, T> {
     /// Its production.
     production: PIdx<T>,
     /// The tokens at which it looks.
@@ -65,7 +65,7 @@ fn add_complete<'a, T: IndexStorage>(
 }
 
 /// The complete items of the state.
-pub(crate) fn completes<'a, T: IndexStorage>(
+pub fn completes<'a, T: IndexStorage>(
     grm: &YaccGrammar<T>,
     graph: &'a StateGraph<T>,
     state: StIdx<T>,
@@ -124,7 +124,7 @@ fn shifts<T: IndexStorage>(graph: &StateGraph<T>, state: StIdx<T>, token: TIdx<T
 }
 
 /// The moves that contend for the cell of the state, which has these complete items, and the token.
-pub(crate) fn contenders<T: IndexStorage>(
+pub fn contenders<T: IndexStorage>(
     grm: &YaccGrammar<T>,
     graph: &StateGraph<T>,
     state: StIdx<T>,

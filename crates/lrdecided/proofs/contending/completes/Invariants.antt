@@ -3,7 +3,7 @@ use Rattle.lritems.specs.ItemsOf.{items_of}
 use Rattle.lrspec.specs.merging.Graph.{closed_of}
 use Rattle.lrdecided.specs.Contenders.{completes_of}
 use Rattle.lrdecided.proofs.FoundContenders.{HasCompletesBut}
-use Rattle.lrdecided.proofs.contenders.completes.Given as goal
+use Rattle.lrdecided.proofs.contending.completes.Given as goal
 
 abbrev pub invariant-loop-key : goal.invariant-loop-key
 invariant-loop-key g l =
