@@ -6,7 +6,7 @@ use Rattle.lrspec.specs.grammars.Grammar.{Production, Grammar, IsGrammar, body_o
 use Rattle.lrspec.specs.grammars.Trees.{Tree, Forest, Leaf, Node, Bare, And, leaves, forest_leaves, order, forest_order, nodes, IsSentence}
 use Rattle.lrspec.specs.merging.Graph.{Graph, IsGraphOf}
 use Rattle.lrspec.specs.tables.Table as table
-use Rattle.lrspec.specs.tables.Table.{Table, IsCrowded, NoCellIsCrowded, IsTableOf, action_of}
+use Rattle.lrspec.specs.tables.Table.{Table, IsCrowded, IsTableOf, action_of}
 use Rattle.lrspec.specs.tables.Machine.{Config, Accepted, top, next_token, act, after_step, run, start_config}
 use Rattle.lrspec.specs.tables.Recognition.{AreNamed}
 use Rattle.lrspec.proofs.tables.MachineMoves as move
@@ -19,12 +19,11 @@ use Rattle.lrlosses.specs.Losses.{Takes, Place, ComesTo, StopsAt, cell_seen, mac
 use Rattle.lrlosses.proofs.Rejections.{stands_where_reached, unfinished_before}
 use Rattle.lrlosses.proofs.Sentences.{sentence_named}
 use Rattle.lrkept.specs.Acyclicity.{IsAcyclic, nodes_within}
-use Rattle.lrkept.specs.Choices.{TakesAll}
 use Rattle.lrkept.specs.Kept.{IsLoser, IsKept, AreKept, AreKeptButAtErrors}
 use Rattle.lrkept.specs.Exactness.{IsExact, IsExactButAtErrors, StopsAtCrowdedError}
 use Rattle.lrkept.proofs.NodeBounds.{sentence_nodes}
 use Rattle.lrkept.proofs.Finishing.{tree_of_way, way_of_tree}
-use Rattle.lrkept.proofs.Losers.{alone_taken, all_taken, error_crowded, error_or_not}
+use Rattle.lrkept.proofs.Losers.{error_crowded, error_or_not}
 use Rattle.lrkept.proofs.Goings.{HasRead, nothing_read, reads, read_on, next_contends, whole_accepts, takes_or_not}
 
 mutual
@@ -197,11 +196,3 @@ module _ (g : Grammar) (h : Graph) (b : Table) (m : IsGrammar g) (k : IsGraphOf 
           | inl accepts ↦ inl (accepts n l)
           | inr stop ↦ inr stop
         ]
-
-    -- where no cell is crowded all losers are kept, as there are none
-    pub exact_uncrowded : NoCellIsCrowded g h → IsExact g b
-    exact_uncrowded alone = exact (λ s t l below loser. absurd (loser.refused (alone_taken g h b m k o s t l below (alone s t below) loser.contends)))
-
-    -- and so where each cell takes all that contends for it
-    pub exact_taking : TakesAll g h b → IsExact g b
-    exact_taking all = exact (λ s t l below loser. absurd (loser.refused (all_taken g h b m k o all s t l below loser.contends)))

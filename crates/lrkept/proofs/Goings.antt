@@ -1,15 +1,14 @@
 -- a machine that goes along with the moves to a tree
 use Rattle.std.proofs.Common.{◌≡◌, ℕ, ◌+◌, ◌<◌, List, [], ◌∷◌, ◌++◌, ◌⊎◌, inl, inr, length, drop, refl, sym, ap, ◌∙◌, subst, arith, Option, None, Some, Bool, true, false, cond}
-use Rattle.std.specs.Option.{IsSome}
 use Rattle.std.proofs.lemmas.Bool.{lt-leb, cases_eq}
-use Rattle.lrspec.specs.grammars.Grammar.{Symbol, Rule, Token, Grammar, IsGrammar, body_of, end_token}
+use Rattle.lrspec.specs.grammars.Grammar.{Rule, Token, Grammar, IsGrammar, body_of, end_token}
 use Rattle.lrspec.specs.grammars.CanonicalItems as item
 use Rattle.lrspec.specs.grammars.CanonicalItems.{Looks}
 use Rattle.lrspec.specs.grammars.Candidates as candidate
 use Rattle.lrspec.specs.grammars.Candidates.{Candidate, IsCandidate}
 use Rattle.lrspec.specs.grammars.ItemSets.{LooksIn}
 use Rattle.lrspec.specs.grammars.Trees.{Tree, Forest, Leaf, Node, Bare, And, forest_leaves, joined}
-use Rattle.lrspec.specs.merging.Graph.{Graph, Leads, edge, closed_of, IsGraphOf}
+use Rattle.lrspec.specs.merging.Graph.{Graph, Leads, closed_of, IsGraphOf}
 use Rattle.lrspec.specs.tables.Table as table
 use Rattle.lrspec.specs.tables.Table.{Table, Action, IsContender, IsCrowded, IsTableOf, action_of}
 use Rattle.lrspec.specs.tables.Machine.{Config, Goes, Sticks, top, next_token, reduced, act, step, start_config}
@@ -26,6 +25,7 @@ use Rattle.lrambiguity.proofs.NextMoves.{next_is_candidate}
 use Rattle.lrambiguity.proofs.ReadingSteps.{moves_pushed, node_moves}
 use Rattle.lrlosses.specs.Losses as loss
 use Rattle.lrlosses.specs.Losses.{Takes, cell_seen}
+use Rattle.lrkept.proofs.OpenItemsStand.{contends}
 
 -- a cell takes a move or not
 pub takes_or_not : (a : Action) (m : Move) → Takes a m ⊎ ¬ (Takes a m)
@@ -50,10 +50,6 @@ reduction_on true o p u ss c e f = cc
 reduction_on false None p u ss c e f = cc
 reduction_on false (Some v) p u ss c e f = let k : v ≡ u = cc in rw k refl
 
-some_of : (o : Option ℕ) → IsSome o → (u : ℕ) × (o ≡ Some u)
-some_of None i = absurd cc
-some_of (Some u) i = (u, refl)
-
 module _ (g : Grammar) (h : Graph) (b : Table) (m : IsGrammar g) (k : IsGraphOf g h) (o : IsTableOf g h b) where
   -- at the end of the text nothing but accepting contends with it
   accept_contends :
@@ -71,15 +67,6 @@ module _ (g : Grammar) (h : Graph) (b : Table) (m : IsGrammar g) (k : IsGraphOf 
       (s : ℕ) → s < length h → LooksIn (closed_of h s) g.start_production (length (body_of g g.start_production)) (end_token g)
       → IsCrowded g h s (end_token g) → ⊥
   accepts_alone s below within c = c.differ (accept_contends s below within c.is_one ∙ sym (accept_contends s below within c.is_other))
-
-  -- a candidate after a list contends where that leads
-  contends : {w : List Symbol} {s t : ℕ} {x : Candidate} → Leads h w s → IsCandidate g w t x → IsContender g h s t x
-  contends {w} {s} {t} leads (candidate.IsCandidate.shift {p = p} {d = d} stands b) =
-      let is = (k.gotos.edges s (Token t)).1 (p, d, (k.hold.closed w s p d leads).1 stands, b) in table.IsContender.shift (some_of (edge h s (Token t)) is).1
-  contends {w} {s} {t} leads (candidate.IsCandidate.reduce {p = p} differ l) =
-      table.IsContender.reduce differ (k.hold.looks w s p (length (body_of g p)) t leads l)
-  contends {w} {s} {t} leads (candidate.IsCandidate.accept l) =
-      table.IsContender.accept (k.hold.looks w s g.start_production (length (body_of g g.start_production)) t leads l)
 
   module _ (text : List ℕ) (named : AreNamed g text) where
     -- the machine has put together trees, by these moves
@@ -129,7 +116,7 @@ module _ (g : Grammar) (h : Graph) (b : Table) (m : IsGrammar g) (k : IsGraphOf 
         (ms : List Move) (c : Config) (n : Move) (others : List Move) (t : Tree) → HasRead ms c → IsTreeBy g (ms ++ n ∷ others) text t
         → IsContender g h (top c.stack) (next_token g c.left) (candidate_of n)
     next_contends ms c n others t a tree =
-        contends (stack_leads a.holds.is_stack)
+        contends m k (stack_leads a.holds.is_stack)
         (next_is_candidate m c.left t n others tree.of_start (tree.leaves_are ∙ sym a.holds.used) tree.moves_are (reads a))
 
     -- behind all moves to a tree of the text it accepts

@@ -8,11 +8,8 @@ use Rattle.lrspec.proofs.grammars.BodyFacts.{symbol_at_dot}
 use Rattle.lrspec.proofs.grammars.ListMembers.{Among}
 use Rattle.lrspec.proofs.tables.CellFacts.{among_reductions, reduction_looks}
 use Rattle.lrspec.proofs.tables.MachineStacks.{look_fits}
-use Rattle.lrspec.proofs.tables.UncrowdedCells.{crowd, only_shift, only_reduce}
+use Rattle.lrspec.proofs.tables.UncrowdedCells.{crowd}
 use Rattle.lrconflicts.specs.Moves.{Move, Shift, Reduce, candidate_of}
-use Rattle.lrkept.specs.Choices.{TakesAll}
-use Rattle.lrlosses.specs.Losses as loss
-use Rattle.lrlosses.specs.Losses.{Takes}
 
 -- a cell with an edge and a reduction is crowded
 edge_and_reduction : {g : Grammar} {h : Graph} {s t u : ℕ} (p : ℕ) → edge h s (Token t) ≡ Some u → Among p (reductions g (closed_of h s) t) → IsCrowded g h s t
@@ -22,28 +19,12 @@ edge_and_reduction {g} {h} {s} {t} p there among =
 
 module _ (g : Grammar) (h : Graph) (b : Table) (m : IsGrammar g) (k : IsGraphOf g h) (o : IsTableOf g h b) where
   -- moves contend at tokens of the grammar alone
-  token_contended : (s t : ℕ) (l : Move) → s < length h → IsContender g h s t (candidate_of l) → t < token_count g
+  pub token_contended : (s t : ℕ) (l : Move) → s < length h → IsContender g h s t (candidate_of l) → t < token_count g
   token_contended s t Shift below (table.IsContender.shift e) =
       let (p, d, i, before) = (k.gotos.edges s (Token t)).0 (rw e refl) in
       omega (arith, symbol_at_dot m p d (Token t) before)
   token_contended s t (Reduce p) below (table.IsContender.reduce differ looks) =
       (look_fits (closed_of h s) p (length (body_of g p)) t (k.closures.fit_closed s below) looks).1
-
-  -- a cell that is not crowded takes the move that contends for it
-  pub alone_taken : (s t : ℕ) (l : Move) → s < length h → (IsCrowded g h s t → ⊥) → IsContender g h s t (candidate_of l) → Takes (action_of b s t) l
-  alone_taken s t Shift below alone (table.IsContender.shift {u = u} e) =
-      let within = token_contended s t Shift below (table.IsContender.shift e) in
-      rw (o.cells s t below within ∙ only_shift g h s t u alone e) loss.Takes.shift
-  alone_taken s t (Reduce p) below alone (table.IsContender.reduce differ looks) =
-      let fits = look_fits (closed_of h s) p (length (body_of g p)) t (k.closures.fit_closed s below) looks in
-      rw (o.cells s t below fits.1 ∙ only_reduce g h s t p alone fits.0 differ looks) loss.Takes.reduce
-
-  -- where cells take all that contends for them, they take each move that does
-  pub all_taken : TakesAll g h b → (s t : ℕ) (l : Move) → s < length h → IsContender g h s t (candidate_of l) → Takes (action_of b s t) l
-  all_taken all s t Shift below (table.IsContender.shift {u = u} e) =
-      let within = token_contended s t Shift below (table.IsContender.shift e) in (all s below t within).0 u e
-  all_taken all s t (Reduce p) below (table.IsContender.reduce differ looks) =
-      let within = token_contended s t (Reduce p) below (table.IsContender.reduce differ looks) in (all s below t within).1 p differ looks
 
   -- a cell for which a move contends is an error only where another does
   error_by :

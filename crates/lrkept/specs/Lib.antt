@@ -2,9 +2,21 @@
 pub mod Acyclicity
 -- rules with those that they derive alone, as pairs
 pub mod Pairs
--- cells that take all that contends for them
-pub mod Choices
 -- how a stack goes on, and which losers of cells are kept
 pub mod Kept
 -- tables whose machine accepts exactly the sentences
 pub mod Exactness
+-- positions at which ways to go on are compared
+pub mod Positions
+-- how they are won
+pub mod Exchanges
+-- how well what cells refuse is kept
+pub mod Keeping
+-- what is asked at a position
+pub mod Asked
+-- positions that sink
+pub mod Sinking
+-- acts, as the code stores them
+pub mod StoredActs
+-- positions, as the code stores them
+pub mod StoredPositions

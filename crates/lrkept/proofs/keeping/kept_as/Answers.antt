@@ -1,0 +1,13 @@
+-- by the theorem
+use Rattle.std.proofs.Common.{subst}
+use Rattle.lrconflicts.specs.StoredMoves.{move_of}
+use Rattle.lrlosses.specs.Losses.{Takes}
+use Rattle.lrkept.proofs.ExchangeKeeps.{certificate_keeps}
+use Rattle.lrkept.proofs.keeping.kept_as.Goals as goal
+
+pub returns-then-branch : goal.returns-then-branch
+returns-then-branch g c =
+    let number = g.T.IndexStorage.number in
+    let certified = c.in_ok-is_certified.ensures c.if-branch.true in
+    certificate_keeps c.in_order.ensures.shape c.requires.graph c.requires.table c.requires.state certified.1
+    (subst (λ a. Takes a (move_of number c.in-Some.ours)) c.action-action.ensures.cell c.in-Some.ensures)

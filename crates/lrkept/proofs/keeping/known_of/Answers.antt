@@ -1,0 +1,15 @@
+-- a reduction by the start production doesn't contend
+use Rattle.std.proofs.lemmas.Result.{IfOk-weaker}
+use Rattle.lrconflicts.specs.StoredMoves.{move_of}
+use Rattle.lrkept.specs.declared.keeping.Exactness.TheVariants as known
+use Rattle.lrkept.proofs.KeptCells.{by_start}
+use Rattle.lrkept.proofs.keeping.known_of.Goals as goal
+
+pub returns-then-is_by_start : goal.returns-then-is_by_start
+returns-then-is_by_start g c =
+    let number = g.T.IndexStorage.number in
+    by_start known.Exact c.args.tabled.grm.now c.args.tabled.graph.now c.args.tabled.table.now (number c.args.cell.0.0) (number c.args.cell.1.0) (move_of number c.args.theirs)
+    (c.is_by_start.ensures c.if-is_by_start.true)
+
+pub returns : goal.returns
+returns g c = IfOk-weaker c.kept_as.result _ _ (λ e k contends. k) c.kept_as.ensures

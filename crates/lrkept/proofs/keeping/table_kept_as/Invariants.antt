@@ -1,0 +1,7 @@
+-- this is known of the states so far
+use Rattle.std.proofs.Common.{ℕ, ◌<◌}
+use Rattle.lrkept.specs.Keeping.{IsStateKeptAs}
+use Rattle.lrkept.proofs.keeping.table_kept_as.Given as goal
+
+abbrev pub invariant-loop-number : goal.invariant-loop-number
+invariant-loop-number g l = (s : ℕ) → s < l.number → IsStateKeptAs l.known l.tabled.grm.now l.tabled.graph.now l.tabled.table.now s

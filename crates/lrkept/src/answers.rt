@@ -1,0 +1,25 @@
+//! What can be said where it is asked how a position is won.
+
+use lrgrammar::idx::PIdx;
+
+/// How a position is won.
+#[derive(Clone, Copy)]
+pub enum Answer<T> {
+    /// By whatever they do next.
+    Moves {
+        /// Whether a mark stands for what they reduce, where that reaches below what is named.
+        marks: bool,
+    },
+    /// We read the same behind the dot as they, and reduce by the item too.
+    Mirror,
+    /// They reduce by the item, and we do nothing.
+    Release,
+    /// We read the same as they for the symbol behind the dot.
+    Step,
+    /// We read the token too.
+    Read,
+    /// We alone reduce by the production.
+    Own(PIdx<T>),
+    /// We alone reduce what the mark hides, with the symbol behind it.
+    Unmark,
+}

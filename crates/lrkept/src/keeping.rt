@@ -1,0 +1,260 @@
+//! Whether what the cells of a table refuse is kept.
+
+ghost use Rattle.std.specs.Prelude.{◌≡◌, ◌≢◌, ◌<◌, ◌↔◌, ℕ, length, IfOk, IfSome, IsTrue};
+ghost use Rattle.lrspec.specs.merging.Graph.{IsGraphOf};
+ghost use Rattle.lrspec.specs.tables.Table.{action_of, IsTableOf};
+ghost use Rattle.lrspec.specs.tables.Table as math;
+ghost use Rattle.lrrows.specs.StoredActions.{stored_action};
+ghost use Rattle.lrconflicts.specs.Moves.{Reduce};
+ghost use Rattle.lrconflicts.specs.StoredMoves.{move_of, moves_stored};
+ghost use Rattle.lrsearches.specs.StoredWays.{AreWaysOf};
+ghost use Rattle.lrlosses.specs.Losses.{Takes};
+ghost use Rattle.lrkept.specs.declared.keeping.Exactness.TheVariants as known;
+ghost use Rattle.lrkept.specs.Keeping.{IsCertified, IsKeptAs, IsKnownOf, AreKnownOf, IsStateKeptAs, IsKnownOfBoth};
+
+use crate::checking::is_certificate;
+use crate::search::search;
+use lrcells::statetable::StateTable;
+use lrconflicts::Move;
+use lrdecided::{completes, contenders};
+use lrgrammar::grammar::YaccGrammar;
+use lrgrammar::idx::{IndexStorage, StIdx, TIdx};
+use lrgraphs::stategraph::StateGraph;
+use lrrows::action::Action;
+use lrsearches::Ways;
+use std::alloc::AllocError;
+
+/// What is known of the texts that the machine of a table accepts.
+#[derive(Clone, Copy, Debug, PartialEq, Eq)]
+pub enum Exactness {
+    /// It accepts exactly the sentences.
+    Exact,
+    /// It accepts sentences alone, and each that it doesn't accept stops at an error for which moves contend.
+    ButAtErrors,
+    /// It accepts sentences alone. That it accepts them all is not shown, and may not be so.
+    Open,
+}
+
+impl Exactness {
+    /// What is known of all, where this is known of some of them, and the other of the rest.
+    pub(crate) fn and(self, other: Exactness) -> Exactness
+        ensures { IsKnownOfBoth self other result }
+    {
+        match self {
+            Exactness::Exact => other,
+            Exactness::ButAtErrors => match other {
+                Exactness::Open => Exactness::Open,
+                _ => Exactness::ButAtErrors,
+            },
+            Exactness::Open => Exactness::Open,
+        }
+    }
+}
+
+/// The table of a grammar, with its graph and what is made of it for searches.
+#[derive(Clone, Copy)]
+pub(crate) struct Tabled<'a, T: IndexStorage> {
+    pub(crate) grm: &'a YaccGrammar<T>,
+    pub(crate) graph: &'a StateGraph<T>,
+    pub(crate) table: &'a StateTable<T>,
+    pub(crate) ways: &'a Ways<T>,
+}
+
+/// Whether what the cell says is this move.
+fn takes<T: IndexStorage>(cell: Action<T>, action: Move<T>) -> bool
+    ensures { IsTrue result ↔ Takes (stored_action T.number cell) (move_of T.number action) }
+{
+    match (cell, action) {
+        (Action::Shift(_), Move::Shift) => true,
+        (Action::Reduce(one), Move::Reduce(other)) => one == other,
+        _ => false,
+    }
+}
+
+/// The move that the cell takes, if it takes one.
+fn taken<T: IndexStorage>(cell: Action<T>) -> Option<Move<T>>
+    ensures { IfSome result (λ m. Takes (stored_action T.number cell) (move_of T.number m)) }
+{
+    match cell {
+        Action::Shift(_) => Some(Move::Shift),
+        Action::Reduce(pidx) => Some(Move::Reduce(pidx)),
+        _ => None,
+    }
+}
+
+/// What is known where the cell takes no move: it may be an error.
+fn known_without<T: IndexStorage>(cell: Action<T>) -> Exactness
+    ensures error { result ≡ known.ButAtErrors → stored_action T.number cell ≡ math.Action.Error }
+    ensures not_exact { result ≢ known.Exact }
+{
+    match cell {
+        Action::Error => Exactness::ButAtErrors,
+        _ => Exactness::Open,
+    }
+}
+
+/// Whether a certificate is found and checked, which shows that in the cell the second move may be made for the first. The search
+/// looks at as many positions as are left of those that are allowed, and takes them from these.
+fn is_certified<T: IndexStorage>(
+    tabled: Tabled<'_, T>,
+    cell: (StIdx<T>, TIdx<T>),
+    theirs: Move<T>,
+    ours: Move<T>,
+    left: &mut usize,
+) -> Result<bool, AllocError>
+    requires graph { IsGraphOf tabled.grm.now tabled.graph.now }
+    requires ways { AreWaysOf T.number tabled.grm.now tabled.graph.now tabled.ways.now }
+    requires state { T.number cell.0.0 < length tabled.graph.now }
+    ensures { IfOk result (λ b. IsTrue b → IsCertified tabled.entry.grm.now
+        tabled.entry.graph.now (T.number cell.0.0) (T.number cell.1.0) (move_of T.number theirs) (move_of T.number ours)) }
+{
+    let grm = tabled.grm;
+    let found = search(grm, tabled.graph, tabled.ways, cell, theirs, ours, left)?;
+    let Some(certificate) = found else {
+        return Ok(false);
+    };
+    is_certificate(
+        grm,
+        tabled.graph,
+        tabled.ways,
+        cell,
+        theirs,
+        ours,
+        &certificate,
+    )
+}
+
+/// What is known of the move in the cell.
+pub(crate) fn kept_as<T: IndexStorage>(
+    tabled: Tabled<'_, T>,
+    cell: (StIdx<T>, TIdx<T>),
+    theirs: Move<T>,
+    left: &mut usize,
+) -> Result<Exactness, AllocError>
+    requires graph { IsGraphOf tabled.grm.now tabled.graph.now }
+    requires table { IsTableOf tabled.grm.now tabled.graph.now tabled.table.now }
+    requires ways { AreWaysOf T.number tabled.grm.now tabled.graph.now tabled.ways.now }
+    requires state { T.number cell.0.0 < length tabled.graph.now }
+    ensures { IfOk result (λ e. IsKeptAs e tabled.entry.grm.now tabled.entry.graph.now
+        tabled.entry.table.now (T.number cell.0.0) (T.number cell.1.0)
+        (move_of T.number theirs)) }
+{
+    let grm = tabled.grm;
+    grm.in_order();
+    let action = tabled.table.action(cell.0, cell.1);
+    if takes(action, theirs) {
+        return Ok(Exactness::Exact);
+    }
+    let Some(ours) = taken(action) else {
+        return Ok(known_without(action));
+    };
+    if is_certified(tabled, cell, theirs, ours, left)? {
+        return Ok(Exactness::Exact);
+    }
+    Ok(Exactness::Open)
+}
+
+/// Whether the move is the reduction by the start production, which is no move: where it would be, the text is accepted.
+fn is_by_start<T: IndexStorage>(grm: &YaccGrammar<T>, action: Move<T>) -> bool
+    ensures { IsTrue result → move_of T.number action ≡ Reduce grm.now.start_production }
+{
+    match action {
+        Move::Shift => false,
+        Move::Reduce(pidx) => usize::from(pidx) == usize::from(grm.start_prod()),
+    }
+}
+
+/// What is known of the move in the cell, if it contends for that.
+fn known_of<T: IndexStorage>(
+    tabled: Tabled<'_, T>,
+    cell: (StIdx<T>, TIdx<T>),
+    theirs: Move<T>,
+    left: &mut usize,
+) -> Result<Exactness, AllocError>
+    requires graph { IsGraphOf tabled.grm.now tabled.graph.now }
+    requires table { IsTableOf tabled.grm.now tabled.graph.now tabled.table.now }
+    requires ways { AreWaysOf T.number tabled.grm.now tabled.graph.now tabled.ways.now }
+    requires state { T.number cell.0.0 < length tabled.graph.now }
+    ensures { IfOk result (λ e. IsKnownOf e tabled.entry.grm.now tabled.entry.graph.now
+        tabled.entry.table.now (T.number cell.0.0) (T.number cell.1.0)
+        (move_of T.number theirs)) }
+{
+    if is_by_start(tabled.grm, theirs) {
+        return Ok(Exactness::Exact);
+    }
+    kept_as(tabled, cell, theirs, left)
+}
+
+/// What is known of all the moves in the cell.
+fn all_known_of<T: IndexStorage>(
+    tabled: Tabled<'_, T>,
+    cell: (StIdx<T>, TIdx<T>),
+    moves: &[Move<T>],
+    left: &mut usize,
+) -> Result<Exactness, AllocError>
+    requires graph { IsGraphOf tabled.grm.now tabled.graph.now }
+    requires table { IsTableOf tabled.grm.now tabled.graph.now tabled.table.now }
+    requires ways { AreWaysOf T.number tabled.grm.now tabled.graph.now tabled.ways.now }
+    requires state { T.number cell.0.0 < length tabled.graph.now }
+    ensures { IfOk result (λ e. AreKnownOf e tabled.entry.grm.now tabled.entry.graph.now
+        tabled.entry.table.now (T.number cell.0.0) (T.number cell.1.0)
+        (moves_stored T.number moves.now)) }
+{
+    let mut known = Exactness::Exact;
+    for theirs in moves {
+        let of_this = known_of(tabled, cell, *theirs, left)?;
+        known = known.and(of_this);
+    }
+    Ok(known)
+}
+
+/// What is known of all moves in each cell of the state.
+fn state_kept_as<T: IndexStorage>(
+    tabled: Tabled<'_, T>,
+    state: StIdx<T>,
+    left: &mut usize,
+) -> Result<Exactness, AllocError>
+    requires graph { IsGraphOf tabled.grm.now tabled.graph.now }
+    requires table { IsTableOf tabled.grm.now tabled.graph.now tabled.table.now }
+    requires ways { AreWaysOf T.number tabled.grm.now tabled.graph.now tabled.ways.now }
+    requires state { T.number state.0 < length tabled.graph.now }
+    ensures { IfOk result (λ e. IsStateKeptAs e tabled.entry.grm.now tabled.entry.graph.now
+        tabled.entry.table.now (T.number state.0)) }
+{
+    let grm = tabled.grm;
+    let completes = completes(grm, tabled.graph, state)?;
+    let mut known = Exactness::Exact;
+    for number in 0..grm.tokens_len().0.to_usize() {
+        let token = TIdx(T::from_usize(number).unwrap());
+        let moves = contenders(grm, tabled.graph, state, completes.as_slice(), token)?;
+        let of_this = all_known_of(tabled, (state, token), moves.as_slice(), left)?;
+        known = known.and(of_this);
+        if known == Exactness::Open {
+            return Ok(Exactness::Open);
+        }
+    }
+    Ok(known)
+}
+
+/// What is known of all moves in each cell of the table.
+pub(crate) fn table_kept_as<T: IndexStorage>(
+    tabled: Tabled<'_, T>,
+    left: &mut usize,
+) -> Result<Exactness, AllocError>
+    requires graph { IsGraphOf tabled.grm.now tabled.graph.now }
+    requires table { IsTableOf tabled.grm.now tabled.graph.now tabled.table.now }
+    requires ways { AreWaysOf T.number tabled.grm.now tabled.graph.now tabled.ways.now }
+    ensures { IfOk result (λ e. (s : ℕ) → s < length tabled.entry.graph.now
+        → IsStateKeptAs e tabled.entry.grm.now tabled.entry.graph.now tabled.entry.table.now s) }
+{
+    let mut known = Exactness::Exact;
+    for number in 0..tabled.graph.all_states_len().0.to_usize() {
+        let state = StIdx(T::from_usize(number).unwrap());
+        let of_this = state_kept_as(tabled, state, left)?;
+        known = known.and(of_this);
+        if known == Exactness::Open {
+            return Ok(Exactness::Open);
+        }
+    }
+    Ok(known)
+}
