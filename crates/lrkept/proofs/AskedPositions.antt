@@ -45,31 +45,31 @@ module _ (g : Grammar) (h : Graph) (M : Position → Type 0) where
   pub plain_reduction : (p d : ℕ) (a : Position) → d ≡ length (body_of g p) → EachAsked g h M (They a.turn p d) a → TakesReduction g h M p a
   plain_reduction p d a e k = game.TakesReduction.plain (reduced_whole a.turn p d a e k)
 
-  pub marked_reduction : (p : ℕ) (m : Mark) (a : Position) → a.turn ≡ Ahead → IsMarkOf a m → EachAsked g h M (Hide p m) a → TakesReduction g h M p a
-  marked_reduction p m a e i k = game.TakesReduction.marked m e i (reduced_to_one p m a k)
+  pub marked_reduction : (p t : ℕ) (m : Mark) (a : Position) → a.turn ≡ Ahead t → IsMarkOf a m → EachAsked g h M (Hide p m) a → TakesReduction g h M p a
+  marked_reduction p t m a e i k = game.TakesReduction.marked m t e i (reduced_to_one p m a k)
 
-  module _ (t : ℕ) (a : Position) where
+  module _ (a : Position) where
     -- what they do next
-    pub proceeds_by_items : a.turn ≡ Even → OpensItems h M a → Proceeds g h t M a
+    pub proceeds_by_items : a.turn ≡ Even → OpensItems h M a → Proceeds g h M a
     proceeds_by_items e k = game.Proceeds.items e k.deep k.open_ones
 
-    pub proceeds_ahead : a.turn ≡ Ahead → GoesAhead g h t M a → Proceeds g h t M a
-    proceeds_ahead e k = game.Proceeds.ahead e k.deep k.all
+    pub proceeds_ahead : (t : ℕ) → a.turn ≡ Ahead t → GoesAhead g h t M a → Proceeds g h M a
+    proceeds_ahead t e k = game.Proceeds.ahead t e k.deep k.all
 
-    pub proceeds_before : a.turn ≡ Before → GoesBefore g h t M a → Proceeds g h t M a
-    proceeds_before e k = game.Proceeds.before e k.deep k.all k.start
+    pub proceeds_before : (t : ℕ) → a.turn ≡ Before t → GoesBefore g h t M a → Proceeds g h M a
+    proceeds_before t e k = game.Proceeds.before t e k.deep k.all k.start
 
-    pub proceeds_by_mirror : (p d : ℕ) → IsOpen g a p d → EachAsked g h M (Both p d) a → Proceeds g h t M a
+    pub proceeds_by_mirror : (p d : ℕ) → IsOpen g a p d → EachAsked g h M (Both p d) a → Proceeds g h M a
     proceeds_by_mirror p d i k = game.Proceeds.mirror p d i.turn i.not_start (reduced_by_both p d a k)
 
-    pub proceeds_by_release : (p d : ℕ) → IsOpen g a p d → rest g p d ≡ [] → EachAsked g h M (They Even p d) a → Proceeds g h t M a
+    pub proceeds_by_release : (p d : ℕ) → IsOpen g a p d → rest g p d ≡ [] → EachAsked g h M (They Even p d) a → Proceeds g h M a
     proceeds_by_release p d i none k = game.Proceeds.release p d i.turn i.not_start none (reduced_by_them Even p d a k)
 
-    pub proceeds_by_step : Steps g M a → Proceeds g h t M a
+    pub proceeds_by_step : Steps g M a → Proceeds g h M a
     proceeds_by_step k = game.Proceeds.step k.p k.d k.x k.xs k.item.turn k.item.not_start k.behind k.next
 
-    pub proceeds_by_read : ReadsToo t M a → Proceeds g h t M a
-    proceeds_by_read k = game.Proceeds.read k.turn k.next
+    pub proceeds_by_read : ReadsToo M a → Proceeds g h M a
+    proceeds_by_read k = game.Proceeds.read k.t k.turn k.next
 
   -- we alone reduce
   pub retreats_by_own : (p : ℕ) (a : Position) → EachAsked g h M (We p) a → Retreats g h M a
@@ -81,24 +81,24 @@ module _ (g : Grammar) (h : Graph) (M : Position → Type 0) where
   -- what is asked of a cell
   module _ (s t : ℕ) where
     pub begins_by_shift :
-        (p d : ℕ) (a : Position) → d ≡ length (body_of g p) → a ≡ at Ahead s [] (record { symbols = Token t ∷ []; mark = None }) → EachAsked g h M (They Ahead p d) a
+        (p d : ℕ) (a : Position) → d ≡ length (body_of g p) → a ≡ at (Ahead t) s [] (record { symbols = Token t ∷ []; mark = None }) → EachAsked g h M (They (Ahead t) p d) a
         → Begins g h s t M (Reduce p) Shift
-    begins_by_shift p d a e is k = game.Begins.shifting p (subst (λ (b : Position). EachReduced g h M Ahead p (length (body_of g p)) b) is (reduced_whole Ahead p d a e k))
+    begins_by_shift p d a e is k = game.Begins.shifting p (subst (λ (b : Position). EachReduced g h M (Ahead t) p (length (body_of g p)) b) is (reduced_whole (Ahead t) p d a e k))
 
     pub begins_by_reduction :
-        (p : ℕ) (a : Position) → a ≡ at Behind s (Token t ∷ []) (record { symbols = []; mark = None }) → EachAsked g h M (We p) a → Begins g h s t M Shift (Reduce p)
+        (p : ℕ) (a : Position) → a ≡ at (Behind t) s (Token t ∷ []) (record { symbols = []; mark = None }) → EachAsked g h M (We p) a → Begins g h s t M Shift (Reduce p)
     begins_by_reduction p a is k = game.Begins.reducing p (subst (λ (b : Position). EachOwn g h M p b) is (reduced_by_us p a k))
 
 -- both reduce
 pub begins_by_reductions :
     (g : Grammar) (h : Graph) (s t : ℕ) (firsts asked : List Position) (p q d : ℕ) (a : Position) → d ≡ length (body_of g p)
-    → a ≡ at Before s [] (record { symbols = []; mark = None }) → EachAsked g h (Contains firsts) (They Before p d) a → AllOwn g h (Contains asked) q firsts
+    → a ≡ at (Before t) s [] (record { symbols = []; mark = None }) → EachAsked g h (Contains firsts) (They (Before t) p d) a → AllOwn g h (Contains asked) q firsts
     → Begins g h s t (Contains asked) (Reduce p) (Reduce q)
 begins_by_reductions g h s t firsts asked p q d a e is k all =
     let own : Position → Type 0 = λ b. EachOwn g h (Contains asked) q b in
     game.Begins.both_reducing p q
-    (subst (λ (b : Position). EachReduced g h own Before p (length (body_of g p)) b) is
-    (reduced_more (Contains firsts) own all g h Before p (length (body_of g p)) a (reduced_whole g h (Contains firsts) Before p d a e k)))
+    (subst (λ (b : Position). EachReduced g h own (Before t) p (length (body_of g p)) b) is
+    (reduced_more (Contains firsts) own all g h (Before t) p (length (body_of g p)) a (reduced_whole g h (Contains firsts) (Before t) p d a e k)))
 
 -- a mark
 pub first_mark :

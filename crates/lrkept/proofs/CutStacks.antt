@@ -6,7 +6,7 @@ use Rattle.lrspec.specs.grammars.Grammar.{Symbol, Rule, Grammar, body_of, IsProd
 use Rattle.lrspec.proofs.grammars.BodyFacts.{below_of_production, rule_unique, push_same}
 use Rattle.lrkept.specs.Asked.{IsCutTo, EndsWith, AsksThem, AsksBoth, AsksUs, AsksHidden}
 use Rattle.lrkept.specs.Exchanges.{at}
-use Rattle.lrkept.specs.Positions.{Mark, Ours, Turn, Even, Ahead, Position, IsCut, OursCut}
+use Rattle.lrkept.specs.Positions.{Mark, Ours, Turn, Even, Position, IsCut, OursCut}
 
 -- a list doesn't end with a longer one
 pub no_longer_end : (stack end : List Symbol) → length stack < length end → EndsWith stack end None
@@ -100,11 +100,11 @@ module _ (g : Grammar) (asked : List Position) (p d : ℕ) (b : Position) where
   -- the mark's symbol is what they reduce to
   pub hidden_asked :
       (m : Mark) (y : List Symbol) (x : Symbol) → d ≡ length (body_of g p) → d ≤ length b.theirs → IsCut g p d 0 b.theirs (x ∷ [])
-      → Contains asked (at Ahead b.state (x ∷ []) (record { symbols = y; mark = Some (record m { symbol = x }) })) → AsksHidden g (Contains asked) p m y b
+      → Contains asked (at b.turn b.state (x ∷ []) (record { symbols = y; mark = Some (record m { symbol = x }) })) → AsksHidden g (Contains asked) p m y b
   hidden_asked m y x e l i here =
       let rule : x ≡ Rule i.rule = (push_same [] i.front x (Rule i.rule) i.is).1 in
-      let Waits : Symbol → Type 0 = λ z. Contains asked (at Ahead b.state (x ∷ []) (record { symbols = y; mark = Some (record m { symbol = z }) })) in
-      let Stands : List Symbol → Type 0 = λ z. Contains asked (at Ahead b.state z (record { symbols = y; mark = Some (record m { symbol = Rule i.rule }) })) in
+      let Waits : Symbol → Type 0 = λ z. Contains asked (at b.turn b.state (x ∷ []) (record { symbols = y; mark = Some (record m { symbol = z }) })) in
+      let Stands : List Symbol → Type 0 = λ z. Contains asked (at b.turn b.state z (record { symbols = y; mark = Some (record m { symbol = Rule i.rule }) })) in
       record {
         deep = subst (λ (n : ℕ). n ≤ length b.theirs) e l;
         reduced = λ cut j.

@@ -19,11 +19,12 @@ use Rattle.lrlosses.specs.Losses.{Takes, Place, ComesTo, StopsAt, cell_seen, mac
 use Rattle.lrlosses.proofs.Rejections.{stands_where_reached, unfinished_before}
 use Rattle.lrlosses.proofs.Sentences.{sentence_named}
 use Rattle.lrkept.specs.Acyclicity.{IsAcyclic, nodes_within}
+use Rattle.lrkept.specs.Choices.{TakesAll}
 use Rattle.lrkept.specs.Kept.{IsLoser, IsKept, AreKept, AreKeptButAtErrors}
 use Rattle.lrkept.specs.Exactness.{IsExact, IsExactButAtErrors, StopsAtCrowdedError}
 use Rattle.lrkept.proofs.NodeBounds.{sentence_nodes}
 use Rattle.lrkept.proofs.Finishing.{tree_of_way, way_of_tree}
-use Rattle.lrkept.proofs.Losers.{error_crowded, error_or_not}
+use Rattle.lrkept.proofs.Losers.{all_taken, error_crowded, error_or_not}
 use Rattle.lrkept.proofs.Goings.{HasRead, nothing_read, reads, read_on, next_contends, whole_accepts, takes_or_not}
 
 mutual
@@ -196,3 +197,7 @@ module _ (g : Grammar) (h : Graph) (b : Table) (m : IsGrammar g) (k : IsGraphOf 
           | inl accepts ↦ inl (accepts n l)
           | inr stop ↦ inr stop
         ]
+
+    -- where each cell takes all that contends for it, no move is a loser
+    pub exact_taking : TakesAll g h b → IsExact g b
+    exact_taking all = exact (λ s t l below loser. absurd (loser.refused (all_taken g h b m k o all s t l below loser.contends)))

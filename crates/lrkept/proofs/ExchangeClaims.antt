@@ -51,8 +51,8 @@ module _ (g : Grammar) (h : Graph) where
           let (front, c, q, parts, below, (cut, is_cut, member)) = each z there.leads in
           let k = cut_ours is_cut (raise_ours front c (rw parts at there.ours)) in
           let same : z ++ a.theirs ≡ front ++ (c ++ a.theirs) = ap (λ l. l ++ a.theirs) parts ∙ append_assoc front c a.theirs in
-          let tied : a.turn ≡ Ahead → IsTied g front (c ++ a.theirs) cut =
-          λ e. cut_tied is_cut (raise_tied front c a.theirs a.ours (subst (λ l. IsTied g l a.theirs a.ours) parts (there.tied e))) in
+          let tied : (t : ℕ) → a.turn ≡ Ahead t → IsTied g front (c ++ a.theirs) cut =
+          λ t e. cut_tied is_cut (raise_tied front c a.theirs a.ours (subst (λ l. IsTied g l a.theirs a.ours) parts (there.tied t e))) in
           let (ms, f) = claims _ refl member front (k.front ++ Rule k.rule ∷ []) w (record { leads = below; ours = k.ours; tied = tied })
           (subst (λ l. Theirs l w) same theirs) in
           (ms, cut_reduced k f)
@@ -67,7 +67,7 @@ module _ (g : Grammar) (h : Graph) where
       retreat_claim (exchange.Retreats.unmark m front mark place symbols member) claims z v w there theirs =
           let (reduces, bare) = unmark_ours m front mark place symbols there.ours in
           goes_back reduces
-          (claims _ refl member z ((z ++ front) ++ m.symbol ∷ []) w (record { leads = there.leads; ours = bare; tied = λ e. none_tied _ refl }) theirs)
+          (claims _ refl member z ((z ++ front) ++ m.symbol ∷ []) w (record { leads = there.leads; ours = bare; tied = λ t e. none_tied _ refl }) theirs)
 
       module _ (positions : List Position) where
         -- what is claimed of the first positions, and of those that are the same, is claimed of the listed ones

@@ -15,7 +15,7 @@ use Rattle.lrkept.proofs.ExchangeTurns.{Listed, Holds, turn_holds}
 use Rattle.lrkept.proofs.ExchangeAnswers.{answered}
 use Rattle.lrkept.proofs.ExchangeOpen.{plainly, Going, Opening, deep_stack, start_holds, open_hold}
 
-module _ {g : Grammar} {h : Graph} (shape : IsGrammar g) (k : IsGraphOf g h) (t : ℕ) (positions : List Position) (won : AreWon g h t positions) where
+module _ {g : Grammar} {h : Graph} (shape : IsGrammar g) (k : IsGraphOf g h) (positions : List Position) (won : AreWon g h positions) where
   -- what holds where neither has read more, for fewer moves than so many
   record Level (n : ℕ) : Type 0 where
     pub even : Holds g h positions Even (Going g n) plainly
@@ -24,7 +24,7 @@ module _ {g : Grammar} {h : Graph} (shape : IsGrammar g) (k : IsGraphOf g h) (t 
   module _ (n : ℕ) (before : Level n) where
     -- where some item is open
     with_item :
-        (a : Position) → a.turn ≡ Even → Proceeds g h t (Listed g h positions) a
+        (a : Position) → a.turn ≡ Even → Proceeds g h (Listed g h positions) a
         → (z v : List Symbol) (w : List ℕ) (ms : List Move) → AreAt g h a z v → length ms < suc n → Finishes g (z ++ a.theirs) ms w
         → GoesOn g v w
     with_item a is proceeds z v w ms both few f =
@@ -36,15 +36,15 @@ module _ {g : Grammar} {h : Graph} (shape : IsGrammar g) (k : IsGraphOf g h) (t 
               let one : Open g.start_production 1 ≡ Open g.start_production (length (body_of g g.start_production)) =
               ap (Open g.start_production) (sym (ap length (start_body shape))) in
               let member = members u g.start_production 1 follows (state_of_start shape k u there e.0) in
-              start_holds shape k t positions won _ one member z v w (level_at both.leads both.ours (λ x. cc)) (e.0, e.2)
+              start_holds shape k positions won _ one member z v w (level_at both.leads both.ours (λ t x. cc)) (e.0, e.2)
           | inr e ↦
-              open_hold shape k t positions won n before.even before.opens e.0 e.1 _ refl
-              (members u e.0 e.1 follows (state_of_open shape k u there e.3 e.2)) z v w (level_at both.leads both.ours (λ x. cc)) (ms, e.3, few)
+              open_hold shape k positions won n before.even before.opens e.0 e.1 _ refl
+              (members u e.0 e.1 follows (state_of_open shape k u there e.3 e.2)) z v w (level_at both.leads both.ours (λ t x. cc)) (ms, e.3, few)
         ]
 
     even_on : Holds g h positions Even (Going g (suc n)) plainly
     even_on =
-        turn_holds g h positions t won Even (Going g (suc n)) plainly
+        turn_holds g h positions won Even (Going g (suc n)) plainly
         (λ l u w i. (i.0, i.2))
         (λ a is proceeds z v w both i. with_item a is proceeds z v w i.0 both i.1 i.2)
 
@@ -55,7 +55,7 @@ module _ {g : Grammar} {h : Graph} (shape : IsGrammar g) (k : IsGraphOf g h) (t 
   }
   levels (suc n) =
       let before = levels n in
-      record { even = even_on n before; opens = open_hold shape k t positions won n before.even before.opens }
+      record { even = even_on n before; opens = open_hold shape k positions won n before.even before.opens }
 
   -- so all holds
   pub even_holds : Holds g h positions Even (GoesOn g) plainly

@@ -77,34 +77,34 @@ module _ {g : Grammar} {h : Graph} {b : Table} (shape : IsGrammar g) (k : IsGrap
   token_first [] takes e = absurd (no_shift_at_end (rw (← e) at takes))
   token_first (x ∷ text) takes e = (text, ap (λ n. n ∷ text) e)
 
-  module _ (t : ℕ) (positions : List Position) (won : AreWon g h t positions) where
+  module _ (t : ℕ) (positions : List Position) (won : AreWon g h positions) where
     keeps : {theirs ours : Move} → Begins g h s t (Listed g h positions) theirs ours → Takes (action_of b s t) ours → IsKept g h b s t theirs
     keeps (exchange.Begins.shifting p each) takes v text others along next f =
         let (behind, e) = token_first text takes next in
         let r = reduces_by (rw e at f) in
         let n : ℕ = suc (length others) in
         with_shift takes e
-        (reduced_claim g h (at Ahead s [] (record { symbols = Token t ∷ []; mark = None })) (Coming g t n) (GoesOn g) each
-        (ahead_holds shape k t positions won n)
-        (λ e. (e, refl))
+        (reduced_claim g h (at (Ahead t) s [] (record { symbols = Token t ∷ []; mark = None })) (Coming g t n) (GoesOn g) each
+        (ahead_holds shape k positions won t n)
+        (λ i e. (e, refl))
         v (v ++ Token t ∷ []) behind
-        (record { leads = along; ours = position.IsOurs.known refl refl; tied = λ e. none_tied _ refl })
+        (record { leads = along; ours = position.IsOurs.known refl refl; tied = λ i e. none_tied _ refl })
         r.front r.rule r.of_rule r.stack (others, omega arith, r.finishes))
     keeps (exchange.Begins.reducing p each) takes v text others along next f =
         let (behind, e, on) = shifts_next f next in
         with_reduction takes
         (rw e
-        (own_claim g h (GoesOn g) (with_token g t) (at Behind s (Token t ∷ []) (record { symbols = []; mark = None })) p each
-        (behind_holds shape k t positions won)
-        v v behind (level_at along (position.IsOurs.known refl (sym (append-nil v))) (λ x. cc)) (others, on)))
+        (own_claim g h (GoesOn g) (with_token g t) (at (Behind t) s (Token t ∷ []) (record { symbols = []; mark = None })) p each
+        (behind_holds shape k positions won t)
+        v v behind (level_at along (position.IsOurs.known refl (sym (append-nil v))) (λ i x. cc)) (others, on)))
     keeps (exchange.Begins.both_reducing p q each) takes v text others along next f =
         let r = reduces_by f in
         let n : ℕ = suc (length others) in
         with_reduction takes
-        (reduced_claim g h (at Before s [] (record { symbols = []; mark = None })) (Looking g t n) (ReducesFirst g h plainly q) each
-        (λ a is own. own_claim g h (Looking g t n) plainly a q own (λ c same member. before_holds shape k t positions won n c (same ∙ is) member))
-        (λ x. absurd cc)
-        v v text (level_at along (position.IsOurs.known refl (sym (append-nil v))) (λ x. cc))
+        (reduced_claim g h (at (Before t) s [] (record { symbols = []; mark = None })) (Looking g t n) (ReducesFirst g h plainly q) each
+        (λ a is own. own_claim g h (Looking g t n) plainly a q own (λ c same member. before_holds shape k positions won t n c (same ∙ is) member))
+        (λ i x. absurd cc)
+        v v text (level_at along (position.IsOurs.known refl (sym (append-nil v))) (λ i x. cc))
         r.front r.rule r.of_rule r.stack (others, omega arith, next, r.finishes))
 
 -- where positions are won, and lead from the move of theirs to the one that the cell takes, theirs is kept

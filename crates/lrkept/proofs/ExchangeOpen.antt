@@ -51,11 +51,11 @@ deep_stack [] a (inl some) leads e = some e
 deep_stack [] a (inr some) leads e = some (leads_once leads graph.Leads.start)
 deep_stack (x ∷ z) a deep leads e = cc
 
-module _ {g : Grammar} {h : Graph} (shape : IsGrammar g) (k : IsGraphOf g h) (t : ℕ) (positions : List Position) (won : AreWon g h t positions) where
+module _ {g : Grammar} {h : Graph} (shape : IsGrammar g) (k : IsGraphOf g h) (positions : List Position) (won : AreWon g h positions) where
   -- the start item is open
   pub start_holds : Holds g h positions (Open g.start_production (length (body_of g g.start_production))) (Started g) plainly
   start_holds =
-      turn_holds g h positions t won _ (Started g) plainly
+      turn_holds g h positions won _ (Started g) plainly
       (λ l u w i. ([], rw (i.0, i.1) way.Finishes.done))
       (λ a is proceeds. absurd ((answered is proceeds).0 refl))
 
@@ -71,12 +71,12 @@ module _ {g : Grammar} {h : Graph} (shape : IsGrammar g) (k : IsGraphOf g h) (t 
           let (cut_of_ours, is_ours, member) = members cut is_cut in
           let s = cut_ours is_ours (raise_ours front c (rw parts at both.ours)) in
           let there : Going g n (front ++ cut) o.behind = rw same (o.after, omega (arith, few, opens_fewer o), o.finishes) in
-          read_cut s o (even _ refl member front (s.front ++ Rule s.rule ∷ []) o.behind (level_at below s.ours (λ e. cc)) there)
+          read_cut s o (even _ refl member front (s.front ++ Rule s.rule ∷ []) o.behind (level_at below s.ours (λ t e. cc)) there)
 
       -- where nothing is behind the dot
       released : rest g p d ≡ [] → EachReduced g h (Listed g h positions) Even p d a → GoesOn g v w
       released none each =
-          let on = reduced_claim g h a (Going g n) (ReadsOn g h plainly) each even (λ e. absurd cc) z v o.behind both
+          let on = reduced_claim g h a (Going g n) (ReadsOn g h plainly) each even (λ t e. absurd cc) z v o.behind both
           o.front o.rule o.of_rule o.stack (o.after, omega (arith, few, opens_fewer o), o.finishes) in
           goes_same refl (o.texts ∙ ap (λ l. l ++ o.behind) (no_leaves o.forest none)) on
 
@@ -88,12 +88,12 @@ module _ {g : Grammar} {h : Graph} (shape : IsGrammar g) (k : IsGraphOf g h) (t 
           let next = opens_next o x xs e s in
           let there : Opening g p (suc d) n (z ++ (a.theirs ++ x ∷ [])) (forest_leaves s.others ++ o.behind) =
           rw (← append_assoc z a.theirs (x ∷ [])) (_, next, omega (arith, few, next_fewer o x xs s)) in
-          next_read o x xs s (opens p (suc d) _ refl member z (v ++ x ∷ []) _ (level_at both.leads (push_ours (x ∷ []) both.ours) (λ e. cc)) there)
+          next_read o x xs s (opens p (suc d) _ refl member z (v ++ x ∷ []) _ (level_at both.leads (push_ours (x ∷ []) both.ours) (λ t e. cc)) there)
 
     -- open items
     pub open_hold : (p d : ℕ) → Holds g h positions (Open p d) (Opening g p d (suc n)) plainly
     open_hold p d =
-        turn_holds g h positions t won (Open p d) (Opening g p d (suc n)) plainly
+        turn_holds g h positions won (Open p d) (Opening g p d (suc n)) plainly
         (λ l u w i. (i.0, closes i.1))
         (λ a is proceeds z v w both i. elim ((answered is proceeds).1) [
           | answer.OpenAnswer.mirror each ↦ mirrored a both i.1 i.2 each

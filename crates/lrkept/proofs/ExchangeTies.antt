@@ -22,7 +22,7 @@ pub record IsTied (g : Grammar) (z x : List Symbol) (y : Ours) : Type 0 where
 pub record AreAt (g : Grammar) (h : Graph) (a : Position) (z v : List Symbol) : Type 0 where
   pub leads : Leads h z a.state
   pub ours : IsOurs g h z a.ours v
-  pub tied : a.turn ≡ Ahead → IsTied g z a.theirs a.ours
+  pub tied : (t : ℕ) → a.turn ≡ Ahead t → IsTied g z a.theirs a.ours
 
 module _ {g : Grammar} where
   -- ours without a mark is tied
@@ -85,15 +85,15 @@ module _ {g : Grammar} where
 
 module _ {g : Grammar} {h : Graph} where
   -- where the token is not read, nothing is tied
-  pub level_at : {a : Position} {z v : List Symbol} → Leads h z a.state → IsOurs g h z a.ours v → a.turn ≢ Ahead → AreAt g h a z v
-  level_at leads ours differ = record { leads = leads; ours = ours; tied = λ e. absurd (differ e) }
+  pub level_at : {a : Position} {z v : List Symbol} → Leads h z a.state → IsOurs g h z a.ours v → ((t : ℕ) → a.turn ≢ Ahead t) → AreAt g h a z v
+  level_at leads ours differ = record { leads = leads; ours = ours; tied = λ t e. absurd (differ t e) }
 
   -- where a position sinks, both stacks are at the one below
   pub sunk_at : {a b : Position} {z v : List Symbol} (k : Sinks h a b) → AreAt g h a z v → AreAt g h b (z ++ k.both) v
   sunk_at {a} {b} {z} {v} k there = record {
     leads = leads_after there.leads k.leads;
     ours = lower_ours z k.both (subst (λ y. IsOurs g h z y v) k.ours there.ours);
-    tied = λ e.
+    tied = λ t e.
         lower_tied z k.both b.theirs b.ours
-        (subst (λ y. IsTied g z (k.both ++ b.theirs) y) k.ours (subst (λ x. IsTied g z x a.ours) k.theirs (there.tied (k.turn ∙ e))));
+        (subst (λ y. IsTied g z (k.both ++ b.theirs) y) k.ours (subst (λ x. IsTied g z x a.ours) k.theirs (there.tied t (k.turn ∙ e))));
   }

@@ -32,16 +32,16 @@ module _ (g : Grammar) (h : Graph) where
   pub reduced_claim :
       {Member : Position → Type 0} {turn : Turn} {p d : ℕ} (a : Position) (Theirs Ours : Reading) → EachReduced g h Member turn p d a
       → ((b : Position) → b.turn ≡ turn → Member b → Claim g h Theirs Ours b)
-      → (turn ≡ Ahead → (a.turn ≡ Ahead) × (d ≡ length (body_of g p)))
+      → ((t : ℕ) → turn ≡ Ahead t → (a.turn ≡ Ahead t) × (d ≡ length (body_of g p)))
       → (z v : List Symbol) (w : List ℕ) → AreAt g h a z v
       → (f : List Symbol) (r : ℕ) → IsProductionOf g p r → z ++ a.theirs ≡ f ++ take d (body_of g p) → Theirs (f ++ Rule r ∷ []) w → Ours v w
   reduced_claim {turn = turn} {p = p} {d = d} a Theirs Ours each claims ahead z v w there f r i stack theirs =
       let (front, c, q, parts, below, (deep, members)) = each z there.leads in
       let whole : (front ++ c) ++ a.theirs ≡ f ++ take d (body_of g p) = ap (λ l. l ++ a.theirs) (sym parts) ∙ stack in
       let (cut, is_cut, same) = cut_theirs r front c a.theirs f deep whole i in
-      let tied : turn ≡ Ahead → IsTied g front cut (raised c a.ours) = λ e.
-      reduce_tied f p r i (sym (append_assoc front c a.theirs) ∙ (whole ∙ ap (λ l. f ++ l) (taken_whole g p d (ahead e).1))) same
-      (raise_tied front c a.theirs a.ours (subst (λ l. IsTied g l a.theirs a.ours) parts (there.tied (ahead e).0))) in
+      let tied : (t : ℕ) → turn ≡ Ahead t → IsTied g front cut (raised c a.ours) = λ t e.
+      reduce_tied f p r i (sym (append_assoc front c a.theirs) ∙ (whole ∙ ap (λ l. f ++ l) (taken_whole g p d (ahead t e).1))) same
+      (raise_tied front c a.theirs a.ours (subst (λ l. IsTied g l a.theirs a.ours) parts (there.tied t (ahead t e).0))) in
       claims _ refl (members cut is_cut) front v w (record { leads = below; ours = raise_ours front c (rw parts at there.ours); tied = tied })
       (subst (λ l. Theirs l w) (sym same) theirs)
 
@@ -54,10 +54,10 @@ module _ (g : Grammar) (h : Graph) where
     abbrev pub Holds : Turn → Reading → (List ℕ → List ℕ) → Type 0
     Holds turn Theirs before = (a : Position) → a.turn ≡ turn → Listed a → Claim g h Theirs (ReadsOn g h before) a
 
-    module _ (t : ℕ) (won : AreWon g h t positions) where
+    module _ (won : AreWon g h positions) where
       module _ (turn : Turn) (Theirs : Reading) (before : List ℕ → List ℕ)
           (level : IsLevel turn → (u : List Symbol) (w : List ℕ) → Theirs u w → ReadsOn g h before u w)
-          (goes : (a : Position) → a.turn ≡ turn → Proceeds g h t Listed a → Claim g h Theirs (ReadsOn g h before) a) where
+          (goes : (a : Position) → a.turn ≡ turn → Proceeds g h Listed a → Claim g h Theirs (ReadsOn g h before) a) where
         -- it holds of the first of the list, one after the other
         first_hold :
             (n k : ℕ) (a : Position) → k < n → slice_get positions k ≡ Some a → a.turn ≡ turn → Claim g h Theirs (ReadsOn g h before) a

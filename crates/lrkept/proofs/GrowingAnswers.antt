@@ -45,7 +45,7 @@ module _ (M N : Position → Type 0) (more : (a : Position) → M a → N a) (g 
 
     pub reduction_more : (p : ℕ) (a : Position) → TakesReduction g h M p a → TakesReduction g h N p a
     reduction_more p a (game.TakesReduction.plain k) = game.TakesReduction.plain (reduced_more a.turn p (length (body_of g p)) a k)
-    reduction_more p a (game.TakesReduction.marked m e i k) = game.TakesReduction.marked m e i (marked_more p m a k)
+    reduction_more p a (game.TakesReduction.marked m t e i k) = game.TakesReduction.marked m t e i (marked_more p m a k)
 
     all_moves_more : (t : ℕ) (shifted : Turn) (a : Position) → TakesAllMoves g h t M shifted a → TakesAllMoves g h t N shifted a
     all_moves_more t shifted a k = record {
@@ -53,14 +53,14 @@ module _ (M N : Position → Type 0) (more : (a : Position) → M a → N a) (g 
       reduce = λ u p f n l. reduction_more p a (k.reduce u p f n l);
     }
 
-    pub proceeds_more : (t : ℕ) (a : Position) → Proceeds g h t M a → Proceeds g h t N a
-    proceeds_more t a (game.Proceeds.items e deep k) = game.Proceeds.items e deep (λ u p d f i. more _ (k u p d f i))
-    proceeds_more t a (game.Proceeds.mirror p d e n k) = game.Proceeds.mirror p d e n (by_both_more p d a k)
-    proceeds_more t a (game.Proceeds.release p d e n none k) = game.Proceeds.release p d e n none (reduced_more Even p d a k)
-    proceeds_more t a (game.Proceeds.step p d x xs e n rest k) = game.Proceeds.step p d x xs e n rest (more _ k)
-    proceeds_more t a (game.Proceeds.ahead e deep k) = game.Proceeds.ahead e deep (all_moves_more t Even a k)
-    proceeds_more t a (game.Proceeds.before e deep k start) = game.Proceeds.before e deep (all_moves_more t Behind a k) (λ i. more _ (start i))
-    proceeds_more t a (game.Proceeds.read e k) = game.Proceeds.read e (more _ k)
+    pub proceeds_more : (a : Position) → Proceeds g h M a → Proceeds g h N a
+    proceeds_more a (game.Proceeds.items e deep k) = game.Proceeds.items e deep (λ u p d f i. more _ (k u p d f i))
+    proceeds_more a (game.Proceeds.mirror p d e n k) = game.Proceeds.mirror p d e n (by_both_more p d a k)
+    proceeds_more a (game.Proceeds.release p d e n none k) = game.Proceeds.release p d e n none (reduced_more Even p d a k)
+    proceeds_more a (game.Proceeds.step p d x xs e n rest k) = game.Proceeds.step p d x xs e n rest (more _ k)
+    proceeds_more a (game.Proceeds.ahead t e deep k) = game.Proceeds.ahead t e deep (all_moves_more t Even a k)
+    proceeds_more a (game.Proceeds.before t e deep k start) = game.Proceeds.before t e deep (all_moves_more t (Behind t) a k) (λ i. more _ (start i))
+    proceeds_more a (game.Proceeds.read t e k) = game.Proceeds.read t e (more _ k)
 
     pub retreats_more : (a : Position) → Retreats g h M a → Retreats g h N a
     retreats_more a (game.Retreats.own p k) = game.Retreats.own p (own_more p a k)
@@ -70,10 +70,10 @@ module _ (M N : Position → Type 0) (more : (a : Position) → M a → N a) (g 
 pub begins_more :
     {M N : Position → Type 0} {g : Grammar} {h : Graph} {s t : ℕ} {m n : Move} → ((a : Position) → M a → N a) → Begins g h s t M m n → Begins g h s t N m n
 begins_more {M} {N} {g} {h} {s} {t} more (game.Begins.shifting p k) =
-    game.Begins.shifting p (reduced_more M N more g h Ahead p (length (body_of g p)) (at Ahead s [] (record { symbols = Token t ∷ []; mark = None })) k)
+    game.Begins.shifting p (reduced_more M N more g h (Ahead t) p (length (body_of g p)) (at (Ahead t) s [] (record { symbols = Token t ∷ []; mark = None })) k)
 begins_more {M} {N} {g} {h} {s} {t} more (game.Begins.reducing p k) =
-    game.Begins.reducing p (own_more M N more g h p (at Behind s (Token t ∷ []) (record { symbols = []; mark = None })) k)
+    game.Begins.reducing p (own_more M N more g h p (at (Behind t) s (Token t ∷ []) (record { symbols = []; mark = None })) k)
 begins_more {M} {N} {g} {h} {s} {t} more (game.Begins.both_reducing p q k) =
     game.Begins.both_reducing p q
-    (reduced_more (λ a. EachOwn g h M q a) (λ a. EachOwn g h N q a) (λ a i. own_more M N more g h q a i) g h Before p (length (body_of g p))
-    (at Before s [] (record { symbols = []; mark = None })) k)
+    (reduced_more (λ a. EachOwn g h M q a) (λ a. EachOwn g h N q a) (λ a i. own_more M N more g h q a i) g h (Before t) p (length (body_of g p))
+    (at (Before t) s [] (record { symbols = []; mark = None })) k)

@@ -2,6 +2,8 @@
 pub mod Tests
 -- lists of nullable rules
 pub mod NullableLists
+-- cells that take all that contends for them, item after item
+pub mod TakenCells
 -- how many nodes the trees of a text have
 pub mod NodeBounds
 -- rules with those that they derive alone, one after another

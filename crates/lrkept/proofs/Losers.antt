@@ -10,6 +10,8 @@ use Rattle.lrspec.proofs.tables.CellFacts.{among_reductions, reduction_looks}
 use Rattle.lrspec.proofs.tables.MachineStacks.{look_fits}
 use Rattle.lrspec.proofs.tables.UncrowdedCells.{crowd}
 use Rattle.lrconflicts.specs.Moves.{Move, Shift, Reduce, candidate_of}
+use Rattle.lrlosses.specs.Losses.{Takes}
+use Rattle.lrkept.specs.Choices.{TakesAll}
 
 -- a cell with an edge and a reduction is crowded
 edge_and_reduction : {g : Grammar} {h : Graph} {s t u : ℕ} (p : ℕ) → edge h s (Token t) ≡ Some u → Among p (reductions g (closed_of h s) t) → IsCrowded g h s t
@@ -25,6 +27,13 @@ module _ (g : Grammar) (h : Graph) (b : Table) (m : IsGrammar g) (k : IsGraphOf 
       omega (arith, symbol_at_dot m p d (Token t) before)
   token_contended s t (Reduce p) below (table.IsContender.reduce differ looks) =
       (look_fits (closed_of h s) p (length (body_of g p)) t (k.closures.fit_closed s below) looks).1
+
+  -- where cells take all that contends for them, they take each move that does
+  pub all_taken : TakesAll g h b → (s t : ℕ) (l : Move) → s < length h → IsContender g h s t (candidate_of l) → Takes (action_of b s t) l
+  all_taken all s t Shift below (table.IsContender.shift {u = u} e) =
+      let within = token_contended s t Shift below (table.IsContender.shift e) in (all s below t within).0 u e
+  all_taken all s t (Reduce p) below (table.IsContender.reduce differ looks) =
+      let within = token_contended s t (Reduce p) below (table.IsContender.reduce differ looks) in (all s below t within).1 p differ looks
 
   -- a cell for which a move contends is an error only where another does
   error_by :

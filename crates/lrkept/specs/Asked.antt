@@ -74,6 +74,10 @@ AsksUs g Member p b =
     (ours : Ours) × OursCut g p (length (body_of g p)) b.ours ours
     × Member (at b.turn b.state b.theirs ours)
 
+-- they go on with a token that we have read
+abbrev pub IsAhead : Position → Type 0
+IsAhead a = (t : ℕ) × (a.turn ≡ Ahead t)
+
 -- they reduce to one symbol, for which the mark waits behind our symbols
 pub record AsksHidden (g : Grammar) (Member : Position → Type 0) (p : ℕ) (m : Mark) (y : List Symbol) (b : Position)
     : Type 0 where
@@ -81,7 +85,7 @@ pub record AsksHidden (g : Grammar) (Member : Position → Type 0) (p : ℕ) (m 
   pub reduced :
       (cut : List Symbol) → IsCut g p (length (body_of g p)) 0 b.theirs cut
       → (r : ℕ) × IsProductionOf g p r × (cut ≡ Rule r ∷ [])
-      × Member (at Ahead b.state cut (record { symbols = y; mark = Some (record m { symbol = Rule r }) }))
+      × Member (at b.turn b.state cut (record { symbols = y; mark = Some (record m { symbol = Rule r }) }))
 
 -- this is done at a position, of which what is below it is named
 abbrev pub Asks : Grammar → (Position → Type 0) → Act → Position → Position → Type 0
@@ -151,7 +155,7 @@ pub record GoesAhead (g : Grammar) (h : Graph) (t : ℕ) (Member : Position → 
 -- whatever they do with the token, which we have to read too
 pub record GoesBefore (g : Grammar) (h : Graph) (t : ℕ) (Member : Position → Type 0) (a : Position) : Type 0 where
   pub deep : IsDeep a
-  pub all : TakesAllMoves g h t Member Behind a
+  pub all : TakesAllMoves g h t Member (Behind t) a
   pub start : TakesStart g t Member a
 
 -- the item is open, and not of the start production
@@ -171,8 +175,9 @@ pub record Steps (g : Grammar) (Member : Position → Type 0) (a : Position) : T
   pub next : Member (at (Open p (suc d)) a.state (a.theirs ++ x ∷ []) (pushed a.ours (x ∷ [])))
 
 -- we read the token too
-pub record ReadsToo (t : ℕ) (Member : Position → Type 0) (a : Position) : Type 0 where
-  pub turn : a.turn ≡ Behind
+pub record ReadsToo (Member : Position → Type 0) (a : Position) : Type 0 where
+  pub t : ℕ
+  pub turn : a.turn ≡ Behind t
   pub next : Member (at Even a.state a.theirs (pushed a.ours (Token t ∷ [])))
 
 -- the list is these symbols, as many as this, and then the last one
@@ -196,9 +201,17 @@ AllOwn g h Member p ps = (a : Position) → Contains ps a → EachOwn g h Member
 abbrev pub AreListed : Graph → List Position → ℕ → List Position → Type 0
 AreListed h positions bound asked = (a : Position) → Contains asked a → IsListed h positions bound a
 
+-- positions are added behind the others
+abbrev pub AddsPositions : List Position → List Position → Type 0
+AddsPositions old new = (more : List Position) × (new ≡ old ++ more)
+
 -- the position at this place is won, as each of a certificate is
-abbrev pub IsWonAt : Grammar → Graph → ℕ → List Position → ℕ → Type 0
-IsWonAt g h t positions k =
+abbrev pub IsWonAt : Grammar → Graph → List Position → ℕ → Type 0
+IsWonAt g h positions k =
     (a : Position) → slice_get positions k ≡ Some a
-    → Proceeds g h t (IsListed h positions (length positions)) a
+    → Proceeds g h (IsListed h positions (length positions)) a
     ⊎ Retreats g h (IsListed h positions k) a
+
+-- and so each of the first ones
+abbrev pub AreWonBelow : Grammar → Graph → List Position → ℕ → Type 0
+AreWonBelow g h positions n = (k : ℕ) → k < n → IsWonAt g h positions k

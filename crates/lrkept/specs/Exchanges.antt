@@ -37,7 +37,7 @@ EachMarked g h Member p m a =
     EachBelow h a.state (λ q c. (length (body_of g p) ≤ length (c ++ a.theirs))
     × ((cut : List Symbol) → IsCut g p (length (body_of g p)) 0 (c ++ a.theirs) cut
     → (r : ℕ) × IsProductionOf g p r × (cut ≡ Rule r ∷ [])
-    × Member (at Ahead q cut (record { symbols = a.ours.symbols; mark = Some (record m { symbol = Rule r }) }))))
+    × Member (at a.turn q cut (record { symbols = a.ours.symbols; mark = Some (record m { symbol = Rule r }) }))))
 
 -- the mark stands at the bottom of ours; or ours has none, they have one symbol alone, and this is the first
 pub data IsMarkOf (a : Position) (m : Mark) : Type 0 where
@@ -51,7 +51,7 @@ pub data IsMarkOf (a : Position) (m : Mark) : Type 0 where
 pub data TakesReduction (g : Grammar) (h : Graph) (Member : Position → Type 0) (p : ℕ) (a : Position) : Type 0 where
   plain : EachReduced g h Member a.turn p (length (body_of g p)) a → TakesReduction g h Member p a
   marked :
-      (m : Mark) → a.turn ≡ Ahead → IsMarkOf a m → EachMarked g h Member p m a
+      (m : Mark) (t : ℕ) → a.turn ≡ Ahead t → IsMarkOf a m → EachMarked g h Member p m a
       → TakesReduction g h Member p a
 
 -- whatever they do next, on the token `t`, leads to a member: they shift it, or reduce by a production that looks at it
@@ -69,41 +69,41 @@ abbrev pub IsDeep : Position → Type 0
 IsDeep a = (a.theirs ≢ []) ⊎ (a.state ≢ 0)
 
 -- whatever they do next leads to a member
-pub data Proceeds (g : Grammar) (h : Graph) (t : ℕ) (Member : Position → Type 0) (a : Position) : Type 0 where
+pub data Proceeds (g : Grammar) (h : Graph) (Member : Position → Type 0) (a : Position) : Type 0 where
   -- some item of the core is open on their stack
   items :
       a.turn ≡ Even → IsDeep a
       → ((u p d : ℕ) → Follows h a.state a.theirs u → HasItem (core_of h u) p d
       → Member (at (Open p d) a.state a.theirs a.ours))
-      → Proceeds g h t Member a
+      → Proceeds g h Member a
   -- we read the same behind the dot, and reduce by the item too
   mirror :
       (p d : ℕ) → a.turn ≡ Open p d → p ≢ g.start_production → EachReducedByBoth g h Member p d a
-      → Proceeds g h t Member a
+      → Proceeds g h Member a
   -- nothing is behind the dot: they reduce
   release :
       (p d : ℕ) → a.turn ≡ Open p d → p ≢ g.start_production → rest g p d ≡ []
       → EachReduced g h Member Even p d a
-      → Proceeds g h t Member a
+      → Proceeds g h Member a
   -- we read the same for the symbol behind the dot
   step :
       (p d : ℕ) (x : Symbol) (xs : List Symbol) → a.turn ≡ Open p d → p ≢ g.start_production → rest g p d ≡ x ∷ xs
       → Member (at (Open p (suc d)) a.state (a.theirs ++ x ∷ []) (pushed a.ours (x ∷ [])))
-      → Proceeds g h t Member a
+      → Proceeds g h Member a
   -- they read the token, or reduce before it
   ahead :
-      a.turn ≡ Ahead → IsDeep a → TakesAllMoves g h t Member Even a
-      → Proceeds g h t Member a
+      (t : ℕ) → a.turn ≡ Ahead t → IsDeep a → TakesAllMoves g h t Member Even a
+      → Proceeds g h Member a
   -- and so where we have not read it either; at the end of the text they may have come to the start rule
   before :
-      a.turn ≡ Before → IsDeep a → TakesAllMoves g h t Member Behind a
+      (t : ℕ) → a.turn ≡ Before t → IsDeep a → TakesAllMoves g h t Member (Behind t) a
       → (t ≡ end_token g
       → Member (at (Open g.start_production (length (body_of g g.start_production))) a.state a.theirs a.ours))
-      → Proceeds g h t Member a
+      → Proceeds g h Member a
   -- we read the token too
   read :
-      a.turn ≡ Behind → Member (at Even a.state a.theirs (pushed a.ours (Token t ∷ [])))
-      → Proceeds g h t Member a
+      (t : ℕ) → a.turn ≡ Behind t → Member (at Even a.state a.theirs (pushed a.ours (Token t ∷ [])))
+      → Proceeds g h Member a
 
 -- we alone reduce, and come to a member
 pub data Retreats (g : Grammar) (h : Graph) (Member : Position → Type 0) (a : Position) : Type 0 where
@@ -120,7 +120,7 @@ pub data Retreats (g : Grammar) (h : Graph) (Member : Position → Type 0) (a : 
 pub data IsLevel : Turn → Type 0 where
   evenly : IsLevel Even
   opened : (p d : ℕ) → IsLevel (Open p d)
-  before : IsLevel Before
+  before : (t : ℕ) → IsLevel (Before t)
 
 -- they have just what we have
 pub record IsSame (a : Position) : Type 0 where
@@ -135,10 +135,10 @@ IsListed h positions bound a =
     × (IsSame b ⊎ ((k : ℕ) × (k < bound) × (slice_get positions k ≡ Some b)))
 
 -- each position is won: it leads to listed ones as they go on, or to an earlier one where we alone reduce
-abbrev pub AreWon : Grammar → Graph → ℕ → List Position → Type 0
-AreWon g h t positions =
+abbrev pub AreWon : Grammar → Graph → List Position → Type 0
+AreWon g h positions =
     (k : ℕ) (a : Position) → slice_get positions k ≡ Some a
-    → Proceeds g h t (IsListed h positions (length positions)) a
+    → Proceeds g h (IsListed h positions (length positions)) a
     ⊎ Retreats g h (IsListed h positions k) a
 
 -- what is asked of a cell for which they make the first move and we the second one
@@ -146,24 +146,24 @@ pub data Begins (g : Grammar) (h : Graph) (s t : ℕ) (Member : Position → Typ
   -- they reduce, and we shift
   shifting :
       (p : ℕ)
-      → EachReduced g h Member Ahead p (length (body_of g p))
-      (at Ahead s [] (record { symbols = Token t ∷ []; mark = None }))
+      → EachReduced g h Member (Ahead t) p (length (body_of g p))
+      (at (Ahead t) s [] (record { symbols = Token t ∷ []; mark = None }))
       → Begins g h s t Member (Reduce p) Shift
   -- they shift, and we reduce
   reducing :
       (p : ℕ)
       → EachOwn g h Member p
-      (at Behind s (Token t ∷ []) (record { symbols = []; mark = None }))
+      (at (Behind t) s (Token t ∷ []) (record { symbols = []; mark = None }))
       → Begins g h s t Member Shift (Reduce p)
   -- they reduce, and we do by another production
   both_reducing :
       (p q : ℕ)
-      → EachReduced g h (λ a. EachOwn g h Member q a) Before p (length (body_of g p))
-      (at Before s [] (record { symbols = []; mark = None }))
+      → EachReduced g h (λ a. EachOwn g h Member q a) (Before t) p (length (body_of g p))
+      (at (Before t) s [] (record { symbols = []; mark = None }))
       → Begins g h s t Member (Reduce p) (Reduce q)
 
 -- positions that are won, and show that the second move may be made for the first in the state `s` on the token `t`
 pub record IsCertificate (g : Grammar) (h : Graph) (s t : ℕ) (theirs ours : Move) (positions : List Position)
     : Type 0 where
-  pub won : AreWon g h t positions
+  pub won : AreWon g h positions
   pub begins : Begins g h s t (IsListed h positions (length positions)) theirs ours

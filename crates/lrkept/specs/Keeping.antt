@@ -8,7 +8,9 @@ use Rattle.lrconflicts.specs.Moves.{Move, candidate_of}
 use Rattle.lrkept.specs.declared.keeping.Exactness.{Exactness}
 use Rattle.lrkept.specs.declared.keeping.Exactness.TheVariants as known
 use Rattle.lrkept.specs.Positions.{Position}
-use Rattle.lrkept.specs.Exchanges.{IsCertificate}
+use Rattle.lrkept.specs.declared.checking.Certificate.{Certificate}
+use Rattle.lrkept.specs.StoredPositions.{positions_of}
+use Rattle.lrkept.specs.Exchanges.{AreWon, IsCertificate}
 use Rattle.lrkept.specs.Kept.{IsKept}
 
 -- the move is kept in the cell; or it is if that is no error; or nothing is known
@@ -37,6 +39,10 @@ IsStateKeptAs e g h b s = (t : ℕ) → t < token_count g → IsCellKeptAs e g h
 pub record IsKnownOfBoth (one other both : Exactness) : Type 0 where
   pub of_one : (g : Grammar) (h : Graph) (b : Table) (s t : ℕ) (m : Move) → IsKeptAs one g h b s t m → IsKeptAs both g h b s t m
   pub of_other : (g : Grammar) (h : Graph) (b : Table) (s t : ℕ) (m : Move) → IsKeptAs other g h b s t m → IsKeptAs both g h b s t m
+
+-- each position of the certificate is won
+abbrev pub IsWon : {T : Type 0} → (T → ℕ) → Grammar → Graph → Certificate T → Type 0
+IsWon number g h c = AreWon g h (positions_of number c.listing.positions.items)
 
 -- positions certify that in the cell the second move may be made for the first
 abbrev pub IsCertified : Grammar → Graph → ℕ → ℕ → Move → Move → Type 0

@@ -10,6 +10,8 @@ pub mod Exactness
 pub mod Positions
 -- how they are won
 pub mod Exchanges
+-- cells that take all that contends for them
+pub mod Choices
 -- how well what cells refuse is kept
 pub mod Keeping
 -- what is asked at a position

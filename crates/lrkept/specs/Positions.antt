@@ -27,11 +27,11 @@ pub data Turn : Type 0 where
   -- the item is open on their stack: they read what derives the rest of its body, and reduce by it
   Open : ℕ → ℕ → Turn
   -- they go on with the token, which we have read
-  Ahead : Turn
+  Ahead : ℕ → Turn
   -- they go on with the token, which we have to read too
-  Before : Turn
+  Before : ℕ → Turn
   -- they go on behind the token, which we have to read
-  Behind : Turn
+  Behind : ℕ → Turn
 
 -- a position: the state to which what both stacks have leads, and what they and we have above that
 pub record Position : Type 0 where

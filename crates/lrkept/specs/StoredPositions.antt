@@ -36,9 +36,9 @@ ours_of number y = record {
 abbrev pub turn_of : {T : Type 0} → (T → ℕ) → stored.Turn T → Turn
 turn_of number code.Even = Even
 turn_of number (code.Open p d) = Open (number p.0) (number d.0)
-turn_of number code.Ahead = Ahead
-turn_of number code.Before = Before
-turn_of number code.Behind = Behind
+turn_of number (code.Ahead t) = Ahead (number t.0)
+turn_of number (code.Before t) = Before (number t.0)
+turn_of number (code.Behind t) = Behind (number t.0)
 
 -- a position by numbers
 abbrev pub position_of : {T : Type 0} → (T → ℕ) → kept.Position T → Position

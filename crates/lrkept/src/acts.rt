@@ -166,7 +166,7 @@ fn ask_hidden<T: IndexStorage>(
     let mark = Some(mark_with(mark, theirs[0]));
     let symbols = Vec::from_slice(grm.allocator(), ours)?;
     asked.push(Position {
-        turn: Turn::Ahead,
+        turn: deeper.turn,
         state: deeper.state,
         theirs,
         ours: Ours { symbols, mark },

@@ -6,10 +6,7 @@ use lrgrammar::idx::PIdx;
 #[derive(Clone, Copy)]
 pub enum Answer<T> {
     /// By whatever they do next.
-    Moves {
-        /// Whether a mark stands for what they reduce, where that reaches below what is named.
-        marks: bool,
-    },
+    Moves,
     /// We read the same behind the dot as they, and reduce by the item too.
     Mirror,
     /// They reduce by the item, and we do nothing.

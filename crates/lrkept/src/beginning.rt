@@ -71,8 +71,8 @@ fn ask_shifting<T: IndexStorage>(
     }
     let theirs = Vec::new(grm.allocator());
     let ours = alone(grm.allocator(), Symbol::Token(cell.1))?;
-    let start = start(Turn::Ahead, cell.0, theirs, ours);
-    let act = Act::They(Turn::Ahead, production, grm.prod_len(production));
+    let start = start(Turn::Ahead(cell.1), cell.0, theirs, ours);
+    let act = Act::They(Turn::Ahead(cell.1), production, grm.prod_len(production));
     ask_each(asked, grm, graph, ways, &start, act)
 }
 
@@ -92,7 +92,7 @@ fn ask_reducing<T: IndexStorage>(
 {
     let theirs = alone(grm.allocator(), Symbol::Token(cell.1))?;
     let ours = Vec::new(grm.allocator());
-    let start = start(Turn::Behind, cell.0, theirs, ours);
+    let start = start(Turn::Behind(cell.1), cell.0, theirs, ours);
     ask_each(asked, grm, graph, ways, &start, Act::We(production))
 }
 
@@ -138,8 +138,8 @@ fn ask_both_reducing<T: IndexStorage>(
     }
     let theirs = Vec::new(grm.allocator());
     let ours = Vec::new(grm.allocator());
-    let start = start(Turn::Before, cell.0, theirs, ours);
-    let act = Act::They(Turn::Before, production, grm.prod_len(production));
+    let start = start(Turn::Before(cell.1), cell.0, theirs, ours);
+    let act = Act::They(Turn::Before(cell.1), production, grm.prod_len(production));
     let mut firsts = Vec::new(grm.allocator());
     if !ask_each(&mut firsts, grm, graph, ways, &start, act)? {
         return Ok(false);

@@ -1,10 +1,13 @@
 //! Whether listed positions are a certificate.
 
 ghost use Rattle.std.specs.Prelude.{◌<◌, length, IsTrue, IfOk};
+ghost use Rattle.lrspec.specs.grammars.Grammar.{Grammar};
+ghost use Rattle.lrspec.specs.merging.Graph.{Graph};
 ghost use Rattle.lrsearches.specs.StoredWays.{AreWaysOf};
 ghost use Rattle.lrconflicts.specs.StoredMoves.{move_of};
-ghost use Rattle.lrkept.specs.Asked.{AreListed, IsWonAt};
-ghost use Rattle.lrkept.specs.Exchanges.{IsListed, Proceeds, Retreats, AreWon, Begins, IsCertificate};
+ghost use Rattle.lrkept.specs.Asked.{AreListed, IsWonAt, AreWonBelow};
+ghost use Rattle.lrkept.specs.Exchanges.{IsListed, Proceeds, Retreats, AreWon, Begins};
+ghost use Rattle.lrkept.specs.Keeping.{IsWon};
 ghost use Rattle.lrkept.specs.StoredPositions.{position_of, positions_of};
 
 use crate::answers::Answer;
@@ -18,15 +21,27 @@ use lrgrammar::grammar::YaccGrammar;
 use lrgrammar::idx::{IndexStorage, StIdx, TIdx};
 use lrgraphs::stategraph::StateGraph;
 use lrsearches::Ways;
-use std::alloc::AllocError;
+use std::alloc::{AllocError, Global};
 
 /// Positions, and how each is won.
 #[derive(Drop)]
 pub struct Certificate<T> {
     /// The positions.
-    pub listing: Listing<T>,
+    pub(crate) listing: Listing<T>,
     /// For each how it is won.
-    pub answers: Vec<Answer<T>>,
+    pub(crate) answers: Vec<Answer<T>>,
+}
+
+impl<T: IndexStorage> Certificate<T> {
+    /// No positions: each of them is won.
+    pub fn new(alloc: Global) -> Result<Certificate<T>, AllocError>
+        ensures { IfOk result (λ c. (g : Grammar) (h : Graph) → IsWon T.number g h c) }
+    {
+        Ok(Certificate {
+            listing: Listing::new(alloc)?,
+            answers: Vec::new(alloc),
+        })
+    }
 }
 
 /// Whether all the positions are won at once, or are some of so many first ones.
@@ -54,17 +69,16 @@ fn proceeds<T: IndexStorage>(
     grm: &YaccGrammar<T>,
     graph: &StateGraph<T>,
     ways: &Ways<T>,
-    token: TIdx<T>,
     listing: &Listing<T>,
     position: &Position<T>,
     answer: Answer<T>,
 ) -> Result<bool, AllocError>
     requires { AreWaysOf T.number grm.now graph.now ways.now }
     ensures { let positions = positions_of T.number listing.now.positions.items in
-        IfOk result (λ b. IsTrue b → Proceeds grm.now graph.now (T.number token.0)
+        IfOk result (λ b. IsTrue b → Proceeds grm.now graph.now
         (IsListed graph.now positions (length positions)) (position_of T.number position.now)) }
 {
-    match proceeding(grm, graph, ways, token, position, answer)? {
+    match proceeding(grm, graph, ways, position, answer)? {
         Some(asked) => {
             let bound = listing.positions.len();
             are_listed(grm, graph, listing, asked.as_slice(), bound)
@@ -99,14 +113,13 @@ fn is_won<T: IndexStorage>(
     grm: &YaccGrammar<T>,
     graph: &StateGraph<T>,
     ways: &Ways<T>,
-    token: TIdx<T>,
     listing: &Listing<T>,
     place: usize,
     answer: Answer<T>,
 ) -> Result<bool, AllocError>
     requires ways { AreWaysOf T.number grm.now graph.now ways.now }
     requires place { place < length listing.now.positions.items }
-    ensures { IfOk result (λ b. IsTrue b → IsWonAt grm.now graph.now (T.number token.0)
+    ensures { IfOk result (λ b. IsTrue b → IsWonAt grm.now graph.now
         (positions_of T.number listing.now.positions.items) place) }
 {
     let position = &listing.positions[place];
@@ -114,20 +127,22 @@ fn is_won<T: IndexStorage>(
         Answer::Own(_) | Answer::Unmark => {
             retreats(grm, graph, ways, listing, place, position, answer)
         }
-        _ => proceeds(grm, graph, ways, token, listing, position, answer),
+        _ => proceeds(grm, graph, ways, listing, position, answer),
     }
 }
 
-/// Whether each listed position is won.
-fn are_won<T: IndexStorage>(
+/// Whether each listed position is won, where the first ones are.
+pub(crate) fn are_won<T: IndexStorage>(
     grm: &YaccGrammar<T>,
     graph: &StateGraph<T>,
     ways: &Ways<T>,
-    token: TIdx<T>,
     certificate: &Certificate<T>,
+    first: usize,
 ) -> Result<bool, AllocError>
-    requires { AreWaysOf T.number grm.now graph.now ways.now }
-    ensures { IfOk result (λ b. IsTrue b → AreWon grm.now graph.now (T.number token.0)
+    requires ways { AreWaysOf T.number grm.now graph.now ways.now }
+    requires first { AreWonBelow grm.now graph.now
+        (positions_of T.number certificate.now.listing.positions.items) first }
+    ensures { IfOk result (λ b. IsTrue b → AreWon grm.now graph.now
         (positions_of T.number certificate.now.listing.positions.items)) }
 {
     let listing = &certificate.listing;
@@ -135,9 +150,9 @@ fn are_won<T: IndexStorage>(
     if certificate.answers.len() != count {
         return Ok(false);
     }
-    for place in 0..count {
+    for place in first..count {
         let answer = certificate.answers[place];
-        if !is_won(grm, graph, ways, token, listing, place, answer)? {
+        if !is_won(grm, graph, ways, listing, place, answer)? {
             return Ok(false);
         }
     }
@@ -145,7 +160,7 @@ fn are_won<T: IndexStorage>(
 }
 
 /// Whether what is asked of the cell is listed, for which they make the first move and we the second one.
-fn begins<T: IndexStorage>(
+pub(crate) fn begins<T: IndexStorage>(
     grm: &YaccGrammar<T>,
     graph: &StateGraph<T>,
     ways: &Ways<T>,
@@ -167,26 +182,4 @@ fn begins<T: IndexStorage>(
         }
         None => Ok(false),
     }
-}
-
-/// Whether the positions show that the second move may be made for the first one in the state on the token.
-pub(crate) fn is_certificate<T: IndexStorage>(
-    grm: &YaccGrammar<T>,
-    graph: &StateGraph<T>,
-    ways: &Ways<T>,
-    cell: (StIdx<T>, TIdx<T>),
-    theirs: Move<T>,
-    ours: Move<T>,
-    certificate: &Certificate<T>,
-) -> Result<bool, AllocError>
-    requires { AreWaysOf T.number grm.now graph.now ways.now }
-    ensures { IfOk result (λ b. IsTrue b → IsCertificate grm.now graph.now (T.number cell.0.0)
-        (T.number cell.1.0) (move_of T.number theirs) (move_of T.number ours)
-        (positions_of T.number certificate.now.listing.positions.items)) }
-{
-    let listing = &certificate.listing;
-    if !begins(grm, graph, ways, cell, theirs, ours, listing)? {
-        return Ok(false);
-    }
-    are_won(grm, graph, ways, cell.1, certificate)
 }

@@ -13,7 +13,7 @@ use crate::retreating::retreating;
 use crate::sinking::sunk;
 use crate::winning::{Node, Tried, Won, all_won, are_set, places_won, used};
 use lrgrammar::grammar::YaccGrammar;
-use lrgrammar::idx::{IndexStorage, TIdx};
+use lrgrammar::idx::IndexStorage;
 use lrgraphs::stategraph::StateGraph;
 use lrsearches::Ways;
 use std::alloc::{AllocError, Global};
@@ -27,12 +27,21 @@ pub(crate) struct Board<'a, T: IndexStorage> {
     pub(crate) grm: &'a YaccGrammar<T>,
     pub(crate) graph: &'a StateGraph<T>,
     pub(crate) ways: &'a Ways<T>,
+    /// Positions that were won before.
+    pub(crate) won: &'a Listing<T>,
+}
+
+impl<T: IndexStorage> Board<'_, T> {
+    /// Whether the position needs no answer: they have just what we have there, or it was won before.
+    fn is_won(self, position: &Position<T>) -> bool {
+        is_same(position) || self.won.find(position).is_some()
+    }
 }
 
 /// The same answer.
 fn same<T: IndexStorage>(answer: &Answer<T>) -> Answer<T> {
     match answer {
-        Answer::Moves { marks } => Answer::Moves { marks: *marks },
+        Answer::Moves => Answer::Moves,
         Answer::Mirror => Answer::Mirror,
         Answer::Release => Answer::Release,
         Answer::Step => Answer::Step,
@@ -42,10 +51,9 @@ fn same<T: IndexStorage>(answer: &Answer<T>) -> Answer<T> {
     }
 }
 
-/// What is asked by the answer, where the token is next; None where it can't be given.
+/// What is asked by the answer; None where it can't be given.
 fn asked<T: IndexStorage>(
     board: Board<'_, T>,
-    token: TIdx<T>,
     position: &Position<T>,
     answer: Answer<T>,
 ) -> Result<Option<Vec<Position<T>>>, AllocError>
@@ -55,7 +63,7 @@ fn asked<T: IndexStorage>(
         Answer::Own(_) | Answer::Unmark => {
             retreating(board.grm, board.graph, board.ways, position, answer)
         }
-        _ => proceeding(board.grm, board.graph, board.ways, token, position, answer),
+        _ => proceeding(board.grm, board.graph, board.ways, position, answer),
     }
 }
 
@@ -66,7 +74,7 @@ fn size_of<T: IndexStorage>(
     position: &Position<T>,
 ) -> Result<Option<usize>, AllocError> {
     let low = sunk(board.grm, board.graph, position)?;
-    if is_same(&low) {
+    if board.is_won(&low) {
         return Ok(Some(0));
     }
     let longer = low.theirs.len().max(low.ours.symbols.len());
@@ -94,13 +102,12 @@ fn greatest_size<T: IndexStorage>(
 /// The greatest size of what is asked by the answer; None where it can't be given, or one is not looked at.
 fn size_by<T: IndexStorage>(
     board: Board<'_, T>,
-    token: TIdx<T>,
     position: &Position<T>,
     answer: Answer<T>,
 ) -> Result<Option<usize>, AllocError>
     requires { AreWaysOf T.number board.grm.now board.graph.now board.ways.now }
 {
-    match asked(board, token, position, answer)? {
+    match asked(board, position, answer)? {
         Some(asked) => greatest_size(board, asked.as_slice()),
         None => Ok(None),
     }
@@ -109,7 +116,6 @@ fn size_by<T: IndexStorage>(
 /// The answers that may be given at the position, the likeliest last: the one that asks for the shortest stacks.
 fn answers_in_turn<T: IndexStorage>(
     board: Board<'_, T>,
-    token: TIdx<T>,
     position: &Position<T>,
 ) -> Result<Vec<Answer<T>>, AllocError>
     requires { AreWaysOf T.number board.grm.now board.graph.now board.ways.now }
@@ -118,7 +124,7 @@ fn answers_in_turn<T: IndexStorage>(
     let answers = possible(board.grm, board.graph, position)?;
     let mut sizes: Vec<(usize, usize)> = Vec::new(alloc);
     for number in 0..answers.len() {
-        let Some(size) = size_by(board, token, position, answers[number])? else {
+        let Some(size) = size_by(board, position, answers[number])? else {
             continue;
         };
         sizes.push((size, answers.len() - number))?;
@@ -155,7 +161,7 @@ fn place_of<T: IndexStorage>(
     Ok(place)
 }
 
-/// The places of those of the positions that are not won at once; those that were not listed are added.
+/// The places of those of the positions that need an answer; those that were not listed are added.
 pub(crate) fn places_of<T: IndexStorage>(
     listing: &mut Listing<T>,
     board: Board<'_, T>,
@@ -164,7 +170,7 @@ pub(crate) fn places_of<T: IndexStorage>(
     let mut places = Vec::new(board.grm.allocator());
     for position in asked {
         let low = sunk(board.grm, board.graph, position)?;
-        if is_same(&low) {
+        if board.is_won(&low) {
             continue;
         }
         let place = place_of(listing, low)?;
@@ -178,7 +184,6 @@ fn give_next<T: IndexStorage>(
     listing: &mut Listing<T>,
     nodes: &mut Vec<Node<T>>,
     board: Board<'_, T>,
-    token: TIdx<T>,
     place: usize,
 ) -> Result<bool, AllocError>
     requires { AreWaysOf T.number board.grm.now board.graph.now board.ways.now }
@@ -189,7 +194,7 @@ fn give_next<T: IndexStorage>(
     let Some(answer) = nodes[place].waiting.pop() else {
         return Ok(false);
     };
-    let Some(asked) = asked(board, token, &listing.positions[place], same(&answer))? else {
+    let Some(asked) = asked(board, &listing.positions[place], same(&answer))? else {
         return Ok(false);
     };
     let asks = places_of(listing, board, asked.as_slice())?;
@@ -202,7 +207,6 @@ fn look_at_next<T: IndexStorage>(
     listing: &mut Listing<T>,
     nodes: &mut Vec<Node<T>>,
     board: Board<'_, T>,
-    token: TIdx<T>,
 ) -> Result<(), AllocError>
     requires { AreWaysOf T.number board.grm.now board.graph.now board.ways.now }
 {
@@ -210,10 +214,10 @@ fn look_at_next<T: IndexStorage>(
     if place >= listing.positions.len() {
         return Ok(());
     }
-    let waiting = answers_in_turn(board, token, &listing.positions[place])?;
+    let waiting = answers_in_turn(board, &listing.positions[place])?;
     let tried = Vec::new(board.grm.allocator());
     nodes.push(Node { waiting, tried })?;
-    give_next(listing, nodes, board, token, place)?;
+    give_next(listing, nodes, board, place)?;
     Ok(())
 }
 
@@ -222,7 +226,6 @@ fn look_at_all<T: IndexStorage>(
     listing: &mut Listing<T>,
     nodes: &mut Vec<Node<T>>,
     board: Board<'_, T>,
-    token: TIdx<T>,
     most: usize,
 ) -> Result<bool, AllocError>
     requires { AreWaysOf T.number board.grm.now board.graph.now board.ways.now }
@@ -231,7 +234,7 @@ fn look_at_all<T: IndexStorage>(
         if nodes.len() >= listing.positions.len() {
             return Ok(true);
         }
-        look_at_next(listing, nodes, board, token)?;
+        look_at_next(listing, nodes, board)?;
     }
     Ok(nodes.len() >= listing.positions.len())
 }
@@ -241,7 +244,6 @@ fn give_others<T: IndexStorage>(
     listing: &mut Listing<T>,
     nodes: &mut Vec<Node<T>>,
     board: Board<'_, T>,
-    token: TIdx<T>,
     are_won: &[bool],
 ) -> Result<bool, AllocError>
     requires { AreWaysOf T.number board.grm.now board.graph.now board.ways.now }
@@ -251,7 +253,7 @@ fn give_others<T: IndexStorage>(
         if are_won[place] {
             continue;
         }
-        let given = give_next(listing, nodes, board, token, place)?;
+        let given = give_next(listing, nodes, board, place)?;
         some = some || given;
     }
     Ok(some)
@@ -263,7 +265,6 @@ pub(crate) fn play<T: IndexStorage>(
     listing: &mut Listing<T>,
     nodes: &mut Vec<Node<T>>,
     board: Board<'_, T>,
-    token: TIdx<T>,
     roots: &[usize],
     most: usize,
 ) -> Result<Option<Vec<Won>>, AllocError>
@@ -272,7 +273,7 @@ pub(crate) fn play<T: IndexStorage>(
     let alloc = board.grm.allocator();
     for _round in 0..most {
         let left = most.saturating_sub(nodes.len());
-        if !look_at_all(listing, nodes, board, token, left)? {
+        if !look_at_all(listing, nodes, board, left)? {
             return Ok(None);
         }
         let won = all_won(alloc, nodes.as_slice())?;
@@ -281,7 +282,7 @@ pub(crate) fn play<T: IndexStorage>(
             let used = used(alloc, nodes.as_slice(), won.as_slice(), roots)?;
             return Ok(Some(used));
         }
-        if !give_others(listing, nodes, board, token, are_won.as_slice())? {
+        if !give_others(listing, nodes, board, are_won.as_slice())? {
             return Ok(None);
         }
     }

@@ -1,6 +1,6 @@
 //! Whether what the cells of a table refuse is kept.
 
-ghost use Rattle.std.specs.Prelude.{◌≡◌, ◌≢◌, ◌<◌, ◌↔◌, ℕ, length, IfOk, IfSome, IsTrue};
+ghost use Rattle.std.specs.Prelude.{◌≡◌, ◌≢◌, ◌<◌, ℕ, length, IfOk, IfSome, IsTrue, OnOk};
 ghost use Rattle.lrspec.specs.merging.Graph.{IsGraphOf};
 ghost use Rattle.lrspec.specs.tables.Table.{action_of, IsTableOf};
 ghost use Rattle.lrspec.specs.tables.Table as math;
@@ -10,9 +10,10 @@ ghost use Rattle.lrconflicts.specs.StoredMoves.{move_of, moves_stored};
 ghost use Rattle.lrsearches.specs.StoredWays.{AreWaysOf};
 ghost use Rattle.lrlosses.specs.Losses.{Takes};
 ghost use Rattle.lrkept.specs.declared.keeping.Exactness.TheVariants as known;
-ghost use Rattle.lrkept.specs.Keeping.{IsCertified, IsKeptAs, IsKnownOf, AreKnownOf, IsStateKeptAs, IsKnownOfBoth};
+ghost use Rattle.lrkept.specs.Keeping.{IsWon, IsCertified, IsKeptAs, IsKnownOf, AreKnownOf, IsStateKeptAs, IsKnownOfBoth};
 
-use crate::checking::is_certificate;
+use crate::checking::{Certificate, are_won, begins};
+use crate::choices::takes;
 use crate::search::search;
 use lrcells::statetable::StateTable;
 use lrconflicts::Move;
@@ -60,17 +61,6 @@ pub(crate) struct Tabled<'a, T: IndexStorage> {
     pub(crate) ways: &'a Ways<T>,
 }
 
-/// Whether what the cell says is this move.
-fn takes<T: IndexStorage>(cell: Action<T>, action: Move<T>) -> bool
-    ensures { IsTrue result ↔ Takes (stored_action T.number cell) (move_of T.number action) }
-{
-    match (cell, action) {
-        (Action::Shift(_), Move::Shift) => true,
-        (Action::Reduce(one), Move::Reduce(other)) => one == other,
-        _ => false,
-    }
-}
-
 /// The move that the cell takes, if it takes one.
 fn taken<T: IndexStorage>(cell: Action<T>) -> Option<Move<T>>
     ensures { IfSome result (λ m. Takes (stored_action T.number cell) (move_of T.number m)) }
@@ -93,35 +83,37 @@ fn known_without<T: IndexStorage>(cell: Action<T>) -> Exactness
     }
 }
 
-/// Whether a certificate is found and checked, which shows that in the cell the second move may be made for the first. The search
-/// looks at as many positions as are left of those that are allowed, and takes them from these.
+/// Whether positions are found and checked which show that in the cell the second move may be made for the first: they are added
+/// to the certificate. The search looks at as many positions as are left of those that are allowed, and takes them from these.
 fn is_certified<T: IndexStorage>(
     tabled: Tabled<'_, T>,
     cell: (StIdx<T>, TIdx<T>),
     theirs: Move<T>,
     ours: Move<T>,
+    certificate: &mut Certificate<T>,
     left: &mut usize,
 ) -> Result<bool, AllocError>
     requires graph { IsGraphOf tabled.grm.now tabled.graph.now }
     requires ways { AreWaysOf T.number tabled.grm.now tabled.graph.now tabled.ways.now }
     requires state { T.number cell.0.0 < length tabled.graph.now }
-    ensures { IfOk result (λ b. IsTrue b → IsCertified tabled.entry.grm.now
-        tabled.entry.graph.now (T.number cell.0.0) (T.number cell.1.0) (move_of T.number theirs) (move_of T.number ours)) }
+    requires won { IsWon T.number tabled.grm.now tabled.graph.now certificate.old }
+    ensures won { OnOk result (IsWon T.number tabled.entry.grm.now tabled.entry.graph.now
+        certificate.new) }
+    ensures certified { IfOk result (λ b. IsTrue b → IsCertified tabled.entry.grm.now
+        tabled.entry.graph.now (T.number cell.0.0) (T.number cell.1.0) (move_of T.number theirs)
+        (move_of T.number ours)) }
 {
     let grm = tabled.grm;
-    let found = search(grm, tabled.graph, tabled.ways, cell, theirs, ours, left)?;
-    let Some(certificate) = found else {
+    let graph = tabled.graph;
+    let ways = tabled.ways;
+    let first = certificate.listing.positions.len();
+    search(grm, graph, ways, cell, theirs, ours, certificate, left)?;
+    if !are_won(grm, graph, ways, certificate, first)? {
+        *certificate = Certificate::new(grm.allocator())?;
         return Ok(false);
-    };
-    is_certificate(
-        grm,
-        tabled.graph,
-        tabled.ways,
-        cell,
-        theirs,
-        ours,
-        &certificate,
-    )
+    }
+    let begins = begins(grm, graph, ways, cell, theirs, ours, &certificate.listing)?;
+    Ok(begins)
 }
 
 /// What is known of the move in the cell.
@@ -129,13 +121,17 @@ pub(crate) fn kept_as<T: IndexStorage>(
     tabled: Tabled<'_, T>,
     cell: (StIdx<T>, TIdx<T>),
     theirs: Move<T>,
+    certificate: &mut Certificate<T>,
     left: &mut usize,
 ) -> Result<Exactness, AllocError>
     requires graph { IsGraphOf tabled.grm.now tabled.graph.now }
     requires table { IsTableOf tabled.grm.now tabled.graph.now tabled.table.now }
     requires ways { AreWaysOf T.number tabled.grm.now tabled.graph.now tabled.ways.now }
     requires state { T.number cell.0.0 < length tabled.graph.now }
-    ensures { IfOk result (λ e. IsKeptAs e tabled.entry.grm.now tabled.entry.graph.now
+    requires won { IsWon T.number tabled.grm.now tabled.graph.now certificate.old }
+    ensures won { OnOk result (IsWon T.number tabled.entry.grm.now tabled.entry.graph.now
+        certificate.new) }
+    ensures known { IfOk result (λ e. IsKeptAs e tabled.entry.grm.now tabled.entry.graph.now
         tabled.entry.table.now (T.number cell.0.0) (T.number cell.1.0)
         (move_of T.number theirs)) }
 {
@@ -148,7 +144,7 @@ pub(crate) fn kept_as<T: IndexStorage>(
     let Some(ours) = taken(action) else {
         return Ok(known_without(action));
     };
-    if is_certified(tabled, cell, theirs, ours, left)? {
+    if is_certified(tabled, cell, theirs, ours, certificate, left)? {
         return Ok(Exactness::Exact);
     }
     Ok(Exactness::Open)
@@ -169,20 +165,24 @@ fn known_of<T: IndexStorage>(
     tabled: Tabled<'_, T>,
     cell: (StIdx<T>, TIdx<T>),
     theirs: Move<T>,
+    certificate: &mut Certificate<T>,
     left: &mut usize,
 ) -> Result<Exactness, AllocError>
     requires graph { IsGraphOf tabled.grm.now tabled.graph.now }
     requires table { IsTableOf tabled.grm.now tabled.graph.now tabled.table.now }
     requires ways { AreWaysOf T.number tabled.grm.now tabled.graph.now tabled.ways.now }
     requires state { T.number cell.0.0 < length tabled.graph.now }
-    ensures { IfOk result (λ e. IsKnownOf e tabled.entry.grm.now tabled.entry.graph.now
+    requires won { IsWon T.number tabled.grm.now tabled.graph.now certificate.old }
+    ensures won { OnOk result (IsWon T.number tabled.entry.grm.now tabled.entry.graph.now
+        certificate.new) }
+    ensures known { IfOk result (λ e. IsKnownOf e tabled.entry.grm.now tabled.entry.graph.now
         tabled.entry.table.now (T.number cell.0.0) (T.number cell.1.0)
         (move_of T.number theirs)) }
 {
     if is_by_start(tabled.grm, theirs) {
         return Ok(Exactness::Exact);
     }
-    kept_as(tabled, cell, theirs, left)
+    kept_as(tabled, cell, theirs, certificate, left)
 }
 
 /// What is known of all the moves in the cell.
@@ -190,19 +190,23 @@ fn all_known_of<T: IndexStorage>(
     tabled: Tabled<'_, T>,
     cell: (StIdx<T>, TIdx<T>),
     moves: &[Move<T>],
+    certificate: &mut Certificate<T>,
     left: &mut usize,
 ) -> Result<Exactness, AllocError>
     requires graph { IsGraphOf tabled.grm.now tabled.graph.now }
     requires table { IsTableOf tabled.grm.now tabled.graph.now tabled.table.now }
     requires ways { AreWaysOf T.number tabled.grm.now tabled.graph.now tabled.ways.now }
     requires state { T.number cell.0.0 < length tabled.graph.now }
-    ensures { IfOk result (λ e. AreKnownOf e tabled.entry.grm.now tabled.entry.graph.now
+    requires won { IsWon T.number tabled.grm.now tabled.graph.now certificate.old }
+    ensures won { OnOk result (IsWon T.number tabled.entry.grm.now tabled.entry.graph.now
+        certificate.new) }
+    ensures known { IfOk result (λ e. AreKnownOf e tabled.entry.grm.now tabled.entry.graph.now
         tabled.entry.table.now (T.number cell.0.0) (T.number cell.1.0)
         (moves_stored T.number moves.now)) }
 {
     let mut known = Exactness::Exact;
     for theirs in moves {
-        let of_this = known_of(tabled, cell, *theirs, left)?;
+        let of_this = known_of(tabled, cell, *theirs, certificate, left)?;
         known = known.and(of_this);
     }
     Ok(known)
@@ -212,13 +216,17 @@ fn all_known_of<T: IndexStorage>(
 fn state_kept_as<T: IndexStorage>(
     tabled: Tabled<'_, T>,
     state: StIdx<T>,
+    certificate: &mut Certificate<T>,
     left: &mut usize,
 ) -> Result<Exactness, AllocError>
     requires graph { IsGraphOf tabled.grm.now tabled.graph.now }
     requires table { IsTableOf tabled.grm.now tabled.graph.now tabled.table.now }
     requires ways { AreWaysOf T.number tabled.grm.now tabled.graph.now tabled.ways.now }
     requires state { T.number state.0 < length tabled.graph.now }
-    ensures { IfOk result (λ e. IsStateKeptAs e tabled.entry.grm.now tabled.entry.graph.now
+    requires won { IsWon T.number tabled.grm.now tabled.graph.now certificate.old }
+    ensures won { OnOk result (IsWon T.number tabled.entry.grm.now tabled.entry.graph.now
+        certificate.new) }
+    ensures known { IfOk result (λ e. IsStateKeptAs e tabled.entry.grm.now tabled.entry.graph.now
         tabled.entry.table.now (T.number state.0)) }
 {
     let grm = tabled.grm;
@@ -227,7 +235,7 @@ fn state_kept_as<T: IndexStorage>(
     for number in 0..grm.tokens_len().0.to_usize() {
         let token = TIdx(T::from_usize(number).unwrap());
         let moves = contenders(grm, tabled.graph, state, completes.as_slice(), token)?;
-        let of_this = all_known_of(tabled, (state, token), moves.as_slice(), left)?;
+        let of_this = all_known_of(tabled, (state, token), moves.as_slice(), certificate, left)?;
         known = known.and(of_this);
         if known == Exactness::Open {
             return Ok(Exactness::Open);
@@ -239,18 +247,22 @@ fn state_kept_as<T: IndexStorage>(
 /// What is known of all moves in each cell of the table.
 pub(crate) fn table_kept_as<T: IndexStorage>(
     tabled: Tabled<'_, T>,
+    certificate: &mut Certificate<T>,
     left: &mut usize,
 ) -> Result<Exactness, AllocError>
     requires graph { IsGraphOf tabled.grm.now tabled.graph.now }
     requires table { IsTableOf tabled.grm.now tabled.graph.now tabled.table.now }
     requires ways { AreWaysOf T.number tabled.grm.now tabled.graph.now tabled.ways.now }
-    ensures { IfOk result (λ e. (s : ℕ) → s < length tabled.entry.graph.now
+    requires won { IsWon T.number tabled.grm.now tabled.graph.now certificate.old }
+    ensures won { OnOk result (IsWon T.number tabled.entry.grm.now tabled.entry.graph.now
+        certificate.new) }
+    ensures known { IfOk result (λ e. (s : ℕ) → s < length tabled.entry.graph.now
         → IsStateKeptAs e tabled.entry.grm.now tabled.entry.graph.now tabled.entry.table.now s) }
 {
     let mut known = Exactness::Exact;
     for number in 0..tabled.graph.all_states_len().0.to_usize() {
         let state = StIdx(T::from_usize(number).unwrap());
-        let of_this = state_kept_as(tabled, state, left)?;
+        let of_this = state_kept_as(tabled, state, certificate, left)?;
         known = known.and(of_this);
         if known == Exactness::Open {
             return Ok(Exactness::Open);

@@ -9,6 +9,7 @@ mod answers;
 mod beginning;
 mod below;
 mod checking;
+mod choices;
 mod cuts;
 mod games;
 mod keeping;
@@ -26,5 +27,6 @@ mod tops;
 mod winning;
 
 pub use crate::acyclicity::is_acyclic;
+pub use crate::checking::Certificate;
 pub use crate::keeping::Exactness;
 pub use crate::tables::{exactness, is_kept};

@@ -1,6 +1,6 @@
 //! Positions that are listed, and which of these a position is.
 
-ghost use Rattle.std.specs.Prelude.{◌≡◌, Some, slice_get, option_map, IsTrue, IfOk, IfSome};
+ghost use Rattle.std.specs.Prelude.{◌≡◌, ◌∷◌, ◌++◌, [], Some, slice_get, option_map, IsTrue, IfOk, IfSome, OnOk};
 ghost use Rattle.lrkept.specs.Exchanges.{IsLevel, IsSame, IsListed};
 ghost use Rattle.lrkept.specs.StoredPositions.{mark_of, turn_of, ours_of, position_of, positions_of};
 
@@ -14,7 +14,7 @@ use lrgraphs::stategraph::StateGraph;
 use std::alloc::{AllocError, Global};
 
 /// In how many rows the places of positions are kept.
-const ROWS: usize = 1024;
+const ROWS: usize = 8192;
 
 /// Positions, with their places in rows by what tells them apart.
 #[derive(Drop)]
@@ -34,9 +34,9 @@ fn is_same_turn<T: IndexStorage>(a: Turn<T>, b: Turn<T>) -> bool
         (Turn::Open(production, dot), Turn::Open(other, place)) => {
             usize::from(production) == usize::from(other) && usize::from(dot) == usize::from(place)
         }
-        (Turn::Ahead, Turn::Ahead) => true,
-        (Turn::Before, Turn::Before) => true,
-        (Turn::Behind, Turn::Behind) => true,
+        (Turn::Ahead(token), Turn::Ahead(other)) => usize::from(token) == usize::from(other),
+        (Turn::Before(token), Turn::Before(other)) => usize::from(token) == usize::from(other),
+        (Turn::Behind(token), Turn::Behind(other)) => usize::from(token) == usize::from(other),
         _ => false,
     }
 }
@@ -94,9 +94,9 @@ fn is_level<T: IndexStorage>(turn: Turn<T>) -> bool
     match turn {
         Turn::Even => true,
         Turn::Open(_, _) => true,
-        Turn::Before => true,
-        Turn::Ahead => false,
-        Turn::Behind => false,
+        Turn::Before(_) => true,
+        Turn::Ahead(_) => false,
+        Turn::Behind(_) => false,
     }
 }
 
@@ -131,9 +131,9 @@ fn print_of_turn<T: IndexStorage>(turn: Turn<T>) -> usize {
             .wrapping_mul(31)
             .wrapping_add(usize::from(dot))
             .wrapping_add(5),
-        Turn::Ahead => 2,
-        Turn::Before => 3,
-        Turn::Behind => 4,
+        Turn::Ahead(token) => usize::from(token).wrapping_add(2),
+        Turn::Before(token) => usize::from(token).wrapping_add(3),
+        Turn::Behind(token) => usize::from(token).wrapping_add(4),
     }
 }
 
@@ -155,7 +155,9 @@ fn empty_rows(alloc: Global, count: usize) -> Result<Vec<Vec<usize>>, AllocError
 
 impl<T: IndexStorage> Listing<T> {
     /// No positions.
-    pub fn new(alloc: Global) -> Result<Listing<T>, AllocError> {
+    pub fn new(alloc: Global) -> Result<Listing<T>, AllocError>
+        ensures { IfOk result (λ l. positions_of T.number l.positions.items ≡ []) }
+    {
         Ok(Listing {
             positions: Vec::new(alloc),
             rows: empty_rows(alloc, ROWS)?,
@@ -201,8 +203,12 @@ impl<T: IndexStorage> Listing<T> {
         Ok(place < bound)
     }
 
-    /// Adds the position.
-    pub fn add(&mut self, position: Position<T>) -> Result<(), AllocError> {
+    /// Adds the position behind the others.
+    pub fn add(&mut self, position: Position<T>) -> Result<(), AllocError>
+        ensures { OnOk result (positions_of T.number self.new.positions.items
+            ≡ positions_of T.number self.old.positions.items
+            ++ position_of T.number position ∷ []) }
+    {
         let row = row_of(&position);
         if row < self.rows.len() {
             self.rows[row].push(self.positions.len())?;

@@ -6,7 +6,7 @@ ghost use Rattle.lrspec.specs.merging.Graph.{edge};
 ghost use Rattle.lrsearches.specs.StoredWays.{AreWaysOf};
 ghost use Rattle.lrkept.specs.Asked.{KeepsPositions, TakesShift, TakesStart, TakesReductions, TakesReductionsBy, OpensItems, GoesAhead, GoesBefore};
 ghost use Rattle.lrkept.specs.Exchanges.{IsMarkOf, IsDeep, TakesReduction};
-ghost use Rattle.lrkept.specs.Positions.{Ahead};
+ghost use Rattle.lrkept.specs.Asked.{IsAhead};
 ghost use Rattle.lrkept.specs.StoredPositions.{mark_of, turn_of, position_of, positions_of};
 
 use crate::acts::{Act, ask_each};
@@ -46,17 +46,17 @@ fn bottom_mark<T: IndexStorage>(position: &Position<T>) -> Option<Mark<T>>
 }
 
 /// The mark that may stand for what they reduce to a symbol, where they go on with the token and the production is long enough.
-fn mark_for<T: IndexStorage>(position: &Position<T>, len: SIdx<T>, marks: bool) -> Option<Mark<T>>
-    ensures ahead { IfSome result (λ m. (position_of T.number position.now).turn ≡ Ahead) }
+fn mark_for<T: IndexStorage>(position: &Position<T>, len: SIdx<T>) -> Option<Mark<T>>
+    ensures ahead { IfSome result (λ m. IsAhead (position_of T.number position.now)) }
     ensures mark { IfSome result (λ m. IsMarkOf (position_of T.number position.now)
         (mark_of T.number m)) }
 {
-    if !marks || usize::from(len) <= position.theirs.len() {
+    if usize::from(len) <= position.theirs.len() {
         return None;
     }
     match position.turn {
-        Turn::Ahead => bottom_mark(position),
-        Turn::Even | Turn::Open(_, _) | Turn::Before | Turn::Behind => None,
+        Turn::Ahead(_) => bottom_mark(position),
+        Turn::Even | Turn::Open(_, _) | Turn::Before(_) | Turn::Behind(_) => None,
     }
 }
 
@@ -68,7 +68,6 @@ fn ask_reduction<T: IndexStorage>(
     ways: &Ways<T>,
     position: &Position<T>,
     production: PIdx<T>,
-    marks: bool,
 ) -> Result<bool, AllocError>
     requires { AreWaysOf T.number grm.now graph.now ways.now }
     ensures kept { OnOk result (KeepsPositions (positions_of T.number asked.old.items)
@@ -81,7 +80,7 @@ fn ask_reduction<T: IndexStorage>(
         return Ok(false);
     }
     let len = grm.prod_len(production);
-    match mark_for(position, len, marks) {
+    match mark_for(position, len) {
         Some(mark) => {
             let act = Act::Hide(production, mark);
             ask_each(asked, grm, graph, ways, position, act)
@@ -101,7 +100,6 @@ fn ask_reductions_by<T: IndexStorage>(
     ways: &Ways<T>,
     position: &Position<T>,
     productions: &[PIdx<T>],
-    marks: bool,
 ) -> Result<bool, AllocError>
     requires { AreWaysOf T.number grm.now graph.now ways.now }
     ensures kept { OnOk result (KeepsPositions (positions_of T.number asked.old.items)
@@ -111,7 +109,7 @@ fn ask_reductions_by<T: IndexStorage>(
         (position_of T.number position.now)) }
 {
     for production in productions {
-        if !ask_reduction(asked, grm, graph, ways, position, *production, marks)? {
+        if !ask_reduction(asked, grm, graph, ways, position, *production)? {
             return Ok(false);
         }
     }
@@ -126,7 +124,6 @@ fn ask_reductions<T: IndexStorage>(
     ways: &Ways<T>,
     token: TIdx<T>,
     position: &Position<T>,
-    marks: bool,
 ) -> Result<bool, AllocError>
     requires { AreWaysOf T.number grm.now graph.now ways.now }
     ensures kept { OnOk result (KeepsPositions (positions_of T.number asked.old.items)
@@ -143,7 +140,7 @@ fn ask_reductions<T: IndexStorage>(
     }
     let productions = reductions_on(grm, graph, top, token)?;
     let those = productions.as_slice();
-    ask_reductions_by(asked, grm, graph, ways, position, those, marks)
+    ask_reductions_by(asked, grm, graph, ways, position, those)
 }
 
 /// Whether the state shifts the token.
@@ -194,7 +191,6 @@ pub(crate) fn ask_ahead<T: IndexStorage>(
     ways: &Ways<T>,
     token: TIdx<T>,
     position: &Position<T>,
-    marks: bool,
 ) -> Result<bool, AllocError>
     requires { AreWaysOf T.number grm.now graph.now ways.now }
     ensures { IfOk result (λ b. IsTrue b → GoesAhead grm.now graph.now (T.number token.0)
@@ -203,7 +199,7 @@ pub(crate) fn ask_ahead<T: IndexStorage>(
     if !is_deep(position) {
         return Ok(false);
     }
-    if !ask_reductions(asked, grm, graph, ways, token, position, marks)? {
+    if !ask_reductions(asked, grm, graph, ways, token, position)? {
         return Ok(false);
     }
     ask_shift(asked, grm, graph, token, position, Turn::Even)?;
@@ -248,10 +244,10 @@ pub(crate) fn ask_before<T: IndexStorage>(
     if !is_deep(position) {
         return Ok(false);
     }
-    if !ask_reductions(asked, grm, graph, ways, token, position, false)? {
+    if !ask_reductions(asked, grm, graph, ways, token, position)? {
         return Ok(false);
     }
-    ask_shift(asked, grm, graph, token, position, Turn::Behind)?;
+    ask_shift(asked, grm, graph, token, position, Turn::Behind(token))?;
     ask_start(asked, grm, token, position)?;
     Ok(true)
 }

@@ -7,7 +7,7 @@ ghost use Rattle.lrkept.specs.StoredPositions.{symbols_of, mark_of, turn_of, our
 ghost use Rattle.lrkept.specs.Asked.{deepened};
 
 use crate::below::Below;
-use lrgrammar::idx::{IndexStorage, PIdx, SIdx, StIdx, Symbol};
+use lrgrammar::idx::{IndexStorage, PIdx, SIdx, StIdx, Symbol, TIdx};
 use std::alloc::{AllocError, Global};
 
 /// What stands for symbols that are not known.
@@ -40,11 +40,11 @@ pub enum Turn<T> {
     /// The item is open on their stack: they read what derives the rest of its body, and reduce by it.
     Open(PIdx<T>, SIdx<T>),
     /// They go on with the token, which we have read.
-    Ahead,
+    Ahead(TIdx<T>),
     /// They go on with the token, which we have to read too.
-    Before,
+    Before(TIdx<T>),
     /// They go on behind the token, which we have to read.
-    Behind,
+    Behind(TIdx<T>),
 }
 
 /// A position: the state to which what both stacks have leads, and what they and we have above that.

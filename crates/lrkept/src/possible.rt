@@ -78,12 +78,12 @@ pub(crate) fn possible<T: IndexStorage>(
 ) -> Result<Vec<Answer<T>>, AllocError> {
     let mut answers = Vec::new(grm.allocator());
     match position.turn {
-        Turn::Even | Turn::Ahead | Turn::Before => {
-            answers.push(Answer::Moves { marks: true })?;
+        Turn::Even | Turn::Ahead(_) | Turn::Before(_) => {
+            answers.push(Answer::Moves)?;
             return Ok(answers);
         }
         Turn::Open(production, dot) => add_open(&mut answers, grm, (production, dot))?,
-        Turn::Behind => answers.push(Answer::Read)?,
+        Turn::Behind(_) => answers.push(Answer::Read)?,
     }
     if position.ours.mark.is_some() {
         answers.push(Answer::Unmark)?;

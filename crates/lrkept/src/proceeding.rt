@@ -13,7 +13,7 @@ use crate::moving::{ask_ahead, ask_before, ask_items};
 use crate::positions::{Position, Turn, with_symbol};
 use lrclosing::items::step_over;
 use lrgrammar::grammar::YaccGrammar;
-use lrgrammar::idx::{IndexStorage, PIdx, SIdx, Symbol, TIdx};
+use lrgrammar::idx::{IndexStorage, PIdx, SIdx, Symbol};
 use lrgraphs::stategraph::StateGraph;
 use lrsearches::Ways;
 use std::alloc::AllocError;
@@ -42,19 +42,17 @@ fn ask_moves<T: IndexStorage>(
     grm: &YaccGrammar<T>,
     graph: &StateGraph<T>,
     ways: &Ways<T>,
-    token: TIdx<T>,
     position: &Position<T>,
-    marks: bool,
 ) -> Result<bool, AllocError>
     requires { AreWaysOf T.number grm.now graph.now ways.now }
-    ensures { IfOk result (λ b. IsTrue b → Proceeds grm.now graph.now (T.number token.0)
+    ensures { IfOk result (λ b. IsTrue b → Proceeds grm.now graph.now
         (Contains (positions_of T.number asked.new.items)) (position_of T.number position.now)) }
 {
     match position.turn {
         Turn::Even => ask_items(asked, grm, graph, position),
-        Turn::Ahead => ask_ahead(asked, grm, graph, ways, token, position, marks),
-        Turn::Before => ask_before(asked, grm, graph, ways, token, position),
-        Turn::Open(_, _) | Turn::Behind => Ok(false),
+        Turn::Ahead(token) => ask_ahead(asked, grm, graph, ways, token, position),
+        Turn::Before(token) => ask_before(asked, grm, graph, ways, token, position),
+        Turn::Open(_, _) | Turn::Behind(_) => Ok(false),
     }
 }
 
@@ -64,11 +62,10 @@ fn ask_mirror<T: IndexStorage>(
     grm: &YaccGrammar<T>,
     graph: &StateGraph<T>,
     ways: &Ways<T>,
-    token: TIdx<T>,
     position: &Position<T>,
 ) -> Result<bool, AllocError>
     requires { AreWaysOf T.number grm.now graph.now ways.now }
-    ensures { IfOk result (λ b. IsTrue b → Proceeds grm.now graph.now (T.number token.0)
+    ensures { IfOk result (λ b. IsTrue b → Proceeds grm.now graph.now
         (Contains (positions_of T.number asked.new.items)) (position_of T.number position.now)) }
 {
     let Some(item) = open_item(grm, position) else {
@@ -94,11 +91,10 @@ fn ask_release<T: IndexStorage>(
     grm: &YaccGrammar<T>,
     graph: &StateGraph<T>,
     ways: &Ways<T>,
-    token: TIdx<T>,
     position: &Position<T>,
 ) -> Result<bool, AllocError>
     requires { AreWaysOf T.number grm.now graph.now ways.now }
-    ensures { IfOk result (λ b. IsTrue b → Proceeds grm.now graph.now (T.number token.0)
+    ensures { IfOk result (λ b. IsTrue b → Proceeds grm.now graph.now
         (Contains (positions_of T.number asked.new.items)) (position_of T.number position.now)) }
 {
     let Some(item) = open_item(grm, position) else {
@@ -141,13 +137,12 @@ fn ask_step<T: IndexStorage>(
 fn ask_read<T: IndexStorage>(
     asked: &mut Vec<Position<T>>,
     grm: &YaccGrammar<T>,
-    token: TIdx<T>,
     position: &Position<T>,
 ) -> Result<bool, AllocError>
-    ensures { IfOk result (λ b. IsTrue b → ReadsToo (T.number token.0)
+    ensures { IfOk result (λ b. IsTrue b → ReadsToo
         (Contains (positions_of T.number asked.new.items)) (position_of T.number position.now)) }
 {
-    let Turn::Behind = position.turn else {
+    let Turn::Behind(token) = position.turn else {
         return Ok(false);
     };
     let theirs = Vec::from_slice(grm.allocator(), position.theirs.as_slice())?;
@@ -167,20 +162,19 @@ fn ask_by<T: IndexStorage>(
     grm: &YaccGrammar<T>,
     graph: &StateGraph<T>,
     ways: &Ways<T>,
-    token: TIdx<T>,
     position: &Position<T>,
     answer: Answer<T>,
 ) -> Result<bool, AllocError>
     requires { AreWaysOf T.number grm.now graph.now ways.now }
-    ensures { IfOk result (λ b. IsTrue b → Proceeds grm.now graph.now (T.number token.0)
+    ensures { IfOk result (λ b. IsTrue b → Proceeds grm.now graph.now
         (Contains (positions_of T.number asked.new.items)) (position_of T.number position.now)) }
 {
     match answer {
-        Answer::Moves { marks } => ask_moves(asked, grm, graph, ways, token, position, marks),
-        Answer::Mirror => ask_mirror(asked, grm, graph, ways, token, position),
-        Answer::Release => ask_release(asked, grm, graph, ways, token, position),
+        Answer::Moves => ask_moves(asked, grm, graph, ways, position),
+        Answer::Mirror => ask_mirror(asked, grm, graph, ways, position),
+        Answer::Release => ask_release(asked, grm, graph, ways, position),
         Answer::Step => ask_step(asked, grm, position),
-        Answer::Read => ask_read(asked, grm, token, position),
+        Answer::Read => ask_read(asked, grm, position),
         Answer::Own(_) | Answer::Unmark => Ok(false),
     }
 }
@@ -191,16 +185,15 @@ pub(crate) fn proceeding<T: IndexStorage>(
     grm: &YaccGrammar<T>,
     graph: &StateGraph<T>,
     ways: &Ways<T>,
-    token: TIdx<T>,
     position: &Position<T>,
     answer: Answer<T>,
 ) -> Result<Option<Vec<Position<T>>>, AllocError>
     requires { AreWaysOf T.number grm.now graph.now ways.now }
-    ensures { IfOk result (λ o. IfSome o (λ v. Proceeds grm.now graph.now (T.number token.0)
+    ensures { IfOk result (λ o. IfSome o (λ v. Proceeds grm.now graph.now
         (Contains (positions_of T.number v.items)) (position_of T.number position.now))) }
 {
     let mut asked = Vec::new(grm.allocator());
-    if !ask_by(&mut asked, grm, graph, ways, token, position, answer)? {
+    if !ask_by(&mut asked, grm, graph, ways, position, answer)? {
         return Ok(None);
     }
     Ok(Some(asked))

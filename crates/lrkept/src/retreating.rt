@@ -80,11 +80,9 @@ fn ask_alone<T: IndexStorage>(
             ask_each(asked, grm, graph, ways, position, Act::We(production))
         }
         Answer::Unmark => ask_unmarked(asked, grm, position),
-        Answer::Moves { marks: _ }
-        | Answer::Mirror
-        | Answer::Release
-        | Answer::Step
-        | Answer::Read => Ok(false),
+        Answer::Moves | Answer::Mirror | Answer::Release | Answer::Step | Answer::Read => {
+            Ok(false)
+        }
     }
 }
 

@@ -1,7 +1,9 @@
-//! The search for a certificate, which is checked.
+//! The search for positions that are won, which are checked.
 
-ghost use Rattle.lrspec.specs.merging.Graph.{IsGraphOf};
+ghost use Rattle.std.specs.Prelude.{OnOk};
 ghost use Rattle.lrsearches.specs.StoredWays.{AreWaysOf};
+ghost use Rattle.lrkept.specs.Asked.{AddsPositions};
+ghost use Rattle.lrkept.specs.StoredPositions.{positions_of};
 
 use crate::beginning::beginning;
 use crate::checking::Certificate;
@@ -25,7 +27,11 @@ fn add_won<T: IndexStorage>(
     listing: &Listing<T>,
     nodes: &[Node<T>],
     won: Won,
-) -> Result<(), AllocError> {
+) -> Result<(), AllocError>
+    ensures { OnOk result (AddsPositions
+        (positions_of T.number certificate.old.listing.positions.items)
+        (positions_of T.number certificate.new.listing.positions.items)) }
+{
     let Some(position) = listing.positions.get(won.place) else {
         return Ok(());
     };
@@ -42,58 +48,65 @@ fn add_won<T: IndexStorage>(
     Ok(())
 }
 
-/// The certificate of the positions that are won.
-fn certificate_of<T: IndexStorage>(
+/// Adds the positions that are won to the certificate.
+fn add_all_won<T: IndexStorage>(
+    certificate: &mut Certificate<T>,
     alloc: Global,
     listing: &Listing<T>,
     nodes: &[Node<T>],
     won: &[Won],
-) -> Result<Certificate<T>, AllocError> {
-    let mut certificate = Certificate {
-        listing: Listing::new(alloc)?,
-        answers: Vec::new(alloc),
-    };
+) -> Result<(), AllocError>
+    ensures { OnOk result (AddsPositions
+        (positions_of T.number certificate.old.listing.positions.items)
+        (positions_of T.number certificate.new.listing.positions.items)) }
+{
     for one in won {
-        add_won(&mut certificate, alloc, listing, nodes, *one)?;
+        add_won(certificate, alloc, listing, nodes, *one)?;
     }
-    Ok(certificate)
+    Ok(())
 }
 
-/// Positions with their answers which are to show that in the cell the second move may be made for the first, if they are found
-/// by looking at as many as are left of those that are allowed, from which they are taken.
-pub(crate) fn search<'a, T: IndexStorage>(
-    grm: &'a YaccGrammar<T>,
-    graph: &'a StateGraph<T>,
-    ways: &'a Ways<T>,
+/// Adds positions with their answers to the certificate which are to show that in the cell the second move may be made for the
+/// first, if they are found by looking at as many as are left of those that are allowed, from which they are taken.
+pub(crate) fn search<T: IndexStorage>(
+    grm: &YaccGrammar<T>,
+    graph: &StateGraph<T>,
+    ways: &Ways<T>,
     cell: (StIdx<T>, TIdx<T>),
     theirs: Move<T>,
     ours: Move<T>,
+    certificate: &mut Certificate<T>,
     left: &mut usize,
-) -> Result<Option<Certificate<T>>, AllocError>
+) -> Result<(), AllocError>
     requires { AreWaysOf T.number grm.now graph.now ways.now }
+    ensures { OnOk result (AddsPositions
+        (positions_of T.number certificate.old.listing.positions.items)
+        (positions_of T.number certificate.new.listing.positions.items)) }
 {
     let alloc = grm.allocator();
-    let token = cell.1;
     let Some(asked) = beginning(grm, graph, ways, cell, theirs, ours)? else {
-        return Ok(None);
+        return Ok(());
     };
-    let board = Board { grm, graph, ways };
+    let board = Board {
+        grm,
+        graph,
+        ways,
+        won: &certificate.listing,
+    };
     let mut listing = Listing::new(alloc)?;
     let mut nodes = Vec::new(alloc);
     let roots = places_of(&mut listing, board, asked.as_slice())?;
     let most = MOST.min(*left);
-    let found = play(
-        &mut listing,
-        &mut nodes,
-        board,
-        token,
-        roots.as_slice(),
-        most,
-    )?;
+    let found = play(&mut listing, &mut nodes, board, roots.as_slice(), most)?;
     *left = left.saturating_sub(nodes.len());
     let Some(won) = found else {
-        return Ok(None);
+        return Ok(());
     };
-    let certificate = certificate_of(alloc, &listing, nodes.as_slice(), won.as_slice())?;
-    Ok(Some(certificate))
+    add_all_won(
+        certificate,
+        alloc,
+        &listing,
+        nodes.as_slice(),
+        won.as_slice(),
+    )
 }

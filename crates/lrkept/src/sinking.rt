@@ -45,7 +45,7 @@ fn sinkable<T: IndexStorage>(position: &Position<T>) -> &[Symbol<T>]
         (symbols_of T.number result.now) }
 {
     let symbols = position.ours.symbols.as_slice();
-    if let Turn::Ahead = position.turn {
+    if let Turn::Ahead(_) = position.turn {
         return &symbols[..0];
     }
     let Some(mark) = position.ours.mark else {

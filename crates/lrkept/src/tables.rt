@@ -1,15 +1,20 @@
 //! Whether the machine of a table accepts exactly the sentences of the grammar: by certificates that what its cells refuse is kept.
 
-ghost use Rattle.std.specs.Prelude.{◌≡◌, ◌<◌, length, IfOk, IsTrue};
+ghost use Rattle.std.specs.Prelude.{◌≡◌, ◌<◌, length, IfOk, IsTrue, OnOk};
 ghost use Rattle.lrspec.specs.merging.Graph.{IsGraphOf};
 ghost use Rattle.lrspec.specs.tables.Table.{IsTableOf};
 ghost use Rattle.lrconflicts.specs.StoredMoves.{move_of};
 ghost use Rattle.lrsearches.specs.StoredWays.{AreWaysOf};
 ghost use Rattle.lrkept.specs.declared.keeping.Exactness.TheVariants as known;
+ghost use Rattle.lrkept.specs.Acyclicity.{IsAcyclic};
+ghost use Rattle.lrkept.specs.Choices.{TakesAll};
 ghost use Rattle.lrkept.specs.Exactness.{IsExact, IsExactButAtErrors};
+ghost use Rattle.lrkept.specs.Keeping.{IsWon};
 ghost use Rattle.lrkept.specs.Kept.{IsKept};
 
 use crate::acyclicity::is_acyclic;
+use crate::checking::Certificate;
+use crate::choices::takes_all;
 use crate::keeping::{Exactness, Tabled, kept_as, table_kept_as};
 use lrcells::statetable::StateTable;
 use lrconflicts::Move;
@@ -20,7 +25,7 @@ use lrsearches::Ways;
 use std::alloc::AllocError;
 
 /// What is known of the texts that the machine of the table accepts, where searches look at so many positions in all. Where a rule
-/// of the grammar derives itself alone nothing is shown.
+/// of the grammar derives itself alone nothing is shown; else it is exact where each cell takes all that contends for it.
 pub fn exactness<T: IndexStorage>(
     grm: &YaccGrammar<T>,
     graph: &StateGraph<T>,
@@ -34,10 +39,15 @@ pub fn exactness<T: IndexStorage>(
     ensures exact { IfOk result (λ e. e ≡ known.Exact → IsExact grm.now table.now) }
     ensures but_at_errors { IfOk result (λ e. e ≡ known.ButAtErrors
         → IsExactButAtErrors grm.now graph.now table.now) }
+    ensures no_choice { IsAcyclic grm.now → TakesAll grm.now graph.now table.now
+        → IfOk result (λ e. e ≡ known.Exact) }
 {
     grm.in_order();
     if !is_acyclic(grm)? {
         return Ok(Exactness::Open);
+    }
+    if takes_all(grm, graph, table) {
+        return Ok(Exactness::Exact);
     }
     let tabled = Tabled {
         grm,
@@ -45,13 +55,15 @@ pub fn exactness<T: IndexStorage>(
         table,
         ways,
     };
+    let mut certificate = Certificate::new(grm.allocator())?;
     let mut left = positions;
-    let known = table_kept_as(tabled, &mut left)?;
+    let known = table_kept_as(tabled, &mut certificate, &mut left)?;
     Ok(known)
 }
 
 /// Whether the move is found to be kept in the cell: each sentence that goes on with it can go on with what
-/// the cell takes. The search looks at as many positions as are left, and takes them from these.
+/// the cell takes. The search looks at as many positions as are left, and takes them from these; what it finds is added to the
+/// certificate, for later searches of the same table.
 pub fn is_kept<T: IndexStorage>(
     grm: &YaccGrammar<T>,
     graph: &StateGraph<T>,
@@ -59,12 +71,15 @@ pub fn is_kept<T: IndexStorage>(
     ways: &Ways<T>,
     cell: (StIdx<T>, TIdx<T>),
     refused: Move<T>,
+    certificate: &mut Certificate<T>,
     left: &mut usize,
 ) -> Result<bool, AllocError>
     requires graph { IsGraphOf grm.now graph.now }
     requires table { IsTableOf grm.now graph.now table.now }
     requires ways { AreWaysOf T.number grm.now graph.now ways.now }
     requires state { T.number cell.0.0 < length graph.now }
+    requires won { IsWon T.number grm.now graph.now certificate.old }
+    ensures won { OnOk result (IsWon T.number grm.now graph.now certificate.new) }
     ensures kept { IfOk result (λ b. IsTrue b → IsKept grm.now graph.now table.now
         (T.number cell.0.0) (T.number cell.1.0) (move_of T.number refused)) }
 {
@@ -74,6 +89,6 @@ pub fn is_kept<T: IndexStorage>(
         table,
         ways,
     };
-    let known = kept_as(tabled, cell, refused, left)?;
+    let known = kept_as(tabled, cell, refused, certificate, left)?;
     Ok(known == Exactness::Exact)
 }

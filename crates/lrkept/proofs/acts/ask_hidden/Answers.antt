@@ -5,7 +5,7 @@ use Rattle.lrspec.specs.grammars.Grammar as math
 use Rattle.lrgrammar.specs.Symbols.{symbol_of}
 use Rattle.lrdecided.proofs.CollectedInTurn.{kept, added}
 use Rattle.lrkept.specs.Exchanges.{at}
-use Rattle.lrkept.specs.Positions.{Mark, Ahead, IsCut}
+use Rattle.lrkept.specs.Positions.{Mark, IsCut}
 use Rattle.lrkept.specs.StoredPositions.{symbols_of, mark_of, position_of, positions_of}
 use Rattle.lrkept.proofs.AskedPositions.{one_alone}
 use Rattle.lrkept.proofs.CutStacks.{hidden_asked, hidden_unasked, none_left}
@@ -44,8 +44,8 @@ returns-clause-asked g c = λ t.
     let cut : IsCut grm p d 0 b.theirs (symbols_of number xs) = rw c.as_slice.ensures.value at (rw c.in-Some.is at c.in_ok-theirs.ensures) in
     let waits : Option Mark = Some (record m { symbol = x }) in
     hidden_asked grm (positions_of number c.push.new.self.items) p d b m y x c.prod_len.ensures deep (subst (λ (z : List math.Symbol). IsCut grm p d 0 b.theirs z) alone cut)
-    (added (position_of number) _ _ _ c.in_ok-push.ensures.items (at Ahead b.state (x ∷ []) (the_ours y waits))
-    (same_position Ahead Ahead b.state b.state (symbols_of number xs) (x ∷ []) (the_ours (symbols_of number c.in_ok-symbols.symbols.items) (Some (mark_of number c.mark_with.result)))
+    (added (position_of number) _ _ _ c.in_ok-push.ensures.items (at b.turn b.state (x ∷ []) (the_ours y waits))
+    (same_position b.turn b.turn b.state b.state (symbols_of number xs) (x ∷ []) (the_ours (symbols_of number c.in_ok-symbols.symbols.items) (Some (mark_of number c.mark_with.result)))
     (the_ours y waits) refl refl alone
     (same_ours (symbols_of number c.in_ok-symbols.symbols.items) y (Some (mark_of number c.mark_with.result)) waits (ap (symbols_of number) c.in_ok-symbols.ensures.items)
     (ap (λ (k : Mark). Some k) c.mark_with.ensures))))

@@ -1,9 +1,9 @@
 -- those at the places so far are won
 use Rattle.lrkept.specs.StoredPositions.{positions_of}
-use Rattle.lrkept.proofs.WonPositions.{AreWonBelow}
+use Rattle.lrkept.specs.Asked.{AreWonBelow}
 use Rattle.lrkept.proofs.checking.are_won.Given as goal
 
 abbrev pub invariant-loop-place : goal.invariant-loop-place
 invariant-loop-place g l =
     let number = g.T.IndexStorage.number in
-    AreWonBelow l.grm l.graph (number l.token.0) (positions_of number l.listing.positions.items) l.place
+    AreWonBelow l.grm l.graph (positions_of number l.listing.positions.items) l.place

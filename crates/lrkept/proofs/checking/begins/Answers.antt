@@ -15,6 +15,6 @@ returns-in-Some g c =
     let all : n ≡ length (positions_of number listed.items) = omega (arith, c.len-bound.ensures, listed.ok.0, length-map listed.items (position_of number)) in
     IfOk-weaker c.are_listed.result _ _
     (λ b k t.
-    begins_with_listed c.args.grm.now c.args.graph.now (number c.args.cell.1.0) (positions_of number listed.items) (number c.args.cell.0.0) n (move_of number c.args.theirs)
+    begins_with_listed c.args.grm.now c.args.graph.now (positions_of number listed.items) (number c.args.cell.0.0) (number c.args.cell.1.0) n (move_of number c.args.theirs)
     (move_of number c.args.ours) (positions_of number c.in-Some.asked.items) (rw c.in-Some.is at c.in_ok-asked.ensures) (rw c.as_slice.ensures.value at (k t)) all)
     c.are_listed.ensures

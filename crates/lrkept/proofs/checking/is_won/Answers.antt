@@ -11,7 +11,7 @@ returns-in-Own g c =
     let x = c.index-position.result.now in
     IfOk-weaker c.retreats.result _ _
     (λ b k t.
-    won_alone c.args.grm.now c.args.graph.now (number c.args.token.0) (positions_of number items) c.args.place (position_of number x)
+    won_alone c.args.grm.now c.args.graph.now (positions_of number items) c.args.place (position_of number x)
     (get_mapped (position_of number) items c.args.place x c.requires.place c.index-position.ensures) (k t))
     c.retreats.ensures
 
@@ -22,6 +22,6 @@ returns-in_default g c =
     let x = c.index-position.result.now in
     IfOk-weaker c.proceeds.result _ _
     (λ b k t.
-    won_by_moves c.args.grm.now c.args.graph.now (number c.args.token.0) (positions_of number items) c.args.place (position_of number x)
+    won_by_moves c.args.grm.now c.args.graph.now (positions_of number items) c.args.place (position_of number x)
     (get_mapped (position_of number) items c.args.place x c.requires.place c.index-position.ensures) (k t))
     c.proceeds.ensures

@@ -1,12 +1,15 @@
--- this is known of those so far
+-- the positions are won, and this is known of the moves so far
 use Rattle.std.proofs.Common.{take}
 use Rattle.std.specs.Prelude.{All}
 use Rattle.lrconflicts.specs.StoredMoves.{move_of}
-use Rattle.lrkept.specs.Keeping.{IsKnownOf}
+use Rattle.lrkept.specs.Keeping.{IsWon, IsKnownOf}
 use Rattle.lrkept.proofs.keeping.all_known_of.Given as goal
 
 abbrev pub invariant-loop-theirs : goal.invariant-loop-theirs
 invariant-loop-theirs g l =
     let number = g.T.IndexStorage.number in
-    All (λ n. IsKnownOf l.known l.tabled.grm.now l.tabled.graph.now l.tabled.table.now (number l.cell.0.0) (number l.cell.1.0) (move_of number n))
-    (take l.theirs-index l.moves)
+    record {
+      won : IsWon number l.tabled.grm.now l.tabled.graph.now l.certificate;
+      known : All (λ n. IsKnownOf l.known l.tabled.grm.now l.tabled.graph.now l.tabled.table.now (number l.cell.0.0) (number l.cell.1.0) (move_of number n))
+          (take l.theirs-index l.moves);
+    }

@@ -5,9 +5,9 @@ use Rattle.lrlosses.specs.Losses.{Takes}
 use Rattle.lrkept.proofs.ExchangeKeeps.{certificate_keeps}
 use Rattle.lrkept.proofs.keeping.kept_as.Goals as goal
 
-pub returns-then-branch : goal.returns-then-branch
-returns-then-branch g c =
+pub returns-then-branch-clause-known : goal.returns-then-branch-clause-known
+returns-then-branch-clause-known g c =
     let number = g.T.IndexStorage.number in
-    let certified = c.in_ok-is_certified.ensures c.if-branch.true in
+    let certified = c.in_ok-is_certified.ensures.certified c.if-branch.true in
     certificate_keeps c.in_order.ensures.shape c.requires.graph c.requires.table c.requires.state certified.1
     (subst (λ a. Takes a (move_of number c.in-Some.ours)) c.action-action.ensures.cell c.in-Some.ensures)

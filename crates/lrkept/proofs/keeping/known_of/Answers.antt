@@ -5,11 +5,11 @@ use Rattle.lrkept.specs.declared.keeping.Exactness.TheVariants as known
 use Rattle.lrkept.proofs.KeptCells.{by_start}
 use Rattle.lrkept.proofs.keeping.known_of.Goals as goal
 
-pub returns-then-is_by_start : goal.returns-then-is_by_start
-returns-then-is_by_start g c =
+pub returns-then-is_by_start-clause-known : goal.returns-then-is_by_start-clause-known
+returns-then-is_by_start-clause-known g c =
     let number = g.T.IndexStorage.number in
     by_start known.Exact c.args.tabled.grm.now c.args.tabled.graph.now c.args.tabled.table.now (number c.args.cell.0.0) (number c.args.cell.1.0) (move_of number c.args.theirs)
     (c.is_by_start.ensures c.if-is_by_start.true)
 
-pub returns : goal.returns
-returns g c = IfOk-weaker c.kept_as.result _ _ (λ e k contends. k) c.kept_as.ensures
+pub returns-clause-known : goal.returns-clause-known
+returns-clause-known g c = IfOk-weaker c.kept_as.result _ _ (λ e k contends. k) c.kept_as.ensures.known

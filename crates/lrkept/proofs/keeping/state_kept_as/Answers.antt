@@ -16,7 +16,7 @@ pub contenders-requires : goal.contenders-requires
 contenders-requires g c = rw c.as_slice.ensures.value c.in_ok-completes.ensures
 
 pub loop-number-init : goal.loop-number-init
-loop-number-init g c = λ t l. absurd (omega (arith, l))
+loop-number-init g c = record { won = c.requires.won; known = λ t l. absurd (omega (arith, l)) }
 
 pub loop-number-preserved : goal.loop-number-preserved
 loop-number-preserved g c =
@@ -28,9 +28,12 @@ loop-number-preserved g c =
     let s = number c.args.state.0 in
     let moves = moves_stored number c.in_ok-moves.moves.items in
     let is = index_number number g.T.IndexStorage.MAX n c.from_usize.result c.unwrap.result c.unwrap.ensures c.from_usize.ensures in
-    let here = rw c.as_slice-in-loop-number.ensures.value at c.in_ok-of_this.ensures in
-    token_more _ _ _ c.and-known.ensures grm h b s n moves (subst (λ t. HasContenders grm h s t moves) is c.in_ok-moves.ensures) c.loop-number.invariant
-    (subst (λ t. AreKnownOf c.in_ok-of_this.of_this grm h b s t moves) is here)
+    let here = rw c.as_slice-in-loop-number.ensures.value at c.in_ok-of_this.ensures.known in
+    record {
+      won = c.in_ok-of_this.ensures.won;
+      known = token_more _ _ _ c.and-known.ensures grm h b s n moves (subst (λ t. HasContenders grm h s t moves) is c.in_ok-moves.ensures)
+          c.loop-number.invariant.known (subst (λ t. AreKnownOf c.in_ok-of_this.of_this grm h b s t moves) is here);
+    }
 
-pub returns : goal.returns
-returns g c = λ t l. c.loop-number.invariant t (omega (arith, l, c.loop-number-test.false, c.to_usize-number-end.ensures.number, c.tokens_len.ensures.value))
+pub returns-clause-known : goal.returns-clause-known
+returns-clause-known g c = λ t l. c.loop-number.invariant.known t (omega (arith, l, c.loop-number-test.false, c.to_usize-number-end.ensures.number, c.tokens_len.ensures.value))

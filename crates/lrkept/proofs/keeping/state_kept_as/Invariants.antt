@@ -1,9 +1,12 @@
--- this is known of the cells of the tokens so far
+-- the positions are won, and this is known of the cells of the tokens so far
 use Rattle.std.proofs.Common.{ℕ, ◌<◌}
-use Rattle.lrkept.specs.Keeping.{IsCellKeptAs}
+use Rattle.lrkept.specs.Keeping.{IsWon, IsCellKeptAs}
 use Rattle.lrkept.proofs.keeping.state_kept_as.Given as goal
 
 abbrev pub invariant-loop-number : goal.invariant-loop-number
 invariant-loop-number g l =
     let number = g.T.IndexStorage.number in
-    (t : ℕ) → t < l.number → IsCellKeptAs l.known l.tabled.grm.now l.tabled.graph.now l.tabled.table.now (number l.state.0) t
+    record {
+      won : IsWon number l.tabled.grm.now l.tabled.graph.now l.certificate;
+      known : (t : ℕ) → t < l.number → IsCellKeptAs l.known l.tabled.grm.now l.tabled.graph.now l.tabled.table.now (number l.state.0) t;
+    }

@@ -19,7 +19,7 @@ state_kept_as-requires-clause-state g c =
     omega (arith, is, within)
 
 pub loop-number-init : goal.loop-number-init
-loop-number-init g c = λ s l. absurd (omega (arith, l))
+loop-number-init g c = record { won = c.requires.won; known = λ s l. absurd (omega (arith, l)) }
 
 pub loop-number-preserved : goal.loop-number-preserved
 loop-number-preserved g c =
@@ -28,7 +28,11 @@ loop-number-preserved g c =
     let h = c.args.tabled.graph.now in
     let b = c.args.tabled.table.now in
     let is = index_number g.T.IndexStorage.number g.T.IndexStorage.MAX n c.from_usize.result c.unwrap.result c.unwrap.ensures c.from_usize.ensures in
-    state_more _ _ _ c.and-known.ensures grm h b n c.loop-number.invariant (subst (IsStateKeptAs c.in_ok-of_this.of_this grm h b) is c.in_ok-of_this.ensures)
+    record {
+      won = c.in_ok-of_this.ensures.won;
+      known = state_more _ _ _ c.and-known.ensures grm h b n c.loop-number.invariant.known
+          (subst (IsStateKeptAs c.in_ok-of_this.of_this grm h b) is c.in_ok-of_this.ensures.known);
+    }
 
-pub returns : goal.returns
-returns g c = λ s l. c.loop-number.invariant s (omega (arith, l, c.loop-number-test.false, c.to_usize-number-end.ensures.number, c.all_states_len.ensures))
+pub returns-clause-known : goal.returns-clause-known
+returns-clause-known g c = λ s l. c.loop-number.invariant.known s (omega (arith, l, c.loop-number-test.false, c.to_usize-number-end.ensures.number, c.all_states_len.ensures))

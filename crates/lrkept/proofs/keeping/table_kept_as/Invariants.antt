@@ -1,7 +1,11 @@
--- this is known of the states so far
+-- the positions are won, and this is known of the states so far
 use Rattle.std.proofs.Common.{ℕ, ◌<◌}
-use Rattle.lrkept.specs.Keeping.{IsStateKeptAs}
+use Rattle.lrkept.specs.Keeping.{IsWon, IsStateKeptAs}
 use Rattle.lrkept.proofs.keeping.table_kept_as.Given as goal
 
 abbrev pub invariant-loop-number : goal.invariant-loop-number
-invariant-loop-number g l = (s : ℕ) → s < l.number → IsStateKeptAs l.known l.tabled.grm.now l.tabled.graph.now l.tabled.table.now s
+invariant-loop-number g l =
+    record {
+      won : IsWon g.T.IndexStorage.number l.tabled.grm.now l.tabled.graph.now l.certificate;
+      known : (s : ℕ) → s < l.number → IsStateKeptAs l.known l.tabled.grm.now l.tabled.graph.now l.tabled.table.now s;
+    }

@@ -11,4 +11,4 @@ returns-in-Open g c = λ t.
     rw c.in-Open.is (game.IsLevel.opened _ _)
 
 pub returns-in-Before : goal.returns-in-Before
-returns-in-Before g c = λ t. rw c.in-Before.is game.IsLevel.before
+returns-in-Before g c = λ t. rw c.in-Before.is (game.IsLevel.before _)

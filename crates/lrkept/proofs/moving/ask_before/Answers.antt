@@ -17,7 +17,7 @@ returns g c = λ t.
     let keeps = λ (b : Position) (k : Contains first b). c.in_ok-ask_start.ensures.kept b (c.in_ok-ask_shift.ensures.kept b k) in
     record {
       deep = c.is_deep.ensures c.if-not-is_deep.false;
-      all = all_moves h (Contains new) a grm (number c.args.token.0) Behind (λ u f e. c.in_ok-ask_start.ensures.kept _ (c.in_ok-ask_shift.ensures.asked u f e))
+      all = all_moves h (Contains new) a grm (number c.args.token.0) (Behind (number c.args.token.0)) (λ u f e. c.in_ok-ask_start.ensures.kept _ (c.in_ok-ask_shift.ensures.asked u f e))
           (λ u p f n l. reduction_more (Contains first) (Contains new) keeps grm h p a (c.in_ok-ask_reductions.ensures.asked c.if-not-branch.false u p f n l));
       start = c.in_ok-ask_start.ensures.asked;
     }

@@ -10,8 +10,8 @@ returns-in-Some-clause-asked g c =
     let number = g.T.IndexStorage.number in
     IfOk-weaker c.ask_each.result _ _
     (λ b k t.
-    marked_reduction c.args.grm.now c.args.graph.now (Contains (positions_of number c.ask_each.new.asked.items)) (number c.args.production.0) (mark_of number c.in-Some.mark)
-    (position_of number c.args.position.now) c.in-Some.ensures.ahead c.in-Some.ensures.mark (k t))
+    marked_reduction c.args.grm.now c.args.graph.now (Contains (positions_of number c.ask_each.new.asked.items)) (number c.args.production.0) c.in-Some.ensures.ahead.0
+    (mark_of number c.in-Some.mark) (position_of number c.args.position.now) c.in-Some.ensures.ahead.1 c.in-Some.ensures.mark (k t))
     c.ask_each.ensures.asked
 
 pub returns-in-None-clause-asked : goal.returns-in-None-clause-asked

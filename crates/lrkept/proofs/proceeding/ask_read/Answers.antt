@@ -12,8 +12,9 @@ pub returns : goal.returns
 returns g c = λ t.
     let number = g.T.IndexStorage.number in
     let a = position_of number c.args.position.now in
-    let read = pushed a.ours (math.Token (number c.args.token.0) ∷ []) in
+    let read = pushed a.ours (math.Token (number c.in-Behind.token.0) ∷ []) in
     record {
+      t = number c.in-Behind.token.0;
       turn = ap (turn_of number) c.in-Behind.is;
       next = added (position_of number) _ _ _ c.in_ok-push.ensures.items (at Even a.state a.theirs read)
           (same_position Even Even a.state a.state (symbols_of number c.in_ok-theirs.theirs.items) a.theirs (ours_of number c.in_ok-ours.ours) read refl refl

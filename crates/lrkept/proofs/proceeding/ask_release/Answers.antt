@@ -11,6 +11,5 @@ returns g c =
     let item = c.in-Some.item in
     IfOk-weaker c.ask_each.result _ _
     (λ b k t.
-    proceeds_by_release c.args.grm.now c.args.graph.now (Contains (positions_of number c.ask_each.new.asked.items)) (number c.args.token.0)
-    (position_of number c.args.position.now) (number item.0.0) (number item.1.0) c.in-Some.ensures (c.is_at_end.ensures c.if-not-is_at_end.false) (k t))
+    proceeds_by_release c.args.grm.now c.args.graph.now (Contains (positions_of number c.ask_each.new.asked.items)) (position_of number c.args.position.now) (number item.0.0) (number item.1.0) c.in-Some.ensures (c.is_at_end.ensures c.if-not-is_at_end.false) (k t))
     c.ask_each.ensures.asked

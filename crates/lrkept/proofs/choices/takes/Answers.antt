@@ -2,7 +2,7 @@
 use Rattle.std.proofs.Common.{refl}
 use Rattle.lrlosses.specs.Losses as loss
 use Rattle.lrlosses.proofs.WalkedSteps.{takes_reduction}
-use Rattle.lrkept.proofs.keeping.takes.Goals as goal
+use Rattle.lrkept.proofs.choices.takes.Goals as goal
 
 pub returns-in-Shift-Shift : goal.returns-in-Shift-Shift
 returns-in-Shift-Shift g c = (λ _. rw (c.in-Shift-Shift.is-0, c.in-Shift-Shift.is-1) loss.Takes.shift, λ _. refl)
