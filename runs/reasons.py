@@ -284,13 +284,15 @@ def check_groups(told, alone):
     list of the first token where that has none, the lost text of the first that has one, and that they are decided where each is."""
     in_order = lambda key: (key[2][0], key[0], key[2][1] or 0, key[1])
     hold([*alone] == sorted(alone, key=in_order), f"the entries are out of order: {[*alone]}")
-    rows = groupby(alone.values(), lambda it: {**it, **dict.fromkeys(("tokens", "shift", "ambiguity", "after", "lost", "decided"))})
+    rows = groupby(alone.values(), lambda it: {**it, **dict.fromkeys(("tokens", "shift", "ambiguity", "after", "lost", "kept", "decided"))})
     for group, (_, row) in zip(told.grouped["conflicts"], rows, strict=True):
         row = [*row]
         hold(group["tokens"] == [token for it in row for token in it["tokens"]], f"{group['tokens']} are told together")
         known = sorted((it["ambiguity"] for it in row if it["ambiguity"]), key=lambda it: not it["own"])
         lost = next((it["lost"] for it in row if it["lost"]), None)
         wanted = next(iter(known), None), row[0]["after"], lost
+        kept = all(it["kept"] for it in row)
+        hold(group["kept"] == (True if kept else None), f"{group['tokens']} are kept together otherwise than each")
         decided = {it["decided"] for it in row}
         hold(group["decided"] == (None if None in decided else decided.pop() if len(decided) == 1 else True),
              f"{group['tokens']} are decided by {group['decided']}, each by {decided}")
@@ -324,7 +326,7 @@ def check_unambiguous(drawn, answer, counts):
     """The line and JSON tell alike whether the grammar is unambiguous although there are conflicts. No short text has two trees then."""
     told = YET in answer.line
     for file in (answer.grouped, answer.alone):
-        hold(told == (file["verdict"] == "conflicts" and file["proved"]), f"JSON tells otherwise than the line: {answer.line}")
+        hold(told == (file["verdict"] == "conflicts" and "unambiguous" in file["proved"]), f"JSON tells otherwise than the line: {answer.line}")
     if not told:
         return
     counts["unambiguous with conflicts"] += 1

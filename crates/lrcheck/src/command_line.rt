@@ -10,7 +10,7 @@ pub(crate) const VERSION: &str = "0.2.0";
 /// What the help ends with.
 const AFTER_HELP: &str = "Example:
   $ lrcheck --summary a.y b.y
-  a.y: ambiguous (proved): 1 shift/reduce conflict, a sentence with two trees for it
+  a.y: ambiguous (proved): 1 shift/reduce conflict, a sentence with two trees for it; the parser accepts every sentence (proved)
   b.y: unambiguous (proved): no sentence has two trees
 
 Exit status, the greatest over the files:

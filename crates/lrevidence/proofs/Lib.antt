@@ -1,9 +1,10 @@
--- sentences with two trees, entries that are listed, what is known of one after the other, values in boxes, what is decided, cells,
--- and sentences that are lost
+-- sentences with two trees, entries that are listed, what is known of one after the other, values in boxes, what is decided, what
+-- is kept, cells, and sentences that are lost
 pub mod NumberedTexts
 pub mod ListedEntries
 pub mod EvidenceInTurn
 pub mod Boxes
 pub mod FoundDecisions
+pub mod KeptMoves
 pub mod CellsInTurn
 pub mod FoundLosses

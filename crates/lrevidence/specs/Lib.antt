@@ -1,8 +1,9 @@
--- sentences with two trees, which part somewhere, those that are rejected, sets of cells, entries that are decided, those that a
--- table lists, and what searches share
+-- sentences with two trees, which part somewhere, those that are rejected, sets of cells, entries that are decided, those at which
+-- no sentence is lost, those that a table lists, and what searches share
 pub mod Ambiguities
 pub mod Losses
 pub mod Cells
 pub mod DecidedEntries
+pub mod KeptEntries
 pub mod Entries
 pub mod Searches

@@ -55,7 +55,7 @@ fn move_against(other: Option<usize>) -> Option<Move<u32>>
 }
 
 /// The two moves that meet in an entry; None where its numbers are too large for 32 bits.
-fn meeting(entry: Entry) -> Option<lrdecided::Entry<u32>>
+pub(crate) fn meeting(entry: Entry) -> Option<lrdecided::Entry<u32>>
     ensures { IfSome result (λ e. entry_of number_of e ≡ meeting_of entry) }
 {
     let other = move_against(entry.other)?;

@@ -43,6 +43,8 @@ pub struct Effort {
     pub decisions: usize,
     /// How many nodes such a search looks at.
     pub nodes: usize,
+    /// How many positions a search looks at whether the parser accepts every sentence; for 0 there is none.
+    pub positions: usize,
     /// Whether each entry counts, and not only the first of those that stand together, because the same meets at them in the same
     /// state.
     pub counts_each: bool,

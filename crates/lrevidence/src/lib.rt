@@ -1,22 +1,26 @@
 //! Why there are the conflicts of a grammar file: sentences with two trees, after what a conflict is real, and sentences that the
-//! parser rejects because of it, by the numbers that tokens, rules and productions have in the file.
+//! parser rejects because of it, by the numbers that tokens, rules and productions have in the file; or whether it accepts all.
 #![tactic(auto)]
 
+mod accepting;
 mod ambiguities;
 mod conflicts;
 mod decisions;
 mod evidence;
 mod examples;
+mod keeping;
 mod losses;
 mod machine;
 mod searches;
 mod texts;
 mod unambiguity;
 
+pub use crate::accepting::exactness_of;
 pub use crate::evidence::{Effort, Evidence, evidence_for, find_ambiguity};
+pub use crate::keeping::kept_entries;
 pub use crate::unambiguity::shows_unambiguous;
 pub use lrshown::{
-    Ambiguity, Decided, Example, Loss, Node, Outlook, ShownTree, Step, Tree, TwoTrees, Visit,
-    body_of, candidates_of, list_of, name_of_rule, names_of, names_of_tokens, node_name, rule_name,
-    shown_trees, start_of, symbol_name, text_of, token_name, tree_words,
+    Ambiguity, Decided, Exactness, Example, Loss, Node, Outlook, ShownTree, Step, Tree, TwoTrees,
+    Visit, body_of, candidates_of, list_of, name_of_rule, names_of, names_of_tokens, node_name,
+    rule_name, shown_trees, start_of, symbol_name, text_of, token_name, tree_words,
 };

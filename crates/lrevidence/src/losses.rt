@@ -51,7 +51,7 @@ fn has_any(cells: &BTreeSet<(usize, usize)>, entries: &[Entry]) -> bool
 
 /// Whether a shift meets several reductions in a cell in which precedences resolve something: the table lists a conflict there too.
 /// Bison tries each reduction by itself against the shift, so its table may do something else.
-fn are_crowded(alloc: Global, found: &Findings<u32>) -> Result<bool, AllocError>
+pub(crate) fn are_crowded(alloc: Global, found: &Findings<u32>) -> Result<bool, AllocError>
     ensures { IfOk result (λ are. are ≡ false → ResolvesPairs found.now) }
 {
     let cells = cells_of(alloc, found.resolved.as_slice())?;

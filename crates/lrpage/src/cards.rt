@@ -1,15 +1,16 @@
 //! Conflicts, each as a card that opens.
 
-ghost use Rattle.std.specs.Prelude.{◌≡◌, IsSome, true};
+ghost use Rattle.std.specs.Prelude.{◌≡◌, All, Contains, IsSome, IsTrue, true};
 ghost use Rattle.std.specs.Option.{ForSome};
 ghost use Rattle.lrshown.specs.Ambiguities.{AreShown, IsShown, is_of};
 ghost use Rattle.lrshown.specs.Losses.{AreShownLosses, IsShownLoss};
 ghost use Rattle.lrshown.specs.DecidedEntries.{AreShownDecided, IsShownDecided};
+ghost use Rattle.lrpage.specs.KeptEntries.{AreShownKept};
 
 use crate::pages::{Card, Page, add_count};
 use crate::symbols::DOT;
 use lrdiagnostics::{Mark, add_escaped_name};
-use lrfindings::Entry;
+use lrfindings::{Entry, is_among};
 use lrgrammar::idx::IndexStorage;
 use lrshown::{
     Ambiguity, Evidence, Example, Loss, Outlook, Step, candidates_of, list_of, rule_name, start_of,
@@ -17,6 +18,7 @@ use lrshown::{
 };
 use lrwriter::Text;
 use std::alloc::{AllocError, Global};
+use std::slice;
 
 /// How many tokens a heading names at the most.
 const NAMED: usize = 12;
@@ -33,10 +35,23 @@ fn first_with_sentence(meeting: &[Evidence]) -> usize {
     own.or(any).or(lost).unwrap_or(0)
 }
 
+/// The place of the first of the entries for which a sentence is known that the parser rejects, or else of the first of all.
+fn first_with_loss(meeting: &[Evidence]) -> usize {
+    let lost = meeting.iter().position(|it| it.loss.is_some());
+    lost.unwrap_or(0)
+}
+
+/// Whether each of the entries is decided.
+fn are_decided(meeting: &[Evidence]) -> bool
+    ensures { IsTrue result → All (λ e. IsSome e.decided) meeting.now }
+{
+    meeting.iter().all(|it| it.is_decided())
+}
+
 impl Card<'_> {
-    /// The tokens of its entries.
-    fn tokens(&self, alloc: Global) -> Result<Vec<usize>, AllocError> {
-        self.meeting.iter().map(|it| it.entry.token).collect(alloc)
+    /// Its entries.
+    fn entries(&self, alloc: Global) -> Result<Vec<Entry>, AllocError> {
+        self.meeting.iter().map(|it| it.entry).collect(alloc)
     }
 }
 
@@ -58,8 +73,8 @@ pub(crate) struct Head<'h> {
     pub(crate) is_open: bool,
     /// The first of the entries, at which the same meets in the same state.
     pub(crate) first: &'h Entry,
-    /// Their tokens.
-    pub(crate) tokens: &'h [usize],
+    /// All of them.
+    pub(crate) entries: &'h [Entry],
     /// The places of what meets.
     pub(crate) marks: &'h [Mark],
 }
@@ -75,7 +90,7 @@ pub(crate) fn end_card(page: &mut Text, first: &Entry) {
 
 impl<T: IndexStorage> Page<'_, T> {
     /// Adds what meets, and the tokens at which it does.
-    fn add_title(&self, page: &mut Text, first: &Entry, tokens: &[usize]) {
+    fn add_title(&self, page: &mut Text, first: &Entry, entries: &[Entry]) {
         let kind = if first.other.is_some() {
             "reduce or reduce"
         } else {
@@ -83,13 +98,13 @@ impl<T: IndexStorage> Page<'_, T> {
         };
         write!(page, "<b>{kind}</b> at ");
         let mut is_first = true;
-        for token in tokens.iter().take(NAMED) {
+        for entry in entries.iter().take(NAMED) {
             page.add(if is_first { "<code>" } else { ", <code>" });
-            self.add_token(page, *token);
+            self.add_token(page, entry.token);
             page.add("</code>");
             is_first = false;
         }
-        let more = tokens.len().saturating_sub(NAMED);
+        let more = entries.len().saturating_sub(NAMED);
         if more > 0 {
             write!(page, " and {more} more");
         }
@@ -114,7 +129,7 @@ impl<T: IndexStorage> Page<'_, T> {
             "<details class=\"part\" id=\"{letter}{number}\" data-state=\"{state}\"{open}>"
         );
         page.add("<summary><span class=\"title\">");
-        self.add_title(page, head.first, head.tokens);
+        self.add_title(page, head.first, head.entries);
         page.add("</span>");
         self.add_rule_and_line(page, head.first.production, head.marks);
     }
@@ -127,27 +142,27 @@ impl<T: IndexStorage> Page<'_, T> {
         page.add(" <span class=\"tag marked\">ambiguous (proved)</span>");
     }
 
-    /// Adds that no sentence has two trees that part at an entry.
-    fn add_decided_tag(&self, page: &mut Text, _evidence: &Evidence)
-        requires proved { IsShownDecided self.now.found.now.grm self.now.found.now.graph
-            _evidence.now }
-        requires decided { IsSome _evidence.now.decided }
+    /// Adds that no sentence has two trees that part at the entries.
+    fn add_decided_tag(&self, page: &mut Text, _meeting: &[Evidence])
+        requires proved { AreShownDecided self.now.found.now.grm self.now.found.now.graph
+            _meeting.now }
+        requires decided { All (λ e. IsSome e.decided) _meeting.now }
     {
         page.add(" <span class=\"tag\">not ambiguous (proved)</span>");
     }
 
-    /// Adds whether a sentence with two trees is known that part by what meets in an entry, or that there is none.
-    fn add_tag(&self, page: &mut Text, evidence: &Evidence)
+    /// Adds whether a sentence with two trees is known that part by what meets in an entry, or that there is none at all of those.
+    fn add_tag(&self, page: &mut Text, evidence: &Evidence, meeting: &[Evidence])
         requires proved { ForSome evidence.now.ambiguity
             (λ a. IsShown self.now.found.now.grm a.value) }
-        requires decided { IsShownDecided self.now.found.now.grm self.now.found.now.graph
-            evidence.now }
+        requires decided { AreShownDecided self.now.found.now.grm self.now.found.now.graph
+            meeting.now }
     {
         match &evidence.ambiguity {
             Some(text) if text.is_of(&evidence.entry) => {
                 self.add_proved_tag(page, &evidence.entry, text);
             }
-            _ if evidence.is_decided() => self.add_decided_tag(page, evidence),
+            _ if are_decided(meeting) => self.add_decided_tag(page, meeting),
             _ if self.steps > 0 => {
                 page.add(" <span class=\"tag\">not known to be ambiguous</span>");
             }
@@ -162,6 +177,43 @@ impl<T: IndexStorage> Page<'_, T> {
         page.add(" <span class=\"tag marked\">rejects a sentence (proved)</span>");
     }
 
+    /// Adds the same, where a sentence is known that it rejects because of an entry.
+    fn add_if_lost(&self, page: &mut Text, evidence: &Evidence)
+        requires lost { ForSome evidence.now.loss
+            (λ l. IsShownLoss self.now.found.now.grm self.now.found.now.table l.value) }
+    {
+        if let Some(loss) = &evidence.loss {
+            self.add_lost_tag(page, loss);
+        }
+    }
+
+    /// Whether it is shown that no sentence is lost at each of the entries.
+    fn are_kept(&self, entries: &[Entry]) -> bool
+        ensures { IsTrue result → All (Contains self.now.kept.now) entries.now }
+    {
+        for entry in entries {
+            if !is_among(self.kept, entry) {
+                return false;
+            }
+        }
+        true
+    }
+
+    /// Adds that no sentence is lost at the entries by what the table does there.
+    fn add_kept_tag(&self, page: &mut Text, _entries: &[Entry])
+        requires proved { AreShownKept self.now.found.now.grm self.now.found.now.graph
+            self.now.found.now.table _entries.now }
+    {
+        page.add(" <span class=\"tag\">loses no sentence (proved)</span>");
+    }
+
+    /// Adds the same, where it is shown of each of them.
+    pub(crate) fn add_if_kept(&self, page: &mut Text, entries: &[Entry]) {
+        if self.are_kept(entries) {
+            self.add_kept_tag(page, entries);
+        }
+    }
+
     /// Adds what is known of an entry in few words.
     fn add_tags(&self, page: &mut Text, evidence: &Evidence)
         requires proved { ForSome evidence.now.ambiguity
@@ -171,10 +223,25 @@ impl<T: IndexStorage> Page<'_, T> {
         requires decided { IsShownDecided self.now.found.now.grm self.now.found.now.graph
             evidence.now }
     {
-        self.add_tag(page, evidence);
-        if let Some(loss) = &evidence.loss {
-            self.add_lost_tag(page, loss);
+        self.add_tag(page, evidence, slice::from_ref(evidence));
+        self.add_if_lost(page, evidence);
+        self.add_if_kept(page, slice::from_ref(&evidence.entry));
+    }
+
+    /// Adds the same of entries at which the same meets: what is so at one of them, or at all.
+    fn add_tags_of_all(&self, page: &mut Text, meeting: &[Evidence], entries: &[Entry])
+        requires proved { AreShown self.now.found.now.grm meeting.now }
+        requires lost { AreShownLosses self.now.found.now.grm self.now.found.now.table meeting.now }
+        requires decided { AreShownDecided self.now.found.now.grm self.now.found.now.graph
+            meeting.now }
+    {
+        if let Some(evidence) = meeting.get(first_with_sentence(meeting)) {
+            self.add_tag(page, evidence, meeting);
         }
+        if let Some(evidence) = meeting.get(first_with_loss(meeting)) {
+            self.add_if_lost(page, evidence);
+        }
+        self.add_if_kept(page, entries);
     }
 
     /// Adds how a text goes on by a step at an entry.
@@ -308,7 +375,7 @@ impl<T: IndexStorage> Page<'_, T> {
         let Some(first) = card.meeting.first() else {
             return Ok(());
         };
-        let tokens = card.tokens(page.allocator())?;
+        let entries = card.entries(page.allocator())?;
         self.begin_card(
             page,
             Head {
@@ -316,13 +383,11 @@ impl<T: IndexStorage> Page<'_, T> {
                 number,
                 is_open: number <= OPEN,
                 first: &first.entry,
-                tokens: tokens.as_slice(),
+                entries: entries.as_slice(),
                 marks: card.marks.as_slice(),
             },
         );
-        if let Some(evidence) = card.meeting.get(first_with_sentence(card.meeting)) {
-            self.add_tags(page, evidence);
-        }
+        self.add_tags_of_all(page, card.meeting, entries.as_slice());
         page.add("</summary>\n");
         self.add_places(page, card.marks.as_slice())?;
         self.add_all_known(page, card.meeting);

@@ -5,6 +5,7 @@ ghost use Rattle.std.specs.Option.{ForSome};
 ghost use Rattle.lrshown.specs.Ambiguities.{AreShown, IsShown};
 ghost use Rattle.lrshown.specs.Losses.{AreShownLosses, IsShownLoss};
 ghost use Rattle.lrshown.specs.DecidedEntries.{AreShownDecided};
+ghost use Rattle.lrpage.specs.KeptEntries.{AreShownKept};
 ghost use Rattle.lrshown.specs.VerdictWords.{AreProvedWords};
 
 use crate::grammars::is_of_file;
@@ -12,7 +13,7 @@ use crate::resolved::ResolvedCard;
 use crate::script::SCRIPT;
 use crate::style::STYLE;
 use lrdiagnostics::{Mark, Message, Source, add_escaped_name};
-use lrfindings::Findings;
+use lrfindings::{Entry, Findings};
 use lrgrammar::idx::IndexStorage;
 use lrshown::Evidence;
 use lrwriter::Text;
@@ -78,6 +79,8 @@ pub struct Page<'a, T: IndexStorage> {
     pub cards: &'a [Card<'a>],
     /// What precedences resolve, where that is shown.
     pub resolved: &'a [ResolvedCard<'a>],
+    /// At which entries of both no sentence is lost, where that is shown, in the order of the file.
+    pub kept: &'a [Entry],
     /// What the file is warned of.
     pub warnings: &'a [Message],
     /// How many steps a search for a sentence with two trees could take; with 0 nothing is told of texts.
@@ -96,6 +99,8 @@ pub struct Page<'a, T: IndexStorage> {
     /// Each that is shown there as one that the parser rejects is a sentence, and rejected.
     pub ghost resolved_lost: { All (λ card.
         ForSome card.loss (λ l. IsShownLoss found.now.grm found.now.table l.now)) resolved.now },
+    /// At each entry that is told to lose no sentence it is so.
+    pub ghost unlost: { AreShownKept found.now.grm found.now.graph found.now.table kept.now },
     /// And the verdict tells nothing as proved but what is so.
     pub ghost told: { AreProvedWords found.now.grm found.now.table verdict.now },
 }

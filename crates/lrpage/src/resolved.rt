@@ -11,7 +11,7 @@ use lrfindings::Entry;
 use lrgrammar::idx::IndexStorage;
 use lrshown::{Ambiguity, Loss};
 use lrwriter::Text;
-use std::alloc::{AllocError, Global};
+use std::alloc::AllocError;
 
 /// What precedences resolve as it is shown: entries at which the same meets in the same state, and is resolved for the same reason.
 #[derive(Drop)]
@@ -34,15 +34,8 @@ pub struct ResolvedCard<'a> {
     pub is_cut_off: bool,
 }
 
-impl ResolvedCard<'_> {
-    /// The tokens of the entries.
-    fn tokens(&self, alloc: Global) -> Result<Vec<usize>, AllocError> {
-        self.entries.iter().map(|entry| entry.token).collect(alloc)
-    }
-}
-
 impl<T: IndexStorage> Page<'_, T> {
-    /// Adds what wins, and that a sentence is rejected, where one is.
+    /// Adds what wins, and that a sentence is rejected, where one is, or that none is lost, where that is shown.
     fn add_resolved_tags(&self, page: &mut Text, card: &ResolvedCard<'_>)
         requires lost { ForSome card.now.loss
             (λ l. IsShownLoss self.now.found.now.grm self.now.found.now.table l.now) }
@@ -53,6 +46,7 @@ impl<T: IndexStorage> Page<'_, T> {
         if let Some(loss) = card.loss {
             self.add_lost_tag(page, loss);
         }
+        self.add_if_kept(page, card.entries.as_slice());
     }
 
     /// Adds why the entries of a card are resolved so, and what is known of them.
@@ -93,7 +87,6 @@ impl<T: IndexStorage> Page<'_, T> {
         let Some(first) = card.entries.first() else {
             return Ok(());
         };
-        let tokens = card.tokens(page.allocator())?;
         self.begin_card(
             page,
             Head {
@@ -101,7 +94,7 @@ impl<T: IndexStorage> Page<'_, T> {
                 number,
                 is_open: self.cards.is_empty() && number <= OPEN,
                 first,
-                tokens: tokens.as_slice(),
+                entries: card.entries.as_slice(),
                 marks: card.marks.as_slice(),
             },
         );

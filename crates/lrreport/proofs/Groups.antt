@@ -1,5 +1,5 @@
 -- entries that are told in groups: what holds of each holds of those of each group
-use Rattle.std.proofs.Common.{◌≡◌, ℕ, Option, ◌<◌, ◌≤◌, List, [], ◌∷◌, ◌++◌, length, map, take, get_or, sym, ap, subst, ◌∙◌}
+use Rattle.std.proofs.Common.{◌≡◌, ℕ, Option, None, Some, ◌<◌, ◌≤◌, List, [], ◌∷◌, ◌++◌, length, map, take, get_or, sym, ap, subst, ◌∙◌}
 use Rattle.std.proofs.Math.Seq.{take-append_seam, drop-append_seam}
 use Rattle.std.proofs.lemmas.List.{take_all}
 use Rattle.std.proofs.lemmas.List.Elements.{All-nil, All-cons, All-head, All-tail, All-take, All-drop}
@@ -16,6 +16,9 @@ use Rattle.lrshown.specs.DecidedEntries.{AreShownDecided}
 use Rattle.lrevidence.specs.Ambiguities.{IsProved, AreShown}
 use Rattle.lrevidence.specs.Losses.{IsLostAtEntry}
 use Rattle.lrevidence.specs.DecidedEntries.{IsToldDecided}
+use Rattle.lrevidence.specs.KeptEntries.{IsKeptEntry, IsToldKept, AreToldKept}
+use Rattle.lrpage.specs.KeptEntries.{IsShownKept, AreShownKept}
+use Rattle.lrverdicts.specs.declared.conflicts.Entry.{Entry}
 
 module _ {X Y : Type 0} (P : X → Type 0) (f : Y → X) where
   of_images : (ys : List Y) → All P (map f ys) → All (λ y. P (f y)) ys
@@ -90,3 +93,11 @@ pub all_shown_decided :
 all_shown_decided g o told those decided =
     let may_be_shown = λ (one : _) (each : All (IsToldDecided g o) (told one)). shown_decided g o (told one) each in
     All-weaker (λ one. All (IsToldDecided g o) (told one)) (λ one. AreShownDecided g o (told one)) may_be_shown those decided
+
+-- and what is proved of entries that lose no sentence
+shown_kept : (g : Grammar) (o : Option Graph) (b : Table) (e : Entry) → IsToldKept g o b e → IsShownKept g o b e
+shown_kept g None b e kept = absurd kept
+shown_kept g (Some h) b e kept = let both : IsKeptEntry g h b e = kept in ∣ (both.one, both.other) ∣₁
+
+pub all_shown_kept : (g : Grammar) (o : Option Graph) (b : Table) (entries : List Entry) → AreToldKept g o b entries → AreShownKept g o b entries
+all_shown_kept g o b entries kept = All-weaker (IsToldKept g o b) (IsShownKept g o b) (shown_kept g o b) entries kept

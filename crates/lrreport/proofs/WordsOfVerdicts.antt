@@ -1,5 +1,5 @@
 -- words of verdicts, case by case
-use Rattle.std.proofs.Common.{◌≡◌, ◌≢◌, ℕ, List, [], ◌++◌, Bool, true, append_assoc, length, ap, refl, ◌∙◌, arith}
+use Rattle.std.proofs.Common.{◌≡◌, ◌≢◌, ℕ, List, [], ◌++◌, Bool, append_assoc, length, ap, refl, ◌∙◌, arith}
 use Rattle.std.specs.Prelude.{◌==◌, codes, decimal, if◌then◌else◌}
 use Rattle.std.proofs.lemmas.Bool.Decides.{nat_tests}
 use Rattle.lrverdicts.specs.declared.verdicts.Counts.{Counts}
@@ -9,7 +9,7 @@ use Rattle.lrverdicts.specs.declared.verdicts.Verdict.TheVariants as told
 use Rattle.lrverdicts.specs.VerdictTexts.{counts_text, verdict_text}
 use Rattle.lrshown.specs.declared.evidence.Evidence.{Evidence}
 use Rattle.lrshown.specs.VerdictWords.{ambiguous_verdict, ambiguous_words, resolved_words}
-use Rattle.lrreport.specs.JsonHeads.{is_proved}
+use Rattle.lrreport.specs.JsonHeads.{is_unambiguous}
 
 pub resolved_some :
     (s : ℕ) (e : List Evidence) (hint : Bool) → s ≢ 0
@@ -33,10 +33,10 @@ of_others (Conflicts c) texts other = absurd (other c refl)
 of_others (told.Expected c) texts other = refl
 of_others (Unexpected c wanted) texts other = refl
 
--- where it is shown that the grammar is unambiguous, something is proved whatever the verdict
-pub proved_so : (v : Verdict) (shown known : Bool) → shown ≡ true → true ≡ is_proved v shown known
-proved_so Unambiguous shown known is = refl
-proved_so NoConflicts shown known is = rw is refl
-proved_so (Conflicts c) shown known is = rw is refl
-proved_so (told.Expected c) shown known is = rw is refl
-proved_so (Unexpected c wanted) shown known is = rw is refl
+-- where the verdict says nothing of it, the grammar is unambiguous if that is shown
+pub shown_so : (v : Verdict) (shown : Bool) → v ≢ Unambiguous → shown ≡ is_unambiguous v shown
+shown_so Unambiguous shown other = absurd (other refl)
+shown_so NoConflicts shown other = refl
+shown_so (Conflicts c) shown other = refl
+shown_so (told.Expected c) shown other = refl
+shown_so (Unexpected c wanted) shown other = refl

@@ -22,7 +22,9 @@ use Rattle.lrfindings.specs.Findings.{DecidesNothing}
 use Rattle.lrevidence.specs.Ambiguities.{HasTwoTrees, IsProved, PartsAtEntry}
 use Rattle.lrevidence.specs.Losses.{IsLostAtEntry}
 use Rattle.lrevidence.specs.DecidedEntries.{IsDecidedOf}
+use Rattle.lrevidence.specs.KeptEntries.{IsKeptEntry}
 use Rattle.lrshown.specs.declared.evidence.Evidence.{Evidence}
+use Rattle.lrshown.specs.Exactness.{Exact, ButAtErrors, Open, IsExact, IsExactButAtErrors}
 use Rattle.lrreport.specs.declared.options.Options.{Options}
 use Rattle.lrreport.specs.declared.reports.Conclusion.{Conclusion}
 use Rattle.lrreport.specs.declared.reports.Outcome.{Outcome}
@@ -45,7 +47,7 @@ abbrev pub known_by : Parser → List Evidence → List Evidence
 known_by parser evidence = if splits parser then map without_loss evidence else evidence
 
 -- the text is read as that grammar, as many conflicts are expected as it says, unless an option does, and of a parser that splits
--- at conflicts no sentence is told to be rejected
+-- at conflicts no sentence is told to be rejected, nor that it accepts every one, nor that an entry loses none
 pub record IsSaidBy (options : Options) (text : List ℕ) (c : Conclusion) : Type 0 where
   pub expected : Expected
   pub parser : Parser
@@ -53,6 +55,8 @@ pub record IsSaidBy (options : Options) (text : List ℕ) (c : Conclusion) : Typ
   pub read : ComesTo text options.dialect (reading.Grammar c.file expected parser warnings)
   pub beside : c.expected ≡ expected_beside options expected
   pub unlost : splits parser ≡ true → All (λ e. e.loss ≡ None) c.evidence.items
+  pub untold : splits parser ≡ true → c.exactness ≡ Open
+  pub unkept : splits parser ≡ true → c.kept.items ≡ []
 
 -- what is concluded of the grammar of a file
 abbrev pub conclusion_of : FileGrammar → Outcome → Conclusion
@@ -63,7 +67,9 @@ conclusion_of file o =
       expected = o.expected;
       verdict = o.verdict;
       is_unambiguous = o.is_unambiguous;
+      exactness = o.exactness;
       evidence = o.evidence;
+      kept = o.kept;
       resolved = o.resolved;
       decided = o.decided;
     }
@@ -74,7 +80,9 @@ conclusion_of file o =
 -- are resolved as precedences decide in the cells; each sentence that is told of an entry has two trees, which part in its state,
 -- where its token comes; each that is told to be rejected is a sentence that the machine of the grammar's table rejects, since
 -- it goes wrong there; of each entry that is told to be decided no sentence has two trees that part there by what meets in it,
--- and so many tokens of lookahead decide it; and a sentence that precedences decide has two trees
+-- and so many tokens of lookahead decide it; where the parser is told to accept every sentence, its machine accepts exactly the
+-- sentences, whatever precedences and the order of rules decide, or all but some that stop at an error that `%nonassoc` makes; where
+-- an entry is told to lose no sentence, both moves that meet there are kept; and a sentence that precedences decide has two trees
 pub record IsConcluded (left_out : Bool) (c : Conclusion) : Type 0 where
   pub max : ℕ
   pub grammar : Grammar
@@ -95,4 +103,7 @@ pub record IsConcluded (left_out : Bool) (c : Conclusion) : Type 0 where
   pub table_of : IsTableOf grammar graph table
   pub lost : All (IsLostAtEntry grammar table) c.evidence.items
   pub decided : All (IsDecidedOf grammar graph) c.evidence.items
+  pub exact : c.exactness ≡ Exact → IsExact grammar table
+  pub but_at_errors : c.exactness ≡ ButAtErrors → IsExactButAtErrors grammar graph table
+  pub kept_entries : All (IsKeptEntry grammar graph table) c.kept.items
   pub without : IfSome c.decided (HasTwoTrees grammar)

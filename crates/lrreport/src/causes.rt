@@ -129,6 +129,16 @@ impl<'e> Cause<'e> {
         Some(self.first_evidence()?.entry)
     }
 
+    /// Its entries, state by state.
+    pub(crate) fn entries(&self, alloc: Global) -> Result<Vec<Entry>, AllocError> {
+        let mut entries = Vec::new(alloc);
+        for meeting in &self.meetings {
+            let met = entries_of(alloc, meeting)?;
+            entries.extend_from_slice(met.as_slice())?;
+        }
+        Ok(entries)
+    }
+
     /// In how many states not each of its entries has a sentence with two trees that part by what meets in it.
     pub(crate) fn states_without(&self) -> usize {
         let states = self.meetings.iter();

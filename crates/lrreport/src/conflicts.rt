@@ -5,6 +5,7 @@ ghost use Rattle.std.specs.List.{flat_map, list_any};
 ghost use Rattle.lrevidence.specs.Ambiguities.{HasTwoTrees, IsProved};
 ghost use Rattle.lrevidence.specs.Losses.{IsLoss, IsLostAtEntry};
 ghost use Rattle.lrevidence.specs.DecidedEntries.{IsToldDecided};
+ghost use Rattle.lrevidence.specs.KeptEntries.{AreToldKept};
 ghost use Rattle.lrshown.specs.DecidedEntries.{tokens_of};
 ghost use Rattle.lrshown.specs.Ambiguities.{has_sentence};
 ghost use Rattle.lrreport.specs.Sentences.{IsKnownAt};
@@ -247,6 +248,8 @@ impl<T: IndexStorage> Checked<'_, T> {
             (entries_in cause.now) }
         requires entries { All (IsToldDecided self.now.found.now.grm self.now.found.now.graph)
             (entries_in cause.now) }
+        requires kept { AreToldKept self.now.found.now.grm self.now.found.now.graph
+            self.now.found.now.table self.now.told.kept.now }
     {
         let Some(meeting) = cause.shown() else {
             return Ok(());
@@ -276,6 +279,8 @@ impl<T: IndexStorage> Checked<'_, T> {
             (flat_map entries_in causes.now) }
         requires entries { All (IsToldDecided self.now.found.now.grm self.now.found.now.graph)
             (flat_map entries_in causes.now) }
+        requires kept { AreToldKept self.now.found.now.grm self.now.found.now.graph
+            self.now.found.now.table self.now.told.kept.now }
     {
         let mut told = 0;
         for (place, cause) in causes.iter().enumerate() {
@@ -296,6 +301,8 @@ impl<T: IndexStorage> Checked<'_, T> {
             self.now.told.evidence.now }
         requires entries { All (IsToldDecided self.now.found.now.grm self.now.found.now.graph)
             self.now.told.evidence.now }
+        requires kept { AreToldKept self.now.found.now.grm self.now.found.now.graph
+            self.now.found.now.table self.now.told.kept.now }
     {
         let causes = self.causes(text.allocator())?;
         let causes = causes.as_slice();

@@ -6,7 +6,8 @@ use crate::levels::{Group, Level, Proposal, Rank, Trial, Trials};
 use crate::told::Told;
 use crate::verdicts::own_sentences;
 use crate::words::Words;
-use lrevidence::Evidence;
+use lrevidence::{Evidence, Exactness};
+use lrfindings::is_among;
 use lrgrammar::idx::IndexStorage;
 use lrwriter::Text;
 use lryacc::Dialect;
@@ -76,6 +77,12 @@ impl Told<'_> {
         token >= FIRST_TOKENS && self.token_name(token) != "%no-default-prec"
     }
 
+    /// Whether it is shown that no sentence is lost at the conflicts.
+    fn loses_none(&self) -> bool {
+        let mut evidence = self.evidence.iter();
+        self.exactness == Exactness::Exact || evidence.all(|it| is_among(self.kept, &it.entry))
+    }
+
     /// That the conflicts can be expected, unless they are, where each is one with a shift, and no sentence is known that the parser
     /// rejects: that would be hidden.
     fn expected_note(&self, alloc: Global) -> Result<Option<String>, AllocError> {
@@ -88,6 +95,8 @@ impl Told<'_> {
         }
         let wanted = if self.parser.splits() {
             "if the parser is to split there"
+        } else if self.loses_none() {
+            "no sentence is lost there: if the trees are those that are wanted"
         } else {
             "if the table does what is wanted"
         };

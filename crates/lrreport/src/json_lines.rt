@@ -1,18 +1,20 @@
 //! What there is to tell of a file, as a line of JSON.
 
-ghost use Rattle.std.specs.Prelude.{◌≡◌, ◌⊎◌, false, [], ◌∷◌, All, IfOk, IfSome, IsSome, IsTrue, codes, is_some};
+ghost use Rattle.std.specs.Prelude.{◌≡◌, [], ◌∷◌, All, IfOk, IfSome, IsTrue, codes, is_some};
 ghost use Rattle.std.specs.List.{flat_map, list_any};
 ghost use Rattle.std.specs.String.{string_bytes};
-ghost use Rattle.json.specs.Token.{key, string, boolean};
+ghost use Rattle.json.specs.Token.{key, string, begin_array, end_array};
 ghost use Rattle.json.specs.Print.{print};
 ghost use Rattle.lrspec.specs.tables.Recognition.{IsUnambiguous};
 ghost use Rattle.lrverdicts.specs.declared.verdicts.Verdict.TheVariants.{Unambiguous};
 ghost use Rattle.lrevidence.specs.Ambiguities.{HasTwoTrees, IsProved};
 ghost use Rattle.lrevidence.specs.Losses.{IsLostAtEntry};
 ghost use Rattle.lrevidence.specs.DecidedEntries.{IsToldDecided};
+ghost use Rattle.lrevidence.specs.KeptEntries.{AreToldKept};
 ghost use Rattle.lrshown.specs.Ambiguities.{has_sentence};
+ghost use Rattle.lrshown.specs.Exactness.{IsToldExact};
 ghost use Rattle.lrreport.specs.JsonTexts.{AddsTokens};
-ghost use Rattle.lrreport.specs.JsonHeads.{verdict_word, is_proved, count_tokens, head_tokens, BeginsWith};
+ghost use Rattle.lrreport.specs.JsonHeads.{verdict_word, is_unambiguous, fact_tokens, exact_tokens, proved_tokens, count_tokens, head_tokens, BeginsWith};
 
 use crate::conflicts::{Checked, entries_of};
 use crate::grammars::{add_grammar, productions_of_file, rules_of_file, tokens_of_file};
@@ -22,7 +24,7 @@ use crate::json_texts::JsonText;
 use crate::resolved::won_by;
 use crate::trees::alternatives;
 use lrdiagnostics::Source;
-use lrevidence::{Ambiguity, Evidence};
+use lrevidence::{Ambiguity, Evidence, Exactness};
 use lrfindings::{Counts, Entry, Verdict, Winner};
 use lrgrammar::idx::IndexStorage;
 use lryacc::{Expected, Fault, FileGrammar};
@@ -55,10 +57,12 @@ fn add_verdict(json: &mut JsonText, name: &str, verdict: &str)
 
 /// Adds that nothing is proved of a file.
 fn add_not_proved(json: &mut JsonText)
-    ensures { AddsTokens json.old json.new (key (codes "proved") ∷ boolean false ∷ []) }
+    ensures { AddsTokens json.old json.new
+        (key (codes "proved") ∷ begin_array ∷ end_array ∷ []) }
 {
     json.key("proved");
-    json.boolean(false);
+    json.begin_array();
+    json.end_array();
 }
 
 /// Adds how many conflicts there are.
@@ -205,6 +209,7 @@ pub(crate) fn json_of_findings<T: IndexStorage>(
     warnings: &[Fault],
     expected: Expected,
     verdict: Verdict,
+    decided: Option<&Ambiguity>,
     has_grammar: bool,
 ) -> Result<String, AllocError>
     requires proved { All (IsProved checked.now.found.now.grm) checked.now.told.evidence.now }
@@ -218,13 +223,19 @@ pub(crate) fn json_of_findings<T: IndexStorage>(
     requires unambiguous { verdict ≡ Unambiguous → IsUnambiguous checked.now.found.now.grm }
     requires yet_unambiguous { IsTrue checked.now.told.is_unambiguous
         → IsUnambiguous checked.now.found.now.grm }
+    requires decided { IfSome decided (λ a. HasTwoTrees checked.now.found.now.grm a.now) }
+    requires exact { IsToldExact checked.now.found.now.grm checked.now.found.now.graph
+        checked.now.found.now.table checked.now.told.exactness }
+    requires kept { AreToldKept checked.now.found.now.grm checked.now.found.now.graph
+        checked.now.found.now.table checked.now.told.kept.now }
     ensures { IfOk result (λ s. BeginsWith (print (head_tokens checked.now.told.source.now.name.now
         verdict checked.now.told.is_unambiguous
-        (list_any has_sentence checked.now.told.evidence.now))) (string_bytes s)) }
+        (list_any has_sentence checked.now.told.evidence.now) (is_some decided.entry)
+        checked.now.told.exactness)) (string_bytes s)) }
 {
     let told = checked.told;
     let mut json = JsonText::new(alloc);
-    checked.add_head(&mut json, verdict);
+    checked.add_head(&mut json, verdict, decided);
     add_expected(&mut json, expected);
     add_sizes(&mut json, Some(told.file), Some(checked.found.states));
     checked.add_findings(&mut json)?;
@@ -235,7 +246,7 @@ pub(crate) fn json_of_findings<T: IndexStorage>(
     add_grammar_of(&mut json, Some(told.file), has_grammar);
     checked.add_automaton(&mut json)?;
     let line = end_line(json)?;
-    let head = checked.head(alloc, verdict)?;
+    let head = checked.head(alloc, verdict, decided)?;
     begun_with(alloc, line, head.as_str())
 }
 
@@ -250,14 +261,19 @@ fn begun_with(alloc: Global, line: String, head: &str) -> Result<String, AllocEr
 }
 
 impl<'a, T: IndexStorage> Checked<'a, T> {
-    /// Adds what the line begins with: the name of the file, its verdict, whether that is proved, and how many conflicts there are.
-    fn add_head(&self, json: &mut JsonText, verdict: Verdict)
+    /// Adds what the line begins with: the name of the file, its verdict, what is proved, and how many conflicts there are. That is a
+    /// text which precedences decide.
+    fn add_head(&self, json: &mut JsonText, verdict: Verdict, decided: Option<&Ambiguity>)
         requires proved { All (IsProved self.now.found.now.grm) self.now.told.evidence.now }
         requires unambiguous { verdict ≡ Unambiguous → IsUnambiguous self.now.found.now.grm }
         requires yet_unambiguous { IsTrue self.now.told.is_unambiguous
             → IsUnambiguous self.now.found.now.grm }
+        requires decided { IfSome decided (λ a. HasTwoTrees self.now.found.now.grm a.now) }
+        requires exact { IsToldExact self.now.found.now.grm self.now.found.now.graph
+            self.now.found.now.table self.now.told.exactness }
         ensures { AddsTokens json.old json.new (head_tokens self.now.told.source.now.name.now
-            verdict self.now.told.is_unambiguous (list_any has_sentence self.now.told.evidence.now)) }
+            verdict self.now.told.is_unambiguous (list_any has_sentence self.now.told.evidence.now)
+            (is_some decided.entry) self.now.told.exactness) }
     {
         let shown = self.any_sentence(self.told.evidence);
         json.begin_object();
@@ -266,56 +282,118 @@ impl<'a, T: IndexStorage> Checked<'a, T> {
             self.told.source.name,
             word_of(verdict, shown.is_some()),
         );
-        self.add_proved(json, verdict, shown);
+        self.add_proved(json, verdict, shown, decided);
         add_counts(json, verdict.counts());
     }
 
     /// The same as a text by itself.
-    fn head(&self, alloc: Global, verdict: Verdict) -> Result<String, AllocError>
+    fn head(
+        &self,
+        alloc: Global,
+        verdict: Verdict,
+        decided: Option<&Ambiguity>,
+    ) -> Result<String, AllocError>
         requires proved { All (IsProved self.now.found.now.grm) self.now.told.evidence.now }
         requires unambiguous { verdict ≡ Unambiguous → IsUnambiguous self.now.found.now.grm }
         requires yet_unambiguous { IsTrue self.now.told.is_unambiguous
             → IsUnambiguous self.now.found.now.grm }
+        requires decided { IfSome decided (λ a. HasTwoTrees self.now.found.now.grm a.now) }
+        requires exact { IsToldExact self.now.found.now.grm self.now.found.now.graph
+            self.now.found.now.table self.now.told.exactness }
         ensures { IfOk result (λ s. string_bytes s
             ≡ print (head_tokens self.now.told.source.now.name.now verdict
-            self.now.told.is_unambiguous (list_any has_sentence self.now.told.evidence.now))) }
+            self.now.told.is_unambiguous (list_any has_sentence self.now.told.evidence.now)
+            (is_some decided.entry) self.now.told.exactness)) }
     {
         let mut json = JsonText::new(alloc);
-        self.add_head(&mut json, verdict);
+        self.add_head(&mut json, verdict, decided);
         json.finish()
     }
 
-    /// Adds whether it is proved of the grammar that it is ambiguous, which a text shows, or that it is not.
-    fn add_proved(&self, json: &mut JsonText, verdict: Verdict, shown: Option<&Ambiguity>)
+    /// Adds what is proved, as a list: of the grammar, with its precedences or without them, where a text shows that it is ambiguous,
+    /// and of the table.
+    fn add_proved(
+        &self,
+        json: &mut JsonText,
+        verdict: Verdict,
+        shown: Option<&Ambiguity>,
+        decided: Option<&Ambiguity>,
+    )
         requires proved { IfSome shown (λ a. HasTwoTrees self.now.found.now.grm a.now) }
         requires unambiguous { verdict ≡ Unambiguous → IsUnambiguous self.now.found.now.grm }
         requires yet_unambiguous { IsTrue self.now.told.is_unambiguous
             → IsUnambiguous self.now.found.now.grm }
-        ensures { AddsTokens json.old json.new (key (codes "proved")
-            ∷ boolean (is_proved verdict self.now.told.is_unambiguous (is_some shown.entry))
-            ∷ []) }
+        requires decided { IfSome decided (λ a. HasTwoTrees self.now.found.now.grm a.now) }
+        requires exact { IsToldExact self.now.found.now.grm self.now.found.now.graph
+            self.now.found.now.table self.now.told.exactness }
+        ensures { AddsTokens json.old json.new (proved_tokens verdict
+            self.now.told.is_unambiguous (is_some shown.entry) (is_some decided.entry)
+            self.now.told.exactness) }
     {
         json.key("proved");
-        json.boolean(self.is_proved(verdict, shown));
+        json.begin_array();
+        self.add_if_unambiguous(json, verdict);
+        self.add_if_ambiguous(json, "ambiguous", shown);
+        self.add_if_ambiguous(json, "ambiguous without precedences", decided);
+        self.add_exactness(json);
+        json.end_array();
     }
 
-    /// Whether it is proved of the grammar that it is ambiguous, which a text shows, or that it is not.
-    fn is_proved(&self, verdict: Verdict, shown: Option<&Ambiguity>) -> bool
-        requires shown { IfSome shown (λ a. HasTwoTrees self.now.found.now.grm a.now) }
+    /// Whether it is proved that no sentence has two trees.
+    fn is_unambiguous(&self, verdict: Verdict) -> bool
         requires unambiguous { verdict ≡ Unambiguous → IsUnambiguous self.now.found.now.grm }
         requires yet_unambiguous { IsTrue self.now.told.is_unambiguous
             → IsUnambiguous self.now.found.now.grm }
-        ensures proved { IsTrue result
-            → IsSome shown.entry ⊎ IsUnambiguous self.now.found.now.grm }
-        ensures told { result
-            ≡ is_proved verdict self.now.told.is_unambiguous (is_some shown.entry) }
+        ensures proved { IsTrue result → IsUnambiguous self.now.found.now.grm }
+        ensures told { result ≡ is_unambiguous verdict self.now.told.is_unambiguous }
     {
-        if self.told.is_unambiguous {
-            return true;
-        }
         match verdict {
             Verdict::Unambiguous => true,
-            _ => shown.is_some(),
+            _ => self.told.is_unambiguous,
+        }
+    }
+
+    /// Adds that no sentence has two trees.
+    fn add_unambiguous(&self, json: &mut JsonText)
+        requires proved { IsUnambiguous self.now.found.now.grm }
+        ensures { AddsTokens json.old json.new (string (codes "unambiguous") ∷ []) }
+    {
+        json.string("unambiguous");
+    }
+
+    /// Adds the same, where it is proved.
+    fn add_if_unambiguous(&self, json: &mut JsonText, verdict: Verdict)
+        requires unambiguous { verdict ≡ Unambiguous → IsUnambiguous self.now.found.now.grm }
+        requires yet_unambiguous { IsTrue self.now.told.is_unambiguous
+            → IsUnambiguous self.now.found.now.grm }
+        ensures { AddsTokens json.old json.new (fact_tokens
+            (is_unambiguous verdict self.now.told.is_unambiguous) (codes "unambiguous")) }
+    {
+        if self.is_unambiguous(verdict) {
+            self.add_unambiguous(json);
+        }
+    }
+
+    /// Adds that the grammar is ambiguous, in these words, where a text shows it.
+    fn add_if_ambiguous(&self, json: &mut JsonText, fact: &str, text: Option<&Ambiguity>)
+        requires proved { IfSome text (λ a. HasTwoTrees self.now.found.now.grm a.now) }
+        ensures { AddsTokens json.old json.new (fact_tokens (is_some text.entry) fact.now) }
+    {
+        if text.is_some() {
+            json.string(fact);
+        }
+    }
+
+    /// Adds how exact the table is, where that is shown.
+    fn add_exactness(&self, json: &mut JsonText)
+        requires proved { IsToldExact self.now.found.now.grm self.now.found.now.graph
+            self.now.found.now.table self.now.told.exactness }
+        ensures { AddsTokens json.old json.new (exact_tokens self.now.told.exactness) }
+    {
+        match self.told.exactness {
+            Exactness::Exact => json.string("accepts every sentence"),
+            Exactness::ButAtErrors => json.string("rejects sentences only by %nonassoc"),
+            Exactness::Open => {}
         }
     }
 
@@ -329,6 +407,8 @@ impl<'a, T: IndexStorage> Checked<'a, T> {
         requires resolved { All (IsProved self.now.found.now.grm) self.now.told.resolved.now }
         requires settled { All (IsLostAtEntry self.now.found.now.grm self.now.found.now.table)
             self.now.told.resolved.now }
+        requires kept { AreToldKept self.now.found.now.grm self.now.found.now.graph
+            self.now.found.now.table self.now.told.kept.now }
     {
         let alternatives = alternatives(json.allocator(), self.told.file)?;
         json.key("conflicts");
@@ -376,6 +456,19 @@ impl<'a, T: IndexStorage> Checked<'a, T> {
         }
     }
 
+    /// Adds that no sentence is lost at the entries, where that is shown.
+    fn add_kept(&self, json: &mut JsonText, entries: &[Entry])
+        requires proved { AreToldKept self.now.found.now.grm self.now.found.now.graph
+            self.now.found.now.table self.now.told.kept.now }
+    {
+        json.key("kept");
+        if self.told.are_kept(entries) {
+            json.boolean(true);
+        } else {
+            json.null();
+        }
+    }
+
     /// Adds a conflict: entries at which the same meets in the same state, and of which the table makes the same.
     fn add_conflict(
         &self,
@@ -388,6 +481,8 @@ impl<'a, T: IndexStorage> Checked<'a, T> {
             meeting.now }
         requires entries { All (IsToldDecided self.now.found.now.grm self.now.found.now.graph)
             meeting.now }
+        requires kept { AreToldKept self.now.found.now.grm self.now.found.now.graph
+            self.now.found.now.table self.now.told.kept.now }
     {
         let Some(first) = meeting.first() else {
             return Ok(());
@@ -406,6 +501,7 @@ impl<'a, T: IndexStorage> Checked<'a, T> {
         json.boolean(self.told.options.steps > 0 && cut_off(meeting) == 0);
         json.key("lost");
         self.add_loss(json, self.loss_in(meeting));
+        self.add_kept(json, entries.as_slice());
         self.add_decided(json, meeting);
         json.end_object();
         Ok(())
@@ -434,6 +530,8 @@ impl<'a, T: IndexStorage> Checked<'a, T> {
             self.now.told.evidence.now }
         requires entries { All (IsToldDecided self.now.found.now.grm self.now.found.now.graph)
             self.now.told.evidence.now }
+        requires kept { AreToldKept self.now.found.now.grm self.now.found.now.graph
+            self.now.found.now.table self.now.told.kept.now }
     {
         json.begin_array();
         for meeting in &self.alike(json.allocator())? {
@@ -448,6 +546,8 @@ impl<'a, T: IndexStorage> Checked<'a, T> {
         requires proved { All (IsProved self.now.found.now.grm) self.now.told.resolved.now }
         requires lost { All (IsLostAtEntry self.now.found.now.grm self.now.found.now.table)
             self.now.told.resolved.now }
+        requires kept { AreToldKept self.now.found.now.grm self.now.found.now.graph
+            self.now.found.now.table self.now.told.kept.now }
     {
         json.begin_array();
         for meeting in self
@@ -476,6 +576,8 @@ impl<'a, T: IndexStorage> Checked<'a, T> {
         requires proved { All (IsProved self.now.found.now.grm) self.now.told.resolved.now }
         requires lost { All (IsLostAtEntry self.now.found.now.grm self.now.found.now.table)
             self.now.told.resolved.now }
+        requires kept { AreToldKept self.now.found.now.grm self.now.found.now.graph
+            self.now.found.now.table self.now.told.kept.now }
     {
         let Some(first) = entries.first() else {
             return Ok(());
@@ -490,6 +592,7 @@ impl<'a, T: IndexStorage> Checked<'a, T> {
         json.boolean(self.told.options.steps > 0 && self.are_searched(entries));
         json.key("lost");
         self.add_loss(json, self.lost(entries));
+        self.add_kept(json, entries);
         json.end_object();
         Ok(())
     }

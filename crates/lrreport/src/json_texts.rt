@@ -3,7 +3,7 @@
 ghost use Rattle.std.specs.Prelude.{◌≡◌, [], ◌∷◌, IfOk, IsTrue, decimal, true};
 ghost use Rattle.std.specs.String.{string_bytes};
 ghost use Rattle.json.specs.Token as token;
-ghost use Rattle.json.specs.Token.{key, string, boolean, begin_object as start};
+ghost use Rattle.json.specs.Token.{key, string, boolean, begin_object as start, begin_array as opened, end_array as closed};
 ghost use Rattle.json.specs.Lex.{tokens};
 ghost use Rattle.json.specs.Print.{print};
 ghost use Rattle.lrreport.specs.JsonTexts.{AddsTokens, HeldJson};
@@ -60,12 +60,16 @@ impl JsonText {
     }
 
     /// Begins an array.
-    pub(crate) fn begin_array(&mut self) {
+    pub(crate) fn begin_array(&mut self)
+        ensures { AddsTokens self.old self.new (opened ∷ []) }
+    {
         self.is_whole = self.is_whole && self.writer.begin_array().is_ok();
     }
 
     /// Ends an array.
-    pub(crate) fn end_array(&mut self) {
+    pub(crate) fn end_array(&mut self)
+        ensures { AddsTokens self.old self.new (closed ∷ []) }
+    {
         self.is_whole = self.is_whole && self.writer.end_array().is_ok();
     }
 

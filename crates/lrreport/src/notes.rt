@@ -5,12 +5,13 @@ ghost use Rattle.std.specs.List.{filter};
 ghost use Rattle.lrevidence.specs.Ambiguities.{HasTwoTrees, IsProved};
 ghost use Rattle.lrevidence.specs.Losses.{IsLoss, IsLostAtEntry};
 ghost use Rattle.lrevidence.specs.DecidedEntries.{IsToldDecided};
+ghost use Rattle.lrevidence.specs.KeptEntries.{AreToldKept};
 ghost use Rattle.lrshown.specs.DecidedEntries.{is_decided, tokens_of};
 ghost use Rattle.lrreport.specs.Causes.{entries_in};
 
 use crate::alike::Alike;
 use crate::causes::Cause;
-use crate::conflicts::{Checked, are_decided, tokens_of_each};
+use crate::conflicts::{Checked, Choice, are_decided, tokens_of_each};
 use crate::drawings::{cut_mark, push_drawing};
 use crate::texts::{
     Label, add_list, add_loss, add_names, add_shortened, add_start, add_text, add_tree_words,
@@ -366,6 +367,50 @@ impl<T: IndexStorage> Checked<'_, T> {
         Ok(())
     }
 
+    /// Adds that what the table does at the entries loses no sentence.
+    fn push_kept(&self, text: &mut Text, notes: Notes, _entries: &[Entry], choice: Option<Choice>)
+        requires proved { AreToldKept self.now.found.now.grm self.now.found.now.graph
+            self.now.found.now.table _entries.now }
+    {
+        notes.push_text(
+            text,
+            match choice {
+                Some(Choice::Shift) => "shifting loses no sentence here (proved)",
+                Some(Choice::Reduce | Choice::Other) => "reducing loses no sentence here (proved)",
+                Some(Choice::Neither) | None => "no sentence is lost here (proved)",
+            },
+        );
+    }
+
+    /// Adds the same, where it is shown.
+    fn push_if_kept(&self, text: &mut Text, notes: Notes, entries: &[Entry])
+        requires { AreToldKept self.now.found.now.grm self.now.found.now.graph
+            self.now.found.now.table self.now.told.kept.now }
+    {
+        if entries.is_empty() {
+            return;
+        }
+        if self.told.are_kept(entries) {
+            self.push_kept(text, notes, entries, self.choice_of(entries));
+        }
+    }
+
+    /// Adds a sentence that the parser rejects, where one is known.
+    fn push_if_lost(
+        &self,
+        text: &mut Text,
+        notes: Notes,
+        loss: Option<&Loss>,
+    ) -> Result<(), AllocError>
+        requires { IfSome loss (λ l.
+            IsLoss self.now.found.now.grm self.now.found.now.table l.now) }
+    {
+        match loss {
+            Some(loss) => self.push_loss(text, notes, loss),
+            None => Ok(()),
+        }
+    }
+
     /// Adds that no sentence has two trees that part at the entries, and how many tokens decide each of them, if that is known.
     fn push_not_ambiguous(
         &self,
@@ -539,10 +584,7 @@ impl<T: IndexStorage> Checked<'_, T> {
         } else {
             self.push_without_sentence(text, notes, meeting)?;
         }
-        match self.loss_in(meeting) {
-            Some(loss) => self.push_loss(text, notes, loss),
-            None => Ok(()),
-        }
+        self.push_if_lost(text, notes, self.loss_in(meeting))
     }
 
     /// Adds that the same is so in the other states.
@@ -601,10 +643,7 @@ impl<T: IndexStorage> Checked<'_, T> {
                 &words_of_states(text.allocator(), cause.states_without()),
             );
         }
-        match self.loss_elsewhere(cause, shown) {
-            Some(loss) => self.push_loss(text, notes, loss),
-            None => Ok(()),
-        }
+        self.push_if_lost(text, notes, self.loss_elsewhere(cause, shown))
     }
 
     /// Adds what is known of a conflict, of which a state is shown, how it can be resolved, and which conflicts are like it, as notes
@@ -626,12 +665,16 @@ impl<T: IndexStorage> Checked<'_, T> {
             shown.now }
         requires entries_here { All (IsToldDecided self.now.found.now.grm self.now.found.now.graph)
             shown.now }
+        requires kept { AreToldKept self.now.found.now.grm self.now.found.now.graph
+            self.now.found.now.table self.now.told.kept.now }
     {
         let mut lines = Text::new(text.allocator());
         let notes = self.told.notes(marks);
         if self.told.options.steps > 0 {
             self.push_known(&mut lines, notes, shown)?;
             self.push_other_states(&mut lines, notes, cause, shown)?;
+            let entries = cause.entries(text.allocator())?;
+            self.push_if_kept(&mut lines, notes, entries.as_slice());
         }
         if !help.is_empty() {
             notes.push(&mut lines, help);
@@ -661,7 +704,8 @@ impl<T: IndexStorage> Checked<'_, T> {
         self.push_sentence(text, notes, ambiguity)
     }
 
-    /// Adds notes on what precedences resolve: why, a sentence with two trees, of which one is kept, and one that is rejected.
+    /// Adds notes on what precedences resolve at the entries: why, a sentence with two trees, of which one is kept, and one that is
+    /// rejected, or that none is.
     pub(crate) fn push_decided(
         &self,
         text: &mut Text,
@@ -669,10 +713,13 @@ impl<T: IndexStorage> Checked<'_, T> {
         why: &str,
         kept: &str,
         known: KnownResolved<'_>,
+        entries: &[Entry],
     ) -> Result<(), AllocError>
         requires proved { IfSome known.ambiguity (λ a. HasTwoTrees self.now.found.now.grm a.now) }
         requires lost { IfSome known.loss (λ l.
             IsLoss self.now.found.now.grm self.now.found.now.table l.now) }
+        requires kept { AreToldKept self.now.found.now.grm self.now.found.now.graph
+            self.now.found.now.table self.now.told.kept.now }
     {
         let mut lines = Text::new(text.allocator());
         let notes = self.told.notes(marks);
@@ -686,9 +733,8 @@ impl<T: IndexStorage> Checked<'_, T> {
         if let Some(ambiguity) = known.ambiguity {
             self.push_decided_sentence(&mut lines, notes, kept, ambiguity)?;
         }
-        if let Some(loss) = known.loss {
-            self.push_loss(&mut lines, notes, loss)?;
-        }
+        self.push_if_lost(&mut lines, notes, known.loss)?;
+        self.push_if_kept(&mut lines, notes, entries);
         let lines = lines.finish()?;
         self.told.teller().add_notes(text, marks, lines.as_str());
         Ok(())

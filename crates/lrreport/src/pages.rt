@@ -4,6 +4,7 @@ ghost use Rattle.std.specs.Prelude.{◌≡◌, All, IfOk};
 ghost use Rattle.lrevidence.specs.Ambiguities.{IsProved};
 ghost use Rattle.lrevidence.specs.Losses.{IsLostAtEntry};
 ghost use Rattle.lrevidence.specs.DecidedEntries.{IsToldDecided};
+ghost use Rattle.lrevidence.specs.KeptEntries.{AreToldKept};
 ghost use Rattle.lrshown.specs.VerdictWords.{AreProvedWords};
 
 use crate::conflicts::{Checked, entries_of, meetings};
@@ -61,6 +62,8 @@ impl<T: IndexStorage> Checked<'_, T> {
         requires resolved { All (IsProved self.now.found.now.grm) self.now.told.resolved.now }
         requires settled { All (IsLostAtEntry self.now.found.now.grm self.now.found.now.table)
             self.now.told.resolved.now }
+        requires kept { AreToldKept self.now.found.now.grm self.now.found.now.graph
+            self.now.found.now.table self.now.told.kept.now }
         requires words { AreProvedWords self.now.found.now.grm self.now.found.now.table words.now }
     {
         let trials = Trials::new(alloc, self)?;
@@ -80,6 +83,7 @@ impl<T: IndexStorage> Checked<'_, T> {
             cards: cards.as_slice(),
             notes: notes.as_slice(),
             resolved: resolved.as_slice(),
+            kept: self.told.kept,
             warnings: messages.as_slice(),
             steps: self.told.options.steps,
         };

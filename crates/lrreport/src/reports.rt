@@ -6,18 +6,20 @@ ghost use Rattle.std.specs.String.{string_bytes};
 ghost use Rattle.lrspec.specs.merging.Graph.{IsGraphOf};
 ghost use Rattle.lrspec.specs.tables.Conflicts.{AreReductionsContested};
 ghost use Rattle.lrspec.specs.tables.Recognition.{IsUnambiguous};
-ghost use Rattle.lrspec.specs.tables.Table.{IsTableFor};
+ghost use Rattle.lrspec.specs.tables.Table.{IsTableFor, IsTableOf};
 ghost use Rattle.lrverdicts.specs.declared.verdicts.Verdict.TheVariants.{Unambiguous};
 ghost use Rattle.lryacc.specs.Parsers.{splits};
 ghost use Rattle.lrfindings.specs.Findings.{AreFindings, FindNothing, DecidesNothing};
 ghost use Rattle.lrverdicts.specs.Verdicts.{counts_of, status_of};
 ghost use Rattle.lrwriter.specs.Texts.{Adds};
 ghost use Rattle.lrdiagnostics.specs.ShownTexts.{shown_text};
+ghost use Rattle.lrshown.specs.Exactness.{IsToldExact, Open};
 ghost use Rattle.lrshown.specs.VerdictWords.{verdict_words};
 ghost use Rattle.lrevidence.specs.Ambiguities.{HasTwoTrees, IsProved, PartsAtEntry};
 ghost use Rattle.lrevidence.specs.Entries.{AreListedIn};
 ghost use Rattle.lrevidence.specs.Losses.{IsLostAtEntry};
 ghost use Rattle.lrevidence.specs.DecidedEntries.{IsToldDecided};
+ghost use Rattle.lrevidence.specs.KeptEntries.{AreToldKept};
 ghost use Rattle.lrreport.specs.declared.options.Output.TheVariants.{Grammar, Summary};
 ghost use Rattle.json.specs.Print.{print};
 ghost use Rattle.lrshown.specs.Ambiguities.{has_sentence};
@@ -31,7 +33,10 @@ use crate::options::{Options, Output};
 use crate::sarif::{sarif_of_faults, sarif_of_refusal};
 use crate::told::Told;
 use lrdiagnostics::{Layout, Source, TOLD, Teller, Weight, add_shown, messages_of};
-use lrevidence::{Ambiguity, Effort, Evidence, evidence_for, find_ambiguity, shows_unambiguous};
+use lrevidence::{
+    Ambiguity, Effort, Evidence, Exactness, evidence_for, exactness_of, find_ambiguity,
+    kept_entries, shows_unambiguous,
+};
 use lrfindings::{
     Counts, Entry, FindError, Findings, Resolved, UselessPrecedences, Verdict, find, small_text,
 };
@@ -67,8 +72,12 @@ pub struct Conclusion {
     pub verdict: Verdict,
     /// Whether it is shown that no sentence has two trees although there are conflicts.
     pub is_unambiguous: bool,
+    /// Whether it is shown that the parser accepts every sentence although something meets in cells of the table.
+    pub exactness: Exactness,
     /// The conflicts, in the order of the file, and what is known of each.
     pub evidence: Vec<Evidence>,
+    /// At which of them, and of what precedences resolve where that is told, no sentence is lost, where that is shown.
+    pub kept: Vec<Entry>,
     /// How many more precedences resolve.
     pub resolved: usize,
     /// A sentence with two trees, one of which precedences choose, where it was looked for: only where they resolve all conflicts.
@@ -188,10 +197,14 @@ struct Known {
     left: Counts,
     /// Whether it is shown that no sentence has two trees although some are left open.
     is_unambiguous: bool,
+    /// Whether it is shown that the parser accepts every sentence although something meets in cells of the table.
+    exactness: Exactness,
     /// Of the conflicts that are left open.
     evidence: Vec<Evidence>,
     /// Of what precedences resolve, where that is asked for.
     resolved: Vec<Evidence>,
+    /// At which of both no sentence is lost, where that is shown, in the order of the file.
+    kept: Vec<Entry>,
     /// A sentence with two trees, where precedences resolve all conflicts.
     decided: Option<Ambiguity>,
 }
@@ -213,6 +226,16 @@ const DECISIONS: usize = 100;
 
 /// For how many steps that a search for such a sentence may take one of these looks at a node.
 const STEPS_A_NODE: usize = 100;
+
+/// How many positions a search looks at whether the parser accepts every sentence: it stops at the first cell of the table of which it
+/// doesn't see that.
+const POSITIONS: usize = 100_000;
+
+/// Of a table in which more conflicts and resolved ones than these meet that is not searched.
+const MANY: usize = 400;
+
+/// How many positions searches look at together whether no sentence is lost at each of what is told.
+const POSITIONS_OF_EACH: usize = 10_000;
 
 /// How much work searches may do together.
 fn work_of(options: Options) -> usize {
@@ -236,6 +259,7 @@ fn effort_of(options: Options) -> Effort {
         losses: if options.steps == 0 { 0 } else { LOSSES },
         decisions: DECISIONS,
         nodes: options.steps / STEPS_A_NODE,
+        positions: if options.steps == 0 { 0 } else { POSITIONS },
         counts_each: options.detail.all
             || options.makes_page
             || matches!(options.output, Output::Json { .. }),
@@ -275,6 +299,81 @@ fn evidence_by(
     }
 }
 
+/// Whether so much meets in the cells of the table that it is not searched whether the parser accepts every sentence.
+fn has_many(found: &Findings<u32>) -> bool {
+    found.left.len().saturating_add(found.resolved.len()) > MANY
+}
+
+/// Whether such a parser of a file accepts every sentence, as far as that is shown. Of one that splits at a conflict nothing is told:
+/// it may stop where a text has two trees.
+fn exactness_by(
+    parser: &Parser,
+    found: &Findings<u32>,
+    evidence: &[Evidence],
+    resolved: &[Evidence],
+    effort: Effort,
+) -> Result<Exactness, AllocError>
+    requires graph { IfSome found.now.graph (IsGraphOf found.now.grm) }
+    requires table { IfSome found.now.graph (λ h. IsTableOf found.now.grm h found.now.table) }
+    ensures exact { IfOk result (IsToldExact found.now.grm found.now.graph found.now.table) }
+    ensures untold { splits parser.now ≡ true → IfOk result (λ e. e ≡ Open) }
+{
+    if parser.splits() {
+        return Ok(Exactness::Open);
+    }
+    if has_many(found) {
+        return Ok(Exactness::Open);
+    }
+    let exact = exactness_of(found, evidence, resolved, effort)?;
+    Ok(exact)
+}
+
+/// How many positions searches look at together whether no sentence is lost at what is told.
+fn positions_of(options: Options) -> usize {
+    match options.output {
+        _ if options.steps == 0 => 0,
+        _ if options.makes_page => POSITIONS_OF_EACH,
+        Output::Report | Output::Json { .. } => POSITIONS_OF_EACH,
+        Output::Summary | Output::Grammar | Output::States | Output::Sarif => 0,
+    }
+}
+
+/// Adds the entries for which no sentence is known that the parser rejects.
+fn add_unlost(entries: &mut Vec<Entry>, evidence: &[Evidence]) -> Result<(), AllocError> {
+    for known in evidence {
+        if known.loss.is_none() {
+            entries.push(known.entry)?;
+        }
+    }
+    Ok(())
+}
+
+/// At which of the entries of both no sentence is lost by such a parser, as far as that is shown.
+fn kept_by(
+    parser: &Parser,
+    found: &Findings<u32>,
+    evidence: &[Evidence],
+    resolved: &[Evidence],
+    options: Options,
+) -> Result<Vec<Entry>, AllocError>
+    requires graph { IfSome found.now.graph (IsGraphOf found.now.grm) }
+    requires table { IfSome found.now.graph (λ h. IsTableOf found.now.grm h found.now.table) }
+    ensures kept { IfOk result (λ v.
+        AreToldKept found.now.grm found.now.graph found.now.table v.items) }
+    ensures untold { splits parser.now ≡ true → IfOk result (λ v. v.items ≡ []) }
+{
+    let alloc = found.grm.allocator();
+    if parser.splits() {
+        return Ok(Vec::new(alloc));
+    }
+    let mut entries = Vec::new(alloc);
+    add_unlost(&mut entries, evidence)?;
+    add_unlost(&mut entries, resolved)?;
+    entries.sort_unstable();
+    let kept = kept_entries(found, entries.as_slice(), positions_of(options))?;
+    Ok(kept)
+}
+
 /// What is known of a grammar beside what was found in it.
 fn known_of(
     alloc: Global,
@@ -287,6 +386,7 @@ fn known_of(
         AreListedIn found.now.grm h found.now.conflicts.items) }
     requires contested { IfSome found.now.graph (AreReductionsContested found.now.grm) }
     requires table { IsTableFor found.now.grm found.now.table }
+    requires table_of { IfSome found.now.graph (λ h. IsTableOf found.now.grm h found.now.table) }
     ensures left { IfOk result (λ k. map (λ e. e.entry) k.evidence.items ≡ found.now.left.items) }
     ensures unambiguous { IfOk result (λ k. IsTrue k.is_unambiguous
         → IsUnambiguous found.now.grm) }
@@ -302,8 +402,16 @@ fn known_of(
     ensures settled { IfOk result (λ k.
         All (IsLostAtEntry found.now.grm found.now.table) k.resolved.items) }
     ensures decided { IfOk result (λ k. IfSome k.decided (HasTwoTrees found.now.grm)) }
+    ensures exact { IfOk result (λ k.
+        IsToldExact found.now.grm found.now.graph found.now.table k.exactness) }
+    ensures kept { IfOk result (λ k.
+        AreToldKept found.now.grm found.now.graph found.now.table k.kept.items) }
     ensures unlost { splits read.entry.parser.now ≡ true → IfOk result (λ k.
         All (λ e. e.loss ≡ None) k.evidence.items) }
+    ensures untold { splits read.entry.parser.now ≡ true → IfOk result (λ k.
+        k.exactness ≡ Open) }
+    ensures unkept { splits read.entry.parser.now ≡ true → IfOk result (λ k.
+        k.kept.items ≡ []) }
 {
     let file = read.file;
     let (entries, effort) = (found.left.as_slice(), effort_of(options));
@@ -327,11 +435,16 @@ fn known_of(
     } else {
         Vec::new(alloc)
     };
+    let (known, settled) = (evidence.as_slice(), resolved.as_slice());
+    let exactness = exactness_by(read.parser, found, known, settled, effort)?;
+    let kept = kept_by(read.parser, found, known, settled, options)?;
     Ok(Known {
         left: Counts::of(entries),
         is_unambiguous,
+        exactness,
         evidence,
         resolved,
+        kept,
         decided,
     })
 }
@@ -348,15 +461,19 @@ fn told_of<'a>(
     ensures columns { result.options.lines.columns ≡ options.lines.columns }
     ensures hint { has_hint result.options ≡ has_hint options }
     ensures shown { result.is_unambiguous ≡ known.now.is_unambiguous }
+    ensures exact { result.exactness ≡ known.now.exactness }
     ensures evidence { result.evidence.now ≡ known.now.evidence.items }
     ensures resolved { result.resolved.now ≡ known.now.resolved.items }
+    ensures kept { result.kept.now ≡ known.now.kept.items }
 {
     Told {
         source: read.source,
         file: read.file,
         is_unambiguous: known.is_unambiguous,
+        exactness: known.exactness,
         evidence: known.evidence.as_slice(),
         resolved: known.resolved.as_slice(),
+        kept: known.kept.as_slice(),
         useless,
         options: Options {
             expected: options.beside(read.expected).shift_reduce,
@@ -388,6 +505,8 @@ impl<T: IndexStorage> Checked<'_, T> {
         requires resolved { All (IsProved self.now.found.now.grm) self.now.told.resolved.now }
         requires settled { All (IsLostAtEntry self.now.found.now.grm self.now.found.now.table)
             self.now.told.resolved.now }
+        requires kept { AreToldKept self.now.found.now.grm self.now.found.now.graph
+            self.now.found.now.table self.now.told.kept.now }
     {
         let options = self.told.options;
         if options.output == Output::States {
@@ -415,11 +534,13 @@ impl<T: IndexStorage> Checked<'_, T> {
         requires unambiguous { verdict ≡ Unambiguous → IsUnambiguous self.now.found.now.grm }
         requires yet_unambiguous { IsTrue self.now.told.is_unambiguous
             → IsUnambiguous self.now.found.now.grm }
+        requires exact { IsToldExact self.now.found.now.grm self.now.found.now.graph
+            self.now.found.now.table self.now.told.exactness }
         requires decided { IfSome decided (λ a. HasTwoTrees self.now.found.now.grm a.now) }
         ensures { IfOk result (λ s. string_bytes s ≡ line_of self.now.told.source.now.name.now
             (verdict_words verdict self.now.told.is_unambiguous self.now.told.evidence.now
             (nat_lt 0 self.now.told.options.steps) (length self.now.found.now.resolved.items)
-            (has_hint self.now.told.options) (is_some decided.entry))) }
+            (has_hint self.now.told.options) self.now.told.exactness (is_some decided.entry))) }
     {
         let has_hint = self.told.options.has_hint();
         let words = self.verdict_words(alloc, verdict, decided, has_hint)?;
@@ -453,6 +574,8 @@ fn lines<T: IndexStorage>(
     requires resolved { All (IsProved checked.now.found.now.grm) checked.now.told.resolved.now }
     requires settled { All (IsLostAtEntry checked.now.found.now.grm checked.now.found.now.table)
         checked.now.told.resolved.now }
+    requires kept { AreToldKept checked.now.found.now.grm checked.now.found.now.graph
+        checked.now.found.now.table checked.now.told.kept.now }
     ensures { checked.now.told.options.lines.columns ≡ None → IfOk result (λ s.
         EndsIn (shown_text line.now ++ codes "\n") (string_bytes s)) }
 {
@@ -479,18 +602,24 @@ fn text_on_findings<T: IndexStorage>(
     requires decided { IfSome known.now.decided (HasTwoTrees found.now.grm) }
     requires unambiguous { verdict ≡ Unambiguous → IsUnambiguous found.now.grm }
     requires yet_unambiguous { IsTrue known.now.is_unambiguous → IsUnambiguous found.now.grm }
+    requires exact { IsToldExact found.now.grm found.now.graph found.now.table
+        known.now.exactness }
+    requires kept { AreToldKept found.now.grm found.now.graph found.now.table
+        known.now.kept.items }
     ensures told { IfOk result (λ s. Tells options.output options.lines.columns
         (last_line read.entry.source.now.name.now (verdict_words verdict known.now.is_unambiguous
         known.now.evidence.items (nat_lt 0 options.steps) (length found.now.resolved.items)
-        (has_hint options) (is_some known.now.decided)))
+        (has_hint options) known.now.exactness (is_some known.now.decided)))
         (print (head_tokens read.entry.source.now.name.now verdict known.now.is_unambiguous
-        (list_any has_sentence known.now.evidence.items))) (string_bytes s)) }
+        (list_any has_sentence known.now.evidence.items) (is_some known.now.decided)
+        known.now.exactness)) (string_bytes s)) }
 {
     let checked = Checked {
         told: told_of(read, &found.useless, known, options),
         found,
     };
-    let line = checked.line(alloc, verdict, known.decided.as_ref())?;
+    let decided = known.decided.as_ref();
+    let line = checked.line(alloc, verdict, decided)?;
     match options.output {
         Output::Json { has_grammar } => {
             let expected = options.beside(read.expected);
@@ -500,6 +629,7 @@ fn text_on_findings<T: IndexStorage>(
                 read.warnings,
                 expected,
                 verdict,
+                decided,
                 has_grammar,
             )
         }
@@ -524,9 +654,14 @@ fn page_on_findings<T: IndexStorage>(
     requires resolved { All (IsProved found.now.grm) known.now.resolved.items }
     requires settled { All (IsLostAtEntry found.now.grm found.now.table) known.now.resolved.items }
     requires graph { IfSome found.now.graph (IsGraphOf found.now.grm) }
+    requires table_of { IfSome found.now.graph (λ h. IsTableOf found.now.grm h found.now.table) }
     requires decided { IfSome known.now.decided (HasTwoTrees found.now.grm) }
     requires unambiguous { verdict ≡ Unambiguous → IsUnambiguous found.now.grm }
     requires yet_unambiguous { IsTrue known.now.is_unambiguous → IsUnambiguous found.now.grm }
+    requires exact { IsToldExact found.now.grm found.now.graph found.now.table
+        known.now.exactness }
+    requires kept { AreToldKept found.now.grm found.now.graph found.now.table
+        known.now.kept.items }
 {
     if !options.makes_page {
         return Ok(None);
@@ -548,7 +683,9 @@ struct Outcome {
     expected: Expected,
     verdict: Verdict,
     is_unambiguous: bool,
+    exactness: Exactness,
     evidence: Vec<Evidence>,
+    kept: Vec<Entry>,
     resolved: usize,
     decided: Option<Ambiguity>,
 }
@@ -570,7 +707,9 @@ impl Outcome {
                 expected: self.expected,
                 verdict: self.verdict,
                 is_unambiguous: self.is_unambiguous,
+                exactness: self.exactness,
                 evidence: self.evidence,
+                kept: self.kept,
                 resolved: self.resolved,
                 decided: self.decided,
             }),
@@ -595,6 +734,10 @@ fn outcome_on_findings(
     ensures expected { IfOk result (λ o. o.expected ≡ expected_beside options read.entry.expected) }
     ensures unlost { splits read.entry.parser.now ≡ true → IfOk result (λ o.
         All (λ e. e.loss ≡ None) o.evidence.items) }
+    ensures untold { splits read.entry.parser.now ≡ true → IfOk result (λ o.
+        o.exactness ≡ Open) }
+    ensures unkept { splits read.entry.parser.now ≡ true → IfOk result (λ o.
+        o.kept.items ≡ []) }
 {
     let known = known_of(alloc, read, &found, options)?;
     let expected = options.beside(read.expected);
@@ -603,7 +746,9 @@ fn outcome_on_findings(
     let page = page_on_findings(alloc, read, &found, &known, verdict, options)?;
     let Known {
         is_unambiguous,
+        exactness,
         evidence,
+        kept,
         decided,
         ..
     } = known;
@@ -614,7 +759,9 @@ fn outcome_on_findings(
         expected,
         verdict,
         is_unambiguous,
+        exactness,
         evidence,
+        kept,
         resolved: found.resolved.len(),
         decided,
     })
@@ -629,6 +776,10 @@ fn outcome_of(alloc: Global, read: Read<'_>, options: Options) -> Result<Outcome
     ensures expected { IfOk result (λ o. o.expected ≡ expected_beside options read.entry.expected) }
     ensures unlost { splits read.entry.parser.now ≡ true → IfOk result (λ o.
         All (λ e. e.loss ≡ None) o.evidence.items) }
+    ensures untold { splits read.entry.parser.now ≡ true → IfOk result (λ o.
+        o.exactness ≡ Open) }
+    ensures unkept { splits read.entry.parser.now ≡ true → IfOk result (λ o.
+        o.kept.items ≡ []) }
 {
     let has_states = options.output == Output::States || options.detail.states;
     let wants_graph = options.makes_page || has_states;

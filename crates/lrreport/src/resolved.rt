@@ -3,6 +3,7 @@
 ghost use Rattle.std.specs.Prelude.{All, IfOk, IfSome};
 ghost use Rattle.std.specs.Option.{ForSome};
 ghost use Rattle.lrevidence.specs.Ambiguities.{HasTwoTrees, IsProved};
+ghost use Rattle.lrevidence.specs.KeptEntries.{AreToldKept};
 ghost use Rattle.lrevidence.specs.Losses.{IsLoss, IsLostAtEntry};
 ghost use Rattle.lrshown.specs.Ambiguities.{IsShown};
 ghost use Rattle.lrshown.specs.Losses.{IsShownLoss};
@@ -261,6 +262,8 @@ impl<'a, T: IndexStorage> Checked<'a, T> {
         requires proved { All (IsProved self.now.found.now.grm) self.now.told.resolved.now }
         requires lost { All (IsLostAtEntry self.now.found.now.grm self.now.found.now.table)
             self.now.told.resolved.now }
+        requires kept { AreToldKept self.now.found.now.grm self.now.found.now.graph
+            self.now.found.now.table self.now.told.kept.now }
     {
         let (alloc, entries) = (text.allocator(), resolution.entries.as_slice());
         let marks = self.resolution_marks(alloc, resolution)?;
@@ -269,7 +272,7 @@ impl<'a, T: IndexStorage> Checked<'a, T> {
         let why = self.told.reason(alloc, resolution)?;
         let kept = resolution.reason.kept();
         let known = self.known_resolved(entries);
-        self.push_decided(text, marks.as_slice(), why.as_str(), kept, known)?;
+        self.push_decided(text, marks.as_slice(), why.as_str(), kept, known, entries)?;
         text.add_char('\n');
         Ok(())
     }
@@ -279,6 +282,8 @@ impl<'a, T: IndexStorage> Checked<'a, T> {
         requires proved { All (IsProved self.now.found.now.grm) self.now.told.resolved.now }
         requires lost { All (IsLostAtEntry self.now.found.now.grm self.now.found.now.table)
             self.now.told.resolved.now }
+        requires kept { AreToldKept self.now.found.now.grm self.now.found.now.graph
+            self.now.found.now.table self.now.told.kept.now }
     {
         let resolved = self.found.resolved.as_slice();
         let resolutions = self.told.resolutions(text.allocator(), resolved)?;

@@ -1,9 +1,11 @@
 //! What is told of a file, whatever its graph and its table are stored in.
 
+ghost use Rattle.std.specs.Prelude.{All, Contains, IsTrue};
+
 use crate::options::Options;
 use lrdiagnostics::{Layout, Source, Teller};
-use lrevidence::{Evidence, name_of_rule, token_name};
-use lrfindings::{Entry, UselessPrecedences, precedence_token};
+use lrevidence::{Evidence, Exactness, name_of_rule, token_name};
+use lrfindings::{Entry, UselessPrecedences, is_among, precedence_token};
 use lrgrammar::grammar::{PartProd, PartSymbol, Precedence};
 use lryacc::{FileGrammar, Parser, Span};
 
@@ -14,10 +16,14 @@ pub(crate) struct Told<'a> {
     pub(crate) file: &'a FileGrammar,
     /// Whether it is shown that no sentence has two trees although there are conflicts.
     pub(crate) is_unambiguous: bool,
+    /// Whether the parser accepts every sentence, although something meets in cells of the table, as far as that is shown.
+    pub(crate) exactness: Exactness,
     /// What is known of the conflicts that are left open.
     pub(crate) evidence: &'a [Evidence],
     /// What is known of what precedences resolve, where that is asked for; else nothing.
     pub(crate) resolved: &'a [Evidence],
+    /// At which of both no sentence is lost, where that is shown, in the order of the file.
+    pub(crate) kept: &'a [Entry],
     /// Which precedences resolve nothing, and which tokens are in no rule.
     pub(crate) useless: &'a UselessPrecedences,
     pub(crate) options: Options,
@@ -63,6 +69,18 @@ impl<'a> Told<'a> {
     /// The token by which a production has its precedence.
     pub(crate) fn token_of(&self, production: usize) -> Option<usize> {
         precedence_token(self.production(production)?)
+    }
+
+    /// Whether it is shown that no sentence is lost at each of the entries.
+    pub(crate) fn are_kept(&self, entries: &[Entry]) -> bool
+        ensures { IsTrue result → All (λ e. Contains self.now.kept.now e) entries.now }
+    {
+        for entry in entries {
+            if !is_among(self.kept, entry) {
+                return false;
+            }
+        }
+        true
     }
 
     /// Whether the symbol behind the dot of an item is the token of one of the entries, which are in order and meet alike.

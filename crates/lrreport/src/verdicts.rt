@@ -11,11 +11,12 @@ ghost use Rattle.lrevidence.specs.DecidedEntries.{IsToldDecided};
 ghost use Rattle.lrshown.specs.Ambiguities.{has_own_sentence};
 ghost use Rattle.lrshown.specs.Losses.{rejects};
 ghost use Rattle.lrshown.specs.DecidedEntries.{is_decided};
-ghost use Rattle.lrshown.specs.VerdictWords.{unambiguous_words, ambiguous_words, plain_words, sentences_words, rejecting_words, ambiguous_verdict, none_known_words, unknown_words, unknown_verdict, verdict_on, known_verdict, decided_or_unknown, yet_unambiguous_words, resolved_words, decided_words, verdict_words};
+ghost use Rattle.lrshown.specs.Exactness.{Exact, ButAtErrors, IsExact, RejectsAtErrorsAlone, IsToldExact};
+ghost use Rattle.lrshown.specs.VerdictWords.{unambiguous_words, ambiguous_words, plain_words, sentences_words, rejecting_words, ambiguous_verdict, none_known_words, unknown_words, unknown_verdict, verdict_on, known_verdict, decided_or_unknown, yet_unambiguous_words, resolved_words, exact_words, decided_words, verdict_words};
 
 use crate::conflicts::Checked;
 use crate::told::Told;
-use lrevidence::{Ambiguity, Evidence};
+use lrevidence::{Ambiguity, Evidence, Exactness};
 use lrfindings::Verdict;
 use lrgrammar::idx::IndexStorage;
 use lrwriter::Text;
@@ -285,6 +286,45 @@ impl<T: IndexStorage> Checked<'_, T> {
         push_rejecting(line, rejecting(evidence));
     }
 
+    /// Adds that the parser accepts every sentence, or that what precedences resolve loses none where there are no conflicts.
+    fn push_exact(&self, line: &mut Text)
+        requires proved { IsExact self.now.found.now.grm self.now.found.now.table }
+        ensures { Adds line.old line.new (exact_words Exact self.now.told.evidence.now) }
+    {
+        if self.told.evidence.is_empty() {
+            line.add(", which lose no sentence (proved)");
+        } else {
+            line.add("; the parser accepts every sentence (proved)");
+        }
+    }
+
+    /// Adds the same but for errors that `%nonassoc` makes.
+    fn push_exact_but_at_errors(&self, line: &mut Text)
+        requires proved { RejectsAtErrorsAlone self.now.found.now.grm self.now.found.now.graph
+            self.now.found.now.table }
+        ensures { Adds line.old line.new (exact_words ButAtErrors self.now.told.evidence.now) }
+    {
+        if self.told.evidence.is_empty() {
+            line.add(", which reject sentences only by %nonassoc (proved)");
+        } else {
+            line.add("; the parser rejects sentences only by %nonassoc (proved)");
+        }
+    }
+
+    /// Adds how exact the table is, where that is shown.
+    fn push_exactness(&self, line: &mut Text)
+        requires { IsToldExact self.now.found.now.grm self.now.found.now.graph
+            self.now.found.now.table self.now.told.exactness }
+        ensures { Adds line.old line.new
+            (exact_words self.now.told.exactness self.now.told.evidence.now) }
+    {
+        match self.told.exactness {
+            Exactness::Exact => self.push_exact(line),
+            Exactness::ButAtErrors => self.push_exact_but_at_errors(line),
+            Exactness::Open => {}
+        }
+    }
+
     /// Adds that a sentence has two trees without the precedences, which decide it, where there is one.
     fn push_decided_words(&self, line: &mut Text, decided: Option<&Ambiguity>)
         requires proved { IfSome decided (λ a. HasTwoTrees self.now.found.now.grm a.now) }
@@ -297,7 +337,8 @@ impl<T: IndexStorage> Checked<'_, T> {
     }
 
     /// The words of a file's verdict: with what is known of its conflicts, how many precedences resolve, where it is to be told how
-    /// these are shown, and that the grammar is ambiguous without them, where they decide a text.
+    /// these are shown, whether the parser accepts every sentence, and that the grammar is ambiguous without precedences, where they
+    /// decide a text.
     pub(crate) fn verdict_words(
         &self,
         alloc: Global,
@@ -311,16 +352,19 @@ impl<T: IndexStorage> Checked<'_, T> {
         requires unambiguous { verdict ≡ Unambiguous → IsUnambiguous self.now.found.now.grm }
         requires yet_unambiguous { IsTrue self.now.told.is_unambiguous
             → IsUnambiguous self.now.found.now.grm }
+        requires exact { IsToldExact self.now.found.now.grm self.now.found.now.graph
+            self.now.found.now.table self.now.told.exactness }
         requires decided { IfSome decided (λ a. HasTwoTrees self.now.found.now.grm a.now) }
         ensures words { IfOk result (λ s. string_bytes s
             ≡ verdict_words verdict self.now.told.is_unambiguous self.now.told.evidence.now
             (nat_lt 0 self.now.told.options.steps) (length self.now.found.now.resolved.items)
-            has_hint (is_some decided.entry)) }
+            has_hint self.now.told.exactness (is_some decided.entry)) }
     {
         let mut words = Text::new(alloc);
         self.push_verdict(&mut words, verdict);
         self.told
             .push_resolved_count(&mut words, self.found.resolved.len(), has_hint);
+        self.push_exactness(&mut words);
         self.push_decided_words(&mut words, decided);
         words.finish()
     }

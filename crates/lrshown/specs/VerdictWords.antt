@@ -4,7 +4,7 @@ use Rattle.std.specs.List.{count_by, list_any}
 use Rattle.lrspec.specs.grammars.Grammar.{Grammar}
 use Rattle.lrspec.specs.tables.Recognition.{IsUnambiguous}
 use Rattle.lrspec.specs.merging.Graph.{Graph, IsGraphOf}
-use Rattle.lrspec.specs.tables.Table.{Table}
+use Rattle.lrspec.specs.tables.Table.{Table, IsTableOf}
 use Rattle.lrverdicts.specs.declared.verdicts.Verdict.{Verdict}
 use Rattle.lrverdicts.specs.declared.verdicts.Verdict.TheVariants.{Unambiguous, Conflicts}
 use Rattle.lrverdicts.specs.VerdictTexts.{verdict_text}
@@ -13,6 +13,7 @@ use Rattle.lrshown.specs.declared.evidence.Evidence.{Evidence}
 use Rattle.lrshown.specs.Ambiguities.{HasTwoTrees, IsProved, has_sentence, has_own_sentence}
 use Rattle.lrshown.specs.Losses.{IsLostAtEntry, rejects}
 use Rattle.lrshown.specs.DecidedEntries.{IsToldDecided, is_decided}
+use Rattle.lrshown.specs.Exactness.{Exactness, Exact, ButAtErrors, Open, IsToldExact}
 
 -- that no sentence has two trees
 abbrev pub unambiguous_words : List ℕ
@@ -94,15 +95,30 @@ resolved_words resolved evidence hint =
     ++ codes " resolved by precedence"
     ++ (if hint then codes " (--settled)" else [])
 
+-- that the parser accepts every sentence, or rejects some only by `%nonassoc`, where that is shown: without conflicts it is told of
+-- what precedences resolve
+abbrev pub exact_words : Exactness → List Evidence → List ℕ
+exact_words Exact evidence =
+    if length evidence == 0 then codes ", which lose no sentence (proved)"
+    else codes "; the parser accepts every sentence (proved)"
+exact_words ButAtErrors evidence =
+    if length evidence == 0 then codes ", which reject sentences only by %nonassoc (proved)"
+    else codes "; the parser rejects sentences only by %nonassoc (proved)"
+exact_words Open evidence = []
+
 -- that the grammar is ambiguous without its precedences
 abbrev pub decided_words : Bool → List ℕ
 decided_words decided = if decided then codes "; without precedences " ++ ambiguous_words else []
 
 -- what is told of a verdict: with whether no sentence has two trees although there are conflicts; with the conflicts that are left
--- open, and what is known of them where texts were looked for; with how many precedences resolve, and whether these decide a text
-abbrev pub verdict_words : Verdict → Bool → List Evidence → Bool → ℕ → Bool → Bool → List ℕ
-verdict_words verdict shown evidence searched resolved hint decided =
-    known_verdict verdict shown evidence searched ++ resolved_words resolved evidence hint ++ decided_words decided
+-- open, and what is known of them where texts were looked for; with how many precedences resolve, whether no sentence is lost, and
+-- whether precedences decide a text
+abbrev pub verdict_words : Verdict → Bool → List Evidence → Bool → ℕ → Bool → Exactness → Bool → List ℕ
+verdict_words verdict shown evidence searched resolved hint exact decided =
+    known_verdict verdict shown evidence searched
+    ++ resolved_words resolved evidence hint
+    ++ exact_words exact evidence
+    ++ decided_words decided
 
 -- words of a verdict that tell nothing of the grammar and its table but what is proved
 pub record TellProved (g : Grammar) (b : Table) (words : List ℕ) : Type 0 where
@@ -112,8 +128,9 @@ pub record TellProved (g : Grammar) (b : Table) (words : List ℕ) : Type 0 wher
   pub searched : Bool
   pub resolved : ℕ
   pub hint : Bool
+  pub exactness : Exactness
   pub decided : Option Ambiguity
-  pub are : words ≡ verdict_words verdict shown evidence searched resolved hint (is_some decided)
+  pub are : words ≡ verdict_words verdict shown evidence searched resolved hint exactness (is_some decided)
   pub unambiguous : verdict ≡ Unambiguous → IsUnambiguous g
   pub yet_unambiguous : IsTrue shown → IsUnambiguous g
   pub texts : All (IsProved g) evidence
@@ -121,6 +138,8 @@ pub record TellProved (g : Grammar) (b : Table) (words : List ℕ) : Type 0 wher
   -- a graph of the grammar, if one is kept
   pub graph : Option Graph
   pub graph_of : IfSome graph (IsGraphOf g)
+  pub table_of : IfSome graph (λ h. IsTableOf g h b)
+  pub exact : IsToldExact g graph b exactness
   pub entries : All (IsToldDecided g graph) evidence
   pub without : IfSome decided (HasTwoTrees g)
 

@@ -2,6 +2,7 @@ use Rattle.std.proofs.Common.{◌≡◌, ◌∙◌, None, ℕ, ◌-◌, ◌^◌,
 use Rattle.std.specs.Prelude.{IfSome, IsTrue}
 use Rattle.lrspec.specs.grammars.Grammar.{Grammar}
 use Rattle.lrspec.specs.merging.Graph.{Graph, IsGraphOf}
+use Rattle.lrspec.specs.tables.Table.{IsTableOf}
 use Rattle.lrspec.specs.tables.Conflicts.{AreReductionsContested}
 use Rattle.lryacc.specs.declared.numbering.FileGrammar.{FileGrammar}
 use Rattle.lryacc.specs.declared.meaning.Expected.{Expected}
@@ -14,8 +15,10 @@ use Rattle.lrfindings.specs.Findings.{AreFindings}
 use Rattle.lrevidence.specs.Entries.{AreListedIn}
 use Rattle.lrevidence.specs.Ambiguities.{PartsAtEntry}
 use Rattle.lrevidence.specs.DecidedEntries.{IsDecidedEntry, IsDecidedOf}
+use Rattle.lrevidence.specs.KeptEntries.{IsKeptEntry}
 use Rattle.lrshown.specs.declared.evidence.Evidence.{Evidence}
-use Rattle.lrreport.proofs.KeptGraph.{of_kept, kept_or, each_of_kept, told_of_kept}
+use Rattle.lrshown.specs.Exactness.{IsExactButAtErrors}
+use Rattle.lrreport.proofs.KeptGraph.{of_kept, at_kept, kept_or, each_of_kept, told_of_kept, each_at_kept}
 use Rattle.lrreport.proofs.KeptFindings.{are_left, so_many_resolved, known_without, none_known}
 use Rattle.lrreport.proofs.reports.outcome_on_findings.Goals as goal
 
@@ -45,6 +48,11 @@ known_of-requires-clause-table c = record {
   table_of = c.requires.found.table;
 }
 
+pub known_of-requires-clause-table_of : goal.known_of-requires-clause-table_of
+known_of-requires-clause-table_of c =
+    let found = c.args.found in
+    of_kept c.requires.found.graph (λ h. IsTableOf found.grm h found.table) found.graph c.requires.found.kept c.requires.found.table
+
 -- a verdict that says so is of a grammar that is shown to be unambiguous
 shown : (b : Bool) (left : Counts) (e : Expected) (v : Verdict) → IsVerdict b left e v → v ≡ Unambiguous → IsTrue b
 shown b left e v is told = (subst (λ v. IsVerdict b left e v) told is).0
@@ -63,6 +71,11 @@ pub page_on_findings-requires-clause-graph : goal.page_on_findings-requires-clau
 page_on_findings-requires-clause-graph c =
     let found = c.args.found in
     of_kept c.requires.found.graph (IsGraphOf found.grm) found.graph c.requires.found.kept c.requires.found.of_grammar
+
+pub page_on_findings-requires-clause-table_of : goal.page_on_findings-requires-clause-table_of
+page_on_findings-requires-clause-table_of c =
+    let found = c.args.found in
+    of_kept c.requires.found.graph (λ h. IsTableOf found.grm h found.table) found.graph c.requires.found.kept c.requires.found.table
 
 pub returns-clause-proved : goal.returns-clause-proved
 returns-clause-proved c = record {
@@ -87,6 +100,11 @@ returns-clause-proved c = record {
   lost = c.in_ok-known.ensures.lost;
   decided = told_of_kept c.requires.found.graph (λ e. e.decided ≡ None) (IsDecidedOf c.args.found.grm) c.in_ok-known.known.evidence.items c.args.found.graph
       (λ e none. not_told c.args.found.grm c.requires.found.graph e none) c.requires.found.kept c.in_ok-known.ensures.entries;
+  exact = c.in_ok-known.ensures.exact.exact;
+  but_at_errors = λ told. at_kept c.requires.found.graph (λ h. IsExactButAtErrors c.args.found.grm h c.args.found.table) c.args.found.graph
+      c.requires.found.kept (c.in_ok-known.ensures.exact.but_at_errors told);
+  kept_entries = each_at_kept c.requires.found.graph (λ h. IsKeptEntry c.args.found.grm h c.args.found.table) c.in_ok-known.known.kept.items
+      c.args.found.graph c.requires.found.kept c.in_ok-known.ensures.kept;
   without = c.in_ok-known.ensures.decided;
 }
 

@@ -15,6 +15,8 @@ returns-in-Ok-clause-said c =
       read = rw c.in-Grammar.is at c.in_ok-file.ensures.bodies;
       beside = c.in-Ok.ensures.expected;
       unlost = c.in-Ok.ensures.unlost;
+      untold = c.in-Ok.ensures.untold;
+      unkept = c.in-Ok.ensures.unkept;
     }
 
 -- what is asked of other options only

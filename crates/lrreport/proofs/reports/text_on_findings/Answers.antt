@@ -5,7 +5,15 @@ use Rattle.lrreport.proofs.reports.text_on_findings.Goals as goal
 
 pub returns-in-Json : goal.returns-in-Json
 returns-in-Json g c = record {
-  told = rw (c.in-Json.is, ← c.told_of.ensures.source, ← c.told_of.ensures.shown, ← c.told_of.ensures.evidence) c.json_of_findings.ensures;
+  told =
+      rw (
+        c.in-Json.is,
+        ← c.told_of.ensures.source,
+        ← c.told_of.ensures.shown,
+        ← c.told_of.ensures.evidence,
+        ← c.told_of.ensures.exact,
+        ← is_some_referred c.args.known.now.decided c.as_ref-decided.result c.as_ref-decided.ensures.value,
+      ) c.json_of_findings.ensures;
 }
 
 pub returns-in-Summary : goal.returns-in-Summary
@@ -16,10 +24,11 @@ returns-in-Summary g c =
           rw (
             ← told.source,
             ← told.shown,
+            ← told.exact,
             ← told.evidence,
             ← told.steps,
             ← told.hint,
-            ← is_some_referred c.args.known.now.decided c.as_ref.result c.as_ref.ensures.value,
+            ← is_some_referred c.args.known.now.decided c.as_ref-decided.result c.as_ref-decided.ensures.value,
             ← c.in_ok-line.ensures,
             ← c.as_str.ensures.value,
             c.in-Summary.is,
@@ -34,10 +43,11 @@ returns g c =
           rw (
             ← told.source,
             ← told.shown,
+            ← told.exact,
             ← told.evidence,
             ← told.steps,
             ← told.hint,
-            ← is_some_referred c.args.known.now.decided c.as_ref.result c.as_ref.ensures.value,
+            ← is_some_referred c.args.known.now.decided c.as_ref-decided.result c.as_ref-decided.ensures.value,
             ← c.in_ok-line.ensures,
             ← c.as_str-in_default.ensures.value,
           )
@@ -48,5 +58,17 @@ returns g c =
 pub line-requires-clause-yet_unambiguous : goal.line-requires-clause-yet_unambiguous
 line-requires-clause-yet_unambiguous g c = rw c.told_of.ensures.shown c.requires.yet_unambiguous
 
+pub line-requires-clause-exact : goal.line-requires-clause-exact
+line-requires-clause-exact g c = rw c.told_of.ensures.exact c.requires.exact
+
 pub json_of_findings-requires-clause-yet_unambiguous : goal.json_of_findings-requires-clause-yet_unambiguous
 json_of_findings-requires-clause-yet_unambiguous g c = rw c.told_of.ensures.shown c.requires.yet_unambiguous
+
+pub json_of_findings-requires-clause-exact : goal.json_of_findings-requires-clause-exact
+json_of_findings-requires-clause-exact g c = rw c.told_of.ensures.exact c.requires.exact
+
+pub json_of_findings-requires-clause-kept : goal.json_of_findings-requires-clause-kept
+json_of_findings-requires-clause-kept g c = rw c.told_of.ensures.kept c.requires.kept
+
+pub lines-requires-clause-kept : goal.lines-requires-clause-kept
+lines-requires-clause-kept g c = rw c.told_of.ensures.kept c.requires.kept

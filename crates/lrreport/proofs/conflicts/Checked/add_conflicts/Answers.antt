@@ -8,6 +8,7 @@ pub add_conflict-requires : goal.add_conflict-requires
 add_conflict-requires g c =
     let checked = c.args.self.now in
     record {
+      kept = c.requires.kept;
       proved = in_group (IsProved checked.found.now.grm) (λ group. group.now) c.deref-meeting-items.result.now checked.told.evidence.now
           (rw c.deref-meeting-items.ensures.value c.in_ok-alike.ensures) c.requires.proved
           c.loop-meeting.meeting-index c.meeting-item.result c.loop-meeting-test.true c.meeting-item.is;

@@ -2,7 +2,7 @@ use Rattle.std.proofs.Common.{All}
 use Rattle.lrevidence.specs.Ambiguities.{IsProved}
 use Rattle.lrevidence.specs.Losses.{IsLostAtEntry}
 use Rattle.lrevidence.specs.DecidedEntries.{IsToldDecided}
-use Rattle.lrreport.proofs.Groups.{in_told, all_shown, all_shown_decided, all_shown_lost}
+use Rattle.lrreport.proofs.Groups.{in_told, all_shown, all_shown_decided, all_shown_kept, all_shown_lost}
 use Rattle.lrreport.proofs.conflicts.Checked.page.Goals as goal
 
 pub invariant_of-page : goal.invariant_of-page
@@ -27,5 +27,6 @@ invariant_of-page g c =
           (each_of (IsToldDecided checked.found.now.grm checked.found.now.graph) c.requires.entries));
       resolved_texts = rw c.as_slice-3.ensures.value c.in_ok-resolved.ensures.texts;
       resolved_lost = rw c.as_slice-3.ensures.value c.in_ok-resolved.ensures.lost;
+      unlost = all_shown_kept checked.found.now.grm checked.found.now.graph checked.found.now.table checked.told.kept.now c.requires.kept;
       told = c.requires.words;
     }

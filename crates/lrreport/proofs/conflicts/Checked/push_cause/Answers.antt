@@ -14,5 +14,6 @@ push_notes-requires g c =
       lost = c.requires.lost;
       proved_here = among (IsProved checked.found.now.grm) (λ m. m.now) meetings _ c.requires.proved it;
       lost_here = among (IsLostAtEntry checked.found.now.grm checked.found.now.table) (λ m. m.now) meetings _ c.requires.lost it;
+      kept = c.requires.kept;
       entries_here = among (IsToldDecided checked.found.now.grm checked.found.now.graph) (λ m. m.now) meetings _ c.requires.entries it;
     }

@@ -10,6 +10,7 @@ pub push_cause-requires : goal.push_cause-requires
 push_cause-requires g c =
     let checked = c.args.self.now in
     record {
+      kept = c.requires.kept;
       proved = in_group (IsProved checked.found.now.grm) entries_in c.args.causes.now _ refl c.requires.proved
           c.loop-place.place c.index-causes-place.result c.loop-place-test.true c.index-causes-place.is;
       lost = in_group (IsLostAtEntry checked.found.now.grm checked.found.now.table) entries_in c.args.causes.now _ refl c.requires.lost

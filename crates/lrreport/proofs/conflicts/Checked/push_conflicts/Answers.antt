@@ -9,6 +9,7 @@ push_causes-requires g c =
     let checked = c.args.self.now in
     let order = c.in_ok-causes.ensures.each in
     record {
+      kept = c.requires.kept;
       proved = rw c.as_slice-causes.ensures.value (All-permutation (IsProved checked.found.now.grm) _ _ order c.requires.proved);
       lost = rw c.as_slice-causes.ensures.value (All-permutation (IsLostAtEntry checked.found.now.grm checked.found.now.table) _ _ order c.requires.lost);
       entries = rw c.as_slice-causes.ensures.value (All-permutation (IsToldDecided checked.found.now.grm checked.found.now.graph) _ _ order c.requires.entries);

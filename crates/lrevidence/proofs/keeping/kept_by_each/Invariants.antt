@@ -1,0 +1,13 @@
+-- the certificate is won, and those so far are kept
+use Rattle.std.proofs.Common.{All}
+use Rattle.lrkept.specs.Keeping.{IsWon}
+use Rattle.lrreasons.specs.Numbers.{number_of}
+use Rattle.lrevidence.specs.KeptEntries.{IsKeptEntry}
+use Rattle.lrevidence.proofs.keeping.kept_by_each.Given as goal
+
+abbrev pub invariant-loop-entry : goal.invariant-loop-entry
+invariant-loop-entry l =
+    record {
+      won : IsWon number_of l.found.grm l.graph l.certificate;
+      kept : All (IsKeptEntry l.found.grm l.graph l.found.table) l.kept.items;
+    }

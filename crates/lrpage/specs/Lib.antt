@@ -1,0 +1,2 @@
+-- entries at which no sentence is lost, as a page shows them
+pub mod KeptEntries
