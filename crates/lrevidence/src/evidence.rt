@@ -43,8 +43,10 @@ pub struct Effort {
     pub decisions: usize,
     /// How many nodes such a search looks at.
     pub nodes: usize,
-    /// How many positions a search looks at whether the parser accepts every sentence; for 0 there is none.
+    /// How many positions searches look at whether the parser accepts every sentence; for 0 there are none.
     pub positions: usize,
+    /// How many positions those look at whether no sentence is lost at each entry; for 0 there are none.
+    pub positions_of_entries: usize,
     /// Whether each entry counts, and not only the first of those that stand together, because the same meets at them in the same
     /// state.
     pub counts_each: bool,

@@ -15,9 +15,8 @@ mod searches;
 mod texts;
 mod unambiguity;
 
-pub use crate::accepting::exactness_of;
+pub use crate::accepting::{Accepted, accepted_of};
 pub use crate::evidence::{Effort, Evidence, evidence_for, find_ambiguity};
-pub use crate::keeping::kept_entries;
 pub use crate::unambiguity::shows_unambiguous;
 pub use lrshown::{
     Ambiguity, Decided, Exactness, Example, Loss, Node, Outlook, ShownTree, Step, Tree, TwoTrees,

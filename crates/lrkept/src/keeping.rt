@@ -52,13 +52,13 @@ impl Exactness {
     }
 }
 
-/// The table of a grammar, with its graph and what is made of it for searches.
+/// The table of a grammar, with its graph and the ways into the states of that.
 #[derive(Clone, Copy)]
-pub(crate) struct Tabled<'a, T: IndexStorage> {
-    pub(crate) grm: &'a YaccGrammar<T>,
-    pub(crate) graph: &'a StateGraph<T>,
-    pub(crate) table: &'a StateTable<T>,
-    pub(crate) ways: &'a Ways<T>,
+pub struct Automaton<'a, T: IndexStorage> {
+    pub grm: &'a YaccGrammar<T>,
+    pub graph: &'a StateGraph<T>,
+    pub table: &'a StateTable<T>,
+    pub ways: &'a Ways<T>,
 }
 
 /// The move that the cell takes, if it takes one.
@@ -86,28 +86,28 @@ fn known_without<T: IndexStorage>(cell: Action<T>) -> Exactness
 /// Whether positions are found and checked which show that in the cell the second move may be made for the first: they are added
 /// to the certificate. The search looks at as many positions as are left of those that are allowed, and takes them from these.
 fn is_certified<T: IndexStorage>(
-    tabled: Tabled<'_, T>,
+    automaton: Automaton<'_, T>,
     cell: (StIdx<T>, TIdx<T>),
     theirs: Move<T>,
     ours: Move<T>,
     certificate: &mut Certificate<T>,
     left: &mut usize,
 ) -> Result<bool, AllocError>
-    requires graph { IsGraphOf tabled.grm.now tabled.graph.now }
-    requires ways { AreWaysOf T.number tabled.grm.now tabled.graph.now tabled.ways.now }
-    requires state { T.number cell.0.0 < length tabled.graph.now }
-    requires won { IsWon T.number tabled.grm.now tabled.graph.now certificate.old }
-    ensures won { OnOk result (IsWon T.number tabled.entry.grm.now tabled.entry.graph.now
+    requires graph { IsGraphOf automaton.grm.now automaton.graph.now }
+    requires ways { AreWaysOf T.number automaton.grm.now automaton.graph.now automaton.ways.now }
+    requires state { T.number cell.0.0 < length automaton.graph.now }
+    requires won { IsWon T.number automaton.grm.now automaton.graph.now certificate.old }
+    ensures won { OnOk result (IsWon T.number automaton.entry.grm.now automaton.entry.graph.now
         certificate.new) }
-    ensures certified { IfOk result (λ b. IsTrue b → IsCertified tabled.entry.grm.now
-        tabled.entry.graph.now (T.number cell.0.0) (T.number cell.1.0) (move_of T.number theirs)
+    ensures certified { IfOk result (λ b. IsTrue b → IsCertified automaton.entry.grm.now
+        automaton.entry.graph.now (T.number cell.0.0) (T.number cell.1.0) (move_of T.number theirs)
         (move_of T.number ours)) }
 {
-    let grm = tabled.grm;
-    let graph = tabled.graph;
-    let ways = tabled.ways;
+    let grm = automaton.grm;
+    let graph = automaton.graph;
+    let ways = automaton.ways;
     let first = certificate.listing.positions.len();
-    search(grm, graph, ways, cell, theirs, ours, certificate, left)?;
+    search(automaton, cell, theirs, ours, certificate, left)?;
     if !are_won(grm, graph, ways, certificate, first)? {
         *certificate = Certificate::new(grm.allocator())?;
         return Ok(false);
@@ -118,33 +118,33 @@ fn is_certified<T: IndexStorage>(
 
 /// What is known of the move in the cell.
 pub(crate) fn kept_as<T: IndexStorage>(
-    tabled: Tabled<'_, T>,
+    automaton: Automaton<'_, T>,
     cell: (StIdx<T>, TIdx<T>),
     theirs: Move<T>,
     certificate: &mut Certificate<T>,
     left: &mut usize,
 ) -> Result<Exactness, AllocError>
-    requires graph { IsGraphOf tabled.grm.now tabled.graph.now }
-    requires table { IsTableOf tabled.grm.now tabled.graph.now tabled.table.now }
-    requires ways { AreWaysOf T.number tabled.grm.now tabled.graph.now tabled.ways.now }
-    requires state { T.number cell.0.0 < length tabled.graph.now }
-    requires won { IsWon T.number tabled.grm.now tabled.graph.now certificate.old }
-    ensures won { OnOk result (IsWon T.number tabled.entry.grm.now tabled.entry.graph.now
+    requires graph { IsGraphOf automaton.grm.now automaton.graph.now }
+    requires table { IsTableOf automaton.grm.now automaton.graph.now automaton.table.now }
+    requires ways { AreWaysOf T.number automaton.grm.now automaton.graph.now automaton.ways.now }
+    requires state { T.number cell.0.0 < length automaton.graph.now }
+    requires won { IsWon T.number automaton.grm.now automaton.graph.now certificate.old }
+    ensures won { OnOk result (IsWon T.number automaton.entry.grm.now automaton.entry.graph.now
         certificate.new) }
-    ensures known { IfOk result (λ e. IsKeptAs e tabled.entry.grm.now tabled.entry.graph.now
-        tabled.entry.table.now (T.number cell.0.0) (T.number cell.1.0)
+    ensures known { IfOk result (λ e. IsKeptAs e automaton.entry.grm.now automaton.entry.graph.now
+        automaton.entry.table.now (T.number cell.0.0) (T.number cell.1.0)
         (move_of T.number theirs)) }
 {
-    let grm = tabled.grm;
+    let grm = automaton.grm;
     grm.in_order();
-    let action = tabled.table.action(cell.0, cell.1);
+    let action = automaton.table.action(cell.0, cell.1);
     if takes(action, theirs) {
         return Ok(Exactness::Exact);
     }
     let Some(ours) = taken(action) else {
         return Ok(known_without(action));
     };
-    if is_certified(tabled, cell, theirs, ours, certificate, left)? {
+    if is_certified(automaton, cell, theirs, ours, certificate, left)? {
         return Ok(Exactness::Exact);
     }
     Ok(Exactness::Open)
@@ -162,51 +162,51 @@ fn is_by_start<T: IndexStorage>(grm: &YaccGrammar<T>, action: Move<T>) -> bool
 
 /// What is known of the move in the cell, if it contends for that.
 fn known_of<T: IndexStorage>(
-    tabled: Tabled<'_, T>,
+    automaton: Automaton<'_, T>,
     cell: (StIdx<T>, TIdx<T>),
     theirs: Move<T>,
     certificate: &mut Certificate<T>,
     left: &mut usize,
 ) -> Result<Exactness, AllocError>
-    requires graph { IsGraphOf tabled.grm.now tabled.graph.now }
-    requires table { IsTableOf tabled.grm.now tabled.graph.now tabled.table.now }
-    requires ways { AreWaysOf T.number tabled.grm.now tabled.graph.now tabled.ways.now }
-    requires state { T.number cell.0.0 < length tabled.graph.now }
-    requires won { IsWon T.number tabled.grm.now tabled.graph.now certificate.old }
-    ensures won { OnOk result (IsWon T.number tabled.entry.grm.now tabled.entry.graph.now
+    requires graph { IsGraphOf automaton.grm.now automaton.graph.now }
+    requires table { IsTableOf automaton.grm.now automaton.graph.now automaton.table.now }
+    requires ways { AreWaysOf T.number automaton.grm.now automaton.graph.now automaton.ways.now }
+    requires state { T.number cell.0.0 < length automaton.graph.now }
+    requires won { IsWon T.number automaton.grm.now automaton.graph.now certificate.old }
+    ensures won { OnOk result (IsWon T.number automaton.entry.grm.now automaton.entry.graph.now
         certificate.new) }
-    ensures known { IfOk result (λ e. IsKnownOf e tabled.entry.grm.now tabled.entry.graph.now
-        tabled.entry.table.now (T.number cell.0.0) (T.number cell.1.0)
+    ensures known { IfOk result (λ e. IsKnownOf e automaton.entry.grm.now automaton.entry.graph.now
+        automaton.entry.table.now (T.number cell.0.0) (T.number cell.1.0)
         (move_of T.number theirs)) }
 {
-    if is_by_start(tabled.grm, theirs) {
+    if is_by_start(automaton.grm, theirs) {
         return Ok(Exactness::Exact);
     }
-    kept_as(tabled, cell, theirs, certificate, left)
+    kept_as(automaton, cell, theirs, certificate, left)
 }
 
 /// What is known of all the moves in the cell.
 fn all_known_of<T: IndexStorage>(
-    tabled: Tabled<'_, T>,
+    automaton: Automaton<'_, T>,
     cell: (StIdx<T>, TIdx<T>),
     moves: &[Move<T>],
     certificate: &mut Certificate<T>,
     left: &mut usize,
 ) -> Result<Exactness, AllocError>
-    requires graph { IsGraphOf tabled.grm.now tabled.graph.now }
-    requires table { IsTableOf tabled.grm.now tabled.graph.now tabled.table.now }
-    requires ways { AreWaysOf T.number tabled.grm.now tabled.graph.now tabled.ways.now }
-    requires state { T.number cell.0.0 < length tabled.graph.now }
-    requires won { IsWon T.number tabled.grm.now tabled.graph.now certificate.old }
-    ensures won { OnOk result (IsWon T.number tabled.entry.grm.now tabled.entry.graph.now
+    requires graph { IsGraphOf automaton.grm.now automaton.graph.now }
+    requires table { IsTableOf automaton.grm.now automaton.graph.now automaton.table.now }
+    requires ways { AreWaysOf T.number automaton.grm.now automaton.graph.now automaton.ways.now }
+    requires state { T.number cell.0.0 < length automaton.graph.now }
+    requires won { IsWon T.number automaton.grm.now automaton.graph.now certificate.old }
+    ensures won { OnOk result (IsWon T.number automaton.entry.grm.now automaton.entry.graph.now
         certificate.new) }
-    ensures known { IfOk result (λ e. AreKnownOf e tabled.entry.grm.now tabled.entry.graph.now
-        tabled.entry.table.now (T.number cell.0.0) (T.number cell.1.0)
+    ensures known { IfOk result (λ e. AreKnownOf e automaton.entry.grm.now
+        automaton.entry.graph.now automaton.entry.table.now (T.number cell.0.0) (T.number cell.1.0)
         (moves_stored T.number moves.now)) }
 {
     let mut known = Exactness::Exact;
     for theirs in moves {
-        let of_this = known_of(tabled, cell, *theirs, certificate, left)?;
+        let of_this = known_of(automaton, cell, *theirs, certificate, left)?;
         known = known.and(of_this);
     }
     Ok(known)
@@ -214,28 +214,34 @@ fn all_known_of<T: IndexStorage>(
 
 /// What is known of all moves in each cell of the state.
 fn state_kept_as<T: IndexStorage>(
-    tabled: Tabled<'_, T>,
+    automaton: Automaton<'_, T>,
     state: StIdx<T>,
     certificate: &mut Certificate<T>,
     left: &mut usize,
 ) -> Result<Exactness, AllocError>
-    requires graph { IsGraphOf tabled.grm.now tabled.graph.now }
-    requires table { IsTableOf tabled.grm.now tabled.graph.now tabled.table.now }
-    requires ways { AreWaysOf T.number tabled.grm.now tabled.graph.now tabled.ways.now }
-    requires state { T.number state.0 < length tabled.graph.now }
-    requires won { IsWon T.number tabled.grm.now tabled.graph.now certificate.old }
-    ensures won { OnOk result (IsWon T.number tabled.entry.grm.now tabled.entry.graph.now
+    requires graph { IsGraphOf automaton.grm.now automaton.graph.now }
+    requires table { IsTableOf automaton.grm.now automaton.graph.now automaton.table.now }
+    requires ways { AreWaysOf T.number automaton.grm.now automaton.graph.now automaton.ways.now }
+    requires state { T.number state.0 < length automaton.graph.now }
+    requires won { IsWon T.number automaton.grm.now automaton.graph.now certificate.old }
+    ensures won { OnOk result (IsWon T.number automaton.entry.grm.now automaton.entry.graph.now
         certificate.new) }
-    ensures known { IfOk result (λ e. IsStateKeptAs e tabled.entry.grm.now tabled.entry.graph.now
-        tabled.entry.table.now (T.number state.0)) }
+    ensures known { IfOk result (λ e. IsStateKeptAs e automaton.entry.grm.now
+        automaton.entry.graph.now automaton.entry.table.now (T.number state.0)) }
 {
-    let grm = tabled.grm;
-    let completes = completes(grm, tabled.graph, state)?;
+    let grm = automaton.grm;
+    let completes = completes(grm, automaton.graph, state)?;
     let mut known = Exactness::Exact;
     for number in 0..grm.tokens_len().0.to_usize() {
         let token = TIdx(T::from_usize(number).unwrap());
-        let moves = contenders(grm, tabled.graph, state, completes.as_slice(), token)?;
-        let of_this = all_known_of(tabled, (state, token), moves.as_slice(), certificate, left)?;
+        let moves = contenders(grm, automaton.graph, state, completes.as_slice(), token)?;
+        let of_this = all_known_of(
+            automaton,
+            (state, token),
+            moves.as_slice(),
+            certificate,
+            left,
+        )?;
         known = known.and(of_this);
         if known == Exactness::Open {
             return Ok(Exactness::Open);
@@ -246,23 +252,24 @@ fn state_kept_as<T: IndexStorage>(
 
 /// What is known of all moves in each cell of the table.
 pub(crate) fn table_kept_as<T: IndexStorage>(
-    tabled: Tabled<'_, T>,
+    automaton: Automaton<'_, T>,
     certificate: &mut Certificate<T>,
     left: &mut usize,
 ) -> Result<Exactness, AllocError>
-    requires graph { IsGraphOf tabled.grm.now tabled.graph.now }
-    requires table { IsTableOf tabled.grm.now tabled.graph.now tabled.table.now }
-    requires ways { AreWaysOf T.number tabled.grm.now tabled.graph.now tabled.ways.now }
-    requires won { IsWon T.number tabled.grm.now tabled.graph.now certificate.old }
-    ensures won { OnOk result (IsWon T.number tabled.entry.grm.now tabled.entry.graph.now
+    requires graph { IsGraphOf automaton.grm.now automaton.graph.now }
+    requires table { IsTableOf automaton.grm.now automaton.graph.now automaton.table.now }
+    requires ways { AreWaysOf T.number automaton.grm.now automaton.graph.now automaton.ways.now }
+    requires won { IsWon T.number automaton.grm.now automaton.graph.now certificate.old }
+    ensures won { OnOk result (IsWon T.number automaton.entry.grm.now automaton.entry.graph.now
         certificate.new) }
-    ensures known { IfOk result (λ e. (s : ℕ) → s < length tabled.entry.graph.now
-        → IsStateKeptAs e tabled.entry.grm.now tabled.entry.graph.now tabled.entry.table.now s) }
+    ensures known { IfOk result (λ e. (s : ℕ) → s < length automaton.entry.graph.now
+        → IsStateKeptAs e automaton.entry.grm.now automaton.entry.graph.now
+        automaton.entry.table.now s) }
 {
     let mut known = Exactness::Exact;
-    for number in 0..tabled.graph.all_states_len().0.to_usize() {
+    for number in 0..automaton.graph.all_states_len().0.to_usize() {
         let state = StIdx(T::from_usize(number).unwrap());
-        let of_this = state_kept_as(tabled, state, certificate, left)?;
+        let of_this = state_kept_as(automaton, state, certificate, left)?;
         known = known.and(of_this);
         if known == Exactness::Open {
             return Ok(Exactness::Open);

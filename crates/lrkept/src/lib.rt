@@ -28,5 +28,5 @@ mod winning;
 
 pub use crate::acyclicity::is_acyclic;
 pub use crate::checking::Certificate;
-pub use crate::keeping::Exactness;
+pub use crate::keeping::{Automaton, Exactness};
 pub use crate::tables::{exactness, is_kept};

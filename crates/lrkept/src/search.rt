@@ -8,13 +8,11 @@ ghost use Rattle.lrkept.specs.StoredPositions.{positions_of};
 use crate::beginning::beginning;
 use crate::checking::Certificate;
 use crate::games::{Board, places_of, play};
+use crate::keeping::Automaton;
 use crate::listing::Listing;
 use crate::winning::{Node, Won};
 use lrconflicts::Move;
-use lrgrammar::grammar::YaccGrammar;
 use lrgrammar::idx::{IndexStorage, StIdx, TIdx};
-use lrgraphs::stategraph::StateGraph;
-use lrsearches::Ways;
 use std::alloc::{AllocError, Global};
 
 /// At how many positions a search looks at the most.
@@ -69,20 +67,21 @@ fn add_all_won<T: IndexStorage>(
 /// Adds positions with their answers to the certificate which are to show that in the cell the second move may be made for the
 /// first, if they are found by looking at as many as are left of those that are allowed, from which they are taken.
 pub(crate) fn search<T: IndexStorage>(
-    grm: &YaccGrammar<T>,
-    graph: &StateGraph<T>,
-    ways: &Ways<T>,
+    automaton: Automaton<'_, T>,
     cell: (StIdx<T>, TIdx<T>),
     theirs: Move<T>,
     ours: Move<T>,
     certificate: &mut Certificate<T>,
     left: &mut usize,
 ) -> Result<(), AllocError>
-    requires { AreWaysOf T.number grm.now graph.now ways.now }
+    requires { AreWaysOf T.number automaton.grm.now automaton.graph.now automaton.ways.now }
     ensures { OnOk result (AddsPositions
         (positions_of T.number certificate.old.listing.positions.items)
         (positions_of T.number certificate.new.listing.positions.items)) }
 {
+    let grm = automaton.grm;
+    let graph = automaton.graph;
+    let ways = automaton.ways;
     let alloc = grm.allocator();
     let Some(asked) = beginning(grm, graph, ways, cell, theirs, ours)? else {
         return Ok(());

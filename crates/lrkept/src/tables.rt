@@ -15,80 +15,65 @@ ghost use Rattle.lrkept.specs.Kept.{IsKept};
 use crate::acyclicity::is_acyclic;
 use crate::checking::Certificate;
 use crate::choices::takes_all;
-use crate::keeping::{Exactness, Tabled, kept_as, table_kept_as};
-use lrcells::statetable::StateTable;
+use crate::keeping::{Automaton, Exactness, kept_as, table_kept_as};
 use lrconflicts::Move;
-use lrgrammar::grammar::YaccGrammar;
 use lrgrammar::idx::{IndexStorage, StIdx, TIdx};
-use lrgraphs::stategraph::StateGraph;
-use lrsearches::Ways;
 use std::alloc::AllocError;
 
-/// What is known of the texts that the machine of the table accepts, where searches look at so many positions in all. Where a rule
-/// of the grammar derives itself alone nothing is shown; else it is exact where each cell takes all that contends for it.
+/// What is known of the texts that the machine of the table accepts. Searches look at as many positions as are left, and take them
+/// from these; what they find is added to the certificate. Where a rule of the grammar derives itself alone nothing is shown; else
+/// it is exact where each cell takes all that contends for it.
 pub fn exactness<T: IndexStorage>(
-    grm: &YaccGrammar<T>,
-    graph: &StateGraph<T>,
-    table: &StateTable<T>,
-    ways: &Ways<T>,
-    positions: usize,
+    automaton: Automaton<'_, T>,
+    certificate: &mut Certificate<T>,
+    left: &mut usize,
 ) -> Result<Exactness, AllocError>
-    requires graph { IsGraphOf grm.now graph.now }
-    requires table { IsTableOf grm.now graph.now table.now }
-    requires ways { AreWaysOf T.number grm.now graph.now ways.now }
-    ensures exact { IfOk result (λ e. e ≡ known.Exact → IsExact grm.now table.now) }
-    ensures but_at_errors { IfOk result (λ e. e ≡ known.ButAtErrors
-        → IsExactButAtErrors grm.now graph.now table.now) }
-    ensures no_choice { IsAcyclic grm.now → TakesAll grm.now graph.now table.now
-        → IfOk result (λ e. e ≡ known.Exact) }
+    requires graph { IsGraphOf automaton.grm.now automaton.graph.now }
+    requires table { IsTableOf automaton.grm.now automaton.graph.now automaton.table.now }
+    requires ways { AreWaysOf T.number automaton.grm.now automaton.graph.now automaton.ways.now }
+    requires won { IsWon T.number automaton.grm.now automaton.graph.now certificate.old }
+    ensures won { OnOk result (IsWon T.number automaton.entry.grm.now automaton.entry.graph.now
+        certificate.new) }
+    ensures exact { IfOk result (λ e. e ≡ known.Exact
+        → IsExact automaton.entry.grm.now automaton.entry.table.now) }
+    ensures but_at_errors { IfOk result (λ e. e ≡ known.ButAtErrors → IsExactButAtErrors
+        automaton.entry.grm.now automaton.entry.graph.now automaton.entry.table.now) }
+    ensures no_choice { IsAcyclic automaton.entry.grm.now → TakesAll automaton.entry.grm.now
+        automaton.entry.graph.now automaton.entry.table.now → IfOk result (λ e. e ≡ known.Exact) }
 {
+    let grm = automaton.grm;
     grm.in_order();
     if !is_acyclic(grm)? {
         return Ok(Exactness::Open);
     }
-    if takes_all(grm, graph, table) {
+    if takes_all(grm, automaton.graph, automaton.table) {
         return Ok(Exactness::Exact);
     }
-    let tabled = Tabled {
-        grm,
-        graph,
-        table,
-        ways,
-    };
-    let mut certificate = Certificate::new(grm.allocator())?;
-    let mut left = positions;
-    let known = table_kept_as(tabled, &mut certificate, &mut left)?;
+    let known = table_kept_as(automaton, certificate, left)?;
     Ok(known)
 }
 
-/// Whether the move is found to be kept in the cell: each sentence that goes on with it can go on with what
-/// the cell takes. The search looks at as many positions as are left, and takes them from these; what it finds is added to the
-/// certificate, for later searches of the same table.
+/// Whether the move is found to be kept in the cell: each sentence that goes on with it can go on with what the cell takes. The
+/// search looks at as many positions as are left, and takes them from these; what it finds is added to the certificate, for later
+/// searches of the same table.
 pub fn is_kept<T: IndexStorage>(
-    grm: &YaccGrammar<T>,
-    graph: &StateGraph<T>,
-    table: &StateTable<T>,
-    ways: &Ways<T>,
+    automaton: Automaton<'_, T>,
     cell: (StIdx<T>, TIdx<T>),
     refused: Move<T>,
     certificate: &mut Certificate<T>,
     left: &mut usize,
 ) -> Result<bool, AllocError>
-    requires graph { IsGraphOf grm.now graph.now }
-    requires table { IsTableOf grm.now graph.now table.now }
-    requires ways { AreWaysOf T.number grm.now graph.now ways.now }
-    requires state { T.number cell.0.0 < length graph.now }
-    requires won { IsWon T.number grm.now graph.now certificate.old }
-    ensures won { OnOk result (IsWon T.number grm.now graph.now certificate.new) }
-    ensures kept { IfOk result (λ b. IsTrue b → IsKept grm.now graph.now table.now
-        (T.number cell.0.0) (T.number cell.1.0) (move_of T.number refused)) }
+    requires graph { IsGraphOf automaton.grm.now automaton.graph.now }
+    requires table { IsTableOf automaton.grm.now automaton.graph.now automaton.table.now }
+    requires ways { AreWaysOf T.number automaton.grm.now automaton.graph.now automaton.ways.now }
+    requires state { T.number cell.0.0 < length automaton.graph.now }
+    requires won { IsWon T.number automaton.grm.now automaton.graph.now certificate.old }
+    ensures won { OnOk result (IsWon T.number automaton.entry.grm.now automaton.entry.graph.now
+        certificate.new) }
+    ensures kept { IfOk result (λ b. IsTrue b → IsKept automaton.entry.grm.now
+        automaton.entry.graph.now automaton.entry.table.now (T.number cell.0.0)
+        (T.number cell.1.0) (move_of T.number refused)) }
 {
-    let tabled = Tabled {
-        grm,
-        graph,
-        table,
-        ways,
-    };
-    let known = kept_as(tabled, cell, refused, certificate, left)?;
+    let known = kept_as(automaton, cell, refused, certificate, left)?;
     Ok(known == Exactness::Exact)
 }

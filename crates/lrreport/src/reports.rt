@@ -34,8 +34,8 @@ use crate::sarif::{sarif_of_faults, sarif_of_refusal};
 use crate::told::Told;
 use lrdiagnostics::{Layout, Source, TOLD, Teller, Weight, add_shown, messages_of};
 use lrevidence::{
-    Ambiguity, Effort, Evidence, Exactness, evidence_for, exactness_of, find_ambiguity,
-    kept_entries, shows_unambiguous,
+    Accepted, Ambiguity, Effort, Evidence, Exactness, accepted_of, evidence_for, find_ambiguity,
+    shows_unambiguous,
 };
 use lrfindings::{
     Counts, Entry, FindError, Findings, Resolved, UselessPrecedences, Verdict, find, small_text,
@@ -227,15 +227,15 @@ const DECISIONS: usize = 100;
 /// For how many steps that a search for such a sentence may take one of these looks at a node.
 const STEPS_A_NODE: usize = 100;
 
-/// How many positions a search looks at whether the parser accepts every sentence: it stops at the first cell of the table of which it
-/// doesn't see that.
+/// How many positions searches look at whether the parser accepts every sentence: they end at the first cell of the table of which
+/// they don't see that.
 const POSITIONS: usize = 100_000;
 
 /// Of a table in which more conflicts and resolved ones than these meet that is not searched.
 const MANY: usize = 400;
 
 /// How many positions searches look at together whether no sentence is lost at each of what is told.
-const POSITIONS_OF_EACH: usize = 10_000;
+const POSITIONS_OF_ENTRIES: usize = 10_000;
 
 /// How much work searches may do together.
 fn work_of(options: Options) -> usize {
@@ -260,6 +260,12 @@ fn effort_of(options: Options) -> Effort {
         decisions: DECISIONS,
         nodes: options.steps / STEPS_A_NODE,
         positions: if options.steps == 0 { 0 } else { POSITIONS },
+        positions_of_entries: match options.output {
+            _ if options.steps == 0 => 0,
+            _ if options.makes_page => POSITIONS_OF_ENTRIES,
+            Output::Report | Output::Json { .. } => POSITIONS_OF_ENTRIES,
+            Output::Summary | Output::Grammar | Output::States | Output::Sarif => 0,
+        },
         counts_each: options.detail.all
             || options.makes_page
             || matches!(options.output, Output::Json { .. }),
@@ -304,74 +310,34 @@ fn has_many(found: &Findings<u32>) -> bool {
     found.left.len().saturating_add(found.resolved.len()) > MANY
 }
 
-/// Whether such a parser of a file accepts every sentence, as far as that is shown. Of one that splits at a conflict nothing is told:
-/// it may stop where a text has two trees.
-fn exactness_by(
+/// Whether such a parser of a file accepts every sentence, and at which of the entries it loses none, as far as that is shown. Of one
+/// that splits at a conflict nothing is told: it may stop where a text has two trees.
+fn accepted_by(
     parser: &Parser,
     found: &Findings<u32>,
     evidence: &[Evidence],
     resolved: &[Evidence],
     effort: Effort,
-) -> Result<Exactness, AllocError>
+) -> Result<Accepted, AllocError>
     requires graph { IfSome found.now.graph (IsGraphOf found.now.grm) }
     requires table { IfSome found.now.graph (λ h. IsTableOf found.now.grm h found.now.table) }
-    ensures exact { IfOk result (IsToldExact found.now.grm found.now.graph found.now.table) }
-    ensures untold { splits parser.now ≡ true → IfOk result (λ e. e ≡ Open) }
+    ensures exact { IfOk result (λ a.
+        IsToldExact found.now.grm found.now.graph found.now.table a.exactness) }
+    ensures kept { IfOk result (λ a.
+        AreToldKept found.now.grm found.now.graph found.now.table a.kept.items) }
+    ensures untold { splits parser.now ≡ true → IfOk result (λ a. a.exactness ≡ Open) }
+    ensures unkept { splits parser.now ≡ true → IfOk result (λ a. a.kept.items ≡ []) }
 {
     if parser.splits() {
-        return Ok(Exactness::Open);
+        return Ok(Accepted::nothing(found.grm.allocator()));
     }
-    if has_many(found) {
-        return Ok(Exactness::Open);
-    }
-    let exact = exactness_of(found, evidence, resolved, effort)?;
-    Ok(exact)
-}
-
-/// How many positions searches look at together whether no sentence is lost at what is told.
-fn positions_of(options: Options) -> usize {
-    match options.output {
-        _ if options.steps == 0 => 0,
-        _ if options.makes_page => POSITIONS_OF_EACH,
-        Output::Report | Output::Json { .. } => POSITIONS_OF_EACH,
-        Output::Summary | Output::Grammar | Output::States | Output::Sarif => 0,
-    }
-}
-
-/// Adds the entries for which no sentence is known that the parser rejects.
-fn add_unlost(entries: &mut Vec<Entry>, evidence: &[Evidence]) -> Result<(), AllocError> {
-    for known in evidence {
-        if known.loss.is_none() {
-            entries.push(known.entry)?;
-        }
-    }
-    Ok(())
-}
-
-/// At which of the entries of both no sentence is lost by such a parser, as far as that is shown.
-fn kept_by(
-    parser: &Parser,
-    found: &Findings<u32>,
-    evidence: &[Evidence],
-    resolved: &[Evidence],
-    options: Options,
-) -> Result<Vec<Entry>, AllocError>
-    requires graph { IfSome found.now.graph (IsGraphOf found.now.grm) }
-    requires table { IfSome found.now.graph (λ h. IsTableOf found.now.grm h found.now.table) }
-    ensures kept { IfOk result (λ v.
-        AreToldKept found.now.grm found.now.graph found.now.table v.items) }
-    ensures untold { splits parser.now ≡ true → IfOk result (λ v. v.items ≡ []) }
-{
-    let alloc = found.grm.allocator();
-    if parser.splits() {
-        return Ok(Vec::new(alloc));
-    }
-    let mut entries = Vec::new(alloc);
-    add_unlost(&mut entries, evidence)?;
-    add_unlost(&mut entries, resolved)?;
-    entries.sort_unstable();
-    let kept = kept_entries(found, entries.as_slice(), positions_of(options))?;
-    Ok(kept)
+    let positions = if has_many(found) { 0 } else { effort.positions };
+    let effort = Effort {
+        positions,
+        ..effort
+    };
+    let accepted = accepted_of(found, evidence, resolved, effort)?;
+    Ok(accepted)
 }
 
 /// What is known of a grammar beside what was found in it.
@@ -436,8 +402,7 @@ fn known_of(
         Vec::new(alloc)
     };
     let (known, settled) = (evidence.as_slice(), resolved.as_slice());
-    let exactness = exactness_by(read.parser, found, known, settled, effort)?;
-    let kept = kept_by(read.parser, found, known, settled, options)?;
+    let Accepted { exactness, kept } = accepted_by(read.parser, found, known, settled, effort)?;
     Ok(Known {
         left: Counts::of(entries),
         is_unambiguous,

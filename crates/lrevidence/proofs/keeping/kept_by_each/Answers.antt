@@ -5,7 +5,7 @@ use Rattle.lrevidence.proofs.keeping.kept_by_each.Goals as goal
 
 pub loop-entry-preserved : goal.loop-entry-preserved
 loop-entry-preserved c =
-    let is_kept = IsKeptEntry c.args.found.now.grm c.args.graph.now c.args.found.now.table in
+    let is_kept = IsKeptEntry c.args.automaton.grm.now c.args.automaton.graph.now c.args.automaton.table.now in
     elim c.if-branch.branch [
       | then-branch+in_ok-push w ↦ record {
         won = c.in_ok-is_kept_entry.ensures.won;

@@ -8,6 +8,6 @@ use Rattle.lrevidence.proofs.keeping.kept_by_each.Given as goal
 abbrev pub invariant-loop-entry : goal.invariant-loop-entry
 invariant-loop-entry l =
     record {
-      won : IsWon number_of l.found.grm l.graph l.certificate;
-      kept : All (IsKeptEntry l.found.grm l.graph l.found.table) l.kept.items;
+      won : IsWon number_of l.automaton.grm.now l.automaton.graph.now l.certificate;
+      kept : All (IsKeptEntry l.automaton.grm.now l.automaton.graph.now l.automaton.table.now) l.kept.items;
     }

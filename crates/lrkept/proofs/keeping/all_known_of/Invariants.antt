@@ -9,7 +9,7 @@ abbrev pub invariant-loop-theirs : goal.invariant-loop-theirs
 invariant-loop-theirs g l =
     let number = g.T.IndexStorage.number in
     record {
-      won : IsWon number l.tabled.grm.now l.tabled.graph.now l.certificate;
-      known : All (λ n. IsKnownOf l.known l.tabled.grm.now l.tabled.graph.now l.tabled.table.now (number l.cell.0.0) (number l.cell.1.0) (move_of number n))
+      won : IsWon number l.automaton.grm.now l.automaton.graph.now l.certificate;
+      known : All (λ n. IsKnownOf l.known l.automaton.grm.now l.automaton.graph.now l.automaton.table.now (number l.cell.0.0) (number l.cell.1.0) (move_of number n))
           (take l.theirs-index l.moves);
     }

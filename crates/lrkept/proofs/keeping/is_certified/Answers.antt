@@ -11,7 +11,7 @@ are_won-requires-clause-first g c =
     let old = c.args.certificate.now.listing.positions in
     let all : c.len-first.result ≡ length (positions_of number old.items) =
     omega (arith, c.len-first.ensures, old.ok.0, length-map old.items (position_of number)) in
-    first_won c.args.tabled.grm.now c.args.tabled.graph.now (positions_of number old.items) (positions_of number c.search.new.certificate.listing.positions.items)
+    first_won c.args.automaton.grm.now c.args.automaton.graph.now (positions_of number old.items) (positions_of number c.search.new.certificate.listing.positions.items)
     c.len-first.result c.requires.won c.in_ok-search.ensures all
 
 pub returns-clause-won : goal.returns-clause-won

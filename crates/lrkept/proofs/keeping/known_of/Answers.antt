@@ -8,7 +8,7 @@ use Rattle.lrkept.proofs.keeping.known_of.Goals as goal
 pub returns-then-is_by_start-clause-known : goal.returns-then-is_by_start-clause-known
 returns-then-is_by_start-clause-known g c =
     let number = g.T.IndexStorage.number in
-    by_start known.Exact c.args.tabled.grm.now c.args.tabled.graph.now c.args.tabled.table.now (number c.args.cell.0.0) (number c.args.cell.1.0) (move_of number c.args.theirs)
+    by_start known.Exact c.args.automaton.grm.now c.args.automaton.graph.now c.args.automaton.table.now (number c.args.cell.0.0) (number c.args.cell.1.0) (move_of number c.args.theirs)
     (c.is_by_start.ensures c.if-is_by_start.true)
 
 pub returns-clause-known : goal.returns-clause-known

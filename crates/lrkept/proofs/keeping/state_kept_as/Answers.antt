@@ -22,9 +22,9 @@ pub loop-number-preserved : goal.loop-number-preserved
 loop-number-preserved g c =
     let number = g.T.IndexStorage.number in
     let n = c.loop-number.number in
-    let grm = c.args.tabled.grm.now in
-    let h = c.args.tabled.graph.now in
-    let b = c.args.tabled.table.now in
+    let grm = c.args.automaton.grm.now in
+    let h = c.args.automaton.graph.now in
+    let b = c.args.automaton.table.now in
     let s = number c.args.state.0 in
     let moves = moves_stored number c.in_ok-moves.moves.items in
     let is = index_number number g.T.IndexStorage.MAX n c.from_usize.result c.unwrap.result c.unwrap.ensures c.from_usize.ensures in

@@ -7,6 +7,6 @@ abbrev pub invariant-loop-number : goal.invariant-loop-number
 invariant-loop-number g l =
     let number = g.T.IndexStorage.number in
     record {
-      won : IsWon number l.tabled.grm.now l.tabled.graph.now l.certificate;
-      known : (t : ℕ) → t < l.number → IsCellKeptAs l.known l.tabled.grm.now l.tabled.graph.now l.tabled.table.now (number l.state.0) t;
+      won : IsWon number l.automaton.grm.now l.automaton.graph.now l.certificate;
+      known : (t : ℕ) → t < l.number → IsCellKeptAs l.known l.automaton.grm.now l.automaton.graph.now l.automaton.table.now (number l.state.0) t;
     }

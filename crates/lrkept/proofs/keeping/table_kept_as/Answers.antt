@@ -13,7 +13,7 @@ unwrap-requires g c =
 pub state_kept_as-requires-clause-state : goal.state_kept_as-requires-clause-state
 state_kept_as-requires-clause-state g c =
     let n = c.loop-number.number in
-    let h = c.args.tabled.graph.now in
+    let h = c.args.automaton.graph.now in
     let is = index_number g.T.IndexStorage.number g.T.IndexStorage.MAX n c.from_usize.result c.unwrap.result c.unwrap.ensures c.from_usize.ensures in
     let within : n < length h = omega (arith, c.loop-number-test.true, c.to_usize-number-end.ensures.number, c.all_states_len.ensures) in
     omega (arith, is, within)
@@ -24,9 +24,9 @@ loop-number-init g c = record { won = c.requires.won; known = λ s l. absurd (om
 pub loop-number-preserved : goal.loop-number-preserved
 loop-number-preserved g c =
     let n = c.loop-number.number in
-    let grm = c.args.tabled.grm.now in
-    let h = c.args.tabled.graph.now in
-    let b = c.args.tabled.table.now in
+    let grm = c.args.automaton.grm.now in
+    let h = c.args.automaton.graph.now in
+    let b = c.args.automaton.table.now in
     let is = index_number g.T.IndexStorage.number g.T.IndexStorage.MAX n c.from_usize.result c.unwrap.result c.unwrap.ensures c.from_usize.ensures in
     record {
       won = c.in_ok-of_this.ensures.won;

@@ -6,6 +6,6 @@ use Rattle.lrkept.proofs.keeping.table_kept_as.Given as goal
 abbrev pub invariant-loop-number : goal.invariant-loop-number
 invariant-loop-number g l =
     record {
-      won : IsWon g.T.IndexStorage.number l.tabled.grm.now l.tabled.graph.now l.certificate;
-      known : (s : ℕ) → s < l.number → IsStateKeptAs l.known l.tabled.grm.now l.tabled.graph.now l.tabled.table.now s;
+      won : IsWon g.T.IndexStorage.number l.automaton.grm.now l.automaton.graph.now l.certificate;
+      known : (s : ℕ) → s < l.number → IsStateKeptAs l.known l.automaton.grm.now l.automaton.graph.now l.automaton.table.now s;
     }
