@@ -13,7 +13,7 @@ The grammar is the one that is told too. By other ways than the program's it is 
 - where no text is told, the list of symbols has the input as a text, the items of each candidate stand in one another after
   the list, and the rest makes a sentence of the input and follows from the items, from the token on;
 - a text that is told to be lost is a sentence, and the machine of the table rejects it where it is said, behind the dot, which
-  stands before the token of the entry.
+  stands before the token of the entry; where the entry is ambiguous or resolved, no cell has a choice behind that.
 
 And there are as many entries of each kind as are counted.
 """
@@ -28,6 +28,7 @@ from pathlib import Path
 import definitions
 import graphs
 import machine
+import tables
 from sentences import MANY, Trees
 
 END = 0  # The number of `$end`, which is the first token.
@@ -286,6 +287,38 @@ def check_lost(told, entry, lost):
     hold(dot <= stop and text[dot] in told.symbols(entry["tokens"]), f"the dot is at {dot}, and it is rejected at {stop}")
 
 
+def places(told, text):
+    """The places to which the machine comes on a text: the state on top, and how many tokens were taken."""
+    stack, used = [0], 0
+    while True:
+        yield stack[-1], used
+        does, what = machine.cell(told.grammar, told.states[stack[-1]], text[used])
+        if does == "shift":
+            used += 1
+            stack.append(what)
+        elif does == "reduce":
+            rule, body = told.grammar.prods[what]
+            del stack[len(stack) - len(body) :]
+            stack.append(told.states[stack[-1]].edges[rule])
+        else:
+            return
+
+
+def has_choice(told, state, token):
+    """Whether several moves contend for the cell."""
+    state = told.states[state]
+    return sum(looks >> token & 1 for looks in tables.complete(told.grammar, state).values()) + (token in state.edges) > 1
+
+
+def check_doomed(told, entry, lost):
+    """What the table does at the entry is alone to blame: behind the dot the machine comes to no cell that has a choice."""
+    text = [*told.symbols(lost["text"]), END]
+    come = [*places(told, text)]
+    behind = [come[number + 1 :] for number, place in enumerate(come) if place == (entry["state"], lost["dot"])]
+    goes_wrong = lambda rest: any(has_choice(told, state, text[used]) for state, used in rest)
+    hold(not all(map(goes_wrong, behind)), f"{lost['text']} may go wrong again behind the dot")
+
+
 # All of a file.
 
 OF_TEXTS = (check_count, check_trees, check_rule, check_parting)
@@ -301,6 +334,8 @@ def check_entry(told, entry):
         check(told, entry, entry["after"])
     if entry.get("lost"):
         check_lost(told, entry, entry["lost"])
+        if len(entry["tokens"]) == 1 and (entry["ambiguity"] or "winner" in entry):
+            check_doomed(told, entry, entry["lost"])
     hold(entry["ambiguity"] or entry.get("after") or "winner" in entry, "nothing is told of a conflict")
 
 

@@ -1,5 +1,5 @@
 -- sentences with two trees, entries that are listed, what is known of one after the other, values in boxes, what is decided, what
--- is kept, cells, and sentences that are lost
+-- is kept, cells, the machine, and sentences that are lost
 pub mod NumberedTexts
 pub mod ListedEntries
 pub mod EvidenceInTurn
@@ -7,4 +7,5 @@ pub mod Boxes
 pub mod FoundDecisions
 pub mod KeptMoves
 pub mod CellsInTurn
+pub mod MachineInTurn
 pub mod FoundLosses

@@ -1,7 +1,8 @@
--- sentences with two trees, which part somewhere, those that are rejected, sets of cells, entries that are decided, those at which
--- no sentence is lost, those that a table lists, and what searches share
+-- sentences with two trees, which part somewhere, those that are rejected, the machine that does it, sets of cells, entries that are
+-- decided, those at which no sentence is lost, those that a table lists, and what searches share
 pub mod Ambiguities
 pub mod Losses
+pub mod Machines
 pub mod Cells
 pub mod DecidedEntries
 pub mod KeptEntries

@@ -8,7 +8,7 @@ ghost use Rattle.lrconflicts.specs.Entries.{entry_of, IsListed};
 ghost use Rattle.lrreasons.specs.Numbers.{number_of};
 ghost use Rattle.lrevidence.specs.Entries.{AreListedIn};
 ghost use Rattle.lrevidence.specs.Ambiguities.{HasTwoTrees, IsProved, PartsAtEntry};
-ghost use Rattle.lrevidence.specs.Losses.{IsFoundAtEntry, IsLostAtEntry, ResolvesPairs, StopsAtEntry};
+ghost use Rattle.lrevidence.specs.Losses.{IsDoomedAtEntry, IsFoundAtEntry, IsLostAtEntry, ResolvesPairs, StopsAtEntry};
 ghost use Rattle.lrevidence.specs.DecidedEntries.{IsDecidedEntry, IsDecidedOf, IsToldDecided};
 ghost use Rattle.lrevidence.specs.Searches.{AreFor, AreOfOne};
 
@@ -18,7 +18,7 @@ use crate::decisions::Decisions;
 use crate::examples::Numbering;
 use crate::losses::LossSearch;
 use crate::searches::Searches;
-use crate::texts::{loss_found, shown_at};
+use crate::texts::{Shown, loss_found, shown_at};
 use lrfindings::{Entry, Findings, is_among};
 use lrreasons::{Conflict, Reasons};
 pub use lrshown::Evidence;
@@ -152,11 +152,13 @@ fn with_texts(
         None
     };
     let decided = decided(searches, before.entry, is_open)?;
+    let Shown { ambiguity, loss } = shown;
+    let loss = searches.losses.told(conflict, loss, !is_open);
     Ok(Evidence {
         entry: before.entry,
-        ambiguity: boxed(alloc, shown.ambiguity)?,
+        ambiguity: boxed(alloc, ambiguity)?,
         example: told,
-        loss: boxed(alloc, shown.loss)?,
+        loss: boxed(alloc, loss)?,
         decided,
         is_cut_off: before.is_cut_off && is_open,
     })
@@ -215,7 +217,7 @@ fn evidence_of(
     Ok(evidence)
 }
 
-/// What is known of an entry, with a sentence that the parser rejects, if one is found.
+/// What is known of an entry, with a sentence that the parser rejects and that is doomed there, if one is found.
 fn with_loss(searches: &mut Searches<'_>, before: Evidence) -> Result<Evidence, AllocError>
     requires proved { IsProved searches.old.reasons.grammar before }
     requires parts { PartsAtEntry searches.old.reasons.grammar searches.old.reasons.graph before }
@@ -356,6 +358,8 @@ pub fn evidence_for(
         (λ h. All (StopsAtEntry found.now.grm h found.now.table) v.items)) }
     ensures pairs { IfOk result (λ v.
         All (λ e. IfSome e.loss (λ l. ResolvesPairs found.now)) v.items) }
+    ensures doomed { IfOk result (λ v. MatchOption found.now.graph (v.items ≡ [])
+        (λ h. All (IsDoomedAtEntry found.now.grm h found.now.table) v.items)) }
     ensures decided { IfOk result (λ v.
         All (IsToldDecided found.now.grm found.now.graph) v.items) }
 {

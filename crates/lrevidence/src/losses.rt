@@ -5,9 +5,10 @@ ghost use Rattle.lrspec.specs.grammars.Grammar as math;
 ghost use Rattle.lrspec.specs.merging.Graph.{edge};
 ghost use Rattle.lrspec.specs.tables.Table.{IsTableFor};
 ghost use Rattle.lrevidence.specs.Cells.{HasCell, LacksCell};
-ghost use Rattle.lrevidence.specs.Losses.{AreApart, IsFoundLoss, cell_of, searched, ResolvesPairs};
+ghost use Rattle.lrevidence.specs.Losses.{AreApart, IsFoundAs, IsFoundLoss, IsDoomedIn, cell_of, searched, ResolvesPairs};
 
 use crate::ambiguities::numbers_of;
+use crate::machine::meets_no_choice;
 use lrconflicts::{Move, Written};
 use lrfindings::{Entry, Findings, Resolved};
 use lrgrammar::idx::Symbol;
@@ -65,6 +66,14 @@ fn is_taken(found: &Findings<u32>, conflict: Conflict<u32>, action: Move<u32>) -
         Action::Reduce(production) => action == Move::Reduce(production),
         Action::Accept | Action::Error => false,
     }
+}
+
+/// A sentence that the parser rejects, since it goes wrong at a conflict.
+#[derive(Drop)]
+pub(crate) struct Lost {
+    pub(crate) loss: Loss,
+    /// Whether it is known that what the table does there is alone to blame: behind that the machine has no choice any more.
+    pub(crate) is_doomed: bool,
 }
 
 /// What finds sentences that the parser rejects.
@@ -167,16 +176,16 @@ impl<'a> LossSearch<'a> {
         Ok(Some(text))
     }
 
-    /// The loss at the conflict that a text and the moves of its tree show. None where it is an error by `%nonassoc` that rejects
-    /// the text, since that is what this is for; nor where Bison's table may be another one.
+    /// The loss at the conflict that a text and the moves of its tree show, and whether it is doomed there. None where it is an error
+    /// by `%nonassoc` that rejects the text, since that is what this is for; nor where Bison's table may be another one.
     pub(crate) fn loss_by(
         &self,
         conflict: Conflict<u32>,
         text: &Written<u32>,
         steps: usize,
-    ) -> Result<Option<Loss>, AllocError>
+    ) -> Result<Option<Lost>, AllocError>
         ensures { IfOk result (λ o.
-            IfSome o (IsFoundLoss self.now conflict.state.0 conflict.token.0)) }
+            IfSome o (IsFoundAs self.now conflict.state.0 conflict.token.0)) }
     {
         if !self.is_uncrowded() {
             return Ok(None);
@@ -195,13 +204,35 @@ impl<'a> LossSearch<'a> {
         if self.has_shift(rejected) {
             return Ok(None);
         }
-        Ok(Some(Loss {
+        let (from, to) = (parting.steps, rejected.steps);
+        let is_doomed = meets_no_choice(grm, self.graph, table, tokens, from, to)?;
+        let loss = Loss {
             tokens: numbers_of(alloc, tokens)?,
             steps: steps_of(alloc, moves)?,
-            made: parting.steps,
+            made: from,
             dot: parting.used,
             stop: rejected.used,
             lost: step_of(lost),
-        }))
+        };
+        Ok(Some(Lost { loss, is_doomed }))
+    }
+
+    /// The sentence that is told of what was found at the conflict, if anything: only one that is doomed, where that is asked.
+    pub(crate) fn told(
+        &self,
+        _conflict: Conflict<u32>,
+        lost: Option<Lost>,
+        must_be_doomed: bool,
+    ) -> Option<Loss>
+        requires { IfSome lost (IsFoundAs self.now _conflict.state.0 _conflict.token.0) }
+        ensures found { IfSome result
+            (IsFoundLoss self.now _conflict.state.0 _conflict.token.0) }
+        ensures doomed { IsTrue must_be_doomed → IfSome result (IsDoomedIn self.now) }
+    {
+        let Lost { loss, is_doomed } = lost?;
+        if must_be_doomed && !is_doomed {
+            return None;
+        }
+        Some(loss)
     }
 }

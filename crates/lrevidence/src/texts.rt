@@ -2,9 +2,10 @@
 
 ghost use Rattle.std.specs.Prelude.{◌≡◌, ◌++◌, IfOk, IfSome};
 ghost use Rattle.lrevidence.specs.Ambiguities.{HasTwoTrees, PartsAt};
-ghost use Rattle.lrevidence.specs.Losses.{IsFoundLoss};
+ghost use Rattle.lrevidence.specs.Losses.{IsFoundLoss, IsFoundAs, IsDoomedIn};
 
 use crate::ambiguities::ambiguity_by;
+use crate::losses::Lost;
 use crate::machine::accepting_moves;
 use crate::searches::Searches;
 use lrconflicts::{Move, Written, other_move};
@@ -24,7 +25,7 @@ pub(crate) struct Shown {
     /// One with two trees, which part there.
     pub(crate) ambiguity: Option<Ambiguity>,
     /// One that the parser rejects, since it goes wrong there.
-    pub(crate) loss: Option<Loss>,
+    pub(crate) loss: Option<Lost>,
 }
 
 impl Shown {
@@ -94,7 +95,7 @@ fn shown_by(
     ensures parts { IfOk result (λ s. IfSome s.ambiguity (PartsAt searches.now.reasons.grammar
         searches.now.reasons.graph conflict.state.0 conflict.token.0)) }
     ensures lost { IfOk result (λ s. IfSome s.loss
-        (IsFoundLoss searches.now.losses conflict.state.0 conflict.token.0)) }
+        (IsFoundAs searches.now.losses conflict.state.0 conflict.token.0)) }
 {
     let (alloc, found) = (searches.allocator(), searches.found);
     let (tokens, moves) = (text.tokens.as_slice(), text.moves.as_slice());
@@ -124,7 +125,7 @@ fn shown_behind(
     ensures parts { IfOk result (λ s. IfSome s.ambiguity (PartsAt searches.now.reasons.grammar
         searches.now.reasons.graph conflict.state.0 conflict.token.0)) }
     ensures lost { IfOk result (λ s. IfSome s.loss
-        (IsFoundLoss searches.now.losses conflict.state.0 conflict.token.0)) }
+        (IsFoundAs searches.now.losses conflict.state.0 conflict.token.0)) }
 {
     let Some(
         Outlook {
@@ -150,7 +151,7 @@ fn shown_by_example(
     ensures parts { IfOk result (λ s. IfSome s.ambiguity (PartsAt searches.now.reasons.grammar
         searches.now.reasons.graph conflict.state.0 conflict.token.0)) }
     ensures lost { IfOk result (λ s. IfSome s.loss
-        (IsFoundLoss searches.now.losses conflict.state.0 conflict.token.0)) }
+        (IsFoundAs searches.now.losses conflict.state.0 conflict.token.0)) }
 {
     let Some(input) = &example.input else {
         return Ok(Shown::NOTHING);
@@ -175,7 +176,7 @@ fn shown_by_search(
     ensures parts { IfOk result (λ s. IfSome s.ambiguity (PartsAt searches.now.reasons.grammar
         searches.now.reasons.graph conflict.state.0 conflict.token.0)) }
     ensures lost { IfOk result (λ s. IfSome s.loss
-        (IsFoundLoss searches.now.losses conflict.state.0 conflict.token.0)) }
+        (IsFoundAs searches.now.losses conflict.state.0 conflict.token.0)) }
 {
     match searches.losses.text_at(conflict, action, pairs)? {
         Some(text) => shown_by(searches, conflict, &text),
@@ -183,20 +184,36 @@ fn shown_by_search(
     }
 }
 
-/// A sentence that the parser rejects, which a search finds at the conflict for either of its candidates.
+/// A sentence that the parser rejects, and which is doomed at the conflict, where a search finds such a one for the candidate.
+fn doomed_by_search(
+    searches: &Searches<'_>,
+    conflict: Conflict<u32>,
+    action: Move<u32>,
+) -> Result<Option<Loss>, AllocError>
+    ensures found { IfOk result (λ o. IfSome o
+        (IsFoundLoss searches.now.losses conflict.state.0 conflict.token.0)) }
+    ensures doomed { IfOk result (λ o. IfSome o (IsDoomedIn searches.now.losses)) }
+{
+    let Shown { loss, .. } = shown_by_search(searches, conflict, action, FEW_PAIRS)?;
+    let loss = searches.losses.told(conflict, loss, true);
+    Ok(loss)
+}
+
+/// Such a sentence for either of the candidates of the conflict.
 pub(crate) fn loss_found(
     searches: &Searches<'_>,
     conflict: Conflict<u32>,
 ) -> Result<Option<Loss>, AllocError>
-    ensures { IfOk result (λ o. IfSome o
+    ensures found { IfOk result (λ o. IfSome o
         (IsFoundLoss searches.now.losses conflict.state.0 conflict.token.0)) }
+    ensures doomed { IfOk result (λ o. IfSome o (IsDoomedIn searches.now.losses)) }
 {
     let (reduced, other) = (Move::Reduce(conflict.production), other_move(&conflict));
-    let Shown { loss, .. } = shown_by_search(searches, conflict, reduced, FEW_PAIRS)?;
+    let loss = doomed_by_search(searches, conflict, reduced)?;
     if loss.is_some() {
         return Ok(loss);
     }
-    let Shown { loss, .. } = shown_by_search(searches, conflict, other, FEW_PAIRS)?;
+    let loss = doomed_by_search(searches, conflict, other)?;
     Ok(loss)
 }
 
@@ -211,7 +228,7 @@ pub(crate) fn shown_at(
     ensures parts { IfOk result (λ s. IfSome s.ambiguity (PartsAt searches.now.reasons.grammar
         searches.now.reasons.graph conflict.state.0 conflict.token.0)) }
     ensures lost { IfOk result (λ s. IfSome s.loss
-        (IsFoundLoss searches.now.losses conflict.state.0 conflict.token.0)) }
+        (IsFoundAs searches.now.losses conflict.state.0 conflict.token.0)) }
 {
     let shown = shown_by_example(searches, conflict, example)?;
     if shown.is_something() {

@@ -1,5 +1,5 @@
 use Rattle.std.proofs.Common.{refl}
-use Rattle.lrevidence.proofs.FoundLosses.{are_lost, stop_so, are_apart}
+use Rattle.lrevidence.proofs.FoundLosses.{are_lost, stop_so, are_apart, are_doomed}
 use Rattle.lrevidence.proofs.evidence.evidence_for.Goals as goal
 
 pub push_evidence-requires-clause-one : goal.push_evidence-requires-clause-one
@@ -27,6 +27,9 @@ returns-clause-stops c = rw c.in-Some-false.is-0 (stop_so _ _ (rw c.in_ok-search
 
 pub returns-clause-pairs : goal.returns-clause-pairs
 returns-clause-pairs c = are_apart _ _ (rw c.in_ok-searches.ensures.lost at c.in_ok-push_evidence.ensures.lost)
+
+pub returns-clause-doomed : goal.returns-clause-doomed
+returns-clause-doomed c = rw c.in-Some-false.is-0 (are_doomed _ _ (rw c.in_ok-searches.ensures.lost at c.in_ok-push_evidence.ensures.lost))
 
 pub returns-clause-decided : goal.returns-clause-decided
 returns-clause-decided c =

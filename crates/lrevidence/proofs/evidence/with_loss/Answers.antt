@@ -1,10 +1,13 @@
-use Rattle.lrevidence.specs.Losses.{IsFoundLoss}
+use Rattle.lrshown.specs.declared.evidence.Evidence.{Evidence}
+use Rattle.lrevidence.specs.Losses.{IsFoundFor}
 use Rattle.lrevidence.proofs.Boxes.{boxed_so}
+use Rattle.lrevidence.proofs.FoundLosses.{found_for}
 use Rattle.lrevidence.proofs.evidence.with_loss.Goals as goal
 
 pub returns-clause-lost : goal.returns-clause-lost
 returns-clause-lost c =
     let losses = c.args.searches.now.losses in
-    let entry = c.args.before.entry in
-    boxed_so _ (IsFoundLoss losses entry.state entry.token) _ _
-    c.in_ok-boxed.ensures (rw (c.in_ok-prepare.ensures, c.in-Some.ensures.state, c.in-Some.ensures.token) at c.in_ok-loss.ensures)
+    let told : Evidence = record c.args.before { loss = c.in_ok-boxed.field-0 } in
+    boxed_so _ (IsFoundFor losses told) _ _ c.in_ok-boxed.ensures
+    (found_for losses told _ (rw (c.in_ok-prepare.ensures, c.in-Some.ensures.state, c.in-Some.ensures.token) at c.in_ok-loss.ensures.found)
+    (λ both. rw c.in_ok-prepare.ensures at c.in_ok-loss.ensures.doomed))
