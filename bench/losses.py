@@ -5,9 +5,9 @@
 
 Takes the files `.y`, `.yy` and `.ypp` that are named or in folders that are, and leaves out what `lrcheck` refuses. For each it
 prints two rows, with precedences and without: conflicts, each entry by itself; how many are ambiguous, with a text that has two
-trees; and of the others how many have a lost text, how many are told to be decided, and how many are open, with neither. Then
-seconds of `lrcheck --json --all` and of `lrcheck --summary`: whole processes, processor time, the least of three runs. The last
-rows add up.
+trees; how many have a lost text, which may be ambiguous too; and of the others how many are told to be decided, and how many are
+open, with nothing. Then seconds of `lrcheck --json --all` and of `lrcheck --summary`: whole processes, processor time, the least
+of three runs. The last rows add up.
 
 Draws N grammars with conflicts, without their precedences: those of the runs `drawn-reasons-*`, and more of these (none unless it
 is said). By `--steps N` fewer ambiguities are looked for, so that with one step each entry can have a lost text. Of each grammar it
@@ -67,13 +67,10 @@ KINDS = (
 # Files.
 
 
-def kind_of_entry(entry):
-    """In which column an entry is counted."""
-    if entry["ambiguity"]:
-        return "Ambiguous"
-    if entry["lost"]:
-        return "Lost"
-    return "Decided" if entry.get("decided") else "Open"
+def kinds_of_entry(entry):
+    """In which columns an entry is counted: it may be ambiguous and have a lost text."""
+    known = [kind for kind, name in (("Ambiguous", "ambiguity"), ("Lost", "lost")) if entry[name]]
+    return ["Entries", *(known or ["Decided" if entry.get("decided") else "Open"])]
 
 
 def told_of_file(lrcheck, path, options):
@@ -81,8 +78,7 @@ def told_of_file(lrcheck, path, options):
     told = subprocess.run([lrcheck, "--json", "--all", *options, path], capture_output=True)
     if told.returncode not in (0, 1):
         return None
-    counts = Counter(map(kind_of_entry, json.loads(told.stdout)["conflicts"]))
-    counts["Entries"] = counts.total()
+    counts = Counter(kind for entry in json.loads(told.stdout)["conflicts"] for kind in kinds_of_entry(entry))
     with tempfile.TemporaryDirectory() as name:
         calls = [[lrcheck, *words, *options, path] for words in (("--json", "--all"), ("--summary",))]
         seconds = least(calls, Path(name))
@@ -205,6 +201,8 @@ def check_lost(told, losses, conflict, entry):
     """The lost text that is told of an entry is lost there."""
     lost, text = entry["lost"], told.symbols(entry["lost"]["text"])
     texts.check_lost(told, entry, lost)
+    if entry["ambiguity"]:
+        texts.check_doomed(told, entry, lost)
     _, _, _, trees = machine.run(told.grammar, told.states, [*text, END], texts.MOST_STEPS)
     come = places(told.grammar, told.states, [*text, END], trees)
     is_there = any((state, used) == (entry["state"], lost["dot"]) for _, state, used, _ in come)
@@ -287,9 +285,10 @@ def check_grammar(drawn, told, counts):
     counts["not whole"] += not losses.rests.is_whole
     for conflict in drawn.conflicts:
         entry = alone[conflict.state, conflict.token, conflict.pair]
-        column, found = kind_of_entry(entry), losses.at(conflict, conflict.pair)
-        counts[column] += 1
-        counts[column, "short"] += bool(found)
+        found = losses.at(conflict, conflict.pair)
+        for kind in kinds_of_entry(entry):
+            counts[kind] += 1
+            counts[kind, "short"] += bool(found)
         try:
             check_told(told, losses, conflict, entry)
         except Wrong as why:
@@ -331,8 +330,8 @@ def print_drawn(lrcheck, options, count, is_listed):
             all_missed += check_grammar(drawn, told, counts)
         except TooLarge:
             counts["too large"] += 1
-    columns = ", ".join(f"{name.lower()} {counts[name]} ({counts[name, 'short']})" for name in COLUMNS[1:])
-    print(f"{len(all_drawn)} grammars, {sum(counts[it] for it in COLUMNS)} entries, in brackets with a short lost text: {columns}")
+    columns = ", ".join(f"{name.lower()} {counts[name]} ({counts[name, 'short']})" for name in COLUMNS)
+    print(f"{len(all_drawn)} grammars, in brackets with a short lost text: {columns}")
     print(f"{counts['wrong']} told wrongly, {len(all_missed)} missed")
     print(f"too large {counts['too large']}, with more stacks than are looked at {counts['not whole']}")
     print_missed(all_missed, is_listed)

@@ -114,9 +114,18 @@ def check_after(known, told, entry, counts):
         least = known.shortest_rest(symbols, token, move)
         hold(len([*outlook["rest"], END]) == least, f"{outlook['rest']} is no shortest rest")
     counts["other tokens"] += token != conflict.token
-    if entry.by_one_step["lost"]:
-        texts.check_lost(told, entry.by_one_step, entry.by_one_step["lost"])
-        counts["lost"] += 1
+
+
+def check_fates(told, entry, counts):
+    """The lost texts, with many steps and with one, also where a text has two trees. None is told where it is told that none is lost."""
+    for one in entry.told, entry.by_one_step:
+        if one["lost"]:
+            texts.check_lost(told, one, one["lost"])
+            if one["ambiguity"]:
+                texts.check_doomed(told, one, one["lost"])
+            hold(not one["kept"], f"{one['lost']['text']} is told to be lost, and that no text is")
+    counts["lost"] += entry.by_one_step["lost"] is not None
+    counts["ambiguous and lost"] += None not in (entry.told["ambiguity"], entry.told["lost"])
 
 
 # Ambiguities.
@@ -269,6 +278,7 @@ def check_entry(known, told, entry, counts):
     hold(entry.lines.head == head, f"{entry.lines.head} is printed, and not {head}")
     hold(entry.told["chosen"] == ("shift" if None in entry.conflict.cell else "reduce"), "the table does something else")
     check_after(known, told, entry, counts)
+    check_fates(told, entry, counts)
     counts["ambiguous" if entry.told["ambiguity"] else "not known"] += 1
     if entry.told["ambiguity"]:
         check_ambiguity(told, entry, counts)
@@ -300,8 +310,8 @@ def check_groups(told, alone):
 
 
 def check_line(answer):
-    """The line tells for how many entries a text is told that is rejected, and none that has two trees."""
-    lost = sum(it["lost"] is not None and it["ambiguity"] is None for it in answer.alone["conflicts"])
+    """The line tells for how many entries a text is told that is rejected."""
+    lost = sum(it["lost"] is not None for it in answer.alone["conflicts"])
     words = f", {lost} rejects sentences" if lost == 1 else f", {lost} reject sentences" if lost else ""
     told = re.search(r", \d+ rejects? sentences|$", answer.line)[0]
     hold(told == words, f"{lost} conflicts reject sentences, but the line is: {answer.line}")

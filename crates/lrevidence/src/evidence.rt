@@ -50,18 +50,49 @@ pub struct Effort {
     /// Whether each entry counts, and not only the first of those that stand together, because the same meets at them in the same
     /// state.
     pub counts_each: bool,
-    /// Whether a sentence that the parser rejects is looked for at each entry, also where it has one with two trees, or where no
-    /// list of the table has it.
-    pub seeks_losses: bool,
+    /// At how many entries a sentence that the parser rejects is looked for in any case, also where one has two trees, or where no
+    /// list of the table has the entry: at each, if there are no more, and else at the first ones of those that stand together.
+    pub losses_in_any_case: usize,
+}
+
+/// At how many of the entries that stand together, where not each is tried: until one is found.
+const FIRST_TOGETHER: usize = 3;
+
+/// Whether an entry is the first of those that stand together, behind what is known of those before it.
+fn is_first(before: &[Evidence], entry: &Entry) -> bool {
+    match before.last() {
+        Some(last) => !last.entry.meets_like(entry),
+        None => true,
+    }
+}
+
+/// Whether an entry is one of the first of those that stand together, and for none of these before it a sentence is known that the
+/// parser rejects.
+fn is_among_first(before: &[Evidence], entry: &Entry) -> bool {
+    let mut left = FIRST_TOGETHER;
+    for known in before.iter().rev() {
+        if !known.entry.meets_like(entry) {
+            return true;
+        }
+        left = left.saturating_sub(1);
+        if left == 0 || known.loss.is_some() {
+            return false;
+        }
+    }
+    true
 }
 
 impl Effort {
-    /// Whether an entry counts behind the last of those before it.
+    /// Whether an entry counts, behind what is known of those before it.
     fn counts(self, before: &[Evidence], entry: &Entry) -> bool {
-        match before.last() {
-            Some(last) => self.counts_each || !last.entry.meets_like(entry),
-            None => true,
-        }
+        self.counts_each || is_first(before, entry)
+    }
+
+    /// Whether a sentence that the parser rejects is looked for in any case at an entry of so many, behind what is known of those
+    /// before it, at so many of which that was done.
+    fn seeks_loss(self, before: &[Evidence], entry: &Entry, all: usize, done: usize) -> bool {
+        let most = self.losses_in_any_case;
+        self.steps > 0 && done < most && (all <= most || is_among_first(before, entry))
     }
 }
 
@@ -244,7 +275,14 @@ fn with_loss(searches: &mut Searches<'_>, before: Evidence) -> Result<Evidence, 
     })
 }
 
-/// What is known of an entry, and a sentence that the parser rejects where one is looked for in any case.
+/// Whether other texts were tried at an entry: where none has two trees, and a list of the table has the entry.
+fn is_tried(searches: &Searches<'_>, evidence: &Evidence, wanted: Wanted) -> bool {
+    let listed = searches.found.conflicts.as_slice();
+    wanted.has_texts && evidence.ambiguity.is_none() && is_among(listed, &evidence.entry)
+}
+
+/// What is known of an entry, and a sentence that the parser rejects where one is looked for in any case: unless it was looked for
+/// among other texts.
 fn known_of(
     searches: &mut Searches<'_>,
     entry: Entry,
@@ -261,7 +299,8 @@ fn known_of(
         (IsDecidedOf searches.new.decisions.grammar searches.new.decisions.graph) }
 {
     let evidence = evidence_of(searches, entry, wanted)?;
-    if wanted.has_loss && evidence.loss.is_none() {
+    let is_wanted = wanted.has_loss && evidence.loss.is_none();
+    if is_wanted && !is_tried(searches, &evidence, wanted) {
         return with_loss(searches, evidence);
     }
     Ok(evidence)
@@ -290,15 +329,16 @@ fn push_evidence(
     ensures decided { OnOk result (All (IsDecidedOf searches.old.decisions.grammar
         searches.old.decisions.graph) list.new.items) }
 {
-    let (mut told, mut unknown): (usize, usize) = (0, 0);
+    let (mut told, mut unknown, mut sought): (usize, usize, usize) = (0, 0, 0);
     for entry in entries {
         let counts = effort.counts(list.as_slice(), entry);
         let has_example = counts && told < effort.examples;
+        let has_loss = effort.seeks_loss(list.as_slice(), entry, entries.len(), sought);
         let wanted = Wanted {
             steps: effort.steps,
             has_example,
             has_texts: effort.steps > 0 && (has_example || unknown < effort.losses),
-            has_loss: effort.steps > 0 && effort.seeks_losses,
+            has_loss,
         };
         let evidence = known_of(searches, *entry, wanted)?;
         let is_known = evidence.ambiguity.is_some();
@@ -308,6 +348,9 @@ fn push_evidence(
         }
         if !is_known {
             unknown = unknown.saturating_add(1);
+        }
+        if has_loss {
+            sought = sought.saturating_add(1);
         }
     }
     Ok(())

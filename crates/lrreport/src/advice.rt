@@ -79,8 +79,8 @@ pub(crate) enum NewLevels {
 pub(crate) enum Advice {
     /// To move an action that stands in the middle of a production.
     MoveAction,
-    /// So that the parser accepts what it rejects, not by levels.
-    Accept,
+    /// So that the parser accepts what it rejects, not by levels; where the conflict is ambiguous too, those may do it that reduce.
+    Accept { may_reduce: bool },
     /// By so many tokens of lookahead, not by levels.
     Decide(usize),
     /// By more lookahead, if at all.
@@ -252,8 +252,12 @@ impl Told<'_> {
             Advice::MoveAction => words.add_all(
                 "this action must run before it is known which alternative it is: put it at the end, or into a rule of its own",
             ),
-            Advice::Accept => {
-                words.add_all("where it is not ambiguous, levels would not mend it:");
+            Advice::Accept { may_reduce } => {
+                words.add_all(if *may_reduce {
+                    "levels that keep the shift would not mend it, and those that reduce may reject other sentences:"
+                } else {
+                    "where it is not ambiguous, levels would not mend it:"
+                });
                 self.add_other_parser(words);
             }
             Advice::Decide(tokens) => {

@@ -31,8 +31,9 @@ enum Piece {
     Dot,
 }
 
-/// The form of a conflict: the rules of the productions that meet, and the pieces of both trees.
-type Form = (usize, Option<usize>, Vec<Piece>);
+/// The form of a conflict: the rules of the productions that meet, whether a sentence is known that the parser rejects, and the
+/// pieces of both trees.
+type Form = (usize, Option<usize>, bool, Vec<Piece>);
 
 /// How conflicts are told whose form is that of an earlier one: behind that one, by its number.
 #[derive(Drop)]
@@ -161,8 +162,9 @@ impl Told<'_> {
         };
         let entry = first.entry;
         let other = entry.other.map(|other| self.rule_of(other));
+        let rejects = cause.rejecting().is_some();
         let pieces = self.pieces(alloc, ambiguity)?;
-        Ok(Some((self.rule_of(entry.production), other, pieces)))
+        Ok(Some((self.rule_of(entry.production), other, rejects, pieces)))
     }
 
     /// The form by which a conflict may be told behind another one; None where each is told by itself, and where the parser splits,

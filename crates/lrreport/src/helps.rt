@@ -77,6 +77,13 @@ impl Told<'_> {
         token >= FIRST_TOKENS && self.token_name(token) != "%no-default-prec"
     }
 
+    /// Whether an entry is ambiguous at which the parser rejects a sentence, and levels could reduce there, so that it may accept it.
+    fn may_reduce(&self, evidence: &Evidence) -> bool {
+        let entry = &evidence.entry;
+        let is_both = evidence.rejects() && evidence.has_own_sentence();
+        is_both && entry.other.is_none() && self.can_have_level(entry.token)
+    }
+
     /// Whether it is shown that no sentence is lost at the conflicts.
     fn loses_none(&self) -> bool {
         let mut evidence = self.evidence.iter();
@@ -361,7 +368,8 @@ impl<'a, T: IndexStorage> Trials<'_, 'a, T> {
         } else if let Some(tokens) = tokens_of_each(meeting) {
             Ok(Some(Advice::Decide(tokens)))
         } else if meeting.iter().any(|it| it.loss.is_some()) {
-            Ok(Some(Advice::Accept))
+            let may_reduce = meeting.iter().any(|it| told.may_reduce(it));
+            Ok(Some(Advice::Accept { may_reduce }))
         } else if own_sentences(meeting) == 0 {
             Ok(Some(Advice::Lookahead))
         } else if entry.other.is_some() || !told.can_have_level(entry.token) {

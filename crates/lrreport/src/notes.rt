@@ -560,7 +560,7 @@ impl<T: IndexStorage> Checked<'_, T> {
         Ok(())
     }
 
-    /// Adds what is known of entries at which the same meets.
+    /// Adds what is known of entries at which the same meets, but for what becomes of sentences.
     fn push_known(
         &self,
         text: &mut Text,
@@ -568,8 +568,6 @@ impl<T: IndexStorage> Checked<'_, T> {
         meeting: &[Evidence],
     ) -> Result<(), AllocError>
         requires proved { All (IsProved self.now.found.now.grm) meeting.now }
-        requires lost { All (IsLostAtEntry self.now.found.now.grm self.now.found.now.table)
-            meeting.now }
         requires entries { All (IsToldDecided self.now.found.now.grm self.now.found.now.graph)
             meeting.now }
     {
@@ -578,13 +576,12 @@ impl<T: IndexStorage> Checked<'_, T> {
         };
         if let Some((token, ambiguity)) = self.own_sentence_but_at(meeting, None) {
             self.push_ambiguity(text, notes, &first.entry, ambiguity)?;
-            self.push_others(text, notes, meeting, token)?;
+            self.push_others(text, notes, meeting, token)
         } else if let Some(ambiguity) = self.sentence_with_trees(meeting) {
-            self.push_ambiguity(text, notes, &first.entry, ambiguity)?;
+            self.push_ambiguity(text, notes, &first.entry, ambiguity)
         } else {
-            self.push_without_sentence(text, notes, meeting)?;
+            self.push_without_sentence(text, notes, meeting)
         }
-        self.push_if_lost(text, notes, self.loss_in(meeting))
     }
 
     /// Adds that the same is so in the other states.
@@ -602,8 +599,8 @@ impl<T: IndexStorage> Checked<'_, T> {
         );
     }
 
-    /// The sentence that the parser rejects of a state of a conflict, where that which is shown has none.
-    fn loss_elsewhere<'e>(&self, cause: &Cause<'e>, shown: &[Evidence]) -> Option<&'e Loss>
+    /// The sentence that the parser rejects of a conflict: of the state that is shown, or else of another one.
+    fn loss_of<'e>(&self, cause: &Cause<'e>, shown: &'e [Evidence]) -> Option<&'e Loss>
         requires lost { All (IsLostAtEntry self.now.found.now.grm self.now.found.now.table)
             (entries_in cause.now) }
         requires lost_here { All (IsLostAtEntry self.now.found.now.grm self.now.found.now.table)
@@ -611,8 +608,8 @@ impl<T: IndexStorage> Checked<'_, T> {
         ensures { IfSome result (λ l.
             IsLoss self.now.found.now.grm self.now.found.now.table l.now) }
     {
-        if self.loss_in(shown).is_some() {
-            return None;
+        if let Some(loss) = self.loss_in(shown) {
+            return Some(loss);
         }
         let meeting = cause.rejecting()?;
         self.loss_in(meeting)
@@ -625,15 +622,11 @@ impl<T: IndexStorage> Checked<'_, T> {
         notes: Notes,
         cause: &Cause<'_>,
         shown: &[Evidence],
-    ) -> Result<(), AllocError>
+    )
         requires proved { All (IsProved self.now.found.now.grm) (entries_in cause.now) }
-        requires lost { All (IsLostAtEntry self.now.found.now.grm self.now.found.now.table)
-            (entries_in cause.now) }
-        requires lost_here { All (IsLostAtEntry self.now.found.now.grm self.now.found.now.table)
-            shown.now }
     {
         if cause.meetings.len() < 2 || own_sentences(shown) == 0 {
-            return Ok(());
+            return;
         }
         if cause.has_sentences() {
             self.push_each_state(text, notes, cause);
@@ -643,17 +636,16 @@ impl<T: IndexStorage> Checked<'_, T> {
                 &words_of_states(text.allocator(), cause.states_without()),
             );
         }
-        self.push_if_lost(text, notes, self.loss_elsewhere(cause, shown))
     }
 
-    /// Adds what is known of a conflict, of which a state is shown, how it can be resolved, and which conflicts are like it, as notes
-    /// under such marks.
-    pub(crate) fn push_notes(
+    /// Adds what is known of a conflict, of which a state is shown, what becomes of sentences in all its states, how it can be
+    /// resolved, and which conflicts are like it, as notes under such marks.
+    pub(crate) fn push_notes<'e>(
         &self,
         text: &mut Text,
         marks: &[Mark],
-        cause: &Cause<'_>,
-        shown: &[Evidence],
+        cause: &Cause<'e>,
+        shown: &'e [Evidence],
         help: &Words,
         alike: &Alike,
     ) -> Result<(), AllocError>
@@ -672,7 +664,8 @@ impl<T: IndexStorage> Checked<'_, T> {
         let notes = self.told.notes(marks);
         if self.told.options.steps > 0 {
             self.push_known(&mut lines, notes, shown)?;
-            self.push_other_states(&mut lines, notes, cause, shown)?;
+            self.push_other_states(&mut lines, notes, cause, shown);
+            self.push_if_lost(&mut lines, notes, self.loss_of(cause, shown))?;
             let entries = cause.entries(text.allocator())?;
             self.push_if_kept(&mut lines, notes, entries.as_slice());
         }

@@ -217,6 +217,12 @@ const WORK: usize = 1_000;
 /// shown.
 const LOSSES: usize = 1_000;
 
+/// At how many conflicts such a sentence is looked for in any case, also where one with two trees is found.
+const LOSSES_IN_ANY_CASE: usize = 20;
+
+/// In a graph with more states than these none is: what such searches share takes a second to make there.
+const STATES_SEARCHED: usize = 5_000;
+
 /// Of how many conflicts at the most a report tells after what they are real: of more than it shows, since the same may meet in many
 /// states.
 const EXAMPLES: usize = 1_000;
@@ -242,8 +248,23 @@ fn work_of(options: Options) -> usize {
     options.steps.saturating_mul(WORK)
 }
 
-/// What is looked for of the conflicts.
-fn effort_of(options: Options) -> Effort {
+/// At how many entries a sentence that such a parser rejects is looked for in any case: at so many, but at none where it splits,
+/// since then it rejects none because of a conflict.
+fn losses_by(parser: &Parser, most: usize) -> usize {
+    if parser.splits() { 0 } else { most }
+}
+
+/// At how many conflicts of a graph with so many states one is looked for in any case.
+fn losses_among(states: usize) -> usize {
+    if states > STATES_SEARCHED {
+        0
+    } else {
+        LOSSES_IN_ANY_CASE
+    }
+}
+
+/// What is looked for of the conflicts of a graph with so many states, for such a parser.
+fn effort_of(parser: &Parser, states: usize, options: Options) -> Effort {
     let examples = match options.output {
         _ if options.steps == 0 => 0,
         _ if options.makes_page => usize::MAX,
@@ -269,7 +290,7 @@ fn effort_of(options: Options) -> Effort {
         counts_each: options.detail.all
             || options.makes_page
             || matches!(options.output, Output::Json { .. }),
-        seeks_losses: false,
+        losses_in_any_case: losses_by(parser, losses_among(states)),
     }
 }
 
@@ -380,7 +401,10 @@ fn known_of(
         k.kept.items ≡ []) }
 {
     let file = read.file;
-    let (entries, effort) = (found.left.as_slice(), effort_of(options));
+    let (entries, effort) = (
+        found.left.as_slice(),
+        effort_of(read.parser, found.states, options),
+    );
     let all = evidence_for(alloc, file, found, entries, effort)?;
     let evidence = evidence_by(alloc, read.parser, all)?;
     let is_unambiguous = shows_unambiguous(found, evidence.as_slice(), effort)?;
@@ -392,9 +416,8 @@ fn known_of(
         None
     };
     let resolved = if options.detail.resolved {
-        let seeks_losses = !read.parser.splits();
         let effort = Effort {
-            seeks_losses,
+            losses_in_any_case: losses_by(read.parser, usize::MAX),
             ..effort
         };
         evidence_for(alloc, file, found, resolved.as_slice(), effort)?

@@ -35,7 +35,7 @@ pub(crate) fn own_sentences(evidence: &[Evidence]) -> usize
     count
 }
 
-/// For how many entries a sentence is known that the parser rejects, and none with two trees.
+/// For how many entries a sentence is known that the parser rejects.
 fn rejecting(evidence: &[Evidence]) -> usize
     ensures { result ≡ count_by rejects evidence.now }
 {

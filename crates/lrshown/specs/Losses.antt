@@ -1,5 +1,5 @@
 -- sentences that the parser rejects
-use Rattle.std.specs.Prelude.{◌≡◌, ℕ, ◌-◌, ◌&&◌, Bool, List, All, IfSome, is_none, is_some}
+use Rattle.std.specs.Prelude.{◌≡◌, ℕ, ◌-◌, Bool, List, All, IfSome, is_some}
 use Rattle.std.specs.Option.{ForSome}
 use Rattle.lrspec.specs.grammars.Grammar.{Grammar}
 use Rattle.lrspec.specs.grammars.Trees.{Tree}
@@ -46,9 +46,9 @@ AreShownLosses g b evidence = All (λ e. ForSome e.loss (λ l. IsShownLoss g b l
 abbrev pub IsLostAtEntry : Grammar → Table → Evidence → Type 0
 IsLostAtEntry g b e = IfSome e.loss (λ l. IsLostAt g b e.entry.state e.entry.token l.value)
 
--- whether a sentence that is rejected is known of an entry, and none with two trees
+-- whether a sentence that is rejected is known of an entry
 abbrev pub rejects : Evidence → Bool
-rejects e = is_some e.loss && is_none e.ambiguity
+rejects e = is_some e.loss
 
 -- so many of the first tokens of a text, without the one that chooses its start rule
 abbrev pub without_choice : FileGrammar → List ℕ → ℕ → ℕ

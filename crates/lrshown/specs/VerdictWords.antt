@@ -73,7 +73,7 @@ verdict_on verdict shown evidence =
     ambiguous_verdict verdict (sentences_words (count_by has_own_sentence evidence) (length evidence))
     else unknown_verdict verdict shown (count_by is_decided evidence) (length evidence)
 
--- for so many others a sentence is known that the parser rejects
+-- for so many a sentence is known that the parser rejects
 abbrev pub rejecting_words : ℕ → List ℕ
 rejecting_words n =
     if n == 0 then []

@@ -45,10 +45,10 @@ pub struct Evidence {
     pub ambiguity: Option<Box<Ambiguity>>,
     /// Where none is, after what it is real, where that is looked for; None for an entry that the table doesn't list.
     pub example: Option<Box<Example>>,
-    /// Where none is, a sentence that the parser rejects because of it, where such a one is looked for and found.
+    /// A sentence that the parser rejects because of it, where such a one is looked for and found.
     pub loss: Option<Box<Loss>>,
-    /// Where none is, how it is decided, where that is looked for and found: no sentence has two trees that part at it by its
-    /// candidates.
+    /// Where none with two trees is, how it is decided, where that is looked for and found: no sentence has two trees that part at
+    /// it by its candidates.
     pub decided: Option<Decided>,
     /// Whether the work that searches of the file may do was done before the search for a text was through, if one is made.
     pub is_cut_off: bool,
@@ -66,11 +66,11 @@ impl Evidence {
         }
     }
 
-    /// Whether a sentence is known that the parser rejects because of the entry, and none with two trees.
+    /// Whether a sentence is known that the parser rejects because of the entry.
     pub fn rejects(&self) -> bool
         ensures { result ≡ rejects self.now }
     {
-        self.loss.is_some() && self.ambiguity.is_none()
+        self.loss.is_some()
     }
 
     /// Whether it is known that no sentence has two trees that part at the entry.

@@ -1,6 +1,6 @@
 use Rattle.lrevidence.specs.Losses.{IsLostAtEntry}
 use Rattle.lrreport.proofs.OneCause.{among}
-use Rattle.lrreport.proofs.conflicts.Checked.loss_elsewhere.Goals as goal
+use Rattle.lrreport.proofs.conflicts.Checked.loss_of.Goals as goal
 
 pub loss_in-requires-2 : goal.loss_in-requires-2
 loss_in-requires-2 g c =
