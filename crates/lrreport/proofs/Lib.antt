@@ -9,3 +9,8 @@ mod KeptFindings
 mod AddedTokens
 mod WordsOfVerdicts
 mod ToldTexts
+mod Runs
+mod PairsInOrder
+mod OneConflict
+mod KindsInOrder
+mod ItemsBefore

@@ -1,7 +1,7 @@
 -- entries that stand together, and meetings that have one cause
 use Rattle.std.proofs.Common.{◌≡◌, ℕ, ◌<◌, List, [], ◌∷◌, ◌++◌, length, map, take, get_or, refl, sym, ap, subst, ◌∙◌, append-nil, ◌+◌, drop, add-one, arith}
 use Rattle.std.proofs.lemmas.List.{take-append-drop, take-take, drop-take}
-use Rattle.std.proofs.lemmas.List.Sorted.{IsPermutation-trans}
+use Rattle.std.proofs.lemmas.List.Sorted.{IsPermutation-map, IsPermutation-trans}
 use Rattle.std.specs.List.Sorted.{IsPermutation}
 use Rattle.lrreport.proofs.JoinedInOrder.{joined_in_order}
 use Rattle.std.proofs.lemmas.List.Concat.{flat_map-append}
@@ -14,7 +14,7 @@ use Rattle.lrshown.specs.declared.evidence.Evidence.{Evidence}
 use Rattle.lrreport.specs.declared.causes.Cause.{Cause}
 use Rattle.lrreport.specs.declared.causes.Meeting.{Meeting}
 use Rattle.lrreport.proofs.Groups.{in_group}
-use Rattle.lrreport.specs.Causes.{entries_in, AreAlike, IsMet, IsOneCause, MeetTogether}
+use Rattle.lrreport.specs.Causes.{entries_in, states_of, AreAlike, IsMet, IsOneCause, MeetTogether}
 
 -- an entry meets like itself
 pub meets_like_itself : (e : Entry) → MeetsLike e e
@@ -42,25 +42,20 @@ meet_together first tokens es each are = record {
 }
 
 -- a meeting that keeps what the first one does has its cause
-of_first : (first m : Meeting) → AreAlike first m → IsMet m → MeetTogether first.production first.other first.tokens.items m.evidence.now
+of_first : (first m : Meeting) → AreAlike first.kind m.kind → IsMet m → MeetTogether first.kind.production first.kind.other first.kind.tokens.items m.evidence.now
 of_first first m like met = rw (like.production, like.other, like.tokens) met
 
 pub are_one_cause :
-    (first : Meeting) (ms : List Meeting) (cause : Cause) → All (AreAlike first) ms → All IsMet ms
+    (first : Meeting) (ms : List Meeting) (cause : Cause) → All (λ m. AreAlike first.kind m.kind) ms → All IsMet ms
     → cause.meetings.items ≡ map (λ m. m.evidence) ms → IsOneCause cause
 are_one_cause first ms cause like met are = record {
-  production = first.production;
-  other = first.other;
-  tokens = first.tokens.items;
+  production = first.kind.production;
+  other = first.kind.other;
+  tokens = first.kind.tokens.items;
   alike =
-      let P = λ (meeting : _). MeetTogether first.production first.other first.tokens.items meeting.now in
-      All-same P _ _ are (All-map P (λ m. m.evidence) ms (λ k d inside. of_first first _ (like k d inside) (met k d inside)));
+      let P = λ (meeting : _). MeetTogether first.kind.production first.kind.other first.kind.tokens.items meeting.now in
+      All-same P _ _ are (All-map P (λ m. m.evidence) ms (λ k d inside. of_first first (get_or ms k d) (like k d inside) (met k d inside)));
 }
-
--- the entries of a cause are those of its meetings
-pub entries_of_meetings :
-    (ms : List Meeting) (cause : Cause) → cause.meetings.items ≡ map (λ m. m.evidence) ms → entries_in cause ≡ flat_map (λ m. m.evidence.now) ms
-entries_of_meetings ms cause are = ap (flat_map (λ meeting. meeting.now)) are ∙ flat_map-map (λ meeting. meeting.now) (λ m. m.evidence) ms
 
 -- the first ones, and some behind them
 taken_on : {X : Type 0} (xs : List X) (i n : ℕ) → take i xs ++ take n (drop i xs) ≡ take (i + n) xs
@@ -74,14 +69,6 @@ module _ {X B : Type 0} (f : X → List B) where
   one_more done one all i n is before =
       flat_map-append f done (one ∷ []) ∙ ap (λ v. flat_map f done ++ v) (append-nil (f one) ∙ is) ∙ ap (λ v. v ++ take n (drop i all)) before ∙ taken_on all i n
 
-  -- the same of lists that are joined themselves
-  pub one_more_joined :
-      {Y : Type 0} (g : Y → List B) (done : List X) (one : X) (all : List Y) (i n : ℕ) → f one ≡ flat_map g (take n (drop i all))
-      → flat_map f done ≡ flat_map g (take i all) → flat_map f (done ++ one ∷ []) ≡ flat_map g (take (i + n) all)
-  one_more_joined g done one all i n is before =
-      flat_map-append f done (one ∷ []) ∙ ap (λ v. flat_map f done ++ v) (append-nil (f one) ∙ is) ∙ ap (λ v. v ++ flat_map g (take n (drop i all))) before
-      ∙ sym (flat_map-append g (take i all) (take n (drop i all))) ∙ ap (flat_map g) (taken_on all i n)
-
 -- the first one, and some of those behind it
 pub with_first :
     {X : Type 0} (P : X → Type 0) (xs : List X) (first : X) (n : ℕ) → 0 < length xs → first ≡ get_or xs 0 first → P first → All P (take n (drop 1 xs))
@@ -89,20 +76,34 @@ pub with_first :
 with_first P [] first n some is one others = absurd (omega (arith, some))
 with_first P (x ∷ xs) first n some is one others = rw (add-one n) (All-cons P x (take n xs) (subst P is one) others)
 
--- a meeting keeps what it keeps
-pub alike_itself : (m : Meeting) → AreAlike m m
-alike_itself m = record { production = refl; other = refl; tokens = refl }
+-- the entries of causes are those of their states
+entries_by_states : (causes : List Cause) → flat_map entries_in causes ≡ flat_map (λ state. state) (flat_map states_of causes)
+entries_by_states [] = refl
+entries_by_states (cause ∷ causes) =
+    let state = λ (es : List Evidence). es in
+    let first : entries_in cause ≡ flat_map state (states_of cause) = sym (flat_map-map state (λ m. m.now) cause.meetings.items) in
+    ap (λ v. v ++ flat_map entries_in causes) first ∙ ap (λ v. flat_map state (states_of cause) ++ v) (entries_by_states causes)
+    ∙ sym (flat_map-append state (states_of cause) (flat_map states_of causes))
 
--- entries that are put together, these put in order, the causes that they have, and these put in order
-pub in_order :
-    (evidence : List Evidence) (met sorted : List Meeting) (causes told : List Cause) → flat_map (λ m. m.evidence.now) met ≡ evidence
-    → IsPermutation met sorted → flat_map entries_in causes ≡ flat_map (λ m. m.evidence.now) sorted → IsPermutation causes told
-    → IsPermutation evidence (flat_map entries_in told)
-in_order evidence met sorted causes told whole order parts later =
-    let one : IsPermutation evidence (flat_map (λ m. m.evidence.now) sorted) = rw whole at (joined_in_order (λ m. m.evidence.now) met sorted order) in
-    let two : IsPermutation (flat_map (λ m. m.evidence.now) sorted) (flat_map entries_in told) =
-    rw parts at (joined_in_order entries_in causes told later) in
-    IsPermutation-trans _ _ _ one two
+module _ (met sorted : List Meeting) (causes told : List Cause) (order : IsPermutation met sorted)
+    (states : flat_map states_of causes ≡ map (λ m. m.evidence.now) sorted) (later : IsPermutation causes told) where
+  -- states that are put in order, the causes that they have, and these put in order
+  pub states_in_order : IsPermutation (map (λ m. m.evidence.now) met) (flat_map states_of told)
+  states_in_order =
+      let one : IsPermutation (map (λ m. m.evidence.now) met) (flat_map states_of causes) =
+      rw states (IsPermutation-map (λ m. m.evidence.now) met sorted order) in
+      IsPermutation-trans _ _ _ one (joined_in_order states_of causes told later)
+
+  -- and their entries
+  pub in_order : (evidence : List Evidence) → flat_map (λ m. m.evidence.now) met ≡ evidence → IsPermutation evidence (flat_map entries_in told)
+  in_order evidence whole =
+      let state = λ (es : List Evidence). es in
+      let parts : flat_map entries_in causes ≡ flat_map (λ m. m.evidence.now) sorted =
+      entries_by_states causes ∙ ap (flat_map state) states ∙ flat_map-map state (λ m. m.evidence.now) sorted in
+      let one : IsPermutation evidence (flat_map (λ m. m.evidence.now) sorted) = rw whole at (joined_in_order (λ m. m.evidence.now) met sorted order) in
+      let two : IsPermutation (flat_map (λ m. m.evidence.now) sorted) (flat_map entries_in told) =
+      rw parts at (joined_in_order entries_in causes told later) in
+      IsPermutation-trans _ _ _ one two
 
 -- what holds of all the entries of lists that are joined holds of those of one of them
 pub among :

@@ -6,5 +6,6 @@ pub mod JsonHeads
 pub mod ToldConclusions
 -- sentences that are told of entries
 pub mod Sentences
--- conflicts of one cause
+-- conflicts, whatever their states, and those of one cause
+pub mod Conflicts
 pub mod Causes

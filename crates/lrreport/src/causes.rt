@@ -1,10 +1,11 @@
 //! Conflicts that have one cause: in several states the same productions meet at the same tokens.
 
-ghost use Rattle.std.specs.Prelude.{◌≡◌, ◌+◌, ◌<◌, ◌≤◌, ◌++◌, All, Contains, IfOk, IfSome, IsSome, IsTrue, length, map, take};
+ghost use Rattle.std.specs.Prelude.{◌≡◌, ◌+◌, ◌<◌, ◌≤◌, ◌++◌, ◌∷◌, All, AllPairs, Contains, HoldsAt, IfOk, IfSome, IsSome, IsTrue, OnOk, drop, false, length, map, option_map, take};
 ghost use Rattle.std.specs.List.{flat_map};
 ghost use Rattle.std.specs.List.Sorted.{IsPermutation};
 ghost use Rattle.lrverdicts.specs.Listed.{MeetsLike};
-ghost use Rattle.lrreport.specs.Causes.{entries_in, AreAlike, IsMet, IsOneCause, MeetTogether};
+ghost use Rattle.lrreport.specs.Causes.{entries_in, AreAlike, AreApart, AreOneKind, HasKind, IsMet, IsOneCause, IsOneConflict, MeetTogether, StandTogether, runs_of, states_of};
+ghost use Rattle.lrreport.specs.Conflicts.{conflict_of};
 
 use crate::conflicts::{Checked, Choice, entries_of};
 use crate::notes::have_sentences;
@@ -13,50 +14,40 @@ use lrevidence::Evidence;
 use lrfindings::Entry;
 use lrgrammar::idx::IndexStorage;
 use std::alloc::{AllocError, Global};
-use std::cmp::Ordering;
+
+/// What is compared of a conflict in several states. In the order of the fields, those that are equal stand together.
+#[derive(PartialEq, Eq, PartialOrd, Ord, Drop)]
+struct Kind {
+    /// The production by which the state could reduce.
+    production: usize,
+    /// The other one; None where it could shift.
+    other: Option<usize>,
+    /// What the table does, where it is the same for all the entries.
+    choice: Option<Choice>,
+    /// The tokens of the entries.
+    tokens: Vec<usize>,
+    /// The items by which the state goes on by one of these, as production and dot.
+    items: Vec<(usize, usize)>,
+    /// By entry how many tokens of lookahead would decide it, if that is known; None where it is not decided.
+    decided: Vec<Option<Option<usize>>>,
+}
+
+impl Kind {
+    /// Whether both are the same.
+    fn is_like(&self, other: &Kind) -> bool
+        ensures like { IsTrue result → AreAlike self.now other.now }
+        ensures unlike { AreAlike self.now other.now → IsTrue result }
+    {
+        self == other
+    }
+}
 
 /// Entries at which the same meets in one state.
 #[derive(Drop)]
 struct Meeting<'e> {
     evidence: &'e [Evidence],
-    /// The production by which the state could reduce.
-    production: usize,
-    /// The other one; None where it could shift.
-    other: Option<usize>,
-    /// The tokens of the entries.
-    tokens: Vec<usize>,
-    /// The items by which the state goes on by one of these, as production and dot.
-    items: Vec<(usize, usize)>,
-    /// What the table does, where it is the same for all the entries.
-    choice: Option<Choice>,
-    /// By entry how many tokens of lookahead would decide it, if that is known; None where it is not decided.
-    decided: Vec<Option<Option<usize>>>,
-}
-
-impl Meeting<'_> {
-    /// Whether it has the cause of another one, the table does the same, and the same entries are decided.
-    fn is_like(&self, other: &Meeting<'_>) -> bool
-        ensures { IsTrue result → AreAlike self.now other.now }
-    {
-        self.production == other.production
-            && self.other == other.other
-            && self.tokens == other.tokens
-            && self.items == other.items
-            && self.choice == other.choice
-            && self.decided == other.decided
-    }
-
-    /// An order in which those of one cause stand together.
-    fn order(&self, other: &Meeting<'_>) -> Ordering {
-        let (one, two) = (
-            (self.production, self.other, self.choice),
-            (other.production, other.other, other.choice),
-        );
-        one.cmp(&two)
-            .then_with(|| self.tokens.cmp(&other.tokens))
-            .then_with(|| self.items.cmp(&other.items))
-            .then_with(|| self.decided.cmp(&other.decided))
-    }
+    /// What is compared of them.
+    kind: Kind,
 }
 
 /// A conflict in all the states in which it is: at the same tokens the same productions meet.
@@ -155,15 +146,19 @@ impl<'e> Cause<'e> {
 
 /// Whether the same meets at another entry in the same state.
 fn stands_with(first: &Evidence, other: &Evidence) -> bool
-    ensures { IsTrue result → MeetsLike first.now.entry other.now.entry }
+    ensures like { IsTrue result → MeetsLike first.now.entry other.now.entry }
+    ensures unlike { MeetsLike first.now.entry other.now.entry → IsTrue result }
 {
     first.entry.meets_like(&other.entry)
 }
 
-/// How many of those behind the first one stand together with it, since the same meets at them in the same state.
+/// How many of those behind the first one stand together with it, since the same meets at them in the same state; none where all are
+/// told.
 fn together(first: &Evidence, others: &[Evidence], tells_all: bool) -> usize
     ensures inside { result ≤ length others.now }
     ensures alike { All (λ e. MeetsLike first.now.entry e.entry) (take result others.now) }
+    ensures last { tells_all ≡ false → result < length others.now
+        → HoldsAt (λ e. ¬ (MeetsLike first.now.entry e.entry)) others.now result }
 {
     if tells_all {
         return 0;
@@ -176,16 +171,18 @@ fn together(first: &Evidence, others: &[Evidence], tells_all: bool) -> usize
     others.len()
 }
 
-/// How many of those behind the first one have its cause.
+/// How many of those behind the first one are of its kind and stand together with it; none where all are told.
 fn alike(first: &Meeting<'_>, others: &[Meeting<'_>], tells_all: bool) -> usize
     ensures inside { result ≤ length others.now }
-    ensures alike { All (AreAlike first.now) (take result others.now) }
+    ensures alike { All (λ m. AreAlike first.now.kind m.kind) (take result others.now) }
+    ensures last { tells_all ≡ false → result < length others.now
+        → HoldsAt (λ m. ¬ (AreAlike first.now.kind m.kind)) others.now result }
 {
     if tells_all {
         return 0;
     }
     for (place, other) in others.iter().enumerate() {
-        if !first.is_like(other) {
+        if !first.kind.is_like(&other.kind) {
             return place;
         }
     }
@@ -213,21 +210,26 @@ fn tokens_at(alloc: Global, evidence: &[Evidence]) -> Result<Vec<usize>, AllocEr
 fn decided_by(
     alloc: Global,
     evidence: &[Evidence],
-) -> Result<Vec<Option<Option<usize>>>, AllocError> {
-    let decided = evidence
+) -> Result<Vec<Option<Option<usize>>>, AllocError>
+    ensures { IfOk result (λ v.
+        v.items ≡ map (λ e. option_map (λ d. d.tokens) e.decided) evidence.now) }
+{
+    evidence
         .iter()
-        .map(|it| it.is_decided().then_some(it.tokens()));
-    decided.collect(alloc)
+        .map(|it| it.decided.map(|decided| decided.tokens))
+        .collect(alloc)
 }
 
-/// Puts those of one cause together, unless all are told.
+/// Puts those of one kind together, unless all are told.
 fn put_in_order(met: &mut Vec<Meeting<'_>>, tells_all: bool) -> Result<(), AllocError>
-    ensures { IsPermutation met.old.items met.new.items }
+    ensures order { IsPermutation met.old.items met.new.items }
+    ensures together { OnOk result (tells_all ≡ false → StandTogether met.new.items) }
 {
     if tells_all {
         return Ok(());
     }
-    met.sort_by(|one, other| one.order(other))
+    met.sort_by(|one, other| one.kind.cmp(&other.kind))?;
+    Ok(())
 }
 
 /// What those tell, which have the cause of one of them.
@@ -237,9 +239,9 @@ fn cause_of<'e>(
     meetings: &[Meeting<'e>],
 ) -> Result<Cause<'e>, AllocError>
     requires met { All IsMet meetings.now }
-    requires alike { All (AreAlike first.now) meetings.now }
-    ensures whole { IfOk result (λ cause.
-        entries_in cause ≡ flat_map (λ m. m.evidence.now) meetings.now) }
+    requires alike { All (λ m. AreAlike first.now.kind m.kind) meetings.now }
+    ensures are { IfOk result (λ cause.
+        cause.meetings.items ≡ map (λ m. m.evidence) meetings.now) }
     ensures alike { IfOk result IsOneCause }
 {
     let meetings = evidence_of(alloc, meetings)?;
@@ -256,9 +258,13 @@ fn first_cause<'e>(
     requires met { All IsMet meetings.now }
     ensures some { IfOk result (λ r. 0 < r.1) }
     ensures inside { IfOk result (λ r. r.1 ≤ length meetings.now) }
-    ensures whole { IfOk result (λ r.
-        entries_in r.0 ≡ flat_map (λ m. m.evidence.now) (take r.1 meetings.now)) }
+    ensures are { IfOk result (λ r.
+        r.0.meetings.items ≡ map (λ m. m.evidence) (take r.1 meetings.now)) }
     ensures alike { IfOk result (λ r. IsOneCause r.0) }
+    ensures kind { IfOk result (λ r. AreOneKind (take r.1 meetings.now)) }
+    ensures last { IfOk result (λ r. tells_all ≡ false → r.1 < length meetings.now
+        → HoldsAt (λ n. All (λ m. ¬ (AreAlike m.kind n.kind)) (take r.1 meetings.now))
+        meetings.now r.1) }
 {
     let (_, others) = meetings.split_at(1);
     let first = &meetings[0];
@@ -267,42 +273,21 @@ fn first_cause<'e>(
     Ok((cause_of(alloc, first, one)?, count))
 }
 
-/// Meetings in groups, in each of which they have one cause and stand together; each by itself where all are told.
-fn split<'e>(
-    alloc: Global,
-    meetings: &[Meeting<'e>],
-    tells_all: bool,
-) -> Result<Vec<Cause<'e>>, AllocError>
-    requires met { All IsMet meetings.now }
-    ensures whole { IfOk result (λ causes.
-        flat_map entries_in causes.items ≡ flat_map (λ m. m.evidence.now) meetings.now) }
-    ensures alike { IfOk result (λ causes. All IsOneCause causes.items) }
-{
-    let mut causes = Vec::new(alloc);
-    let mut from = 0;
-    while from < meetings.len() {
-        let (_, rest) = meetings.split_at(from);
-        let (cause, count) = first_cause(alloc, rest, tells_all)?;
-        causes.push(cause)?;
-        from += count;
-    }
-    Ok(causes)
-}
-
 impl<'a, T: IndexStorage> Checked<'a, T> {
     /// The items by which the state of entries goes on where they meet a shift, and what the table does there.
     fn done_by(
         &self,
         alloc: Global,
         evidence: &[Evidence],
-    ) -> Result<(Vec<(usize, usize)>, Option<Choice>), AllocError> {
+    ) -> Result<(Vec<(usize, usize)>, Option<Choice>), AllocError>
+        ensures items { IfOk result (λ done. done.0.items
+            ≡ (conflict_of T.MAX self.now evidence.now).shifting) }
+        ensures choice { IfOk result (λ done. done.1
+            ≡ (conflict_of T.MAX self.now evidence.now).choice) }
+    {
         let entries = entries_of(alloc, evidence)?;
-        let entries = entries.as_slice();
-        let items = match entries.first() {
-            Some(Entry { other: None, .. }) => self.shifting_items(alloc, entries)?,
-            _ => Vec::new(alloc),
-        };
-        Ok((items, self.choice_of(entries)))
+        let items = self.shifting_items(alloc, entries.as_slice())?;
+        Ok((items, self.choice_of(entries.as_slice())))
     }
 
     /// The same; nothing where all are told, since nothing is compared then.
@@ -311,7 +296,12 @@ impl<'a, T: IndexStorage> Checked<'a, T> {
         alloc: Global,
         evidence: &[Evidence],
         tells_all: bool,
-    ) -> Result<(Vec<(usize, usize)>, Option<Choice>), AllocError> {
+    ) -> Result<(Vec<(usize, usize)>, Option<Choice>), AllocError>
+        ensures items { IfOk result (λ done. tells_all ≡ false → done.0.items
+            ≡ (conflict_of T.MAX self.now evidence.now).shifting) }
+        ensures choice { IfOk result (λ done. tells_all ≡ false → done.1
+            ≡ (conflict_of T.MAX self.now evidence.now).choice) }
+    {
         if tells_all {
             Ok((Vec::new(alloc), None))
         } else {
@@ -330,19 +320,25 @@ impl<'a, T: IndexStorage> Checked<'a, T> {
         requires { All (λ e. MeetsLike first.now.entry e.entry) evidence.now }
         ensures evidence { IfOk result (λ m. m.evidence.now ≡ evidence.now) }
         ensures met { IfOk result IsMet }
+        ensures decided { IfOk result (λ m. m.kind.decided.items
+            ≡ (conflict_of T.MAX self.now evidence.now).decided) }
+        ensures items { IfOk result (λ m. tells_all ≡ false → m.kind.items.items
+            ≡ (conflict_of T.MAX self.now evidence.now).shifting) }
+        ensures choice { IfOk result (λ m. tells_all ≡ false → m.kind.choice
+            ≡ (conflict_of T.MAX self.now evidence.now).choice) }
     {
         let (items, choice) = self.done_unless(alloc, evidence, tells_all)?;
         let decided = decided_by(alloc, evidence)?;
         let tokens = tokens_at(alloc, evidence)?;
-        Ok(Meeting {
-            evidence,
+        let kind = Kind {
             production: first.entry.production,
             other: first.entry.other,
+            choice,
             tokens,
             items,
-            choice,
             decided,
-        })
+        };
+        Ok(Meeting { evidence, kind })
     }
 
     /// The first of the entries, with those that stand together with it.
@@ -350,50 +346,88 @@ impl<'a, T: IndexStorage> Checked<'a, T> {
         &self,
         alloc: Global,
         evidence: &'a [Evidence],
-        tells_all: bool,
     ) -> Result<Meeting<'a>, AllocError>
         requires some { 0 < length evidence.now }
-        ensures some { IfOk result (λ m. 0 < length m.evidence.now) }
         ensures inside { IfOk result (λ m. length m.evidence.now ≤ length evidence.now) }
         ensures front { IfOk result (λ m.
             m.evidence.now ≡ take (length m.evidence.now) evidence.now) }
+        ensures run { IfOk result (λ m. self.now.told.options.detail.all ≡ false
+            → runs_of evidence.now
+            ≡ m.evidence.now ∷ runs_of (drop (length m.evidence.now) evidence.now)) }
         ensures met { IfOk result IsMet }
+        ensures kind { IfOk result (HasKind T.MAX self.now) }
     {
+        let tells_all = self.told.options.detail.all;
         let (_, others) = evidence.split_at(1);
         let count = together(&evidence[0], others, tells_all) + 1;
         let (one, _) = evidence.split_at(count);
-        self.meeting(alloc, &evidence[0], one, tells_all)
+        let meeting = self.meeting(alloc, &evidence[0], one, tells_all)?;
+        Ok(meeting)
     }
 
     /// The entries that are left open, in groups, in each of which the same meets in one state; each by itself where all are told.
-    fn met(&self, alloc: Global, tells_all: bool) -> Result<Vec<Meeting<'a>>, AllocError>
+    fn met(&self, alloc: Global) -> Result<Vec<Meeting<'a>>, AllocError>
         ensures whole { IfOk result (λ met.
             flat_map (λ m. m.evidence.now) met.items ≡ self.now.told.evidence.now) }
+        ensures runs { IfOk result (λ met. self.now.told.options.detail.all ≡ false
+            → map (λ m. m.evidence.now) met.items ≡ runs_of self.now.told.evidence.now) }
         ensures met { IfOk result (λ met. All IsMet met.items) }
+        ensures kinds { IfOk result (λ met. All (HasKind T.MAX self.now) met.items) }
     {
         let evidence = self.told.evidence;
         let mut met = Vec::new(alloc);
         let mut from = 0;
         while from < evidence.len() {
             let (_, rest) = evidence.split_at(from);
-            let meeting = self.first_meeting(alloc, rest, tells_all)?;
+            let meeting = self.first_meeting(alloc, rest)?;
             from += meeting.evidence.len();
             met.push(meeting)?;
         }
         Ok(met)
     }
 
-    /// The conflicts that are left open, those of one cause in one group, in the order of the file; each entry by itself where all
-    /// are told.
+    /// Meetings in groups, one for each kind, whose meetings stand together; each by itself where all are told.
+    fn split(&self, alloc: Global, meetings: &[Meeting<'a>]) -> Result<Vec<Cause<'a>>, AllocError>
+        requires met { All IsMet meetings.now }
+        requires kinds { All (HasKind T.MAX self.now) meetings.now }
+        requires together { self.now.told.options.detail.all ≡ false
+            → StandTogether meetings.now }
+        ensures states { IfOk result (λ causes.
+            flat_map states_of causes.items ≡ map (λ m. m.evidence.now) meetings.now) }
+        ensures alike { IfOk result (λ causes. All IsOneCause causes.items) }
+        ensures kind { IfOk result (λ causes. self.now.told.options.detail.all ≡ false
+            → All (IsOneConflict T.MAX self.now) causes.items) }
+        ensures apart { IfOk result (λ causes. self.now.told.options.detail.all ≡ false
+            → AllPairs (AreApart T.MAX self.now) causes.items) }
+    {
+        let mut causes = Vec::new(alloc);
+        let mut from = 0;
+        while from < meetings.len() {
+            let (_, rest) = meetings.split_at(from);
+            let (cause, count) = first_cause(alloc, rest, self.told.options.detail.all)?;
+            causes.push(cause)?;
+            from += count;
+        }
+        Ok(causes)
+    }
+
+    /// The conflicts that are left open, the states of one conflict in one group, in the order of the file; each entry by itself where
+    /// all are told.
     pub(crate) fn causes(&self, alloc: Global) -> Result<Vec<Cause<'a>>, AllocError>
         ensures each { IfOk result (λ causes.
             IsPermutation self.now.told.evidence.now (flat_map entries_in causes.items)) }
+        ensures runs { IfOk result (λ causes. self.now.told.options.detail.all ≡ false
+            → IsPermutation (runs_of self.now.told.evidence.now)
+            (flat_map states_of causes.items)) }
         ensures alike { IfOk result (λ causes. All IsOneCause causes.items) }
+        ensures kind { IfOk result (λ causes. self.now.told.options.detail.all ≡ false
+            → All (IsOneConflict T.MAX self.now) causes.items) }
+        ensures apart { IfOk result (λ causes. self.now.told.options.detail.all ≡ false
+            → AllPairs (AreApart T.MAX self.now) causes.items) }
     {
-        let tells_all = self.told.options.detail.all;
-        let mut met = self.met(alloc, tells_all)?;
-        put_in_order(&mut met, tells_all)?;
-        let mut causes = split(alloc, met.as_slice(), tells_all)?;
+        let mut met = self.met(alloc)?;
+        put_in_order(&mut met, self.told.options.detail.all)?;
+        let mut causes = self.split(alloc, met.as_slice())?;
         causes.sort_by_key(|cause| cause.first())?;
         Ok(causes)
     }

@@ -1,7 +1,13 @@
 //! Conflicts, each with the places of the productions that meet in it.
 
-ghost use Rattle.std.specs.Prelude.{◌≡◌, All, IfOk, IfSome, IsSome, IsTrue, Some, is_some};
-ghost use Rattle.std.specs.List.{flat_map, list_any};
+ghost use Rattle.std.specs.Prelude.{◌≡◌, ℕ, [], All, IfNone, IfOk, IfSome, IsSome, IsTrue, Some, is_some, map};
+ghost use Rattle.std.specs.BTreeSet.{IsFromIterResult};
+ghost use Rattle.std.specs.List.{flat_map, list_all, list_any};
+ghost use Rattle.std.specs.Ordering.{nat_cmp};
+ghost use Rattle.lrspec.specs.merging.Graph.{closed_of};
+ghost use Rattle.lrrows.specs.StoredActions.{stored_action};
+ghost use Rattle.lritems.specs.ItemsOf.{set_of};
+ghost use Rattle.lryacc.specs.Parsers.{splits};
 ghost use Rattle.lrevidence.specs.Ambiguities.{HasTwoTrees, IsProved};
 ghost use Rattle.lrevidence.specs.Losses.{IsLoss, IsLostAtEntry};
 ghost use Rattle.lrevidence.specs.DecidedEntries.{IsToldDecided};
@@ -10,6 +16,7 @@ ghost use Rattle.lrshown.specs.DecidedEntries.{tokens_of};
 ghost use Rattle.lrshown.specs.Ambiguities.{has_sentence};
 ghost use Rattle.lrreport.specs.Sentences.{IsKnownAt};
 ghost use Rattle.lrreport.specs.Causes.{entries_in};
+ghost use Rattle.lrreport.specs.Conflicts.{choice_at, choice_by, choice_of, is_choice, shifting_items};
 
 use crate::alike::{Alike, Leads, kinds};
 use crate::causes::Cause;
@@ -20,9 +27,11 @@ use lrdiagnostics::{Mark, Style};
 use lrevidence::{Ambiguity, Evidence, Loss};
 use lrfindings::{Entry, Findings};
 use lrgrammar::idx::{IndexStorage, StIdx, TIdx};
-use lrtable::Action;
+use lrtable::itemset::Itemset;
+use lrtable::{Action, StateGraph};
 use lrwriter::Text;
 use std::alloc::{AllocError, Global};
+use std::collections::BTreeSet;
 
 /// What is said of what the table does.
 pub(crate) const DONE: &str = "; the table does this";
@@ -41,6 +50,13 @@ pub(crate) enum Choice {
 }
 
 impl Choice {
+    /// Whether it is this one.
+    fn is(self, other: Choice) -> bool
+        ensures { result ≡ is_choice self other }
+    {
+        self == other
+    }
+
     /// The word for it in JSON.
     pub(crate) fn word(self) -> &'static str {
         match self {
@@ -57,6 +73,37 @@ impl Choice {
 pub(crate) struct Checked<'a, T: IndexStorage> {
     pub(crate) told: Told<'a>,
     pub(crate) found: &'a Findings<T>,
+}
+
+/// What a table does by an action in the cell of an entry.
+fn choice_by<T: IndexStorage>(entry: &Entry, action: Action<T>) -> Choice
+    ensures { result ≡ choice_by entry.now (stored_action T.number action) }
+{
+    match action {
+        Action::Shift(_) => Choice::Shift,
+        Action::Reduce(chosen) if usize::from(chosen) == entry.production => Choice::Reduce,
+        Action::Reduce(chosen) if Some(usize::from(chosen)) == entry.other => Choice::Other,
+        _ => Choice::Neither,
+    }
+}
+
+/// The closed state of a state of a graph, if there is such a one.
+fn closed_state<T: IndexStorage>(graph: &StateGraph<T>, state: usize) -> Option<&Itemset<T>>
+    ensures some { IfSome result (λ closed. set_of T.number closed.now ≡ closed_of graph.now state) }
+    ensures none { IfNone result (closed_of graph.now state ≡ []) }
+{
+    if state >= graph.all_states_len().0.to_usize() {
+        return None;
+    }
+    let number = T::from_usize(state)?;
+    Some(graph.closed_state(StIdx(number)))
+}
+
+/// The tokens of entries.
+fn tokens_of(alloc: Global, entries: &[Entry]) -> Result<BTreeSet<usize>, AllocError>
+    ensures { IfOk result (IsFromIterResult nat_cmp (map (λ e. e.token) entries.now)) }
+{
+    entries.iter().map(|it| it.token).collect(alloc)
 }
 
 /// What is said of what the table does, where it is the same for all entries: behind their production, and behind what that meets.
@@ -98,52 +145,64 @@ impl Told<'_> {
 
 impl<T: IndexStorage> Checked<'_, T> {
     /// What the table does in the cell of an entry.
-    pub(crate) fn choice(&self, entry: &Entry) -> Choice {
-        let (Some(state), Some(token)) = (T::from_usize(entry.state), T::from_usize(entry.token))
-        else {
-            return Choice::Neither;
-        };
-        match self.found.table.action(StIdx(state), TIdx(token)) {
-            Action::Shift(_) => Choice::Shift,
-            Action::Reduce(chosen) if usize::from(chosen) == entry.production => Choice::Reduce,
-            Action::Reduce(chosen) if Some(usize::from(chosen)) == entry.other => Choice::Other,
+    pub(crate) fn choice(&self, entry: &Entry) -> Choice
+        ensures { result ≡ choice_at T.MAX self.now.found.now.table entry.now }
+    {
+        match (T::from_usize(entry.state), T::from_usize(entry.token)) {
+            (Some(state), Some(token)) => {
+                choice_by(entry, self.found.table.action(StIdx(state), TIdx(token)))
+            }
             _ => Choice::Neither,
         }
     }
 
+    /// Whether that is what it does in the cells of all the entries.
+    fn is_common(&self, choice: Choice, entries: &[Entry]) -> bool
+        ensures { result ≡ list_all (λ e.
+            is_choice choice (choice_at T.MAX self.now.found.now.table e)) entries.now }
+    {
+        entries.iter().all(|entry| choice.is(self.choice(entry)))
+    }
+
     /// What it does in the cells of all the entries, where that is the same, and no more.
-    pub(crate) fn choice_of(&self, entries: &[Entry]) -> Option<Choice> {
+    pub(crate) fn choice_of(&self, entries: &[Entry]) -> Option<Choice>
+        ensures { result ≡ choice_of T.MAX self.now.found.now.table
+            (splits self.now.told.parser.now) entries.now }
+    {
         if self.told.parser.splits() {
             return None;
         }
-        let choice = self.choice(entries.first()?);
-        let is_one = entries.iter().all(|entry| self.choice(entry) == choice);
+        let (first, others) = entries.split_first()?;
+        let choice = self.choice(first);
+        let is_one = self.is_common(choice, others);
         is_one.then_some(choice)
     }
 
-    /// The items of the state of entries, as production and dot, in which it goes on by the token of one of them.
+    /// The items of the state of entries, as production and dot, in which it goes on by the token of one of them, where a production
+    /// meets that.
     pub(crate) fn shifting_items(
         &self,
         alloc: Global,
         entries: &[Entry],
-    ) -> Result<Vec<(usize, usize)>, AllocError> {
-        let mut list = Vec::new(alloc);
-        let (Some(graph), Some(first)) = (&self.found.graph, entries.first()) else {
-            return Ok(list);
+    ) -> Result<Vec<(usize, usize)>, AllocError>
+        ensures { IfOk result (λ items. items.items
+            ≡ shifting_items self.now.told.file.now self.now.found.now.graph entries.now) }
+    {
+        let Some(graph) = &self.found.graph else {
+            return Ok(Vec::new(alloc));
         };
-        let Some(number) = T::from_usize(first.state) else {
-            return Ok(list);
+        let Some(first) = entries.first() else {
+            return Ok(Vec::new(alloc));
         };
-        if first.state >= usize::from(graph.all_states_len()) {
-            return Ok(list);
+        if first.other.is_some() {
+            return Ok(Vec::new(alloc));
         }
-        for key in graph.closed_state(StIdx(number)).items.keys() {
-            let (production, dot) = (usize::from(key.0), usize::from(key.1));
-            if self.told.is_shifted(production, dot, entries) {
-                list.push((production, dot))?;
-            }
-        }
-        Ok(list)
+        let Some(closed) = closed_state(graph, first.state) else {
+            return Ok(Vec::new(alloc));
+        };
+        let tokens = tokens_of(alloc, entries)?;
+        let items = self.told.items_before(alloc, closed, &tokens)?;
+        Ok(items)
     }
 
     /// Adds the places at which the state of entries goes on by one of their tokens, and what follows from that.
@@ -348,7 +407,9 @@ pub(crate) fn meetings(
 }
 
 /// The entries of which something is known.
-pub(crate) fn entries_of(alloc: Global, evidence: &[Evidence]) -> Result<Vec<Entry>, AllocError> {
+pub(crate) fn entries_of(alloc: Global, evidence: &[Evidence]) -> Result<Vec<Entry>, AllocError>
+    ensures { IfOk result (λ entries. entries.items ≡ map (λ e. e.entry) evidence.now) }
+{
     evidence.iter().map(|it| it.entry).collect(alloc)
 }
 

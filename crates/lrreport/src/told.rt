@@ -1,13 +1,21 @@
 //! What is told of a file, whatever its graph and its table are stored in.
 
-ghost use Rattle.std.specs.Prelude.{All, Contains, IsTrue};
+ghost use Rattle.std.specs.Prelude.{◌≡◌, All, Contains, IfOk, IsTrue};
+ghost use Rattle.std.specs.BTreeSet.{contains};
+ghost use Rattle.std.specs.Ordering.{nat_cmp};
+ghost use Rattle.lritems.specs.ItemsOf.{set_of};
+ghost use Rattle.lrreport.specs.Conflicts.{is_token, items_before, symbol_behind};
 
 use crate::options::Options;
 use lrdiagnostics::{Layout, Source, Teller};
-use lrevidence::{Evidence, Exactness, name_of_rule, token_name};
+use lrevidence::{Evidence, Exactness, body_of, name_of_rule, token_name};
 use lrfindings::{Entry, UselessPrecedences, is_among, precedence_token};
 use lrgrammar::grammar::{PartProd, PartSymbol, Precedence};
+use lrgrammar::idx::IndexStorage;
+use lrtable::itemset::Itemset;
 use lryacc::{FileGrammar, Parser, Span};
+use std::alloc::{AllocError, Global};
+use std::collections::BTreeSet;
 
 /// A file's grammar, what is known of its conflicts, and how that is told.
 #[derive(Clone, Copy)]
@@ -83,17 +91,42 @@ impl<'a> Told<'a> {
         true
     }
 
-    /// Whether the symbol behind the dot of an item is the token of one of the entries, which are in order and meet alike.
-    pub(crate) fn is_shifted(&self, production: usize, dot: usize, entries: &[Entry]) -> bool {
-        let Some(prod) = self.production(production) else {
-            return false;
-        };
-        let Some(PartSymbol::Token(token)) = prod.symbols.get(dot) else {
-            return false;
-        };
-        entries
-            .binary_search_by_key(token, |entry| entry.token)
-            .is_ok()
+    /// The symbol behind the dot of an item, if there is one.
+    fn symbol_behind(&self, production: usize, dot: usize) -> Option<PartSymbol>
+        ensures { result ≡ symbol_behind self.now.file.now (production, dot) }
+    {
+        body_of(self.file, production).get(dot).copied()
+    }
+
+    /// Whether that is one of the tokens.
+    fn is_before(&self, production: usize, dot: usize, tokens: &BTreeSet<usize>) -> bool
+        ensures { result ≡ is_token (contains nat_cmp tokens.now)
+            (symbol_behind self.now.file.now (production, dot)) }
+    {
+        match self.symbol_behind(production, dot) {
+            Some(PartSymbol::Token(token)) => tokens.contains(&token),
+            _ => false,
+        }
+    }
+
+    /// The items of a closed state, as production and dot, behind whose dot one of the tokens stands.
+    pub(crate) fn items_before<T: IndexStorage>(
+        &self,
+        alloc: Global,
+        closed: &Itemset<T>,
+        tokens: &BTreeSet<usize>,
+    ) -> Result<Vec<(usize, usize)>, AllocError>
+        ensures { IfOk result (λ items. items.items ≡ items_before self.now.file.now
+            (contains nat_cmp tokens.now) (set_of T.number closed.now)) }
+    {
+        let mut items = Vec::new(alloc);
+        for key in closed.items.keys() {
+            let (production, dot) = (usize::from(key.0), usize::from(key.1));
+            if self.is_before(production, dot, tokens) {
+                items.push((production, dot))?;
+            }
+        }
+        Ok(items)
     }
 
     /// Where the symbol behind the dot of an item stands.

@@ -1,11 +1,6 @@
 use Rattle.lrreport.specs.declared.causes.Cause.{Cause}
-use Rattle.lrreport.proofs.OneCause.{are_one_cause, entries_of_meetings}
+use Rattle.lrreport.proofs.OneCause.{are_one_cause}
 use Rattle.lrreport.proofs.causes.cause_of.Goals as goal
-
-pub returns-clause-whole : goal.returns-clause-whole
-returns-clause-whole c =
-    let cause : Cause = record { meetings = c.in_ok-meetings.meetings } in
-    entries_of_meetings c.args.meetings.now cause c.in_ok-meetings.ensures
 
 pub returns-clause-alike : goal.returns-clause-alike
 returns-clause-alike c =

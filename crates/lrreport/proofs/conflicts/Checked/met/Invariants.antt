@@ -1,14 +1,17 @@
--- the meetings so far are those of the first entries
-use Rattle.std.proofs.Common.{◌≡◌, ◌≤◌, ◌-◌, length, take}
+-- the meetings so far are the first runs of the entries
+use Rattle.std.proofs.Common.{◌≡◌, ◌≤◌, ◌-◌, ◌++◌, false, length, map, take, drop}
 use Rattle.std.specs.List.{All, flat_map}
-use Rattle.lrreport.specs.Causes.{IsMet}
+use Rattle.lrreport.specs.Causes.{runs_of, HasKind, IsMet}
 use Rattle.lrreport.proofs.conflicts.Checked.met.Given as goal
 
 abbrev pub invariant-loop-from : goal.invariant-loop-from
 invariant-loop-from g l = record {
   inside : l.from ≤ length l.evidence;
   whole : flat_map (λ m. m.evidence.now) l.met.items ≡ take l.from l.evidence;
+  runs : l.self.told.options.detail.all ≡ false
+      → map (λ m. m.evidence.now) l.met.items ++ runs_of (drop l.from l.evidence) ≡ runs_of l.evidence;
   met : All IsMet l.met.items;
+  kinds : All (HasKind g.T.IndexStorage.MAX l.self) l.met.items;
 }
 
 abbrev pub decreases-loop-from : goal.decreases-loop-from
