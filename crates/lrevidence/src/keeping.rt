@@ -44,7 +44,7 @@ fn is_kept_entry(
     Ok(other)
 }
 
-/// Those of the entries of which that is found.
+/// Those of the entries of which that is found, before no positions are left.
 pub(crate) fn kept_by_each(
     automaton: Automaton<'_, u32>,
     entries: &[Entry],
@@ -60,6 +60,9 @@ pub(crate) fn kept_by_each(
 {
     let mut kept = Vec::new(automaton.grm.allocator());
     for entry in entries {
+        if *left == 0 {
+            return Ok(kept);
+        }
         if is_kept_entry(automaton, *entry, certificate, left)? {
             kept.push(*entry)?;
         }
