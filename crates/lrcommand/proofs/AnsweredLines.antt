@@ -1,8 +1,9 @@
 -- answers to lines that were read, and beginnings of them
-use Rattle.std.proofs.Common.{◌≡◌, ℕ, ◌∙◌, sym, ap, refl, subst, List, [], ◌∷◌, take, drop, Option, None, Some, Result, Ok, Err}
+use Rattle.std.proofs.Common.{◌≡◌, ℕ, ◌∙◌, sym, ap, refl, subst, true, false, List, [], ◌∷◌, take, drop, Option, None, Some, Result, Ok, Err}
 use Rattle.std.proofs.lemmas.Grind.{flat_map-append}
 use Rattle.std.proofs.lemmas.List.{append-nil, take-append-drop}
 use Rattle.std.specs.Prelude.{OnOk}
+use Rattle.std.specs.Result.{is_ok}
 use Rattle.std.specs.Io.KnownBytes.{Appends, Keeps}
 use Rattle.std.specs.Option.{IsSomeAnd}
 use Rattle.lrspec.specs.texts.Devices.{ConsumesSome, AppendsBeginning, AppendsFirstAnswers}
@@ -13,7 +14,8 @@ use Rattle.lrtable.specs.Answered.{AreAnswered}
 use Rattle.lrtable.specs.declared.machine.LineError.{LineError}
 use Rattle.lrtable.specs.declared.machine.LineError.TheVariants as ended
 use Rattle.lrcommand.specs.Printing.{MeansGrammar, IsMergedTable, AcceptsAlone}
-use Rattle.lrcommand.specs.Lines.{HasTable, AnswersAll, AnswersBeginning}
+use Rattle.lrcommand.specs.declared.requests.Reply.{Reply}
+use Rattle.lrcommand.specs.Lines.{HasTable, HasMachine, reply_text, AnswersAll, AnswersBeginning}
 
 -- what holds of a grammar that the bytes mean holds of some grammar that they mean
 pub some_meant :
@@ -102,3 +104,13 @@ pub has_table :
     → IsSomeAnd bytes (λ bs. HasTable bs g b)
 has_table None g b means table accepts = absurd means
 has_table (Some bs) g b means table accepts = record { means = means; table = table; accepts = accepts }
+
+-- what holds where lines were answered well by the machine of a table does so where that result is passed on
+pub passed_on :
+    {X E F : Type 0} (bytes : Option (List ℕ)) (g : Grammar) (b : Table) (reply : Reply) (steps : ℕ) (P : (List ℕ → List ℕ) → Type 0)
+    (answered : Result X E) (told : Result X F) → is_ok told ≡ is_ok answered → IsSomeAnd bytes (λ bs. HasTable bs g b)
+    → OnOk answered (P (reply_text reply g b steps)) → OnOk told (HasMachine bytes reply steps P)
+passed_on None g b reply steps P answered told same has holds = absurd has
+passed_on (Some bs) g b reply steps P answered (Err e) same has holds = tt
+passed_on (Some bs) g b reply steps P (Ok x) (Ok y) same has holds = (g, b, has, holds)
+passed_on (Some bs) g b reply steps P (Err e) (Ok y) same has holds = let wrong : true ≡ false = same in absurd (cc)

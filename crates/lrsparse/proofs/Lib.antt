@@ -5,5 +5,6 @@ pub mod EntriesOfRow
 pub mod RowSoFar
 pub mod ColumnsOfRow
 pub mod PlacedRow
+pub mod ListedShort
 pub mod RowsInList
 pub mod StartsKept

@@ -6,7 +6,7 @@ use Rattle.std.specs.List.{All, range_with_len}
 use Rattle.std.specs.List.Sorted.{IsStrictlyIncreasing}
 use Rattle.std.proofs.lemmas.Bool.{ne_eqb, cases_eq}
 use Rattle.std.proofs.lemmas.List.Kept.{AllPairs-from_increasing}
-use Rattle.lrsparse.specs.declared.sparsevec.places.Entry.{Entry}
+use Rattle.lrsparse.specs.declared.sparsevec.entries.Entry.{Entry}
 use Rattle.lrsparse.specs.Entries.{columns_in, number_in, row_with}
 use Rattle.lrsparse.specs.Owned.{IsOwned, MeetsNone}
 use Rattle.lrsparse.specs.Places.{unowned, entry_at, number_of, number_at, row_of}
@@ -14,10 +14,10 @@ use Rattle.lrsparse.proofs.EntriesOfRow.{column_at, columns_len, entry_or_none, 
 use Rattle.lrsparse.proofs.RowsInList.{same_map}
 
 -- the row that stands in the place has the number that stands there, and another one has the empty number
-pub number_of_owner : (empty row : ℕ) (e : Entry) → e.row ≡ row → number_of empty row e ≡ e.number
+pub number_of_owner : (empty row : ℕ) (e : Entry ℕ) → e.row ≡ row → number_of empty row e ≡ e.number
 number_of_owner empty row e same = rw (eq-eqb e.row row same) refl
 
-pub number_of_other : (empty row : ℕ) (e : Entry) → (e.row ≡ row → ⊥) → number_of empty row e ≡ empty
+pub number_of_other : (empty row : ℕ) (e : Entry ℕ) → (e.row ≡ row → ⊥) → number_of empty row e ≡ empty
 number_of_other empty row e apart = rw (ne_eqb e.row row apart) refl
 
 -- in a place that no row owns each row has the empty number
@@ -32,7 +32,7 @@ is_owned : (words : List ℕ) (p : ℕ) → IsOwned words p ⊎ (IsOwned words p
 is_owned words p = cases_eq (bit_at (slice_index words (p / 64)) (p % 64)) 1
 
 module _
-    (old new : List Entry) (empty row d : ℕ) (es : List (ℕ × ℕ)) (before : List ℕ)
+    (old new : List (Entry ℕ)) (empty row d : ℕ) (es : List (ℕ × ℕ)) (before : List ℕ)
     (put : All (λ e. entry_at new empty (d + e.0) ≡ record { row = row; number = e.1 }) es)
     (kept : (p : ℕ) → All (λ e. p ≢ d + e.0) es → entry_at new empty p ≡ entry_at old empty p)
     (above : (p : ℕ) → IsOwned before p → (entry_at old empty p).row < row)

@@ -6,7 +6,7 @@ use Rattle.std.specs.List.{range_with_len, slice_get}
 use Rattle.std.proofs.lemmas.List.{length-append, get_or-append-add, get_or_append_left}
 use Rattle.std.proofs.lemmas.List.FromFn.{length-map-range_with_len, get_or-map-range_with_len}
 use Rattle.std.proofs.lemmas.Option.{slice_get-get_or, slice_get_past}
-use Rattle.lrsparse.specs.declared.sparsevec.places.Entry.{Entry}
+use Rattle.lrsparse.specs.declared.sparsevec.entries.Entry.{Entry}
 use Rattle.std.proofs.lemmas.Bool.{lt-ltb}
 use Rattle.lrsparse.specs.Matrix.{value_at, HasRows}
 use Rattle.lrsparse.specs.Places.{number_at, row_of, rows_from}
@@ -17,7 +17,7 @@ same_map f h (x ∷ xs) e = ap (λ y. y ∷ map f xs) (e x) ∙ ap (λ ys. h x �
 
 -- rows keep their numbers where another one is placed
 pub rows_kept :
-    (old new : List Entry) (empty cols row : ℕ)
+    (old new : List (Entry ℕ)) (empty cols row : ℕ)
     → ((q p : ℕ) → q ≢ row → number_at new empty q p ≡ number_at old empty q p)
     → (r : ℕ) (ds : List ℕ) → r + length ds ≤ row → rows_from new empty cols r ds ≡ rows_from old empty cols r ds
 rows_kept old new empty cols row others r [] l = refl
@@ -28,14 +28,14 @@ rows_kept old new empty cols row others r (d ∷ ds) l =
 
 -- one row more
 pub rows_more :
-    (list : List Entry) (empty cols r d : ℕ) (ds : List ℕ) (row : ℕ) → row ≡ r + length ds
+    (list : List (Entry ℕ)) (empty cols r d : ℕ) (ds : List ℕ) (row : ℕ) → row ≡ r + length ds
     → rows_from list empty cols r (ds ++ d ∷ []) ≡ rows_from list empty cols r ds ++ row_of list empty cols row d
 rows_more list empty cols r d [] row e = rw (let s : row ≡ r = omega arith in s) (append-nil (row_of list empty cols r d))
 rows_more list empty cols r d (x ∷ ds) row e =
     ap (λ xs. row_of list empty cols r x ++ xs) (rows_more list empty cols (r + 1) d ds row (omega arith))
     ∙ sym (append_assoc (row_of list empty cols r x) (rows_from list empty cols (r + 1) ds) (row_of list empty cols row d))
 
-module _ (list : List Entry) (empty cols : ℕ) where
+module _ (list : List (Entry ℕ)) (empty cols : ℕ) where
   length_of_row : (r d : ℕ) → length (row_of list empty cols r d) ≡ cols
   length_of_row r d = length-map-range_with_len (λ c. number_at list empty r (d + c)) 0 cols
 
@@ -96,7 +96,7 @@ module _ (list : List Entry) (empty cols : ℕ) where
 
 -- one row more stands in the list
 pub row_added :
-    (old new : List Entry) (empty cols row d : ℕ) (ds numbers : List ℕ)
+    (old new : List (Entry ℕ)) (empty cols row d : ℕ) (ds numbers : List ℕ)
     → row ≡ length ds → row_of new empty cols row d ≡ numbers
     → ((q p : ℕ) → q ≢ row → number_at new empty q p ≡ number_at old empty q p)
     → rows_from new empty cols 0 (ds ++ d ∷ []) ≡ rows_from old empty cols 0 ds ++ numbers

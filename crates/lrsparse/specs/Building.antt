@@ -2,6 +2,7 @@
 use Rattle.std.specs.Prelude.{ℕ, ◌+◌, ◌<◌, ◌^◌, length}
 use Rattle.std.specs.List.{All}
 use Rattle.lrsparse.specs.Matrix.{Matrix}
+use Rattle.lrsparse.specs.Listed.{listed}
 use Rattle.lrsparse.specs.Places.{IsPlaced, rows_from}
 use Rattle.lrsparse.specs.Starts.{AreStarts}
 use Rattle.lrsparse.specs.declared.builder.MatrixBuilder.{MatrixBuilder}
@@ -10,7 +11,7 @@ use Rattle.lrsparse.specs.declared.builder.MatrixBuilder.{MatrixBuilder}
 abbrev pub so_far : MatrixBuilder → Matrix
 so_far b = record {
   cols = b.cols;
-  cells = rows_from b.places.list.items b.places.empty b.cols 0 b.displacements.items;
+  cells = rows_from (listed b.places.list) b.places.empty b.cols 0 b.displacements.items;
 }
 
 -- the number that stands in most cells

@@ -3,12 +3,13 @@
 ghost use Rattle.std.specs.Prelude.{◌≡◌, ◌≤◌, ℕ, ◌*◌, length, IfOk};
 ghost use Rattle.lrsparse.specs.Matrix.{value_at, HasRows};
 
+pub(crate) mod entries;
 mod owned;
 pub(crate) mod places;
 pub(crate) mod starts;
 
 use crate::builder::MatrixBuilder;
-use crate::sparsevec::places::Entry;
+use crate::sparsevec::entries::Entries;
 use std::alloc::{AllocError, Global};
 use std::marker::Model;
 
@@ -17,7 +18,7 @@ use std::marker::Model;
 /// that no row owns that number stands too, so that it doesn't matter which row stands beside it.
 #[derive(Drop)]
 pub struct SparseVec {
-    pub(crate) list: Vec<Entry>,
+    pub(crate) list: Entries,
     pub(crate) displacements: Vec<usize>,
     pub(crate) empty: usize,
     pub(crate) cols: usize,
@@ -30,11 +31,12 @@ impl Model for SparseVec {
 
     ghost use Rattle.std.specs.Prelude.{ℕ, ◌+◌, ◌<◌, ◌^◌};
     ghost use Rattle.std.specs.List.{All};
+    ghost use Rattle.lrsparse.specs.Listed.{listed};
     ghost use Rattle.lrsparse.specs.Places.{rows_from};
 
     ghost view = { λ m. record {
       cols = m.cols;
-      cells = rows_from m.list.items m.empty m.cols 0 m.displacements.items;
+      cells = rows_from (listed m.list) m.empty m.cols 0 m.displacements.items;
     } };
 
     ghost invariant = { λ m. All (λ d. d + m.cols < 2 ^ 64) m.displacements.items };

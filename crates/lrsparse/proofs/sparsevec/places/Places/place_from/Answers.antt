@@ -2,9 +2,11 @@ use Rattle.std.proofs.Common.{◌≡◌, ◌≢◌, ◌↔◌, ◌⊎◌, ◌≤
 use Rattle.std.specs.List.{All, slice_get}
 use Rattle.std.proofs.Math.Seq.{take-append_seam}
 use Rattle.lrsparse.specs.Entries.{columns_in}
+use Rattle.lrsparse.specs.Listed.{listed}
 use Rattle.lrsparse.specs.Owned.{IsOwned, MeetsNone}
 use Rattle.lrsparse.specs.Places.{entry_at, unowned}
 use Rattle.lrsparse.proofs.ColumnsOfRow.{least_within, last_there, column_to_last, none_there}
+use Rattle.lrsparse.proofs.ListedShort.{listed_short}
 use Rattle.lrsparse.proofs.EntriesOfRow.{column_at, columns_len}
 use Rattle.lrsparse.proofs.PlacedRow.{row_placed, others_kept, above_placed, free_placed}
 use Rattle.lrsparse.proofs.sparsevec.places.Places.place_from.Goals as goal
@@ -12,7 +14,7 @@ use Rattle.lrsparse.proofs.sparsevec.places.Places.place_from.Goals as goal
 pub returns-in_default-clause-numbers : goal.returns-in_default-clause-numbers
 returns-in_default-clause-numbers c =
     let places = c.args.self.now in
-    let list = places.list.items in
+    let list = listed places.list in
     let es = c.args.entries.now in
     let was = none_there c.args.columns.now (sym (c.in_default.ensures ∙ c.last.ensures.value)) in
     let none : length es ≡ 0 = omega (arith, columns_len es, ap length c.requires.columns) in
@@ -27,8 +29,8 @@ module _ (c : goal.After-least_displacement-displacement) where
   least : (d : ℕ) → d < c.least_displacement-displacement.result → MeetsNone c.args.self.now.owned.items c.args.columns.now d → ⊥
   least = rw c.as_slice.ensures.value at c.least_displacement-displacement.ensures.least
 
-  within : c.least_displacement-displacement.result ≤ length c.args.self.now.list.items
-  within = least_within (length c.args.self.now.list.items) c.args.self.now.owned.items c.requires.placed.within c.args.columns.now c.least_displacement-displacement.result least
+  within : c.least_displacement-displacement.result ≤ length (listed c.args.self.now.list)
+  within = least_within (length (listed c.args.self.now.list)) c.args.self.now.owned.items c.requires.placed.within c.args.columns.now c.least_displacement-displacement.result least
 
   narrow : c.in-Some.last < 2 ^ 60
   narrow =
@@ -36,8 +38,8 @@ module _ (c : goal.After-least_displacement-displacement) where
       rw there.1 at (c.requires.narrow (length c.args.columns.now - 1) 0 there.0)
 
   -- a list is so short
-  room : length c.args.self.now.list.items < 2 ^ 63
-  room = let list = c.args.self.now.list in omega (arith, list.ok.0, list.ok.1, list.small)
+  room : length (listed c.args.self.now.list) < 2 ^ 63
+  room = listed_short c.args.self.now.list
 
 pub overflow_add-end : goal.overflow_add-end
 overflow_add-end c = omega (arith, within c, narrow c, room c)
@@ -58,7 +60,6 @@ put_entries-requires-clause-within c = λ k x l.
       arith,
       column_to_last c.args.columns.now c.requires.upwards c.in-Some.last before k many,
       same,
-      ap length c.as_mut_slice.ensures.value,
       c.in_ok-reach.ensures.len,
     )
 
@@ -68,36 +69,30 @@ own_columns-requires-clause-within c = λ k l.
     omega (
       arith,
       column_to_last c.args.columns.now c.requires.upwards c.in-Some.last before k l,
-      ap length c.as_mut_slice-2.ensures.value,
+      ap length c.as_mut_slice.ensures.value,
       c.in_ok-reach-2.ensures.len,
     )
 
 pub full_words-self-requires : goal.full_words-self-requires
 full_words-self-requires c = λ p l.
-    let long : length c.own_columns.new.words ≡ c.reach-2.new.list.len = c.own_columns.auto.words ∙ c.as_mut_slice-2.ensures.len in
+    let long : length c.own_columns.new.words ≡ c.reach-2.new.list.len = c.own_columns.auto.words ∙ c.as_mut_slice.ensures.len in
     let whole : take c.reach-2.new.list.len (c.own_columns.new.words ++ drop (length c.own_columns.new.words) c.reach-2.new.list.items) ≡ c.own_columns.new.words =
     rw (← long) (take-append_seam c.own_columns.new.words (drop (length c.own_columns.new.words) c.reach-2.new.list.items)) in
-    let same : slice_index c.as_mut_slice-2.result.now (p / 64) ≡ slice_index c.args.self.now.owned.items (p / 64) =
-    ap (λ ws. slice_index ws (p / 64)) c.as_mut_slice-2.ensures.value ∙ c.in_ok-reach-2.ensures.values (p / 64) in
+    let same : slice_index c.as_mut_slice.result.now (p / 64) ≡ slice_index c.args.self.now.owned.items (p / 64) =
+    ap (λ ws. slice_index ws (p / 64)) c.as_mut_slice.ensures.value ∙ c.in_ok-reach-2.ensures.values (p / 64) in
     rw (c.as_slice-2.ensures.value, whole) ((c.own_columns.ensures p).1 (inl (rw same (c.requires.placed.full p l))))
 
 -- what is known where the entries are put into the list
-module _ (c : goal.After-self-3-1) where
+module _ (c : goal.After-self-2-1) where
   kept :
       (p : ℕ) → All (λ e. p ≢ c.least_displacement-displacement.result + e.0) c.args.entries.now
-      → entry_at c.put_entries.new.list c.args.self.now.empty p ≡ entry_at c.args.self.now.list.items c.args.self.now.empty p
+      → entry_at (listed c.put_entries.new.list) c.args.self.now.empty p ≡ entry_at (listed c.args.self.now.list) c.args.self.now.empty p
   kept p h =
-      c.put_entries.ensures.kept (unowned c.args.self.now.empty) p h
-      ∙ (ap (λ xs. entry_at xs c.args.self.now.empty p) c.as_mut_slice.ensures.value ∙ c.in_ok-reach.ensures.values p)
-
-  long : length c.put_entries.new.list ≡ c.reach.new.list.len
-  long = c.put_entries.auto.list ∙ c.as_mut_slice.ensures.len
-
-  whole : take c.reach.new.list.len (c.put_entries.new.list ++ drop (length c.put_entries.new.list) c.reach.new.list.items) ≡ c.put_entries.new.list
-  whole = rw (← long) (take-append_seam c.put_entries.new.list (drop (length c.put_entries.new.list) c.reach.new.list.items))
+      c.in_ok-put_entries.ensures.kept (unowned c.args.self.now.empty) p h
+      ∙ c.in_ok-reach.ensures.values p
 
   words_long : length c.own_columns.new.words ≡ c.reach-2.new.list.len
-  words_long = c.own_columns.auto.words ∙ c.as_mut_slice-2.ensures.len
+  words_long = c.own_columns.auto.words ∙ c.as_mut_slice.ensures.len
 
   whole_words : take c.reach-2.new.list.len (c.own_columns.new.words ++ drop (length c.own_columns.new.words) c.reach-2.new.list.items) ≡ c.own_columns.new.words
   whole_words = rw (← words_long) (take-append_seam c.own_columns.new.words (drop (length c.own_columns.new.words) c.reach-2.new.list.items))
@@ -108,8 +103,8 @@ module _ (c : goal.After-self-3-1) where
       ↔ (IsOwned c.args.self.now.owned.items q
       ⊎ ((k : ℕ) × (k < length c.args.columns.now) × (q ≡ c.least_displacement-displacement.result + slice_index c.args.columns.now k)))
   more q =
-      let same : slice_index c.as_mut_slice-2.result.now (q / 64) ≡ slice_index c.args.self.now.owned.items (q / 64) =
-      ap (λ ws. slice_index ws (q / 64)) c.as_mut_slice-2.ensures.value ∙ c.in_ok-reach-2.ensures.values (q / 64) in
+      let same : slice_index c.as_mut_slice.result.now (q / 64) ≡ slice_index c.args.self.now.owned.items (q / 64) =
+      ap (λ ws. slice_index ws (q / 64)) c.as_mut_slice.ensures.value ∙ c.in_ok-reach-2.ensures.values (q / 64) in
       rw same at (c.own_columns.ensures q)
 
   least_of : (d : ℕ) → d < c.least_displacement-displacement.result → MeetsNone c.args.self.now.owned.items c.args.columns.now d → ⊥
@@ -126,15 +121,15 @@ module _ (c : goal.After-self-3-1) where
 pub returns-clause-numbers : goal.returns-clause-numbers
 returns-clause-numbers c =
     let places = c.args.self.now in
-    rw (whole c) (row_placed places.list.items c.put_entries.new.list places.empty c.args.row c.least_displacement-displacement.result c.args.entries.now places.owned.items
-    (c.put_entries.ensures.put (unowned places.empty)) (kept c) c.requires.placed.above c.requires.placed.free (rw c.requires.columns at c.requires.upwards))
+    row_placed (listed places.list) (listed c.put_entries.new.list) places.empty c.args.row c.least_displacement-displacement.result c.args.entries.now places.owned.items
+    (c.in_ok-put_entries.ensures.put (unowned places.empty)) (kept c) c.requires.placed.above c.requires.placed.free (rw c.requires.columns at c.requires.upwards)
 
 pub returns-clause-others : goal.returns-clause-others
 returns-clause-others c =
     let places = c.args.self.now in
-    rw (whole c) (others_kept places.list.items c.put_entries.new.list places.empty c.args.row c.least_displacement-displacement.result c.args.entries.now places.owned.items
-    (c.put_entries.ensures.put (unowned places.empty)) (kept c) c.requires.placed.above c.requires.placed.free
-    (rw (c.as_slice.ensures.value, c.requires.columns) at c.least_displacement-displacement.ensures.fits))
+    others_kept (listed places.list) (listed c.put_entries.new.list) places.empty c.args.row c.least_displacement-displacement.result c.args.entries.now places.owned.items
+    (c.in_ok-put_entries.ensures.put (unowned places.empty)) (kept c) c.requires.placed.above c.requires.placed.free
+    (rw (c.as_slice.ensures.value, c.requires.columns) at c.least_displacement-displacement.ensures.fits)
 
 pub returns-clause-fits : goal.returns-clause-fits
 returns-clause-fits c = rw c.as_slice.ensures.value at c.least_displacement-displacement.ensures.fits
@@ -148,43 +143,42 @@ returns-clause-owned c = rw (whole_words c) (λ p o. (more c p).1 (inl o))
 pub returns-clause-within : goal.returns-clause-within
 returns-clause-within c =
     let places = c.args.self.now in
-    least_within (length places.list.items) places.owned.items c.requires.placed.within c.args.columns.now c.least_displacement-displacement.result (least_of c)
+    least_within (length (listed places.list)) places.owned.items c.requires.placed.within c.args.columns.now c.least_displacement-displacement.result (least_of c)
 
 pub returns-clause-short : goal.returns-clause-short
 returns-clause-short c len longer ends =
     let there = last_there c.args.columns.now c.in-Some.last (sym (c.in-Some.ensures ∙ c.last.ensures.value)) in
-    rw (whole c) (omega (arith, longer, rw there.1 at (ends (length c.args.columns.now - 1) 0 there.0), long c, c.in_ok-reach.ensures.len))
+    omega (arith, longer, rw there.1 at (ends (length c.args.columns.now - 1) 0 there.0), c.in_ok-put_entries.ensures.len, c.in_ok-reach.ensures.len)
 
 pub returns-clause-placed : goal.returns-clause-placed
 returns-clause-placed c =
     let places = c.args.self.now in
     let d = c.least_displacement-displacement.result in
     let es = c.args.entries.now in
-    let put = c.put_entries.ensures.put (unowned places.empty) in
+    let put = c.in_ok-put_entries.ensures.put (unowned places.empty) in
     let placed = c.requires.placed in
     record {
-      above = rw (whole c, whole_words c) (above_placed places.list.items c.put_entries.new.list places.empty c.args.row d es places.owned.items
+      above = rw (whole_words c) (above_placed (listed places.list) (listed c.put_entries.new.list) places.empty c.args.row d es places.owned.items
           put (kept c) placed.above placed.free c.own_columns.new.words (more_of c));
-      free = rw (whole c, whole_words c) (free_placed places.list.items c.put_entries.new.list places.empty c.args.row d es places.owned.items
+      free = rw (whole_words c) (free_placed (listed places.list) (listed c.put_entries.new.list) places.empty c.args.row d es places.owned.items
           put (kept c) placed.above placed.free c.own_columns.new.words (more_of c));
-      within = rw (whole c, whole_words c) (λ p o. elim ((more c p).0 o) [
-        | inl b ↦ omega (arith, placed.within p b, long c, c.in_ok-reach.ensures.len)
+      within = rw (whole_words c) (λ p o. elim ((more c p).0 o) [
+        | inl b ↦ omega (arith, placed.within p b, c.in_ok-put_entries.ensures.len, c.in_ok-reach.ensures.len)
         | inr (k, l, e) ↦
             omega (
               arith,
               column_to_last c.args.columns.now c.requires.upwards c.in-Some.last (sym (c.in-Some.ensures ∙ c.last.ensures.value)) k l,
-              long c,
+              c.in_ok-put_entries.ensures.len,
               c.in_ok-reach.ensures.len,
             )
       ]);
-      words = rw (whole c, whole_words c) (omega (
+      words = rw (whole_words c) (omega (
         arith,
         placed.words,
-        c.put_entries.auto.list,
-        ap length c.as_mut_slice.ensures.value,
+        c.in_ok-put_entries.ensures.len,
         c.in_ok-reach.ensures.len,
         c.own_columns.auto.words,
-        ap length c.as_mut_slice-2.ensures.value,
+        ap length c.as_mut_slice.ensures.value,
         c.in_ok-reach-2.ensures.len,
       ));
       full = λ p l. rw c.as_slice-2.ensures.value at (c.full_words-self.ensures p l);
