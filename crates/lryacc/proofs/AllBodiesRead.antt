@@ -201,8 +201,8 @@ reads_bar old new bar taken read =
     reads_mark taken.before new bar kind.Bar taken.taken (reads_over old taken.before taken.over read)
 
 -- the rules begin
-pub reads_none : (old new : Reader) → ReachesRules old new → old.at ≡ 0 → old.contents.alternatives.items ≡ [] → AreReadUpTo new new.at
-reads_none old new reaches begins none =
+pub behind_first : (old new : Reader) → ReachesRules old new → old.at ≡ 0 → IsBehindFirst old.lexemes.now new.at
+behind_first old new reaches begins =
     let before = reaches.before in
     let over = reaches.over in
     let taken = reaches.taken.taken in
@@ -212,18 +212,22 @@ reads_none old new reaches begins none =
     ∙ (ap (λ (n : ℕ). delimiters_before lexemes n) begins ∙ count-none lexemes) in
     let same : delimiters_before lexemes before.at ≡ delimiters_before lexemes 0 = zero_there ∙ sym (count-none lexemes) in
     let there : slice_get lexemes before.at ≡ Some reaches.taken.mark =
-    subst (λ (xs : List Lexeme). slice_get xs before.at ≡ Some reaches.taken.mark) over.file.lexemes taken.here in
-    let behind : IsBehindFirst lexemes (before.at + 1) = record {
+    subst (λ (xs : List Lexeme). slice_get xs before.at ≡ Some reaches.taken.mark) over.file.lexemes taken.here in record {
       before = before.at;
-      next = refl;
+      next = taken.passes.at;
       mark = reaches.taken.mark;
       here = there;
       is = ap is_separator taken.is;
       first = λ place nearer.
           no_separator_at (slice_get lexemes place) (none_between lexemes 0 place before.at (omega arith) nearer same);
-    } in
-    rw (taken.passes.file.text, over.file.text, taken.passes.file.lexemes, over.file.lexemes, taken.passes.file.dialect, over.file.dialect, taken.passes.file.bodies, over.file.bodies, none, taken.passes.at)
-    (first_rule behind)
+    }
+
+pub reads_none : (old new : Reader) → ReachesRules old new → old.at ≡ 0 → old.contents.alternatives.items ≡ [] → AreReadUpTo new new.at
+reads_none old new reaches begins none =
+    let over = reaches.over in
+    let taken = reaches.taken.taken in
+    rw (taken.passes.file.text, over.file.text, taken.passes.file.lexemes, over.file.lexemes, taken.passes.file.dialect, over.file.dialect, taken.passes.file.bodies, over.file.bodies, none)
+    (first_rule (behind_first old new reaches begins))
 
 -- where no fault was told, what was read is there, and the reader stays
 pub settled : {T : Type 0} (now new : Reader) (P : Type 0) (read : Result T Halt) → IfErr read (λ h. IsTold h now) → OnOk read P → Settles read now new → IsSameFile now new → IsWhole new → P × Stays now new

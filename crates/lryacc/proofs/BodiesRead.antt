@@ -4,15 +4,17 @@ use Rattle.std.specs.Prelude.{MatchBool, MatchOption, slice_get}
 use Rattle.std.specs.Option.{option_map}
 use Rattle.lryacc.specs.declared.contents.BodyPart.{BodyPart}
 use Rattle.lryacc.specs.declared.contents.BodyPart.TheVariants as part
+use Rattle.lryacc.specs.declared.dialects.Dialect.TheVariants.{Bison}
 use Rattle.lryacc.specs.declared.faults.Halt.{Halt}
 use Rattle.lryacc.specs.declared.lexemes.Lexeme.{Lexeme}
 use Rattle.lryacc.specs.declared.lexemes.LexemeKind.{LexemeKind}
 use Rattle.lryacc.specs.declared.lexemes.LexemeKind.TheVariants as kind
 use Rattle.lryacc.specs.declared.reader.Reader.{Reader}
 use Rattle.lryacc.specs.declared.rules.Body.{Body}
-use Rattle.lryacc.specs.Bodies.{AddsBody, BeginsBody, IsBody, IsBodyEnd, IsRuleBefore, IsSameFile, Passes, PassesNoDelimiter, ReadsBehind, ReadsOn, SkipsKind, Stays, GoesOn, TakesBar, TakesKind, TakesPrecedence, is_action, is_aside, is_mark, is_prec, is_rule_name, is_symbol, reach, reach_over}
+use Rattle.lryacc.specs.Bodies.{AddsBody, BeginsBody, IsBody, IsBodyEnd, IsRuleBefore, IsSameFile, Passes, PassesNoDelimiter, ReadsBehind, ReadsOn, SkipsKind, Stays, GoesOn, TakesBar, TakesKind, TakesPrecedence, is_action, is_aside, is_in_bodies, is_mark, is_prec, is_rule_name, is_symbol, reach, reach_over}
 use Rattle.lryacc.specs.Bodies.IsBody.{begins, symbol, action, aside, directive as other_directive, prec as named}
 use Rattle.lryacc.specs.Delimiters.{delimiter_at, delimiter_of, delimiters_before}
+use Rattle.lryacc.specs.NamedSymbols.{text_at}
 use Rattle.lryacc.proofs.BodyReach.{reach-aside, reach-none, reach-on, reach-one, reach-skips, symbol-no_aside}
 use Rattle.lryacc.proofs.DelimitersPassed.{count-next, rule_behind, rule_named, rule_over}
 
@@ -35,8 +37,8 @@ pub IsBody-aside : (text : List ℕ) (lexemes : List Lexeme) (from at at' : ℕ)
 IsBody-aside text lexemes from at at' ps n lexeme p here is b = rw p (aside lexeme b here is)
 
 -- a directive is read
-pub IsBody-directive : (text : List ℕ) (lexemes : List Lexeme) (from at at' : ℕ) (ps : List BodyPart) (n : Option Lexeme) (lexeme : Lexeme) → at' ≡ at + 1 → slice_get lexemes at ≡ Some lexeme → lexeme.kind ≡ kind.Directive → is_prec text lexeme ≡ false → IsBody text lexemes from at ps n → IsBody text lexemes from at' ps n
-IsBody-directive text lexemes from at at' ps n lexeme p here is other b = rw p (other_directive lexeme b here is other)
+pub IsBody-directive : (text : List ℕ) (lexemes : List Lexeme) (from at at' : ℕ) (ps : List BodyPart) (n : Option Lexeme) (lexeme : Lexeme) → at' ≡ at + 1 → slice_get lexemes at ≡ Some lexeme → lexeme.kind ≡ kind.Directive → is_in_bodies Bison (text_at text lexeme.span) ≡ true → is_prec text lexeme ≡ false → IsBody text lexemes from at ps n → IsBody text lexemes from at' ps n
+IsBody-directive text lexemes from at at' ps n lexeme p here is stands other b = rw p (other_directive lexeme b here is stands other)
 
 -- the same, where only the kind is known
 pub IsBody-skips : (text : List ℕ) (lexemes : List Lexeme) (from at at' : ℕ) (ps : List BodyPart) (n : Option Lexeme) (k : LexemeKind) (found : Option Lexeme) → at' ≡ at + 1 → slice_get lexemes at ≡ found → option_map (λ (lexeme : Lexeme). lexeme.kind) found ≡ Some k → is_aside k ≡ true → IsBody text lexemes from at ps n → IsBody text lexemes from at' ps n
@@ -107,8 +109,8 @@ ReadsOn-passes {old} {new} body lexeme passes here no_part = record {
 pub ReadsBehind-stays : {old new : Reader} → Stays old new → ReadsBehind old new
 ReadsBehind-stays {old} {new} stays = record {
   on = omega (arith, stays.at);
-  parts = λ from at ps n directive so_far here is other next.
-      IsBody-directive old.text.now old.lexemes.now from at new.at ps n directive (stays.at ∙ next) here is other so_far;
+  parts = λ from at ps n directive so_far here is stands other next.
+      IsBody-directive old.text.now old.lexemes.now from at new.at ps n directive (stays.at ∙ next) here is stands other so_far;
   asides = λ so_far.
       let none : new.at - old.at ≡ 0 = omega (arith, stays.at) in
       ap (reach_over old.lexemes.now old.at so_far) none ∙ reach-none old.lexemes.now old.at so_far;
@@ -118,9 +120,9 @@ ReadsBehind-stays {old} {new} stays = record {
 pub ReadsBehind-skips : {old new : Reader} (k : LexemeKind) → SkipsKind old new k → is_aside k ≡ true → ReadsBehind old new
 ReadsBehind-skips {old} {new} k skips no_part = record {
   on = omega (arith, skips.passes.at);
-  parts = λ from at ps n directive so_far here is other next.
+  parts = λ from at ps n directive so_far here is stands other next.
       IsBody-skips old.text.now old.lexemes.now from old.at new.at ps n k (slice_get old.lexemes.now old.at) skips.passes.at refl skips.here no_part
-      (IsBody-directive old.text.now old.lexemes.now from at old.at ps n directive next here is other so_far);
+      (IsBody-directive old.text.now old.lexemes.now from at old.at ps n directive next here is stands other so_far);
   asides = λ so_far.
       reach-skips old.lexemes.now old.at new.at so_far k (slice_get old.lexemes.now old.at) skips.passes.at refl skips.here no_part;
 }
@@ -129,16 +131,16 @@ ReadsBehind-skips {old} {new} k skips no_part = record {
 pub ReadsBehind-takes : {old now new : Reader} {lexeme : Lexeme} (k : LexemeKind) → TakesKind old now k lexeme → Stays now new → is_aside k ≡ true → ReadsBehind old new
 ReadsBehind-takes {old} {now} {new} {lexeme} k takes stays no_part = record {
   on = omega (arith, takes.passes.at, stays.at);
-  parts = λ from at ps n directive so_far here is other next.
+  parts = λ from at ps n directive so_far here is stands other next.
       IsBody-aside old.text.now old.lexemes.now from old.at new.at ps n lexeme (stays.at ∙ takes.passes.at) takes.here (ap is_aside takes.is ∙ no_part)
-      (IsBody-directive old.text.now old.lexemes.now from at old.at ps n directive next here is other so_far);
+      (IsBody-directive old.text.now old.lexemes.now from at old.at ps n directive next here is stands other so_far);
   asides = λ so_far.
       reach-aside old.lexemes.now old.at new.at so_far lexeme (stays.at ∙ takes.passes.at) takes.here (ap is_aside takes.is ∙ no_part);
 }
 
 -- a directive stands in the body, and what stands behind it
-pub ReadsOn-directive : {old now new : Reader} (before after : Body) (directive : Lexeme) → Passes old now → ReadsBehind now new → IsSameFile now new → slice_get old.lexemes.now old.at ≡ Some directive → directive.kind ≡ kind.Directive → is_prec now.text.now directive ≡ false → after.parts.items ≡ before.parts.items → after.precedence ≡ before.precedence → after.span ≡ Some (reach before.span directive.span) → ReadsOn old new before after
-ReadsOn-directive {old} {now} {new} before after directive passes behind file here is other same same_precedence reached = record {
+pub ReadsOn-directive : {old now new : Reader} (before after : Body) (directive : Lexeme) → Passes old now → ReadsBehind now new → IsSameFile now new → slice_get old.lexemes.now old.at ≡ Some directive → directive.kind ≡ kind.Directive → is_in_bodies Bison (text_at old.text.now directive.span) ≡ true → is_prec now.text.now directive ≡ false → after.parts.items ≡ before.parts.items → after.precedence ≡ before.precedence → after.span ≡ Some (reach before.span directive.span) → ReadsOn old new before after
+ReadsOn-directive {old} {now} {new} before after directive passes behind file here is stands other same same_precedence reached = record {
   file = IsSameFile-again passes.file file;
   on = omega (arith, passes.at, behind.on);
   parts = λ from so_far.
@@ -148,8 +150,10 @@ ReadsOn-directive {old} {now} {new} before after directive passes behind file he
       rw (t, e) so_far in
       let there : slice_get now.lexemes.now old.at ≡ Some directive =
       subst (λ (xs : List Lexeme). slice_get xs old.at ≡ Some directive) (sym e) here in
+      let stands_there : is_in_bodies Bison (text_at now.text.now directive.span) ≡ true =
+      subst (λ (xs : List ℕ). is_in_bodies Bison (text_at xs directive.span) ≡ true) (sym t) stands in
       let read : IsBody now.text.now now.lexemes.now from new.at before.parts.items before.precedence =
-      behind.parts from old.at before.parts.items before.precedence directive before_it there is other passes.at in
+      behind.parts from old.at before.parts.items before.precedence directive before_it there is stands_there other passes.at in
       let read_old : IsBody old.text.now old.lexemes.now from new.at before.parts.items before.precedence =
       rw (sym t, sym e) read in
       IsBody-same old.text.now old.lexemes.now from new.at new.at before.parts.items after.parts.items before.precedence after.precedence refl same same_precedence read_old;
@@ -239,7 +243,7 @@ body_counts text lexemes from _ _ _ (action {at} {parts} {precedence} lexeme nam
 body_counts text lexemes from _ _ _ (aside {at} {parts} {precedence} lexeme body here is) =
     let so_far = body_counts text lexemes from at parts precedence body in
     (omega (arith, so_far.0), count_same lexemes from at lexeme here (no_delimiter_aside lexeme.kind is) so_far.1)
-body_counts text lexemes from _ _ _ (other_directive {at} {parts} {precedence} lexeme body here is other) =
+body_counts text lexemes from _ _ _ (other_directive {at} {parts} {precedence} lexeme body here is stands other) =
     let so_far = body_counts text lexemes from at parts precedence body in
     (omega (arith, so_far.0), count_same lexemes from at lexeme here (ap delimiter_of is) so_far.1)
 body_counts text lexemes from _ _ _ (named {at} {parts} found lexeme body here is is_one there is_too) =

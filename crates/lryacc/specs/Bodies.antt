@@ -44,6 +44,14 @@ is_aside _ = false
 abbrev pub is_prec : List ℕ → Lexeme → Bool
 is_prec text directive = bytes_eq (text_at text directive.span) (codes "%prec")
 
+-- the directives that stand in bodies
+abbrev pub is_in_bodies : Dialect → List ℕ → Bool
+is_in_bodies dialect word =
+    bytes_eq word (codes "%prec") || (bytes_eq word (codes "%empty")
+    || is_bison dialect && (bytes_eq word (codes "%dprec") || (bytes_eq word (codes "%merge")
+    || (bytes_eq word (codes "%expect") || (bytes_eq word (codes "%expect-rr")
+    || bytes_eq word (codes "%expect_rr"))))))
+
 -- from where one place begins to where another ends; that alone where there is none before
 abbrev pub reach : Option Span → Span → Span
 reach None place = place
@@ -81,11 +89,12 @@ pub data IsBody (text : List ℕ) (lexemes : List Lexeme) (from : ℕ)
       → IsBody text lexemes from at parts precedence
       → slice_get lexemes at ≡ Some lexeme → is_aside lexeme.kind ≡ true
       → IsBody text lexemes from (at + 1) parts precedence
-  -- nor are directives other than `%prec`
+  -- nor are the directives other than `%prec` that stand in bodies
   directive : {at : ℕ} {parts : List BodyPart} {precedence : Option Lexeme} (lexeme : Lexeme)
       → IsBody text lexemes from at parts precedence
       → slice_get lexemes at ≡ Some lexeme → lexeme.kind ≡ kind.Directive
-      → is_prec text lexeme ≡ false → IsBody text lexemes from (at + 1) parts precedence
+      → is_in_bodies Bison (text_at text lexeme.span) ≡ true → is_prec text lexeme ≡ false
+      → IsBody text lexemes from (at + 1) parts precedence
   -- nor is `%prec`, which stands there once at most, and the symbol right behind it, which is that of the precedence
   prec : {at : ℕ} {parts : List BodyPart} (lexeme symbol : Lexeme)
       → IsBody text lexemes from at parts None
@@ -197,6 +206,7 @@ pub record ReadsBehind (old new : Reader) : Type 0 where
   pub parts : (from at : ℕ) (parts : List BodyPart) (precedence : Option Lexeme)
       (directive : Lexeme) → IsBody old.text.now old.lexemes.now from at parts precedence
       → slice_get old.lexemes.now at ≡ Some directive → directive.kind ≡ kind.Directive
+      → is_in_bodies Bison (text_at old.text.now directive.span) ≡ true
       → is_prec old.text.now directive ≡ false
       → old.at ≡ at + 1 → IsBody old.text.now old.lexemes.now from new.at parts precedence
   pub asides : (so_far : Option Span)
@@ -245,14 +255,6 @@ pub record TakesBar (old new : Reader) (bar : Lexeme) : Type 0 where
   pub before : Reader
   pub over : PassesNoDelimiter old before
   pub taken : TakesKind before new kind.Bar bar
-
--- the directives that stand in bodies
-abbrev pub is_in_bodies : Dialect → List ℕ → Bool
-is_in_bodies dialect word =
-    bytes_eq word (codes "%prec") || (bytes_eq word (codes "%empty")
-    || is_bison dialect && (bytes_eq word (codes "%dprec") || (bytes_eq word (codes "%merge")
-    || (bytes_eq word (codes "%expect") || (bytes_eq word (codes "%expect-rr")
-    || bytes_eq word (codes "%expect_rr"))))))
 
 -- whether a lexeme of this kind, which is this word, ends bodies: `|` and `;`; for Bison also the name of a rule, `%%`, and a
 -- directive that stands in no body

@@ -15,6 +15,7 @@ use Rattle.lryacc.specs.Aliases.{AreHeeded}
 use Rattle.lryacc.specs.AllBodies.{AreAllBodies}
 use Rattle.lryacc.specs.AllLexemes.{AreAllLexemesOf}
 use Rattle.lryacc.specs.BodyProductions.{AreOfFile}
+use Rattle.lryacc.specs.Declarations.{AreAllDeclared}
 use Rattle.lryacc.specs.EndTokens.{HasEnd}
 use Rattle.lryacc.specs.ExpectedConflicts.{AreExpected, is_generalized}
 use Rattle.lryacc.specs.Headers.{IsReadAs}
@@ -89,18 +90,19 @@ HasBodies text dialect statements bodies (Grammar file expected parser warnings)
     × IsParserOf text dialect (is_generalized statements) parser
 HasBodies text dialect statements bodies (Faults faults) = Unit {0}
 
--- the bodies of a text: all that stand among all its lexemes
-pub record AreBodiesRead (text : List ℕ) (dialect : Dialect) (bodies : List Alternative)
-    : Type 0 where
+-- the statements and the bodies of a text: what all its lexemes declare, and all bodies that stand among these
+pub record IsReadFromAll (text : List ℕ) (dialect : Dialect) (statements : List Statement)
+    (bodies : List Alternative) : Type 0 where
   pub lexemes : List Lexeme
   pub of_text : AreAllLexemesOf text dialect lexemes
+  pub declared : AreAllDeclared text lexemes dialect statements
   pub all : AreAllBodies text lexemes dialect bodies
 
--- if a text comes to a grammar, these are its bodies
-abbrev pub AreBodiesOf : List ℕ → Dialect → List Alternative → FileRead → Type 0
-AreBodiesOf text dialect bodies (Grammar file expected parser warnings) =
-    AreBodiesRead text dialect bodies
-AreBodiesOf text dialect bodies (Faults faults) = Unit {0}
+-- if a text comes to a grammar, these are its statements and its bodies
+abbrev pub AreOfText : List ℕ → Dialect → List Statement → List Alternative → FileRead → Type 0
+AreOfText text dialect statements bodies (Grammar file expected parser warnings) =
+    IsReadFromAll text dialect statements bodies
+AreOfText text dialect statements bodies (Faults faults) = Unit {0}
 
 -- what a text comes to that is taken for one of a dialect: it is read as one, or as one of grmtools where it says so
 pub record ComesTo (text : List ℕ) (taken : Dialect) (read : FileRead) : Type 0 where
@@ -108,5 +110,5 @@ pub record ComesTo (text : List ℕ) (taken : Dialect) (read : FileRead) : Type 
   pub is : IsReadAs text taken dialect
   pub statements : List Statement
   pub bodies : List Alternative
-  pub are_read : AreBodiesOf text dialect bodies read
+  pub are_read : AreOfText text dialect statements bodies read
   pub has : HasBodies text dialect statements bodies read

@@ -26,6 +26,12 @@ pub mod Delimiters
 pub mod Bodies
 -- all bodies of a file
 pub mod AllBodies
+-- what directives declare
+pub mod Directives
+-- what lexemes declare
+pub mod Declarations
+-- declarations that are read up to a place
+pub mod DeclarationsRead
 -- what stands in quotes, and which bytes it is
 pub mod Quotes
 -- names and texts in quotes, as grmtools reads them

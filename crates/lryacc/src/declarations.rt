@@ -1,7 +1,12 @@
 //! Declarations.
 
-ghost use Rattle.std.specs.Prelude.{IfErr};
-ghost use Rattle.lryacc.specs.Bodies.{IsTold, PassesNoDelimiter};
+ghost use Rattle.std.specs.Prelude.{◌≡◌, ◌∷◌, [], true, false, IfErr, IfSome, MatchOption, OnOk};
+ghost use Rattle.lryacc.specs.Bodies.{IsTold, PassesNoDelimiter, Stays, TakesSymbol, delimiters_read};
+ghost use Rattle.lryacc.specs.Declarations.{counted_of, directive_declares, number_declares};
+ghost use Rattle.lryacc.specs.DeclarationsRead.{IsSaidBy, StatesDeclared, StatesListed, all_stated};
+ghost use Rattle.lryacc.specs.DeclarationsRead.{form_expected, form_here, is_of_numbers, said_of};
+ghost use Rattle.lryacc.specs.Directives.{counted, form_of};
+ghost use Rattle.lryacc.specs.NamedSymbols.{text_at};
 
 use crate::contents::{LevelKind, Statement};
 use crate::dialects::Dialect;
@@ -22,6 +27,18 @@ fn unknown(directive: &[u8]) -> FaultKind {
         [b'%', name @ ..] if is_name_in_any_case(name) => OldForm::Capitals,
         _ => return FaultKind::UnknownDirective(Dialect::Bison),
     })
+}
+
+/// That so many conflicts are expected.
+fn expectation(is_of_shifts: bool, number: Lexeme) -> Statement
+    ensures { counted_of (result ∷ [])
+        ≡ number_declares (form_expected is_of_shifts) true number }
+{
+    if is_of_shifts {
+        Statement::ExpectShiftReduce(number)
+    } else {
+        Statement::ExpectReduceReduce(number)
+    }
 }
 
 /// What a declaration says of each of its symbols.
@@ -55,6 +72,19 @@ impl Said {
             _ => Wanted::Symbol,
         }
     }
+
+    /// What is said of a symbol.
+    fn of(self, symbol: Lexeme) -> Statement
+        ensures { counted_of (result ∷ []) ≡ said_of self symbol }
+    {
+        match self {
+            Said::DeclaredToken | Said::Token | Said::PassedOver => Statement::Token(symbol),
+            Said::DeclaredRule => Statement::Rule(symbol),
+            Said::Operator | Said::InLevel => Statement::InLevel(symbol),
+            Said::Mention | Said::NotInRules => Statement::Mention(symbol),
+            Said::Start => Statement::Start(symbol),
+        }
+    }
 }
 
 /// Symbols behind a directive, some of them perhaps behind tags.
@@ -77,10 +107,12 @@ impl Listing {
 }
 
 impl<'a> Reader<'a> {
-    /// Reads a declaration of a file for Bison.
-    pub(crate) fn bison_declaration(&mut self) -> Result<(), Halt>
+    /// Reads a declaration of a file for Bison, which stands before the rules or among them.
+    pub(crate) fn bison_declaration(&mut self, is_among_rules: bool) -> Result<(), Halt>
         ensures over { PassesNoDelimiter self.old self.new }
         ensures told { IfErr result (λ halt. IsTold halt self.new) }
+        ensures said { OnOk result ((is_among_rules ≡ false → delimiters_read self.old ≡ 0)
+            → StatesDeclared self.old self.new) }
     {
         let Some(directive) = self.take(LexemeKind::Directive) else {
             return Err(self.wants(Wanted::Declaration));
@@ -89,6 +121,10 @@ impl<'a> Reader<'a> {
             let kind = unknown(self.bytes(directive));
             return Err(self.fault(kind, directive.span));
         };
+        if form.is_misplaced(is_among_rules) {
+            let kind = FaultKind::Wanted(Wanted::Rule);
+            return Err(self.fault(kind, directive.span));
+        }
         match form {
             Form::Tokens => self.listing(Said::DeclaredToken),
             Form::Rules => self.listing(Said::DeclaredRule),
@@ -105,31 +141,36 @@ impl<'a> Reader<'a> {
     }
 
     /// What stands behind a directive; None for an unknown one.
-    pub(crate) fn form(&self, directive: Lexeme) -> Option<Form> {
-        match self.bytes(directive) {
-            [b'%', name @ ..] => form_of(name, self.dialect),
-            _ => None,
+    pub(crate) fn form(&self, directive: Lexeme) -> Option<Form>
+        ensures { IfSome result (λ form. counted form
+            ≡ form_of self.now.dialect (text_at self.now.text.now directive.span)) }
+    {
+        match self.bytes(directive).strip_prefix(b"%".as_slice()) {
+            Some(name) => form_of(name, self.dialect),
+            None => None,
         }
     }
 
     /// Reads how many conflicts are expected.
     pub(crate) fn expected(&mut self, is_of_shifts: bool) -> Result<(), Halt>
+        requires { form_here self.old ≡ form_expected is_of_shifts }
         ensures over { PassesNoDelimiter self.old self.new }
         ensures told { IfErr result (λ halt. IsTold halt self.new) }
+        ensures said { OnOk result (delimiters_read self.old ≡ 0
+            → StatesDeclared self.old self.new) }
     {
         let number = self.want(LexemeKind::Number, Wanted::Number)?;
-        self.state(if is_of_shifts {
-            Statement::ExpectShiftReduce(number)
-        } else {
-            Statement::ExpectReduceReduce(number)
-        })?;
+        self.state(expectation(is_of_shifts, number))?;
         Ok(())
     }
 
     /// Reads what stands behind a directive that says nothing of the grammar.
     fn passed_over(&mut self, form: Form, directive: Lexeme) -> Result<(), Halt>
+        requires { form_here self.old ≡ counted form }
         ensures over { PassesNoDelimiter self.old self.new }
         ensures told { IfErr result (λ halt. IsTold halt self.new) }
+        ensures said { OnOk result (StatesDeclared self.old self.new) }
+        ensures none { OnOk result (directive_declares (counted form) ≡ []) }
     {
         match form {
             Form::CodeForSymbols => self.code_for_symbols(),
@@ -158,19 +199,16 @@ impl<'a> Reader<'a> {
 
     /// Reads symbols, at least one, some of them perhaps behind tags.
     fn listing(&mut self, said: Said) -> Result<(), Halt>
+        requires { IsSaidBy said (form_here self.old) }
         ensures over { PassesNoDelimiter self.old self.new }
         ensures told { IfErr result (λ halt. IsTold halt self.new) }
+        ensures said { OnOk result (StatesDeclared self.old self.new) }
     {
         let mut listing = Listing::new();
         for _ in 0..self.lexemes.len() {
-            if self.take_tag(&mut listing) {
-                continue;
-            }
-            let Some(symbol) = self.take_listed(said) else {
+            if !self.listed_part(said, &mut listing)? {
                 break;
-            };
-            self.say(said, symbol)?;
-            self.listed(symbol, &mut listing)?;
+            }
         }
         if listing.wants_symbol {
             return Err(self.wants(said.wanted()));
@@ -178,9 +216,28 @@ impl<'a> Reader<'a> {
         Ok(())
     }
 
+    /// Reads a tag, or a symbol and what stands behind it; false where neither stands here.
+    fn listed_part(&mut self, said: Said, listing: &mut Listing) -> Result<bool, AllocError>
+        requires { IsSaidBy said (form_here self.old) }
+        ensures over { PassesNoDelimiter self.old self.new }
+        ensures listed { OnOk result (StatesListed self.old self.new) }
+    {
+        if self.take_tag(listing) {
+            return Ok(true);
+        }
+        let Some(symbol) = self.take_listed(said) else {
+            return Ok(false);
+        };
+        self.say(said, symbol)?;
+        self.listed(symbol, listing)?;
+        Ok(true)
+    }
+
     /// Takes a symbol of which that may be said: a text is not declared by itself.
     fn take_listed(&mut self, said: Said) -> Option<Lexeme>
-        ensures { PassesNoDelimiter self.old self.new }
+        ensures taken { MatchOption result (Stays self.old self.new) (λ lexeme.
+            TakesSymbol self.old self.new lexeme) }
+        ensures statements { self.new.contents.statements ≡ self.old.contents.statements }
     {
         match (said, self.kind()) {
             (Said::DeclaredToken | Said::DeclaredRule, Some(LexemeKind::Text)) => None,
@@ -190,7 +247,8 @@ impl<'a> Reader<'a> {
 
     /// Takes a tag, which is for the symbols behind it; false where none stands here, or another one stands right before it.
     fn take_tag(&mut self, listing: &mut Listing) -> bool
-        ensures { PassesNoDelimiter self.old self.new }
+        ensures over { PassesNoDelimiter self.old self.new }
+        ensures listed { StatesListed self.old self.new }
     {
         if listing.wants_symbol && listing.tag.is_some() {
             return false;
@@ -205,7 +263,8 @@ impl<'a> Reader<'a> {
 
     /// Takes in that a symbol stands in a listing.
     fn listed(&mut self, symbol: Lexeme, listing: &mut Listing) -> Result<(), AllocError>
-        ensures { PassesNoDelimiter self.old self.new }
+        ensures over { PassesNoDelimiter self.old self.new }
+        ensures listed { OnOk result (StatesListed self.old self.new) }
     {
         listing.wants_symbol = false;
         match listing.tag {
@@ -216,8 +275,10 @@ impl<'a> Reader<'a> {
 
     /// Reads symbols, at least one.
     pub(crate) fn said(&mut self, said: Said) -> Result<(), Halt>
+        requires { IsSaidBy said (form_here self.old) }
         ensures over { PassesNoDelimiter self.old self.new }
         ensures told { IfErr result (λ halt. IsTold halt self.new) }
+        ensures said { OnOk result (StatesDeclared self.old self.new) }
     {
         let first = self.want_symbol()?;
         self.say(said, first)?;
@@ -232,15 +293,22 @@ impl<'a> Reader<'a> {
 
     /// Adds what is said of a symbol, and what stands behind it.
     fn say(&mut self, said: Said, symbol: Lexeme) -> Result<(), AllocError>
-        ensures { PassesNoDelimiter self.old self.new }
+        requires { IsSaidBy said (form_here self.old) }
+        ensures over { PassesNoDelimiter self.old self.new }
+        ensures said { OnOk result (all_stated self.new []
+            ≡ all_stated self.old (said_of said symbol)) }
+        ensures form { OnOk result (form_here self.new ≡ form_here self.old) }
     {
-        self.state(match said {
-            Said::DeclaredToken | Said::Token | Said::PassedOver => Statement::Token(symbol),
-            Said::DeclaredRule => Statement::Rule(symbol),
-            Said::Operator | Said::InLevel => Statement::InLevel(symbol),
-            Said::Mention | Said::NotInRules => Statement::Mention(symbol),
-            Said::Start => Statement::Start(symbol),
-        })?;
+        self.state(said.of(symbol))?;
+        self.say_behind(said, symbol)
+    }
+
+    /// Adds what stands behind a symbol of which that is said.
+    fn say_behind(&mut self, said: Said, symbol: Lexeme) -> Result<(), AllocError>
+        requires { IsSaidBy said (form_here self.old) }
+        ensures over { PassesNoDelimiter self.old self.new }
+        ensures listed { OnOk result (StatesListed self.old self.new) }
+    {
         match said {
             Said::DeclaredToken | Said::DeclaredRule => self.code_and_alias(symbol),
             Said::Operator if symbol.kind != LexemeKind::Text => self.code(symbol),
@@ -251,7 +319,9 @@ impl<'a> Reader<'a> {
 
     /// Reads the number of a symbol, if one stands here.
     fn code(&mut self, symbol: Lexeme) -> Result<(), AllocError>
-        ensures { PassesNoDelimiter self.old self.new }
+        requires { is_of_numbers (form_here self.old) ≡ false }
+        ensures over { PassesNoDelimiter self.old self.new }
+        ensures listed { OnOk result (StatesListed self.old self.new) }
     {
         match self.take(LexemeKind::Number) {
             Some(number) => self.state(Statement::Code(symbol, number)),
@@ -261,23 +331,36 @@ impl<'a> Reader<'a> {
 
     /// Reads the number of a symbol and the text that is another name of it, where they stand here.
     fn code_and_alias(&mut self, symbol: Lexeme) -> Result<(), AllocError>
-        ensures { PassesNoDelimiter self.old self.new }
+        requires { form_here self.old ≡ Form.Nothing }
+        ensures over { PassesNoDelimiter self.old self.new }
+        ensures listed { OnOk result (StatesListed self.old self.new) }
     {
         self.code(symbol)?;
-        let alias = match self.take(LexemeKind::Text) {
-            Some(text) => Some(text),
-            None => self.take(LexemeKind::TranslatedText),
-        };
-        match alias {
+        match self.take_alias() {
             Some(text) => self.state(Statement::Alias(symbol, text)),
             None => Ok(()),
         }
     }
 
+    /// Takes a text that is another name of a symbol.
+    fn take_alias(&mut self) -> Option<Lexeme>
+        requires { form_here self.old ≡ Form.Nothing }
+        ensures over { PassesNoDelimiter self.old self.new }
+        ensures listed { StatesListed self.old self.new }
+    {
+        match self.take(LexemeKind::Text) {
+            Some(text) => Some(text),
+            None => self.take(LexemeKind::TranslatedText),
+        }
+    }
+
     /// Reads the tokens of a precedence line.
     fn level(&mut self, kind: LevelKind) -> Result<(), Halt>
+        requires { form_here self.old ≡ Form.Level kind }
         ensures over { PassesNoDelimiter self.old self.new }
         ensures told { IfErr result (λ halt. IsTold halt self.new) }
+        ensures said { OnOk result (all_stated self.new []
+            ≡ all_stated self.old (Statement.Level kind ∷ [])) }
     {
         self.state(Statement::Level(kind))?;
         self.listing(Said::Operator)
@@ -287,16 +370,13 @@ impl<'a> Reader<'a> {
     fn code_for_symbols(&mut self) -> Result<(), Halt>
         ensures over { PassesNoDelimiter self.old self.new }
         ensures told { IfErr result (λ halt. IsTold halt self.new) }
+        ensures said { OnOk result (StatesDeclared self.old self.new) }
     {
         self.pass_wanted(LexemeKind::Action, Wanted::Code)?;
         let mut is_first = true;
         for _ in 0..self.lexemes.len() {
-            let is_tag = self.skip(LexemeKind::Tag) || self.skip(LexemeKind::AnyTag);
-            if !is_tag {
-                let Some(symbol) = self.take_symbol() else {
-                    break;
-                };
-                self.state(Statement::Mention(symbol))?;
+            if !self.mentioned()? {
+                break;
             }
             is_first = false;
         }
@@ -306,10 +386,39 @@ impl<'a> Reader<'a> {
         Ok(())
     }
 
+    /// Reads a symbol or a tag; false where neither stands here.
+    fn mentioned(&mut self) -> Result<bool, AllocError>
+        requires { form_here self.old ≡ Form.Nothing }
+        ensures over { PassesNoDelimiter self.old self.new }
+        ensures listed { OnOk result (StatesListed self.old self.new) }
+    {
+        if self.skip_tag() {
+            return Ok(true);
+        }
+        let Some(symbol) = self.take_symbol() else {
+            return Ok(false);
+        };
+        self.state(Statement::Mention(symbol))?;
+        Ok(true)
+    }
+
+    /// Passes over a tag, which may stand for each one or for none; false where none stands here.
+    fn skip_tag(&mut self) -> bool
+        requires { form_here self.old ≡ Form.Nothing }
+        ensures over { PassesNoDelimiter self.old self.new }
+        ensures listed { StatesListed self.old self.new }
+    {
+        if self.skip(LexemeKind::Tag) {
+            return true;
+        }
+        self.skip(LexemeKind::AnyTag)
+    }
+
     /// Reads one piece of code, and so many at the most.
     fn codes(&mut self, most: usize) -> Result<(), Halt>
         ensures over { PassesNoDelimiter self.old self.new }
         ensures told { IfErr result (λ halt. IsTold halt self.new) }
+        ensures said { OnOk result (StatesDeclared self.old self.new) }
     {
         self.pass_wanted(LexemeKind::Action, Wanted::Code)?;
         for _ in 1..most {
@@ -322,13 +431,28 @@ impl<'a> Reader<'a> {
 
     /// Reads the name behind `%define`, and its value.
     fn defined(&mut self) -> Result<(), Halt>
+        requires { form_here self.old ≡ Form.Nothing }
         ensures over { PassesNoDelimiter self.old self.new }
         ensures told { IfErr result (λ halt. IsTold halt self.new) }
+        ensures said { OnOk result (StatesDeclared self.old self.new) }
     {
         self.pass_wanted(LexemeKind::Name, Wanted::Name)?;
-        let _ = self.skip(LexemeKind::Name)
-            || self.skip(LexemeKind::Text)
-            || self.skip(LexemeKind::Action);
+        let _ = self.skip_value();
         Ok(())
+    }
+
+    /// Passes over a name, a text or code; false where none of these stands here.
+    fn skip_value(&mut self) -> bool
+        requires { form_here self.old ≡ Form.Nothing }
+        ensures over { PassesNoDelimiter self.old self.new }
+        ensures said { StatesDeclared self.old self.new }
+    {
+        if self.skip(LexemeKind::Name) {
+            return true;
+        }
+        if self.skip(LexemeKind::Text) {
+            return true;
+        }
+        self.skip(LexemeKind::Action)
     }
 }

@@ -1,7 +1,10 @@
 //! The directives, and what stands behind each.
 
-ghost use Rattle.std.specs.Prelude.{◌≡◌, IfOk, IfSome, slice_get};
+ghost use Rattle.std.specs.Prelude.{◌≡◌, true, ◌∷◌, IfOk, IfSome, slice_get};
 ghost use Rattle.std.specs.Option.{option_map};
+ghost use Rattle.lryacc.specs.DeclarationsRead.{is_of_numbers};
+ghost use Rattle.lryacc.specs.Directives.{Each, counted, form_of};
+ghost use Rattle.lryacc.specs.declared.dialects.Dialect.{Dialect};
 ghost use Rattle.lryacc.specs.Spellings.{IsNear};
 
 use crate::contents::LevelKind;
@@ -60,6 +63,25 @@ pub(crate) enum Form {
     NotInRules,
     /// Of grmtools: a token, and the text by which messages tell it.
     ShownText,
+}
+
+impl Form {
+    /// Whether a directive of that form stands among rules, and may stand before them alone.
+    pub(crate) fn is_misplaced(self, is_among_rules: bool) -> bool
+        ensures { is_of_numbers self ≡ true → result ≡ is_among_rules }
+    {
+        match self {
+            Form::ShiftReduce
+            | Form::ReduceReduce
+            | Form::Definition
+            | Form::OptionalText
+            | Form::Text
+            | Form::Code
+            | Form::Codes
+            | Form::Nothing => is_among_rules,
+            _ => false,
+        }
+    }
 }
 
 /// The names of the directives, without `%`.
@@ -143,24 +165,43 @@ static GRMTOOLS: [(&str, Form); 13] = [
 ];
 
 /// What stands behind the directive of that name in a list.
-fn form_in(names: &[(&str, Form)], name: &[u8]) -> Option<Form> {
-    for (listed, form) in names {
-        if listed.as_bytes() == name {
-            return Some(*form);
+fn form_in(names: &[(&str, Form)], name: &[u8]) -> Option<Form>
+    ensures { (dialect : Dialect)
+        → Each (λ pair. counted pair.1 ≡ form_of dialect (37 ∷ pair.0.now)) names.now
+        → IfSome result (λ form. counted form ≡ form_of dialect (37 ∷ name.now)) }
+{
+    for at in 0..names.len() {
+        if names[at].0.as_bytes() == name {
+            return form_at(names, at);
         }
     }
     None
 }
 
+/// What stands behind the directive of that number in a list.
+fn form_at(names: &[(&str, Form)], at: usize) -> Option<Form>
+    ensures { result ≡ option_map (λ pair. pair.1) (slice_get names.now at) }
+{
+    match names.get(at) {
+        Some((_, form)) => Some(*form),
+        None => None,
+    }
+}
+
 /// Whether a directive has that name, in letters of either case.
 pub(crate) fn is_name_in_any_case(name: &[u8]) -> bool {
-    NAMES
-        .iter()
-        .any(|(listed, _)| listed.as_bytes().eq_ignore_ascii_case(name))
+    for (listed, _) in &NAMES {
+        if listed.as_bytes().eq_ignore_ascii_case(name) {
+            return true;
+        }
+    }
+    false
 }
 
 /// What stands behind the directive of that name, which is written without its `%`; None where Bison has no such one.
-fn bison_form_of(name: &[u8]) -> Option<Form> {
+fn bison_form_of(name: &[u8]) -> Option<Form>
+    ensures { IfSome result (λ form. counted form ≡ form_of Dialect.Bison (37 ∷ name.now)) }
+{
     match form_in(&NAMES, name) {
         Some(form) => Some(form),
         None => form_in(&UNDERSCORED, name),
@@ -210,7 +251,9 @@ pub fn near_directive(
 }
 
 /// What stands behind the directive of that name in a file of a dialect; None where there is no such one.
-pub(crate) fn form_of(name: &[u8], dialect: Dialect) -> Option<Form> {
+pub(crate) fn form_of(name: &[u8], dialect: Dialect) -> Option<Form>
+    ensures { IfSome result (λ form. counted form ≡ form_of dialect (37 ∷ name.now)) }
+{
     match dialect {
         Dialect::Bison => bison_form_of(name),
         Dialect::Grmtools => form_in(&GRMTOOLS, name),

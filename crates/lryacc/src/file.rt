@@ -4,6 +4,7 @@ ghost use Rattle.std.specs.Prelude.{◌≡◌, ◌<◌, All, IfOk, length, vec_l
 ghost use Rattle.lryacc.specs.Aliases.{AreSettled};
 ghost use Rattle.lryacc.specs.AllBodies.{AreAllBodies};
 ghost use Rattle.lryacc.specs.AllLexemes.{AreAllLexemesOf};
+ghost use Rattle.lryacc.specs.Declarations.{AreAllDeclared};
 ghost use Rattle.lryacc.specs.EndTokens.{HasEndBy};
 ghost use Rattle.lryacc.specs.FileProductions.{HasProductions};
 ghost use Rattle.lryacc.specs.FilesRead.{ComesTo, HasBodies, HasNoGrammar};
@@ -51,6 +52,8 @@ fn contents(
     ensures faults { IfOk result (λ contents. vec_len contents.faults ≡ 0 → vec_len faults ≡ 0) }
     ensures read { IfOk result (λ contents. vec_len contents.faults ≡ 0
         → AreAllBodies text.now lexemes.now dialect contents.alternatives.items) }
+    ensures declared { IfOk result (λ contents. vec_len contents.faults ≡ 0
+        → AreAllDeclared text.now lexemes.now dialect contents.statements.items) }
 {
     let mut reader = Reader::new(alloc, text, dialect, lexemes, faults);
     reader.file()?;
@@ -89,11 +92,12 @@ fn to_tell(faults: &[Fault]) -> &[Fault]
     requires { 0 < length faults.now }
     ensures { 0 < length result.now }
 {
-    let is_of_grmtools = |fault: &Fault| matches!(fault.kind, FaultKind::OfGrmtools);
-    match faults.iter().position(is_of_grmtools) {
-        Some(at) => &faults[at..at + 1],
-        None => faults,
+    for at in 0..faults.len() {
+        if matches!(faults[at].kind, FaultKind::OfGrmtools) {
+            return &faults[at..at + 1];
+        }
     }
+    faults
 }
 
 /// Reads a grammar file of a dialect: its grammar, or all faults that were come by. A file that begins with `%grmtools{` is one

@@ -1,8 +1,10 @@
 //! Declarations and rules of a file of grmtools.
 
-ghost use Rattle.std.specs.Prelude.{◌≡◌, ◌<◌, ◌≤◌, true, IfErr, IfOk, OnOk, slice_get, vec_len};
+ghost use Rattle.std.specs.Prelude.{◌≡◌, ◌<◌, ◌≤◌, ◌∷◌, [], true, IfErr, IfOk, OnOk, slice_get, vec_len};
 ghost use Rattle.lryacc.specs.AllBodies.{ReadsBodies};
-ghost use Rattle.lryacc.specs.Bodies.{GoesOn, IsSameFile, IsTold, PassesNoDelimiter, ReadsOn, is_action, is_symbol};
+ghost use Rattle.lryacc.specs.Bodies.{GoesOn, IsSameFile, IsTold, PassesNoDelimiter, ReadsOn, Stays};
+ghost use Rattle.lryacc.specs.Bodies.{delimiters_read, is_action, is_symbol};
+ghost use Rattle.lryacc.specs.DeclarationsRead.{StatesDeclared, all_stated, form_here, is_silent, stated};
 ghost use Rattle.lryacc.specs.Delimiters.{delimiter_of};
 
 use crate::contents::{BodyPart, LevelKind, Statement};
@@ -19,22 +21,29 @@ impl<'a> Reader<'a> {
     pub(crate) fn header(&mut self) -> Result<(), Halt>
         ensures over { PassesNoDelimiter self.old self.new }
         ensures told { IfErr result (λ halt. IsTold halt self.new) }
+        ensures said { OnOk result (StatesDeclared self.old self.new) }
     {
-        if let Some(first) = self.here() {
-            let is_header = self.bytes(first) == b"%grmtools".as_slice();
-            if is_header && self.skip(LexemeKind::Directive) {
-                return self.want_unless_broken(LexemeKind::Action, Wanted::Code);
-            }
+        let Some(first) = self.here() else {
+            return Ok(());
+        };
+        let is_header = self.bytes(first) == b"%grmtools".as_slice();
+        if !is_header {
+            return Ok(());
         }
-        Ok(())
+        if !self.skip(LexemeKind::Directive) {
+            return Ok(());
+        }
+        self.want_unless_broken(LexemeKind::Action, Wanted::Code)
     }
 
     /// Takes the next lexeme, which is to be of that kind, or to be missing at the end of a file that has faults already: one of
     /// them may be that code never ends.
     fn want_unless_broken(&mut self, kind: LexemeKind, wanted: Wanted) -> Result<(), Halt>
-        requires { delimiter_of kind ≡ 0 }
+        requires other { delimiter_of kind ≡ 0 }
+        requires silent { is_silent kind ≡ true }
         ensures over { PassesNoDelimiter self.old self.new }
         ensures told { IfErr result (λ halt. IsTold halt self.new) }
+        ensures said { OnOk result (StatesDeclared self.old self.new) }
     {
         if self.here().is_some() || self.is_whole() {
             self.pass_wanted(kind, wanted)
@@ -48,6 +57,8 @@ impl<'a> Reader<'a> {
         ensures file { IsSameFile self.old self.new }
         ensures told { IfErr result (λ halt. IsTold halt self.new) }
         ensures over { OnOk result (PassesNoDelimiter self.old self.new) }
+        ensures said { OnOk result (delimiters_read self.old ≡ 0
+            → StatesDeclared self.old self.new) }
     {
         let Some(directive) = self.take(LexemeKind::Directive) else {
             let halt = self.wants(Wanted::Declaration);
@@ -60,9 +71,18 @@ impl<'a> Reader<'a> {
             Some(Form::Level(kind)) => self.grmtools_level(kind),
             Some(Form::NotInRules) => self.said(Said::NotInRules),
             Some(Form::ShownText) => self.shown_text(),
-            Some(Form::Starts) => self.once(directive, Form::Starts),
-            Some(Form::ShiftReduce) => self.once(directive, Form::ShiftReduce),
-            Some(Form::ReduceReduce) => self.once(directive, Form::ReduceReduce),
+            Some(Form::Starts) => {
+                self.once(directive)?;
+                self.start()
+            }
+            Some(Form::ShiftReduce) => {
+                self.once(directive)?;
+                self.expected(true)
+            }
+            Some(Form::ReduceReduce) => {
+                self.once(directive)?;
+                self.expected(false)
+            }
             _ => {
                 let kind = FaultKind::UnknownDirective(Dialect::Grmtools);
                 Err(self.fault(kind, directive.span))
@@ -72,8 +92,11 @@ impl<'a> Reader<'a> {
 
     /// Reads the tokens of a precedence line.
     fn grmtools_level(&mut self, kind: LevelKind) -> Result<(), Halt>
+        requires { form_here self.old ≡ Form.Level kind }
         ensures over { PassesNoDelimiter self.old self.new }
         ensures told { IfErr result (λ halt. IsTold halt self.new) }
+        ensures said { OnOk result (all_stated self.new []
+            ≡ all_stated self.old (Statement.Level kind ∷ [])) }
     {
         self.state(Statement::Level(kind))?;
         self.said(Said::InLevel)
@@ -81,15 +104,17 @@ impl<'a> Reader<'a> {
 
     /// Reads the token behind `%epp`, and the text by which messages tell it.
     fn shown_text(&mut self) -> Result<(), Halt>
+        requires { form_here self.old ≡ Form.Nothing }
         ensures over { PassesNoDelimiter self.old self.new }
         ensures told { IfErr result (λ halt. IsTold halt self.new) }
+        ensures said { OnOk result (StatesDeclared self.old self.new) }
     {
         let token = self.want_symbol()?;
         self.state(Statement::Mention(token))?;
-        if self.skip(LexemeKind::QuotedName) || self.skip(LexemeKind::QuotedText) {
+        if self.skip(LexemeKind::QuotedName) {
             return Ok(());
         }
-        Err(self.wants(Wanted::Quoted))
+        self.pass_wanted(LexemeKind::QuotedText, Wanted::Quoted)
     }
 
     /// Whether the same directive stands before.
@@ -106,25 +131,24 @@ impl<'a> Reader<'a> {
         false
     }
 
-    /// Reads what stands behind a directive that may stand in a file once.
-    fn once(&mut self, directive: Lexeme, form: Form) -> Result<(), Halt>
-        ensures over { PassesNoDelimiter self.old self.new }
+    /// Stops at a directive that may stand in a file once, if the same one stands before.
+    fn once(&mut self, directive: Lexeme) -> Result<(), Halt>
+        ensures stays { Stays self.old self.new }
         ensures told { IfErr result (λ halt. IsTold halt self.new) }
+        ensures statements { self.new.contents.statements ≡ self.old.contents.statements }
     {
         if self.is_second(directive) {
             return Err(self.fault(FaultKind::SecondDirective, directive.span));
         }
-        match form {
-            Form::Starts => self.start(),
-            Form::ShiftReduce => self.expected(true),
-            _ => self.expected(false),
-        }
+        Ok(())
     }
 
     /// Reads the start rule.
     fn start(&mut self) -> Result<(), Halt>
+        requires { form_here self.old ≡ Form.Starts }
         ensures over { PassesNoDelimiter self.old self.new }
         ensures told { IfErr result (λ halt. IsTold halt self.new) }
+        ensures said { OnOk result (StatesDeclared self.old self.new) }
     {
         let name = self.want(LexemeKind::Name, Wanted::Name)?;
         self.state(Statement::Start(name))?;
@@ -136,6 +160,7 @@ impl<'a> Reader<'a> {
         ensures faults { vec_len self.old.contents.faults ≤ vec_len self.new.contents.faults }
         ensures told { IfErr result (λ halt. IsTold halt self.new) }
         ensures read { OnOk result (ReadsBodies 1 self.old self.new) }
+        ensures said { OnOk result (StatesDeclared self.old self.new) }
     {
         let name = self.want(LexemeKind::RuleName, Wanted::Rule)?;
         let _ = self.skip(LexemeKind::RuleType);
@@ -163,6 +188,7 @@ impl<'a> Reader<'a> {
         ensures file { IsSameFile self.old self.new }
         ensures told { IfErr result (λ halt. IsTold halt self.new) }
         ensures read { IfOk result (GoesOn self.old self.new body.old body.new) }
+        ensures kept { OnOk result (stated self.new ≡ stated self.old) }
     {
         match lexeme.kind {
             LexemeKind::Name => {
@@ -190,6 +216,7 @@ impl<'a> Reader<'a> {
         ensures file { IsSameFile self.old self.new }
         ensures told { IfErr result (λ halt. IsTold halt self.new) }
         ensures read { OnOk result (ReadsOn self.old self.new body.old body.new) }
+        ensures kept { OnOk result (stated self.new ≡ stated self.old) }
     {
         body.add(BodyPart::Symbol(lexeme), lexeme)?;
         self.pass();
@@ -204,6 +231,7 @@ impl<'a> Reader<'a> {
         ensures file { IsSameFile self.old self.new }
         ensures told { IfErr result (λ halt. IsTold halt self.new) }
         ensures read { OnOk result (ReadsOn self.old self.new body.old body.new) }
+        ensures kept { OnOk result (stated self.new ≡ stated self.old) }
     {
         body.add(BodyPart::Action(lexeme, None), lexeme)?;
         self.pass();

@@ -27,6 +27,7 @@ mod rules;
 mod runs;
 mod rust_code;
 mod scanner;
+mod sections;
 mod spellings;
 mod symbols;
 mod useful;

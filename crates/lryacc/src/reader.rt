@@ -1,6 +1,6 @@
 //! A place among the lexemes of a file, and what was read so far.
 
-ghost use Rattle.std.specs.Prelude.{◌≡◌, ◌<◌, ◌==◌, [], IfErr, IfOk, IfSome, MatchOption, MatchBool, OnErr, OnOk, slice_get, vec_len};
+ghost use Rattle.std.specs.Prelude.{◌≡◌, ◌<◌, ◌==◌, ◌++◌, ◌∷◌, [], IfErr, IfOk, IfSome, MatchOption, MatchBool, OnErr, OnOk, slice_get, vec_len};
 ghost use Rattle.std.specs.Option.{option_map};
 ghost use Rattle.lryacc.specs.Bodies.{IsSameFile, IsTold, Passes, SkipsKind, Stays, TakesKind, TakesSymbol};
 ghost use Rattle.lryacc.specs.NamedSymbols.{text_at};
@@ -37,6 +37,7 @@ impl<'a> Reader<'a> {
         ensures begins { result.at ≡ 0 }
         ensures none { result.contents.alternatives.items ≡ [] }
         ensures faults { result.contents.faults ≡ faults }
+        ensures stated { result.contents.statements.items ≡ [] }
     {
         Reader {
             text,
@@ -86,14 +87,16 @@ impl<'a> Reader<'a> {
     pub(crate) fn pass(&mut self)
         ensures passes { self.old.at < usize.MAX → Passes self.old self.new }
         ensures file { IsSameFile self.old self.new }
+        ensures statements { self.new.contents.statements ≡ self.old.contents.statements }
     {
         self.at = self.at.saturating_add(1);
     }
 
     /// Takes the next lexeme, if it is of that kind.
     pub(crate) fn take(&mut self, kind: LexemeKind) -> Option<Lexeme>
-        ensures { MatchOption result (Stays self.old self.new) (λ lexeme.
+        ensures taken { MatchOption result (Stays self.old self.new) (λ lexeme.
             TakesKind self.old self.new kind lexeme) }
+        ensures statements { self.new.contents.statements ≡ self.old.contents.statements }
     {
         match self.here() {
             Some(lexeme) if lexeme.kind == kind => {
@@ -106,8 +109,9 @@ impl<'a> Reader<'a> {
 
     /// Passes over the next lexeme, if it is of that kind; false where it is not.
     pub(crate) fn skip(&mut self, kind: LexemeKind) -> bool
-        ensures { MatchBool result (SkipsKind self.old self.new kind)
+        ensures skipped { MatchBool result (SkipsKind self.old self.new kind)
             (Stays self.old self.new) }
+        ensures statements { self.new.contents.statements ≡ self.old.contents.statements }
     {
         match self.here() {
             Some(lexeme) if lexeme.kind == kind => {
@@ -123,6 +127,7 @@ impl<'a> Reader<'a> {
         ensures taken { IfOk result (TakesKind self.old self.new kind) }
         ensures stays { OnErr result (Stays self.old self.new) }
         ensures told { IfErr result (λ halt. IsTold halt self.new) }
+        ensures statements { self.new.contents.statements ≡ self.old.contents.statements }
     {
         match self.take(kind) {
             Some(lexeme) => Ok(lexeme),
@@ -135,6 +140,7 @@ impl<'a> Reader<'a> {
         ensures taken { OnOk result (SkipsKind self.old self.new kind) }
         ensures stays { OnErr result (Stays self.old self.new) }
         ensures told { IfErr result (λ halt. IsTold halt self.new) }
+        ensures statements { self.new.contents.statements ≡ self.old.contents.statements }
     {
         if self.skip(kind) {
             Ok(())
@@ -147,6 +153,7 @@ impl<'a> Reader<'a> {
     pub(crate) fn tell_wanted(&mut self, wanted: Wanted) -> Result<(), AllocError>
         ensures told { OnOk result (0 < vec_len self.new.contents.faults) }
         ensures stays { Stays self.old self.new }
+        ensures statements { self.new.contents.statements ≡ self.old.contents.statements }
     {
         let end = self.text.len();
         let span = match self.here() {
@@ -160,6 +167,7 @@ impl<'a> Reader<'a> {
     pub(crate) fn wants(&mut self, wanted: Wanted) -> Halt
         ensures told { IsTold result self.new }
         ensures stays { Stays self.old self.new }
+        ensures statements { self.new.contents.statements ≡ self.old.contents.statements }
     {
         Halt::behind(self.tell_wanted(wanted))
     }
@@ -168,6 +176,7 @@ impl<'a> Reader<'a> {
     pub(crate) fn fault(&mut self, kind: FaultKind, span: Span) -> Halt
         ensures told { IsTold result self.new }
         ensures stays { Stays self.old self.new }
+        ensures statements { self.new.contents.statements ≡ self.old.contents.statements }
     {
         Halt::behind(self.tell(kind, span))
     }
@@ -182,8 +191,9 @@ impl<'a> Reader<'a> {
 
     /// Takes a symbol.
     pub(crate) fn take_symbol(&mut self) -> Option<Lexeme>
-        ensures { MatchOption result (Stays self.old self.new) (λ lexeme.
+        ensures taken { MatchOption result (Stays self.old self.new) (λ lexeme.
             TakesSymbol self.old self.new lexeme) }
+        ensures statements { self.new.contents.statements ≡ self.old.contents.statements }
     {
         match self.here() {
             Some(lexeme) if lexeme.kind.is_of_symbol() => {
@@ -199,6 +209,7 @@ impl<'a> Reader<'a> {
         ensures taken { IfOk result (TakesSymbol self.old self.new) }
         ensures stays { OnErr result (Stays self.old self.new) }
         ensures told { IfErr result (λ halt. IsTold halt self.new) }
+        ensures statements { self.new.contents.statements ≡ self.old.contents.statements }
     {
         match self.take_symbol() {
             Some(lexeme) => Ok(lexeme),
@@ -208,7 +219,9 @@ impl<'a> Reader<'a> {
 
     /// Adds a statement.
     pub(crate) fn state(&mut self, statement: Statement) -> Result<(), AllocError>
-        ensures { Stays self.old self.new }
+        ensures stays { Stays self.old self.new }
+        ensures stated { OnOk result (self.new.contents.statements.items
+            ≡ self.old.contents.statements.items ++ statement ∷ []) }
     {
         self.contents.statements.push(statement)?;
         Ok(())
@@ -218,6 +231,7 @@ impl<'a> Reader<'a> {
     pub(crate) fn tell(&mut self, kind: FaultKind, span: Span) -> Result<(), AllocError>
         ensures told { OnOk result (0 < vec_len self.new.contents.faults) }
         ensures stays { Stays self.old self.new }
+        ensures statements { self.new.contents.statements ≡ self.old.contents.statements }
     {
         self.contents.faults.push(Fault { kind, span })?;
         Ok(())

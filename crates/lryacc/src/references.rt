@@ -19,7 +19,7 @@ use std::alloc::{AllocError, Global};
 
 /// How an action calls a part.
 #[derive(Clone, Copy)]
-enum Call<'a> {
+pub(crate) enum Call<'a> {
     /// By its number, counted from 1: `$2`, `@2`.
     Number(u64),
     /// By its name, behind which something of the host language may follow a `.` or `-`: `$left`, `@left`.
@@ -50,7 +50,7 @@ struct Reference<'a> {
 }
 
 /// What is called at a place behind `$` or `@` and perhaps a tag, and the place behind that.
-fn call_at(code: &[u8], start: usize) -> Option<(Call<'_>, usize)> {
+pub(crate) fn call_at(code: &[u8], start: usize) -> Option<(Call<'_>, usize)> {
     let first = *code.get(start)?;
     if first.is_ascii_digit() {
         let end = Run::Digits.end(code, start);

@@ -6,8 +6,7 @@ use crate::code::{CodeReader, Ending};
 use crate::contents::BodyPart;
 use crate::dialects::Dialect;
 use crate::gaps::gap_end;
-use crate::lexemes::{Lexeme, is_name_start};
-use crate::numbers::value_of;
+use crate::references::{Call, call_at};
 use crate::runs::Run;
 use crate::symbols::Symbols;
 use std::alloc::{AllocError, Global};
@@ -22,6 +21,17 @@ enum Value<'a> {
     Numbered(u64),
     /// That of the part with this name: `$left`, `$[left]`.
     Named(&'a [u8]),
+}
+
+impl<'a> Value<'a> {
+    /// That of the part that is called so. What stands behind a `.` or `-` is of the host language where the name has no brackets.
+    fn of(call: Call<'a>) -> Value<'a> {
+        match call {
+            Call::Number(number) => Value::Numbered(number),
+            Call::Name(name) => Value::Named(&name[..Run::Word.end(name, 0)]),
+            Call::Bracket(name) => Value::Named(name),
+        }
+    }
 }
 
 /// The place behind the tag that begins at a place, or the place itself where none does; None where it isn't closed on its
@@ -50,27 +60,11 @@ fn value_at(code: &[u8], from: usize) -> Option<(Value<'_>, usize)>
     requires { from ≤ length code.now }
 {
     let start = behind_tag(code, from)?;
-    let first = *code.get(start)?;
-    if first == b'$' {
+    if code.get(start) == Some(&b'$') {
         return Some((Value::Own, start + 1));
     }
-    if first.is_ascii_digit() {
-        let end = Run::Digits.end(code, start);
-        return Some((Value::Numbered(value_of(&code[start..end])?), end));
-    }
-    if is_name_start(first) {
-        // What stands behind a `.` or `-` is of the host language where the name has no brackets.
-        let name = &code[start..Run::Word.end(code, start)];
-        return Some((Value::Named(name), Run::Name.end(code, start)));
-    }
-    if first != b'[' || !is_name_start(*code.get(start + 1)?) {
-        return None;
-    }
-    let end = Run::Name.end(code, start + 1);
-    if *code.get(end)? != b']' {
-        return None;
-    }
-    Some((Value::Named(&code[start + 1..end]), end + 1))
+    let (call, end) = call_at(code, start)?;
+    Some((Value::of(call), end))
 }
 
 /// The value that the mark at a place calls, if it calls one, and the place behind what belongs to the mark. `@$` is the place of

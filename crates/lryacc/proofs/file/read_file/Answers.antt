@@ -1,10 +1,11 @@
 use Rattle.std.proofs.Common.{◌≡◌, ℕ, List, [], IfOk, Ok, Err, Result, Bool, true, ◌==◌, arith, subst, sym, vec_len}
 use Rattle.lryacc.specs.declared.contents.Alternative.{Alternative}
+use Rattle.lryacc.specs.declared.contents.Statement.{Statement}
 use Rattle.lryacc.specs.declared.dialects.Dialect.{Dialect}
 use Rattle.lryacc.specs.declared.file.FileRead.{FileRead}
 use Rattle.lryacc.specs.declared.file.FileRead.TheVariants.{Grammar, Faults}
 use Rattle.lryacc.specs.AllLexemes.{AreAllLexemesOf}
-use Rattle.lryacc.specs.FilesRead.{AreBodiesOf, AreBodiesRead, ComesTo, HasNoGrammar}
+use Rattle.lryacc.specs.FilesRead.{AreOfText, ComesTo, HasNoGrammar, IsReadFromAll}
 use Rattle.lryacc.specs.Headers.{IsReadAs}
 use Rattle.lryacc.proofs.file.read_file.Goals as goal
 
@@ -13,9 +14,9 @@ each-ok : {A E : Type 0} (P Q : A → Type 0) (r : Result A E) → ((a : A) → 
 each-ok P Q (Ok a) f p = f a p
 each-ok P Q (Err e) f p = p
 
-bodies-of : (text : List ℕ) (dialect : Dialect) (bodies : List Alternative) (read : FileRead) → AreBodiesRead text dialect bodies → AreBodiesOf text dialect bodies read
-bodies-of text dialect bodies (Grammar file expected parser warnings) h = h
-bodies-of text dialect bodies (Faults faults) h = tt
+of-text : (text : List ℕ) (dialect : Dialect) (statements : List Statement) (bodies : List Alternative) (read : FileRead) → IsReadFromAll text dialect statements bodies → AreOfText text dialect statements bodies read
+of-text text dialect statements bodies (Grammar file expected parser warnings) h = h
+of-text text dialect statements bodies (Faults faults) h = tt
 
 none-told : (n : ℕ) (is : Bool) → is ≡ (n == 0) → is ≡ true → n ≡ 0
 none-told n is same empty = grind arith
@@ -41,11 +42,12 @@ returns-clause-bodies c =
       is = c.dialect_of-dialect.ensures;
       statements = contents.statements.items;
       bodies = contents.alternatives.items;
-      are_read = bodies-of c.args.text.now c.dialect_of-dialect.result contents.alternatives.items read record {
+      are_read = of-text c.args.text.now c.dialect_of-dialect.result contents.statements.items contents.alternatives.items read record {
         lexemes = c.as_slice-lexemes.result.now;
         of_text =
             subst (AreAllLexemesOf c.args.text.now c.dialect_of-dialect.result) (sym c.as_slice-lexemes.ensures.value)
             (c.in_ok-lexemes.ensures.all (c.in_ok-contents.ensures.faults none));
+        declared = c.in_ok-contents.ensures.declared none;
         all = c.in_ok-contents.ensures.read none;
       };
       has = has;

@@ -1,9 +1,12 @@
-use Rattle.std.proofs.Common.{List, Option, ◌-◌, None, [], ◌∷◌, ◌++◌, refl, ap, sym, subst, arith, ◌∙◌}
+use Rattle.std.proofs.Common.{◌≡◌, List, Option, ◌-◌, None, [], ◌∷◌, ◌++◌, refl, ap, sym, subst, arith, ◌∙◌}
 use Rattle.lryacc.specs.declared.contents.Alternative.{Alternative}
 use Rattle.lryacc.specs.declared.lexemes.Lexeme.{Lexeme}
 use Rattle.lryacc.specs.declared.places.Span.{Span}
 use Rattle.lryacc.specs.Bodies.{IsBody, IsRuleBefore, place_of, reach_over}
 use Rattle.lryacc.specs.Bodies.IsBody.{begins}
+use Rattle.lryacc.specs.DeclarationsRead.{stated}
+use Rattle.lryacc.proofs.AllDeclared.{body-declared}
+use Rattle.lryacc.proofs.DeclarationsRead.{stated-same}
 use Rattle.lryacc.proofs.BodiesRead.{IsBody-same, alternative-count, body_counts, ends_there}
 use Rattle.lryacc.proofs.reader.Reader.alternative.Goals as goal
 
@@ -48,3 +51,18 @@ returns-clause-added c =
           stays.file.bodies ∙ added.bodies
           ∙ ap (λ (xs : List Alternative). xs ++ added.body ∷ []) c.parts.ensures.file.bodies;
     }
+
+pub returns-clause-said : goal.returns-clause-said
+returns-clause-said c =
+    let old = c.args.self.now in
+    let added = c.in_ok-end_body.ensures.ended in
+    let stays = c.in_ok-want_end.ensures.stays in
+    let text = stays.file.text ∙ (added.text ∙ c.parts.ensures.file.text) in
+    let lexemes = stays.file.lexemes ∙ (added.lexemes ∙ c.parts.ensures.file.lexemes) in
+    let dialect = stays.file.dialect ∙ (added.dialect ∙ c.parts.ensures.file.dialect) in
+    let kept : stated c.want_end.new.self ≡ stated old =
+    stated-same c.parts.new.self c.want_end.new.self (c.want_end.ensures.statements ∙ c.end_body.ensures.statements) ∙ c.in_ok-parts.ensures.kept in
+    let first : IsBody old.text.now old.lexemes.now old.at old.at c.new-body.result.parts.items c.new-body.result.precedence =
+    IsBody-same old.text.now old.lexemes.now old.at old.at old.at [] c.new-body.result.parts.items None c.new-body.result.precedence refl c.new-body.ensures.parts c.new-body.ensures.precedence begins in
+    body-declared old c.want_end.new.self c.parts.new.self.at c.parts.new.body.parts.items c.parts.new.body.precedence text lexemes dialect
+    (stays.at ∙ added.at) kept c.requires.behind (c.in_ok-parts.ensures.read.parts old.at first)

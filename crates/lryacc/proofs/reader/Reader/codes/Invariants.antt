@@ -1,5 +1,9 @@
 use Rattle.lryacc.specs.Bodies.{PassesNoDelimiter}
+use Rattle.lryacc.specs.DeclarationsRead.{StatesDeclared}
 use Rattle.lryacc.proofs.reader.Reader.codes.Given as goal
 
 abbrev pub invariant-loop : goal.invariant-loop
-invariant-loop l = PassesNoDelimiter l.initial.self l.self
+invariant-loop l = record {
+  over : PassesNoDelimiter l.initial.self l.self;
+  declared : StatesDeclared l.initial.self l.self;
+}

@@ -1,6 +1,7 @@
 use Rattle.std.proofs.Common.{◌≡◌, ◌+◌, None, ◌∙◌, arith, sym}
 use Rattle.lryacc.proofs.BodyReach.{action-no_aside, reach-one}
 use Rattle.lryacc.proofs.BodiesRead.{IsBody-action}
+use Rattle.lryacc.proofs.DeclarationsRead.{stated-same}
 use Rattle.lryacc.proofs.reader.Reader.grmtools_action.Goals as goal
 
 pub returns-else-is_in_body-clause-read : goal.returns-else-is_in_body-clause-read
@@ -36,3 +37,9 @@ returns-in_ok-tell-clause-read c =
           c.in_ok-add.ensures.span
           ∙ sym (reach-one _ _ _ _ c.args.lexeme at c.requires.here (action-no_aside c.args.lexeme.kind c.requires.is));
     }
+
+pub returns-else-is_in_body-clause-kept : goal.returns-else-is_in_body-clause-kept
+returns-else-is_in_body-clause-kept c = stated-same c.args.self.now c.pass.new.self c.pass.ensures.statements
+
+pub returns-in_ok-tell-clause-kept : goal.returns-in_ok-tell-clause-kept
+returns-in_ok-tell-clause-kept c = stated-same c.args.self.now c.tell.new.self (c.tell.ensures.statements ∙ c.pass.ensures.statements)

@@ -1,6 +1,7 @@
 use Rattle.std.proofs.Common.{◌∙◌, arith, sym}
 use Rattle.lryacc.proofs.BodyReach.{symbol-no_aside, reach-one}
 use Rattle.lryacc.proofs.BodiesRead.{IsBody-symbol}
+use Rattle.lryacc.proofs.DeclarationsRead.{stated-same}
 use Rattle.lryacc.proofs.reader.Reader.grmtools_symbol.Goals as goal
 
 pub returns-clause-read : goal.returns-clause-read
@@ -15,3 +16,6 @@ returns-clause-read c =
           c.in_ok-add.ensures.span
           ∙ sym (reach-one _ _ _ _ c.args.lexeme passes.at c.requires.here (symbol-no_aside c.args.lexeme.kind c.requires.is));
     }
+
+pub returns-clause-kept : goal.returns-clause-kept
+returns-clause-kept c = stated-same c.args.self.now c.pass.new.self c.pass.ensures.statements

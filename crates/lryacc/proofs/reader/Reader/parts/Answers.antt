@@ -11,6 +11,7 @@ loop-lexeme-init c = record {
   file = record { text = refl; lexemes = refl; dialect = refl; bodies = refl; faults = omega arith };
   parts = λ from so_far. so_far;
   on = omega arith;
+  kept = refl;
   reach = reach-still c.args.self.now.lexemes.now c.args.self.now.at c.args.body.now.span;
 }
 
@@ -35,8 +36,15 @@ loop-lexeme-preserved c =
           rw (sym so_far.file.text, sym so_far.file.lexemes)
           (read.parts from (rw (so_far.file.text, so_far.file.lexemes) (so_far.parts from begun)));
       on = omega (arith, so_far.on, read.on);
+      kept = c.in_ok-goes_on.ensures.kept ∙ so_far.kept;
       reach =
           reach-on first.lexemes.now c.args.body.now.span c.loop-lexeme.body.span c.goes_on.new.body.span first.at now.at new.at so_far.on
           (omega (arith, read.on)) so_far.reach
           (read.reach ∙ ap (λ (xs : List Lexeme). reach_over xs now.at c.loop-lexeme.body.span (new.at - now.at)) so_far.file.lexemes);
     }
+
+pub returns-then-not-branch-clause-kept : goal.returns-then-not-branch-clause-kept
+returns-then-not-branch-clause-kept c = c.in_ok-goes_on.ensures.kept ∙ c.loop-lexeme.invariant.kept
+
+pub returns-clause-kept : goal.returns-clause-kept
+returns-clause-kept c = c.loop-lexeme.invariant.kept

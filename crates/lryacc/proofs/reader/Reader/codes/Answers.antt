@@ -1,0 +1,25 @@
+use Rattle.std.proofs.Common.{◌∙◌, refl}
+use Rattle.lryacc.specs.declared.lexemes.LexemeKind.TheVariants as kind
+use Rattle.lryacc.proofs.BodiesRead.{over_again, over_skips}
+use Rattle.lryacc.proofs.DeclarationsRead.{over-none, silent-skipped, silent-skips}
+use Rattle.lryacc.proofs.reader.Reader.codes.Goals as goal
+
+pub loop-init : goal.loop-init
+loop-init c = record { over = over-none c.pass_wanted.new.self; declared = refl }
+
+pub loop-preserved : goal.loop-preserved
+loop-preserved c = record {
+  over = over_again c.loop.invariant.over (over_skips kind.Action refl c.skip.result c.skip.ensures.skipped);
+  declared = silent-skips c.loop.self c.skip.new.self kind.Action refl c.skip.result c.skip.ensures.skipped c.skip.ensures.statements ∙ c.loop.invariant.declared;
+}
+
+pub returns-after-loop-clause-said : goal.returns-after-loop-clause-said
+returns-after-loop-clause-said c =
+    c.loop.invariant.declared
+    ∙ silent-skipped kind.Action refl c.in_ok-pass_wanted.ensures.taken c.pass_wanted.ensures.statements
+
+pub returns-then-not-skip-clause-said : goal.returns-then-not-skip-clause-said
+returns-then-not-skip-clause-said c =
+    silent-skips c.loop.self c.skip.new.self kind.Action refl c.skip.result c.skip.ensures.skipped c.skip.ensures.statements
+    ∙ (c.loop.invariant.declared
+    ∙ silent-skipped kind.Action refl c.in_ok-pass_wanted.ensures.taken c.pass_wanted.ensures.statements)

@@ -1,0 +1,74 @@
+use Rattle.std.proofs.Common.{◌≡◌, ◌∙◌, [], ◌∷◌, Some, ap}
+use Rattle.lryacc.specs.declared.contents.Statement.TheVariants as says
+use Rattle.lryacc.specs.declared.directives.Form.{Form}
+use Rattle.lryacc.specs.declared.directives.Form.TheVariants as form
+use Rattle.lryacc.specs.Bodies.{delimiters_read}
+use Rattle.lryacc.specs.DeclarationsRead.{StatesDeclared}
+use Rattle.lryacc.proofs.DeclarationsRead.{count-directive, directive-some, form-stays, on-ok-always, stays-stated, tail-declared, tail-directive, tail-when}
+use Rattle.lryacc.proofs.reader.Reader.grmtools_declaration.Goals as goal
+
+pub said-requires : goal.said-requires
+said-requires c = (directive-some c.form.result form.Tokens (c.in-Some-Tokens.is ∙ ap (λ (f : Form). Some f) c.in-Some-Tokens.field-0-is) c.form.ensures c.in-Some.ensures.taken c.take.ensures.statements).1
+
+pub returns-in-Some-Tokens-clause-said : goal.returns-in-Some-Tokens-clause-said
+returns-in-Some-Tokens-clause-said c =
+    on-ok-always c.said.result (StatesDeclared c.args.self.now c.said.new.self) (delimiters_read c.args.self.now ≡ 0)
+    (tail-declared c.args.self.now c.take.new.self c.said.new.self c.said.result (directive-some c.form.result form.Tokens (c.in-Some-Tokens.is ∙ ap (λ (f : Form). Some f) c.in-Some-Tokens.field-0-is) c.form.ensures c.in-Some.ensures.taken c.take.ensures.statements).0 c.said.ensures.said)
+
+pub said-requires-in-Some-PassedOver : goal.said-requires-in-Some-PassedOver
+said-requires-in-Some-PassedOver c = (directive-some c.form.result form.PassedOver (c.in-Some-PassedOver.is ∙ ap (λ (f : Form). Some f) c.in-Some-PassedOver.field-0-is) c.form.ensures c.in-Some.ensures.taken c.take.ensures.statements).1
+
+pub returns-in-Some-PassedOver-clause-said : goal.returns-in-Some-PassedOver-clause-said
+returns-in-Some-PassedOver-clause-said c =
+    on-ok-always c.said-in-Some-PassedOver.result (StatesDeclared c.args.self.now c.said-in-Some-PassedOver.new.self) (delimiters_read c.args.self.now ≡ 0)
+    (tail-declared c.args.self.now c.take.new.self c.said-in-Some-PassedOver.new.self c.said-in-Some-PassedOver.result (directive-some c.form.result form.PassedOver (c.in-Some-PassedOver.is ∙ ap (λ (f : Form). Some f) c.in-Some-PassedOver.field-0-is) c.form.ensures c.in-Some.ensures.taken c.take.ensures.statements).0 c.said-in-Some-PassedOver.ensures.said)
+
+pub said-requires-in-Some-NotInRules : goal.said-requires-in-Some-NotInRules
+said-requires-in-Some-NotInRules c = (directive-some c.form.result form.NotInRules (c.in-Some-NotInRules.is ∙ ap (λ (f : Form). Some f) c.in-Some-NotInRules.field-0-is) c.form.ensures c.in-Some.ensures.taken c.take.ensures.statements).1
+
+pub returns-in-Some-NotInRules-clause-said : goal.returns-in-Some-NotInRules-clause-said
+returns-in-Some-NotInRules-clause-said c =
+    on-ok-always c.said-in-Some-NotInRules.result (StatesDeclared c.args.self.now c.said-in-Some-NotInRules.new.self) (delimiters_read c.args.self.now ≡ 0)
+    (tail-declared c.args.self.now c.take.new.self c.said-in-Some-NotInRules.new.self c.said-in-Some-NotInRules.result (directive-some c.form.result form.NotInRules (c.in-Some-NotInRules.is ∙ ap (λ (f : Form). Some f) c.in-Some-NotInRules.field-0-is) c.form.ensures c.in-Some.ensures.taken c.take.ensures.statements).0 c.said-in-Some-NotInRules.ensures.said)
+
+pub shown_text-requires : goal.shown_text-requires
+shown_text-requires c = (directive-some c.form.result form.ShownText (c.in-Some-ShownText.is ∙ ap (λ (f : Form). Some f) c.in-Some-ShownText.field-0-is) c.form.ensures c.in-Some.ensures.taken c.take.ensures.statements).1
+
+pub returns-in-Some-ShownText-clause-said : goal.returns-in-Some-ShownText-clause-said
+returns-in-Some-ShownText-clause-said c =
+    on-ok-always c.shown_text.result (StatesDeclared c.args.self.now c.shown_text.new.self) (delimiters_read c.args.self.now ≡ 0)
+    (tail-declared c.args.self.now c.take.new.self c.shown_text.new.self c.shown_text.result (directive-some c.form.result form.ShownText (c.in-Some-ShownText.is ∙ ap (λ (f : Form). Some f) c.in-Some-ShownText.field-0-is) c.form.ensures c.in-Some.ensures.taken c.take.ensures.statements).0 c.shown_text.ensures.said)
+
+pub grmtools_level-requires : goal.grmtools_level-requires
+grmtools_level-requires c = (directive-some c.form.result (form.Level c.in-Some-Level.kind) (c.in-Some-Level.is ∙ ap (λ (f : Form). Some f) c.in-Some-Level.field-0-is) c.form.ensures c.in-Some.ensures.taken c.take.ensures.statements).1
+
+pub returns-in-Some-Level-clause-said : goal.returns-in-Some-Level-clause-said
+returns-in-Some-Level-clause-said c =
+    on-ok-always c.grmtools_level.result (StatesDeclared c.args.self.now c.grmtools_level.new.self) (delimiters_read c.args.self.now ≡ 0)
+    (tail-directive c.args.self.now c.take.new.self c.grmtools_level.new.self c.grmtools_level.result (says.Level c.in-Some-Level.kind ∷ []) (directive-some c.form.result (form.Level c.in-Some-Level.kind) (c.in-Some-Level.is ∙ ap (λ (f : Form). Some f) c.in-Some-Level.field-0-is) c.form.ensures c.in-Some.ensures.taken c.take.ensures.statements).0 c.grmtools_level.ensures.said)
+
+pub start-requires : goal.start-requires
+start-requires c = form-stays c.once.ensures.stays ∙ (directive-some c.form.result form.Starts (c.in-Some-Starts.is ∙ ap (λ (f : Form). Some f) c.in-Some-Starts.field-0-is) c.form.ensures c.in-Some.ensures.taken c.take.ensures.statements).1
+
+pub returns-in_ok-once-in-Some-Starts-clause-said : goal.returns-in_ok-once-in-Some-Starts-clause-said
+returns-in_ok-once-in-Some-Starts-clause-said c =
+    on-ok-always c.start.result (StatesDeclared c.args.self.now c.start.new.self) (delimiters_read c.args.self.now ≡ 0)
+    (tail-declared c.args.self.now c.once.new.self c.start.new.self c.start.result (stays-stated [] c.once.ensures.stays c.once.ensures.statements ∙ (directive-some c.form.result form.Starts (c.in-Some-Starts.is ∙ ap (λ (f : Form). Some f) c.in-Some-Starts.field-0-is) c.form.ensures c.in-Some.ensures.taken c.take.ensures.statements).0) c.start.ensures.said)
+
+pub expected-requires : goal.expected-requires
+expected-requires c = form-stays c.once-in-Some-ShiftReduce.ensures.stays ∙ (directive-some c.form.result form.ShiftReduce (c.in-Some-ShiftReduce.is ∙ ap (λ (f : Form). Some f) c.in-Some-ShiftReduce.field-0-is) c.form.ensures c.in-Some.ensures.taken c.take.ensures.statements).1
+
+pub returns-in_ok-once-in-Some-ShiftReduce-clause-said : goal.returns-in_ok-once-in-Some-ShiftReduce-clause-said
+returns-in_ok-once-in-Some-ShiftReduce-clause-said c =
+    tail-when c.args.self.now c.once-in-Some-ShiftReduce.new.self c.expected.new.self c.expected.result (delimiters_read c.once-in-Some-ShiftReduce.new.self ≡ 0) (delimiters_read c.args.self.now ≡ 0)
+    (λ none. c.once-in-Some-ShiftReduce.ensures.stays.count ∙ count-directive c.in-Some.ensures.taken none)
+    (stays-stated [] c.once-in-Some-ShiftReduce.ensures.stays c.once-in-Some-ShiftReduce.ensures.statements ∙ (directive-some c.form.result form.ShiftReduce (c.in-Some-ShiftReduce.is ∙ ap (λ (f : Form). Some f) c.in-Some-ShiftReduce.field-0-is) c.form.ensures c.in-Some.ensures.taken c.take.ensures.statements).0) c.expected.ensures.said
+
+pub expected-requires-in-Some-ReduceReduce : goal.expected-requires-in-Some-ReduceReduce
+expected-requires-in-Some-ReduceReduce c = form-stays c.once-in-Some-ReduceReduce.ensures.stays ∙ (directive-some c.form.result form.ReduceReduce (c.in-Some-ReduceReduce.is ∙ ap (λ (f : Form). Some f) c.in-Some-ReduceReduce.field-0-is) c.form.ensures c.in-Some.ensures.taken c.take.ensures.statements).1
+
+pub returns-in_ok-once-in-Some-ReduceReduce-clause-said : goal.returns-in_ok-once-in-Some-ReduceReduce-clause-said
+returns-in_ok-once-in-Some-ReduceReduce-clause-said c =
+    tail-when c.args.self.now c.once-in-Some-ReduceReduce.new.self c.expected-in-Some-ReduceReduce.new.self c.expected-in-Some-ReduceReduce.result (delimiters_read c.once-in-Some-ReduceReduce.new.self ≡ 0) (delimiters_read c.args.self.now ≡ 0)
+    (λ none. c.once-in-Some-ReduceReduce.ensures.stays.count ∙ count-directive c.in-Some.ensures.taken none)
+    (stays-stated [] c.once-in-Some-ReduceReduce.ensures.stays c.once-in-Some-ReduceReduce.ensures.statements ∙ (directive-some c.form.result form.ReduceReduce (c.in-Some-ReduceReduce.is ∙ ap (λ (f : Form). Some f) c.in-Some-ReduceReduce.field-0-is) c.form.ensures c.in-Some.ensures.taken c.take.ensures.statements).0) c.expected-in-Some-ReduceReduce.ensures.said

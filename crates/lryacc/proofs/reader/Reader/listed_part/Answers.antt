@@ -1,0 +1,25 @@
+use Rattle.std.proofs.Common.{◌∙◌}
+use Rattle.lryacc.proofs.DeclarationsRead.{listed-again, said-still, stays-listed, symbol-form, symbol-said}
+use Rattle.lryacc.proofs.reader.Reader.listed_part.Goals as goal
+
+pub say-requires : goal.say-requires
+say-requires c = said-still c.args.said (symbol-form c.in-Some.ensures.taken) (said-still c.args.said c.take_tag.ensures.listed.form c.requires)
+
+pub returns-then-take_tag-clause-listed : goal.returns-then-take_tag-clause-listed
+returns-then-take_tag-clause-listed c = c.take_tag.ensures.listed
+
+pub returns-in_default-clause-listed : goal.returns-in_default-clause-listed
+returns-in_default-clause-listed c =
+    listed-again c.take_tag.ensures.listed (stays-listed c.in_default.ensures.taken c.in_default.ensures.statements)
+
+pub returns-clause-listed : goal.returns-clause-listed
+returns-clause-listed c =
+    let tag = c.take_tag.ensures.listed in
+    let is = said-still c.args.said tag.form c.requires in
+    let taken = c.in-Some.ensures.taken in
+    listed-again
+    (listed-again tag record {
+      declared = symbol-said c.say.new.self c.args.said is taken c.take_listed.ensures.statements c.in_ok-say.ensures.said;
+      form = c.in_ok-say.ensures.form ∙ symbol-form taken;
+    })
+    c.in_ok-listed.ensures.listed

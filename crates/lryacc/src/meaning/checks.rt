@@ -1,0 +1,116 @@
+//! What is wrong with symbols, once all that the file says of them is taken in.
+
+ghost use Rattle.std.specs.Prelude.{OnOk};
+ghost use Rattle.lryacc.specs.EndTokens.{KeepsMeaning};
+
+use crate::dialects::Dialect;
+use crate::faults::FaultKind;
+use crate::lexemes::Lexeme;
+use crate::meaning::Meaning;
+use crate::places::Span;
+use crate::spellings::Meant;
+use crate::symbols::{Class, Symbol};
+use std::alloc::AllocError;
+use std::collections::BTreeMap;
+
+impl<'a> Meaning<'a> {
+    /// Tells what is wrong with symbols: two levels, a code of another symbol, no meaning.
+    pub(super) fn tell_symbols(&mut self) -> Result<(), AllocError>
+        ensures { OnOk result (KeepsMeaning self.old self.new) }
+    {
+        let mut first = BTreeMap::new(*self.faults.allocator());
+        for number in 0..self.symbols.list.len() {
+            if let Some(symbol) = self.symbols.list.get(number).copied() {
+                self.tell_symbol(&mut first, number, symbol)?;
+            }
+        }
+        Ok(())
+    }
+
+    /// Tells what is wrong with a symbol. Of those before it, the first ones by their codes are known.
+    fn tell_symbol(
+        &mut self,
+        first: &mut BTreeMap<u64, Span>,
+        number: usize,
+        symbol: Symbol,
+    ) -> Result<(), AllocError>
+        ensures { OnOk result (KeepsMeaning self.old self.new) }
+    {
+        if let Some((first, second)) = self.two_levels(number) {
+            self.tell(FaultKind::LevelTwice(first), second)?;
+        }
+        if let Some(code) = symbol.code {
+            self.tell_code(first, code, symbol.span())?;
+        }
+        self.tell_undefined(symbol)
+    }
+
+    /// Tells of the later one of a symbol with a code and the first other one that has it. Takes in which is the first one then.
+    fn tell_code(
+        &mut self,
+        first: &mut BTreeMap<u64, Span>,
+        code: u64,
+        span: Span,
+    ) -> Result<(), AllocError>
+        ensures { OnOk result (KeepsMeaning self.old self.new) }
+    {
+        if let Some(other) = first.get(&code).copied() {
+            if other.start < span.start {
+                return self.tell(FaultKind::CodeOfOther(code, other), span);
+            }
+            self.tell(FaultKind::CodeOfOther(code, span), other)?;
+        }
+        first.insert(code, span)?;
+        Ok(())
+    }
+
+    /// Tells that a symbol is nothing, though a body has it, and warns of one that only declarations name.
+    fn tell_undefined(&mut self, symbol: Symbol) -> Result<(), AllocError>
+        ensures { OnOk result (KeepsMeaning self.old self.new) }
+    {
+        if symbol.class != Class::Unknown {
+            return Ok(());
+        }
+        let kind = FaultKind::Undefined(self.near(symbol.mention, Meant::Symbol)?);
+        if symbol.is_used {
+            self.tell(kind, symbol.mention.span)
+        } else {
+            self.warn(kind, symbol.mention.span)
+        }
+    }
+
+    /// Tells of start symbols that are no rules.
+    pub(super) fn tell_starts(&mut self) -> Result<(), AllocError>
+        ensures { OnOk result (KeepsMeaning self.old self.new) }
+    {
+        for at in 0..self.starts.len() {
+            if let Some(start) = self.starts.get(at).copied() {
+                self.tell_start(start)?;
+            }
+        }
+        Ok(())
+    }
+
+    /// Tells of a start symbol that is no rule. It may be a token where it isn't the only one, and for Bison one that nothing
+    /// else names is a rule without bodies.
+    fn tell_start(&mut self, start: Lexeme) -> Result<(), AllocError>
+        ensures { OnOk result (KeepsMeaning self.old self.new) }
+    {
+        let Some(number) = self.symbols.find(start) else {
+            return Ok(());
+        };
+        let Some(symbol) = self.symbols.list.get(number).copied() else {
+            return Ok(());
+        };
+        match symbol.class {
+            Class::Token if self.starts.len() == 1 => {
+                self.tell(FaultKind::StartIsToken, symbol.span())
+            }
+            Class::Unknown if self.symbols.dialect == Dialect::Grmtools => {
+                let near = self.near(start, Meant::Rule)?;
+                self.tell(FaultKind::StartHasNoRule(near), start.span)
+            }
+            _ => Ok(()),
+        }
+    }
+}

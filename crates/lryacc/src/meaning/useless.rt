@@ -1,0 +1,116 @@
+//! What is told of useless rules and productions.
+
+ghost use Rattle.std.specs.Prelude.{◌≡◌, ◌+◌, length, IfOk, OnOk, vec_len};
+ghost use Rattle.lryacc.specs.Spellings.{ProposesNear};
+
+use crate::contents::Contents;
+use crate::dialects::Dialect;
+use crate::faults::{Fault, FaultKind};
+use crate::lexemes::{Lexeme, LexemeKind};
+use crate::meaning::Meaning;
+use crate::places::Span;
+use crate::spellings::Meant;
+use crate::symbols::Class;
+use crate::useful::Useless;
+use std::alloc::AllocError;
+
+/// Adds the same fault at each of the places.
+fn add_at(faults: &mut Vec<Fault>, kind: FaultKind, places: &[Span]) -> Result<(), AllocError>
+    ensures { OnOk result (vec_len faults.new ≡ vec_len faults.old + length places.now) }
+{
+    for span in places {
+        faults.push(Fault { kind, span: *span })?;
+    }
+    Ok(())
+}
+
+impl<'a> Meaning<'a> {
+    /// Tells of start symbols that derive no text, and warns of what is useless. A start symbol that is a token may stand beside
+    /// others, as for Bison only where nothing is useless.
+    pub(crate) fn tell_useless(
+        &mut self,
+        dialect: Dialect,
+        contents: &Contents,
+        useless: &Useless,
+    ) -> Result<(), AllocError>
+        ensures rules { OnOk result (dialect ≡ Dialect.Bison → vec_len self.new.warnings ≡ 0
+            → vec_len useless.now.rules ≡ 0) }
+        ensures productions { OnOk result (vec_len self.new.warnings ≡ 0
+            → vec_len useless.now.productions ≡ 0) }
+    {
+        if !useless.is_empty() {
+            self.tell_token_starts()?;
+        }
+        self.tell_unproductive(useless.starts.as_slice())?;
+        self.warn_of_rules(dialect, contents, useless.rules.as_slice())?;
+        let productions = useless.productions.as_slice();
+        add_at(
+            &mut self.warnings,
+            FaultKind::UselessProduction,
+            productions,
+        )?;
+        Ok(())
+    }
+
+    /// Tells of start symbols that derive no text.
+    fn tell_unproductive(&mut self, starts: &[Span]) -> Result<(), AllocError> {
+        for span in starts {
+            let kind = self.unproductive(*span)?;
+            self.tell(kind, *span)?;
+        }
+        Ok(())
+    }
+
+    /// Why the start symbol that is named at a place derives no text.
+    fn unproductive(&self, span: Span) -> Result<FaultKind, AllocError>
+        ensures { IfOk result (λ kind. ProposesNear self.now.symbols kind span) }
+    {
+        let kind = LexemeKind::RuleName;
+        let name = Lexeme { kind, span };
+        match self.symbols.find(name) {
+            Some(number) if self.class(number) == Class::Unknown => {
+                Ok(FaultKind::StartHasNoRule(self.near(name, Meant::Rule)?))
+            }
+            _ => Ok(FaultKind::StartIsUnproductive),
+        }
+    }
+
+    /// Warns of useless rules.
+    fn warn_of_rules(
+        &mut self,
+        dialect: Dialect,
+        contents: &Contents,
+        rules: &[Fault],
+    ) -> Result<(), AllocError>
+        ensures { OnOk result (dialect ≡ Dialect.Bison → vec_len self.new.warnings
+            ≡ vec_len self.old.warnings + length rules.now) }
+    {
+        match dialect {
+            Dialect::Bison => Ok(self.warnings.extend_from_slice(rules)?),
+            Dialect::Grmtools => {
+                self.warn_unless_expected(contents, rules)?;
+                Ok(())
+            }
+        }
+    }
+
+    /// Tells of start symbols that are tokens.
+    fn tell_token_starts(&mut self) -> Result<(), AllocError> {
+        for at in 0..self.starts.len() {
+            if let Some(start) = self.starts.get(at).copied() {
+                if self.is_token(start) {
+                    self.tell(FaultKind::StartIsToken, start.span)?;
+                }
+            }
+        }
+        Ok(())
+    }
+
+    /// Whether a lexeme names a token.
+    fn is_token(&self, lexeme: Lexeme) -> bool {
+        match self.symbols.find(lexeme) {
+            Some(number) => self.class(number) == Class::Token,
+            None => false,
+        }
+    }
+}
