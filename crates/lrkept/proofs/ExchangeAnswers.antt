@@ -3,9 +3,9 @@ use Rattle.std.proofs.Common.{◌≡◌, ◌≢◌, ℕ, suc, List, [], ◌∷�
 use Rattle.lrspec.specs.grammars.Grammar.{Symbol, Token, Grammar, end_token, body_of, rest}
 use Rattle.lrspec.specs.grammars.ItemSets.{HasItem}
 use Rattle.lrspec.specs.merging.Graph.{Graph, core_of}
-use Rattle.lrkept.specs.Positions.{Turn, Even, Open, Ahead, Before, Behind, Position, Follows, pushed}
-use Rattle.lrkept.specs.Exchanges as exchange
-use Rattle.lrkept.specs.Exchanges.{at, EachReduced, EachReducedByBoth, TakesAllMoves, IsDeep, Proceeds}
+use Rattle.lrexchange.specs.Positions.{Turn, Even, Open, Ahead, Before, Behind, Position, Follows, pushed}
+use Rattle.lrexchange.specs.Exchanges as exchange
+use Rattle.lrexchange.specs.Exchanges.{at, EachReduced, EachReducedByBoth, TakesAllMoves, IsDeep, Proceeds}
 
 -- where the item is open
 pub data OpenAnswer (g : Grammar) (h : Graph) (Member : Position → Type 0) (p d : ℕ) (a : Position) : Type 0 where

@@ -4,10 +4,10 @@ use Rattle.std.specs.Prelude.{slice_get}
 use Rattle.lrspec.specs.grammars.Grammar.{Symbol, Rule, Grammar}
 use Rattle.lrspec.specs.merging.Graph.{Graph}
 use Rattle.lrconflicts.specs.Moves.{Move, Reduce}
-use Rattle.lrkept.specs.Kept.{Finishes}
-use Rattle.lrkept.specs.Positions.{Ahead, Position, Sinks, GoesOn}
-use Rattle.lrkept.specs.Exchanges as exchange
-use Rattle.lrkept.specs.Exchanges.{EachOwn, Proceeds, Retreats, IsLevel, IsSame, IsListed, AreWon}
+use Rattle.lrkept.specs.Kept.{Finishes, GoesOn}
+use Rattle.lrexchange.specs.Positions.{Ahead, Position, Sinks}
+use Rattle.lrexchange.specs.Exchanges as exchange
+use Rattle.lrexchange.specs.Exchanges.{EachOwn, Proceeds, Retreats, IsLevel, IsSame, IsListed, AreWon}
 use Rattle.lrkept.proofs.ExchangeTies.{IsTied, AreAt, none_tied, raise_tied, cut_tied, sunk_at}
 use Rattle.lrkept.proofs.ExchangeStacks.{unmarked_is, raise_ours, cut_ours, cut_reduced, unmark_ours, goes_back}
 

@@ -4,8 +4,8 @@ use Rattle.std.specs.Option.{option_and_then}
 use Rattle.lrspec.specs.grammars.Grammar.{Symbol}
 use Rattle.lrspec.specs.merging.Graph as graph
 use Rattle.lrspec.specs.merging.Graph.{Graph, Leads, edge}
-use Rattle.lrkept.specs.Positions as position
-use Rattle.lrkept.specs.Positions.{Follows}
+use Rattle.lrexchange.specs.Positions as position
+use Rattle.lrexchange.specs.Positions.{Follows}
 use Rattle.lrkept.proofs.FollowedEdges.{follow, leads_once, leads_parts}
 
 -- symbols that are followed from where a list leads lead on

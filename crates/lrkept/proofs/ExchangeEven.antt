@@ -4,9 +4,9 @@ use Rattle.lrspec.specs.grammars.Grammar.{Symbol, Grammar, IsGrammar, body_of}
 use Rattle.lrspec.specs.merging.Graph.{Graph, IsGraphOf}
 use Rattle.lrspec.proofs.tables.MachineStacks.{start_body}
 use Rattle.lrconflicts.specs.Moves.{Move}
-use Rattle.lrkept.specs.Kept.{Finishes}
-use Rattle.lrkept.specs.Positions.{Even, Open, Position, GoesOn}
-use Rattle.lrkept.specs.Exchanges.{Proceeds, AreWon}
+use Rattle.lrkept.specs.Kept.{Finishes, GoesOn}
+use Rattle.lrexchange.specs.Positions.{Even, Open, Position}
+use Rattle.lrexchange.specs.Exchanges.{Proceeds, AreWon}
 use Rattle.lrkept.proofs.OpenStacks.{open_item}
 use Rattle.lrkept.proofs.OpenItemsStand.{leads_there, state_of_open, state_of_start}
 use Rattle.lrkept.proofs.ExchangeEdges.{follows_end}

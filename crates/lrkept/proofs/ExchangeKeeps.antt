@@ -9,11 +9,11 @@ use Rattle.lrspec.proofs.grammars.BodyFacts.{symbol_at_dot}
 use Rattle.lrconflicts.specs.Moves.{Move, Shift, Reduce}
 use Rattle.lrlosses.specs.Losses.{Takes}
 use Rattle.lrkept.specs.Kept as way
-use Rattle.lrkept.specs.Kept.{Finishes, GoesWith, IsKept}
-use Rattle.lrkept.specs.Positions as position
-use Rattle.lrkept.specs.Positions.{Ahead, Before, Behind, Position, GoesOn}
-use Rattle.lrkept.specs.Exchanges as exchange
-use Rattle.lrkept.specs.Exchanges.{at, EachOwn, Begins, AreWon, IsCertificate}
+use Rattle.lrkept.specs.Kept.{Finishes, GoesWith, IsKept, GoesOn}
+use Rattle.lrexchange.specs.Positions as position
+use Rattle.lrexchange.specs.Positions.{Ahead, Before, Behind, Position}
+use Rattle.lrexchange.specs.Exchanges as exchange
+use Rattle.lrexchange.specs.Exchanges.{at, EachOwn, Begins, AreWon, IsCertificate}
 use Rattle.lrkept.proofs.ExchangeClaims.{ReducesFirst, own_claim}
 use Rattle.lrkept.proofs.ExchangeTies.{level_at, none_tied}
 use Rattle.lrkept.proofs.ExchangeTurns.{Listed, reduced_claim}

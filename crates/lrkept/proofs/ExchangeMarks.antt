@@ -2,10 +2,10 @@
 use Rattle.std.proofs.Common.{◌≡◌, ℕ, List, [], ◌∷◌, ◌++◌, refl, sym, ap, ◌∙◌, append_assoc, append-nil, arith, Some}
 use Rattle.lrspec.specs.grammars.Grammar.{Symbol, Rule, Grammar, body_of, IsProductionOf}
 use Rattle.lrspec.specs.merging.Graph.{Graph, Leads}
-use Rattle.lrkept.specs.Positions as position
-use Rattle.lrkept.specs.Positions.{Mark, Ours, Position, Reduces, IsHidden, IsOurs}
-use Rattle.lrkept.specs.Exchanges as exchange
-use Rattle.lrkept.specs.Exchanges.{IsMarkOf}
+use Rattle.lrexchange.specs.Positions as position
+use Rattle.lrexchange.specs.Positions.{Mark, Ours, Position, Reduces, IsHidden, IsOurs}
+use Rattle.lrexchange.specs.Exchanges as exchange
+use Rattle.lrexchange.specs.Exchanges.{IsMarkOf}
 use Rattle.lrkept.proofs.ExchangeStacks.{unmarked_is, reduces_on, reduces_both}
 use Rattle.lrkept.proofs.ExchangeTies.{IsTied, no_length}
 

@@ -11,8 +11,8 @@ use Rattle.lrspec.specs.tables.Machine.{next_token}
 use Rattle.lrconflicts.specs.Moves.{Move, Shift, Reduce}
 use Rattle.lrkept.specs.Kept as way
 use Rattle.lrkept.specs.Kept.{Finishes}
-use Rattle.lrkept.specs.Positions.{Turn, Position}
-use Rattle.lrkept.specs.Exchanges.{at, TakesReduction, TakesAllMoves}
+use Rattle.lrexchange.specs.Positions.{Turn, Position}
+use Rattle.lrexchange.specs.Exchanges.{at, TakesReduction, TakesAllMoves}
 use Rattle.lrkept.proofs.OpenItemsStand.{leads_there, first_contends, shift_leads}
 use Rattle.lrkept.proofs.ExchangeEdges.{follows_end}
 

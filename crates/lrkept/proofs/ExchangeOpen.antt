@@ -6,9 +6,9 @@ use Rattle.lrspec.specs.merging.Graph as graph
 use Rattle.lrspec.specs.merging.Graph.{Graph, Leads, IsGraphOf}
 use Rattle.lrconflicts.specs.Moves.{Move, Reduce, forest_moves}
 use Rattle.lrkept.specs.Kept as way
-use Rattle.lrkept.specs.Kept.{Finishes}
-use Rattle.lrkept.specs.Positions.{Even, Open, Ours, Position, GoesOn, pushed}
-use Rattle.lrkept.specs.Exchanges.{at, EachReduced, EachReducedByBoth, IsDeep, AreWon}
+use Rattle.lrkept.specs.Kept.{Finishes, GoesOn}
+use Rattle.lrexchange.specs.Positions.{Even, Open, Ours, Position, pushed}
+use Rattle.lrexchange.specs.Exchanges.{at, EachReduced, EachReducedByBoth, IsDeep, AreWon}
 use Rattle.lrkept.proofs.OpenStacks.{Opens, closes, finish_body}
 use Rattle.lrkept.proofs.OpenItemsStand.{opens_fewer}
 use Rattle.lrkept.proofs.ExchangeStacks.{CutStack, raise_ours, push_ours, cut_ours}

@@ -7,10 +7,10 @@ use Rattle.lrspec.specs.tables.Machine.{next_token}
 use Rattle.lrspec.proofs.grammars.BodyFacts.{push_same}
 use Rattle.lrconflicts.specs.Moves.{Move, Shift}
 use Rattle.lrkept.specs.Kept as way
-use Rattle.lrkept.specs.Kept.{Finishes}
-use Rattle.lrkept.specs.Positions.{Turn, Even, Open, Ahead, Before, Behind, Mark, Position, IsCut, GoesOn}
-use Rattle.lrkept.specs.Exchanges as exchange
-use Rattle.lrkept.specs.Exchanges.{at, IsMarkOf, EachReduced, EachMarked, TakesReduction, AreWon}
+use Rattle.lrkept.specs.Kept.{Finishes, GoesOn}
+use Rattle.lrexchange.specs.Positions.{Turn, Even, Open, Ahead, Before, Behind, Mark, Position, IsCut}
+use Rattle.lrexchange.specs.Exchanges as exchange
+use Rattle.lrexchange.specs.Exchanges.{at, IsMarkOf, EachReduced, EachMarked, TakesReduction, AreWon}
 use Rattle.lrkept.proofs.ExchangeStacks.{push_ours}
 use Rattle.lrkept.proofs.ExchangeClaims.{Reading}
 use Rattle.lrkept.proofs.ExchangeTurns.{Listed, Holds, cut_theirs, reduced_claim, turn_holds}

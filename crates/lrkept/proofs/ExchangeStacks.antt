@@ -5,9 +5,9 @@ use Rattle.lrspec.specs.grammars.Grammar.{Symbol, Rule, Grammar, body_of, IsProd
 use Rattle.lrspec.specs.merging.Graph.{Graph}
 use Rattle.lrconflicts.specs.Moves.{Move, Reduce}
 use Rattle.lrkept.specs.Kept as way
-use Rattle.lrkept.specs.Kept.{Finishes}
-use Rattle.lrkept.specs.Positions as position
-use Rattle.lrkept.specs.Positions.{Mark, Ours, Reduces, IsHidden, IsOurs, raised, raised_mark, pushed, IsCut, OursCut, GoesOn}
+use Rattle.lrkept.specs.Kept.{Finishes, GoesOn}
+use Rattle.lrexchange.specs.Positions as position
+use Rattle.lrexchange.specs.Positions.{Mark, Ours, Reduces, IsHidden, IsOurs, raised, raised_mark, pushed, IsCut, OursCut}
 
 -- of a list that is split twice, the shorter beginning begins the longer one
 pub begins_within :

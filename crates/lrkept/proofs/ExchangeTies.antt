@@ -2,8 +2,8 @@
 use Rattle.std.proofs.Common.{◌≡◌, ◌≢◌, ℕ, ◌+◌, ◌≤◌, List, [], ◌∷◌, ◌++◌, length, take, refl, sym, ap, ◌∙◌, subst, append_assoc, append-nil, length-append, arith, None, Some}
 use Rattle.lrspec.specs.grammars.Grammar.{Symbol, Rule, Grammar, body_of, IsProductionOf}
 use Rattle.lrspec.specs.merging.Graph.{Graph, Leads}
-use Rattle.lrkept.specs.Positions as position
-use Rattle.lrkept.specs.Positions.{Mark, Ours, Ahead, Position, Reduces, Sinks, IsOurs, raised, raised_mark, OursCut}
+use Rattle.lrexchange.specs.Positions as position
+use Rattle.lrexchange.specs.Positions.{Mark, Ours, Ahead, Position, Reduces, Sinks, IsOurs, raised, raised_mark, OursCut}
 use Rattle.lrkept.proofs.ExchangeEdges.{leads_after}
 use Rattle.lrkept.proofs.ExchangeStacks.{begins_within, lowered, lower_ours, reduces_on}
 

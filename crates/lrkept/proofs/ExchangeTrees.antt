@@ -5,7 +5,7 @@ use Rattle.lrspec.specs.grammars.Trees as tree
 use Rattle.lrspec.specs.grammars.Trees.{Tree, Forest, Leaf, Node, Bare, And, leaves, forest_leaves, IsTree, IsForest}
 use Rattle.lrspec.proofs.grammars.BodyFacts.{below_of_drop, rest_next, split_next}
 use Rattle.lrconflicts.specs.Moves.{Move, Reduce, moves_of, forest_moves}
-use Rattle.lrkept.specs.Positions.{GoesOn}
+use Rattle.lrkept.specs.Kept.{GoesOn}
 use Rattle.lrkept.proofs.OpenStacks.{Opens, finish_tree}
 
 -- a forest of no symbols has no leaves

@@ -4,8 +4,8 @@ use Rattle.std.specs.Prelude.{slice_get}
 use Rattle.std.proofs.lemmas.List.{take_all}
 use Rattle.lrspec.specs.grammars.Grammar.{Symbol, Rule, Grammar, body_of, IsProductionOf}
 use Rattle.lrspec.specs.merging.Graph.{Graph}
-use Rattle.lrkept.specs.Positions.{Turn, Ahead, Position, IsCut, raised}
-use Rattle.lrkept.specs.Exchanges.{EachReduced, Proceeds, IsLevel, IsListed, AreWon}
+use Rattle.lrexchange.specs.Positions.{Turn, Ahead, Position, IsCut, raised}
+use Rattle.lrexchange.specs.Exchanges.{EachReduced, Proceeds, IsLevel, IsListed, AreWon}
 use Rattle.lrkept.proofs.ExchangeStacks.{ends_within, length_taken, raise_ours}
 use Rattle.lrkept.proofs.ExchangeTies.{IsTied, AreAt, raise_tied, reduce_tied}
 use Rattle.lrkept.proofs.ExchangeClaims.{Reading, Claim, ReadsOn, retreat_claim, listed_claim}

@@ -7,10 +7,10 @@ use Rattle.lrspec.specs.tables.Table.{Table, IsContender, action_of}
 use Rattle.lrconflicts.specs.Moves.{Move, candidate_of}
 use Rattle.lrkept.specs.declared.keeping.Exactness.{Exactness}
 use Rattle.lrkept.specs.declared.keeping.Exactness.TheVariants as known
-use Rattle.lrkept.specs.Positions.{Position}
+use Rattle.lrexchange.specs.Positions.{Position}
 use Rattle.lrkept.specs.declared.checking.Certificate.{Certificate}
-use Rattle.lrkept.specs.StoredPositions.{positions_of}
-use Rattle.lrkept.specs.Exchanges.{AreWon, IsCertificate}
+use Rattle.lrexchange.specs.StoredPositions.{positions_of}
+use Rattle.lrexchange.specs.Exchanges.{AreWon, IsCertificate}
 use Rattle.lrkept.specs.Kept.{IsKept}
 
 -- the move is kept in the cell; or it is if that is no error; or nothing is known

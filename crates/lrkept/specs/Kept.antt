@@ -22,6 +22,10 @@ pub data Finishes (g : Grammar) : List Symbol → List Move → List ℕ → Typ
       → Finishes g (v ++ Rule r ∷ []) ms text
       → Finishes g (v ++ body_of g p) (Reduce p ∷ ms) text
 
+-- the rest of the text can be read from the stack
+abbrev pub GoesOn : Grammar → List Symbol → List ℕ → Type 0
+GoesOn g v text = (ms : List Move) × Finishes g v ms text
+
 -- the stacks that count: those that lead to the state by edges of the graph. The machine comes to no others, and not to all
 -- of these
 abbrev pub Along : Graph → List Symbol → ℕ → Type 0

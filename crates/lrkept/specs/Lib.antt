@@ -6,19 +6,7 @@ pub mod Pairs
 pub mod Kept
 -- tables whose machine accepts exactly the sentences
 pub mod Exactness
--- positions at which ways to go on are compared
-pub mod Positions
--- how they are won
-pub mod Exchanges
 -- cells that take all that contends for them
 pub mod Choices
 -- how well what cells refuse is kept
 pub mod Keeping
--- what is asked at a position
-pub mod Asked
--- positions that sink
-pub mod Sinking
--- acts, as the code stores them
-pub mod StoredActs
--- positions, as the code stores them
-pub mod StoredPositions

@@ -2,16 +2,14 @@
 
 ghost use Rattle.std.specs.Prelude.{OnOk};
 ghost use Rattle.lrsearches.specs.StoredWays.{AreWaysOf};
-ghost use Rattle.lrkept.specs.Asked.{AddsPositions};
-ghost use Rattle.lrkept.specs.StoredPositions.{positions_of};
+ghost use Rattle.lrexchange.specs.Asked.{AddsPositions};
+ghost use Rattle.lrexchange.specs.StoredPositions.{positions_of};
 
-use crate::beginning::beginning;
 use crate::checking::Certificate;
-use crate::games::{Board, places_of, play};
 use crate::keeping::Automaton;
-use crate::listing::Listing;
-use crate::winning::{Node, Won};
 use lrconflicts::Move;
+use lrexchange::beginning::beginning;
+use lrexchange::{Board, Listing, Node, Won, open_ones, places_of, play};
 use lrgrammar::idx::{IndexStorage, StIdx, TIdx};
 use std::alloc::{AllocError, Global};
 
@@ -94,7 +92,8 @@ pub(crate) fn search<T: IndexStorage>(
     };
     let mut listing = Listing::new(alloc)?;
     let mut nodes = Vec::new(alloc);
-    let roots = places_of(&mut listing, board, asked.as_slice())?;
+    let open = open_ones(board, asked)?;
+    let roots = places_of(&mut listing, alloc, open)?;
     let most = MOST.min(*left);
     let found = play(&mut listing, &mut nodes, board, roots.as_slice(), most)?;
     *left = left.saturating_sub(nodes.len());

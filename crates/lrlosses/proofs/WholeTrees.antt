@@ -99,7 +99,7 @@ module _ (g : Grammar) (h : Graph) (b : Table) (m : IsGrammar g) (k : IsGraphOf 
         )
 
     -- where it goes along with the first moves, these put its trees together
-    along_reads :
+    pub along_reads :
         (ms : List Move) (n : ℕ) → GoesAlong g b text ms n → (c : Config) × IsReachedIn g b text n c × HasRead (take n ms) c
     along_reads ms zero along = (
       start_config b text,

@@ -4,7 +4,7 @@ use Rattle.lrgrammar.specs.Symbols.{symbol_of}
 use Rattle.lrclosing.proofs.NullableRests.{null_end}
 use Rattle.lrclosing.proofs.SymbolsBehindDots.{left_at, left_none}
 use Rattle.lrkept.proofs.NullableLists.{null_next, null_stop}
-use Rattle.lrkept.proofs.Tests.{test_fails}
+use Rattle.lrexchange.proofs.Tests.{test_fails}
 use Rattle.lrkept.proofs.alone.are_nullable.Goals as goal
 
 pub returns-then-not-is_nullable : goal.returns-then-not-is_nullable

@@ -1,10 +1,10 @@
 -- a turn for each position
 use Rattle.std.proofs.Common.{refl}
 use Rattle.lrclosing.proofs.SymbolsBehindDots.{left_at, left_none}
-use Rattle.lrkept.specs.Exchanges.{IsListed}
-use Rattle.lrkept.specs.Positions.{Position}
-use Rattle.lrkept.specs.StoredPositions.{position_of, positions_of}
-use Rattle.lrkept.proofs.AskedInTurn.{begin_all, next_all, end_all}
+use Rattle.lrexchange.specs.Exchanges.{IsListed}
+use Rattle.lrexchange.specs.Positions.{Position}
+use Rattle.lrexchange.specs.StoredPositions.{position_of, positions_of}
+use Rattle.lrexchange.proofs.AskedInTurn.{begin_all, next_all, end_all}
 use Rattle.lrkept.proofs.checking.are_listed.Goals as goal
 
 pub loop-position-init : goal.loop-position-init

@@ -1,8 +1,8 @@
 -- those so far are listed
 use Rattle.std.proofs.Common.{drop}
-use Rattle.lrkept.specs.Exchanges.{IsListed}
-use Rattle.lrkept.specs.StoredPositions.{positions_of}
-use Rattle.lrkept.proofs.AskedInTurn.{AllBut}
+use Rattle.lrexchange.specs.Exchanges.{IsListed}
+use Rattle.lrexchange.specs.StoredPositions.{positions_of}
+use Rattle.lrexchange.proofs.AskedInTurn.{AllBut}
 use Rattle.lrkept.proofs.checking.are_listed.Given as goal
 
 abbrev pub invariant-loop-position : goal.invariant-loop-position

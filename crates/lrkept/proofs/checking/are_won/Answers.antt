@@ -1,8 +1,8 @@
 -- a turn for each place
 use Rattle.std.proofs.Common.{◌≤◌, length, arith}
 use Rattle.std.proofs.lemmas.List.{length-map}
-use Rattle.lrkept.specs.StoredPositions.{position_of, positions_of}
-use Rattle.lrkept.proofs.WonPositions.{next_won, end_won}
+use Rattle.lrexchange.specs.StoredPositions.{position_of, positions_of}
+use Rattle.lrexchange.proofs.WonPositions.{next_won, end_won}
 use Rattle.lrkept.proofs.checking.are_won.Goals as goal
 
 pub loop-place-init : goal.loop-place-init

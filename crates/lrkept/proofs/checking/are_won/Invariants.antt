@@ -1,6 +1,6 @@
 -- those at the places so far are won
-use Rattle.lrkept.specs.StoredPositions.{positions_of}
-use Rattle.lrkept.specs.Asked.{AreWonBelow}
+use Rattle.lrexchange.specs.StoredPositions.{positions_of}
+use Rattle.lrexchange.specs.Asked.{AreWonBelow}
 use Rattle.lrkept.proofs.checking.are_won.Given as goal
 
 abbrev pub invariant-loop-place : goal.invariant-loop-place

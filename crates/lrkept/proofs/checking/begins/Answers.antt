@@ -3,8 +3,8 @@ use Rattle.std.proofs.Common.{◌≡◌, length, arith}
 use Rattle.std.proofs.lemmas.List.{length-map}
 use Rattle.std.proofs.lemmas.Result.{IfOk-weaker}
 use Rattle.lrconflicts.specs.StoredMoves.{move_of}
-use Rattle.lrkept.specs.StoredPositions.{position_of, positions_of}
-use Rattle.lrkept.proofs.WonPositions.{begins_with_listed}
+use Rattle.lrexchange.specs.StoredPositions.{position_of, positions_of}
+use Rattle.lrexchange.proofs.WonPositions.{begins_with_listed}
 use Rattle.lrkept.proofs.checking.begins.Goals as goal
 
 pub returns-in-Some : goal.returns-in-Some

@@ -1,7 +1,7 @@
 -- by the answer
 use Rattle.std.proofs.lemmas.Result.{IfOk-weaker}
-use Rattle.lrkept.specs.StoredPositions.{position_of, positions_of}
-use Rattle.lrkept.proofs.WonPositions.{get_mapped, won_alone, won_by_moves}
+use Rattle.lrexchange.specs.StoredPositions.{position_of, positions_of}
+use Rattle.lrexchange.proofs.WonPositions.{get_mapped, won_alone, won_by_moves}
 use Rattle.lrkept.proofs.checking.is_won.Goals as goal
 
 pub returns-in-Own : goal.returns-in-Own

@@ -2,8 +2,8 @@
 use Rattle.std.proofs.Common.{◌≡◌, length, arith}
 use Rattle.std.proofs.lemmas.List.{length-map}
 use Rattle.std.proofs.lemmas.Result.{IfOk-weaker}
-use Rattle.lrkept.specs.StoredPositions.{position_of, positions_of}
-use Rattle.lrkept.proofs.WonPositions.{proceeds_to_listed}
+use Rattle.lrexchange.specs.StoredPositions.{position_of, positions_of}
+use Rattle.lrexchange.proofs.WonPositions.{proceeds_to_listed}
 use Rattle.lrkept.proofs.checking.proceeds.Goals as goal
 
 pub returns-in-Some : goal.returns-in-Some

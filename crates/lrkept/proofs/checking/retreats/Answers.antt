@@ -1,7 +1,7 @@
 -- what is asked is listed before
 use Rattle.std.proofs.lemmas.Result.{IfOk-weaker}
-use Rattle.lrkept.specs.StoredPositions.{position_of, positions_of}
-use Rattle.lrkept.proofs.WonPositions.{retreats_to_listed}
+use Rattle.lrexchange.specs.StoredPositions.{position_of, positions_of}
+use Rattle.lrexchange.proofs.WonPositions.{retreats_to_listed}
 use Rattle.lrkept.proofs.checking.retreats.Goals as goal
 
 pub returns-in-Some : goal.returns-in-Some

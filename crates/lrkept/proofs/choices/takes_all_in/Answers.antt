@@ -3,7 +3,7 @@ use Rattle.std.proofs.Common.{ℕ, subst, arith}
 use Rattle.lrgrammar.proofs.Turns.{has_index, index_number}
 use Rattle.lrdecided.proofs.DecidedCells.{next_below}
 use Rattle.lrkept.specs.Choices.{TakesShift, TakesReductions}
-use Rattle.lrkept.proofs.Tests.{test_fails, so, not_so}
+use Rattle.lrexchange.proofs.Tests.{test_fails, so, not_so}
 use Rattle.lrkept.proofs.choices.takes_all_in.Goals as goal
 
 pub unwrap-requires : goal.unwrap-requires

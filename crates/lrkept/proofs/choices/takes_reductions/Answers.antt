@@ -2,7 +2,7 @@
 use Rattle.std.proofs.Common.{ap, ◌∙◌}
 use Rattle.lritems.specs.ItemsOf.{items_of}
 use Rattle.lrkept.proofs.TakenCells.{begin_taken, next_within, next_taken, next_of_all, end_taken}
-use Rattle.lrkept.proofs.Tests.{test_fails, so, not_so}
+use Rattle.lrexchange.proofs.Tests.{test_fails, so, not_so}
 use Rattle.lrkept.proofs.choices.takes_reductions.Goals as goal
 
 pub loop-key-init : goal.loop-key-init

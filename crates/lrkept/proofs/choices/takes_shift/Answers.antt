@@ -1,6 +1,6 @@
 -- by the edge
 use Rattle.lrkept.proofs.TakenCells.{no_shift, one_shift}
-use Rattle.lrkept.proofs.Tests.{so}
+use Rattle.lrexchange.proofs.Tests.{so}
 use Rattle.lrkept.proofs.choices.takes_shift.Goals as goal
 
 pub returns-in-None : goal.returns-in-None

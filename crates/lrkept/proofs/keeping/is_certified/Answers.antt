@@ -1,8 +1,8 @@
 -- what was won before is won with what is added
 use Rattle.std.proofs.Common.{◌≡◌, length, arith}
 use Rattle.std.proofs.lemmas.List.{length-map}
-use Rattle.lrkept.specs.StoredPositions.{position_of, positions_of}
-use Rattle.lrkept.proofs.WonPositions.{first_won}
+use Rattle.lrexchange.specs.StoredPositions.{position_of, positions_of}
+use Rattle.lrexchange.proofs.WonPositions.{first_won}
 use Rattle.lrkept.proofs.keeping.is_certified.Goals as goal
 
 pub are_won-requires-clause-first : goal.are_won-requires-clause-first

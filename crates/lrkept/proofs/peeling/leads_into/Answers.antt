@@ -1,5 +1,5 @@
 -- a turn for each pair
-use Rattle.lrkept.proofs.Tests.{test_fails}
+use Rattle.lrexchange.proofs.Tests.{test_fails}
 use Rattle.lrkept.proofs.Peeled.{next_pair, no_pair}
 use Rattle.lrkept.proofs.peeling.leads_into.Goals as goal
 

@@ -1,5 +1,5 @@
 -- a turn for each
-use Rattle.lrkept.proofs.WonPositions.{adds_none, adds_more}
+use Rattle.lrexchange.proofs.WonPositions.{adds_none, adds_more}
 use Rattle.lrkept.proofs.search.add_all_won.Goals as goal
 
 pub loop-one-init : goal.loop-one-init

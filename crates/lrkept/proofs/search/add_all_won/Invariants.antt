@@ -1,6 +1,6 @@
 -- positions are added
-use Rattle.lrkept.specs.Asked.{AddsPositions}
-use Rattle.lrkept.specs.StoredPositions.{positions_of}
+use Rattle.lrexchange.specs.Asked.{AddsPositions}
+use Rattle.lrexchange.specs.StoredPositions.{positions_of}
 use Rattle.lrkept.proofs.search.add_all_won.Given as goal
 
 abbrev pub invariant-loop-one : goal.invariant-loop-one

@@ -1,0 +1,15 @@
+-- by them
+use Rattle.std.specs.Prelude.{Contains}
+use Rattle.std.proofs.lemmas.Result.{IfOk-weaker}
+use Rattle.lrexchange.specs.StoredPositions.{position_of, positions_of}
+use Rattle.lrexchange.proofs.AskedPositions.{proceeds_by_release}
+use Rattle.lrexchange.proofs.proceeding.ask_release.Goals as goal
+
+pub returns : goal.returns
+returns g c =
+    let number = g.T.IndexStorage.number in
+    let item = c.in-Some.item in
+    IfOk-weaker c.ask_each.result _ _
+    (λ b k t.
+    proceeds_by_release c.args.grm.now c.args.graph.now (Contains (positions_of number c.ask_each.new.asked.items)) (position_of number c.args.position.now) (number item.0.0) (number item.1.0) c.in-Some.ensures (c.is_at_end.ensures c.if-not-is_at_end.false) (k t))
+    c.ask_each.ensures.asked

@@ -1,0 +1,295 @@
+//! What is asked where stacks are reduced, above each stack that leads to the state of a position.
+
+ghost use Rattle.std.specs.Prelude.{◌≡◌, Contains, IfOk, IsTrue, OnOk};
+ghost use Rattle.lrgrammar.specs.Symbols.{symbol_of};
+ghost use Rattle.lrsearches.specs.StoredWays.{AreWaysOf};
+ghost use Rattle.lrexchange.specs.Asked.{deepened, KeepsPositions, AsksThem, AsksBoth, AsksUs, AsksHidden, Asks, AllAsked, EachAsked};
+ghost use Rattle.lrexchange.specs.StoredActs.{act_of};
+ghost use Rattle.lrexchange.specs.StoredPositions.{symbols_of, turn_of, mark_of, position_of, positions_of, belows_of};
+
+use crate::below::{Below, all_below};
+use crate::cuts::{cut, ours_cut};
+use crate::positions::{Mark, Ours, Position, Turn};
+use lrgrammar::grammar::YaccGrammar;
+use lrgrammar::idx::{IndexStorage, PIdx, SIdx, Symbol};
+use lrgraphs::stategraph::StateGraph;
+use lrsearches::Ways;
+use std::alloc::AllocError;
+
+/// What is done above a stack.
+#[derive(Clone, Copy)]
+pub(crate) enum Act<T> {
+    /// They reduce by the item, and then do this.
+    They(Turn<T>, PIdx<T>, SIdx<T>),
+    /// They reduce by the item, and so do we.
+    Both(PIdx<T>, SIdx<T>),
+    /// We alone reduce by the production.
+    We(PIdx<T>),
+    /// They reduce by the production, and the mark stands for what that is made of.
+    Hide(PIdx<T>, Mark<T>),
+}
+
+/// Adds what is asked where they reduce by the item; answers whether that can be said.
+fn ask_them<T: IndexStorage>(
+    asked: &mut Vec<Position<T>>,
+    grm: &YaccGrammar<T>,
+    deeper: Position<T>,
+    turn: Turn<T>,
+    item: (PIdx<T>, SIdx<T>),
+) -> Result<bool, AllocError>
+    ensures kept { OnOk result (KeepsPositions (positions_of T.number asked.old.items)
+        (positions_of T.number asked.new.items)) }
+    ensures asked { IfOk result (λ b. IsTrue b → AsksThem grm.now
+        (Contains (positions_of T.number asked.new.items)) (turn_of T.number turn)
+        (T.number item.0.0) (T.number item.1.0) (position_of T.number deeper)) }
+{
+    if deeper.theirs.len() < usize::from(item.1) {
+        return Ok(false);
+    }
+    let Position {
+        state,
+        theirs,
+        ours,
+        ..
+    } = deeper;
+    let Some(theirs) = cut(grm, theirs, item, 0)? else {
+        return Ok(true);
+    };
+    asked.push(Position {
+        turn,
+        state,
+        theirs,
+        ours,
+    })?;
+    Ok(true)
+}
+
+/// Adds what is asked where they reduce by the item, and so do we; answers whether we can.
+fn ask_both<T: IndexStorage>(
+    asked: &mut Vec<Position<T>>,
+    grm: &YaccGrammar<T>,
+    deeper: Position<T>,
+    item: (PIdx<T>, SIdx<T>),
+) -> Result<bool, AllocError>
+    ensures kept { OnOk result (KeepsPositions (positions_of T.number asked.old.items)
+        (positions_of T.number asked.new.items)) }
+    ensures asked { IfOk result (λ b. IsTrue b → AsksBoth grm.now
+        (Contains (positions_of T.number asked.new.items)) (T.number item.0.0)
+        (T.number item.1.0) (position_of T.number deeper)) }
+{
+    if deeper.theirs.len() < usize::from(item.1) {
+        return Ok(false);
+    }
+    let Position {
+        state,
+        theirs,
+        ours,
+        ..
+    } = deeper;
+    let Some(theirs) = cut(grm, theirs, item, 0)? else {
+        return Ok(true);
+    };
+    let Some(ours) = ours_cut(grm, ours, item)? else {
+        return Ok(false);
+    };
+    asked.push(Position {
+        turn: Turn::Even,
+        state,
+        theirs,
+        ours,
+    })?;
+    Ok(true)
+}
+
+/// Adds what is asked where we alone reduce by the production; answers whether we can.
+fn ask_us<T: IndexStorage>(
+    asked: &mut Vec<Position<T>>,
+    grm: &YaccGrammar<T>,
+    deeper: Position<T>,
+    production: PIdx<T>,
+) -> Result<bool, AllocError>
+    ensures kept { OnOk result (KeepsPositions (positions_of T.number asked.old.items)
+        (positions_of T.number asked.new.items)) }
+    ensures asked { IfOk result (λ b. IsTrue b → AsksUs grm.now
+        (Contains (positions_of T.number asked.new.items)) (T.number production.0)
+        (position_of T.number deeper)) }
+{
+    if usize::from(production) >= usize::from(grm.prods_len()) {
+        return Ok(false);
+    }
+    let item = (production, grm.prod_len(production));
+    let Position {
+        turn,
+        state,
+        theirs,
+        ours,
+    } = deeper;
+    let Some(ours) = ours_cut(grm, ours, item)? else {
+        return Ok(false);
+    };
+    asked.push(Position {
+        turn,
+        state,
+        theirs,
+        ours,
+    })?;
+    Ok(true)
+}
+
+/// The mark where it waits with the symbol alone.
+fn mark_with<T: IndexStorage>(mark: Mark<T>, symbol: Symbol<T>) -> Mark<T>
+    ensures { mark_of T.number result ≡ record (mark_of T.number mark) {
+      symbol = symbol_of T.number symbol;
+    } }
+{
+    Mark {
+        place: mark.place,
+        symbol,
+        under: mark.under,
+        state: mark.state,
+    }
+}
+
+/// Adds what is asked where they reduce by the production to one symbol, for which the mark waits behind our symbols; answers
+/// whether that can be said.
+fn ask_hidden<T: IndexStorage>(
+    asked: &mut Vec<Position<T>>,
+    grm: &YaccGrammar<T>,
+    deeper: Position<T>,
+    production: PIdx<T>,
+    mark: Mark<T>,
+    ours: &[Symbol<T>],
+) -> Result<bool, AllocError>
+    ensures kept { OnOk result (KeepsPositions (positions_of T.number asked.old.items)
+        (positions_of T.number asked.new.items)) }
+    ensures asked { IfOk result (λ b. IsTrue b → AsksHidden grm.now
+        (Contains (positions_of T.number asked.new.items)) (T.number production.0)
+        (mark_of T.number mark) (symbols_of T.number ours.now) (position_of T.number deeper)) }
+{
+    if usize::from(production) >= usize::from(grm.prods_len()) {
+        return Ok(false);
+    }
+    let item = (production, grm.prod_len(production));
+    if deeper.theirs.len() < usize::from(item.1) {
+        return Ok(false);
+    }
+    let Position {
+        turn,
+        state,
+        theirs,
+        ..
+    } = deeper;
+    let Some(theirs) = cut(grm, theirs, item, 0)? else {
+        return Ok(true);
+    };
+    if theirs.len() != 1 {
+        return Ok(false);
+    }
+    let mark = Some(mark_with(mark, theirs[0]));
+    let symbols = Vec::from_slice(grm.allocator(), ours)?;
+    asked.push(Position {
+        turn,
+        state,
+        theirs,
+        ours: Ours { symbols, mark },
+    })?;
+    Ok(true)
+}
+
+/// Adds what is asked where this is done at the position, above what is below it; answers whether that can be said.
+fn ask_above<T: IndexStorage>(
+    asked: &mut Vec<Position<T>>,
+    grm: &YaccGrammar<T>,
+    position: &Position<T>,
+    act: Act<T>,
+    below: &Below<T>,
+) -> Result<bool, AllocError>
+    ensures kept { OnOk result (KeepsPositions (positions_of T.number asked.old.items)
+        (positions_of T.number asked.new.items)) }
+    ensures asked { IfOk result (λ b. IsTrue b → Asks grm.now
+        (Contains (positions_of T.number asked.new.items)) (act_of T.number act)
+        (position_of T.number position.now) (deepened (position_of T.number position.now)
+        (T.number below.now.state.0) (symbols_of T.number below.now.symbols.items))) }
+{
+    let Some(deeper) = position.deepened(grm.allocator(), below)? else {
+        return Ok(false);
+    };
+    match act {
+        Act::They(turn, production, dot) => {
+            ask_them(asked, grm, deeper, turn, (production, dot))
+        }
+        Act::Both(production, dot) => ask_both(asked, grm, deeper, (production, dot)),
+        Act::We(production) => ask_us(asked, grm, deeper, production),
+        Act::Hide(production, mark) => {
+            let ours = position.ours.symbols.as_slice();
+            ask_hidden(asked, grm, deeper, production, mark, ours)
+        }
+    }
+}
+
+/// Adds what is asked where this is done at the position, above each of these; answers whether that can be said.
+fn ask_above_all<T: IndexStorage>(
+    asked: &mut Vec<Position<T>>,
+    grm: &YaccGrammar<T>,
+    position: &Position<T>,
+    act: Act<T>,
+    belows: &[Below<T>],
+) -> Result<bool, AllocError>
+    ensures kept { OnOk result (KeepsPositions (positions_of T.number asked.old.items)
+        (positions_of T.number asked.new.items)) }
+    ensures asked { IfOk result (λ b. IsTrue b → AllAsked grm.now
+        (Contains (positions_of T.number asked.new.items)) (act_of T.number act)
+        (position_of T.number position.now) (belows_of T.number belows.now)) }
+{
+    for below in belows {
+        if !ask_above(asked, grm, position, act, below)? {
+            return Ok(false);
+        }
+    }
+    Ok(true)
+}
+
+/// The length of the body of the production; 0 without one.
+fn body_len<T: IndexStorage>(grm: &YaccGrammar<T>, production: PIdx<T>) -> usize {
+    if usize::from(production) >= usize::from(grm.prods_len()) {
+        return 0;
+    }
+    usize::from(grm.prod_len(production))
+}
+
+/// How many symbols below the position have to be known.
+fn depth<T: IndexStorage>(grm: &YaccGrammar<T>, position: &Position<T>, act: Act<T>) -> usize {
+    let theirs = position.theirs.len();
+    let ours = position.ours.symbols.len();
+    match act {
+        Act::They(_, _, dot) => usize::from(dot).saturating_sub(theirs),
+        Act::Both(_, dot) => usize::from(dot).saturating_sub(theirs.min(ours)),
+        Act::We(production) => body_len(grm, production).saturating_sub(ours),
+        Act::Hide(production, _) => body_len(grm, production).saturating_sub(theirs),
+    }
+}
+
+/// Adds what is asked where this is done at the position, above each stack that leads to its state; answers whether that can be
+/// said.
+pub(crate) fn ask_each<T: IndexStorage>(
+    asked: &mut Vec<Position<T>>,
+    grm: &YaccGrammar<T>,
+    graph: &StateGraph<T>,
+    ways: &Ways<T>,
+    position: &Position<T>,
+    act: Act<T>,
+) -> Result<bool, AllocError>
+    requires { AreWaysOf T.number grm.now graph.now ways.now }
+    ensures kept { OnOk result (KeepsPositions (positions_of T.number asked.old.items)
+        (positions_of T.number asked.new.items)) }
+    ensures asked { IfOk result (λ b. IsTrue b → EachAsked grm.now graph.now
+        (Contains (positions_of T.number asked.new.items)) (act_of T.number act)
+        (position_of T.number position.now)) }
+{
+    let incoming = ways.incoming.as_slice();
+    let count = depth(grm, position, act);
+    let Some(belows) = all_below(grm, graph, incoming, position.state, count)? else {
+        return Ok(false);
+    };
+    ask_above_all(asked, grm, position, act, belows.as_slice())
+}

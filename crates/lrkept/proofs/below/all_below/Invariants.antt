@@ -1,9 +1,0 @@
--- these are below the state, as many steps back as there were turns
-use Rattle.lrkept.specs.Asked.{AreBelow}
-use Rattle.lrkept.specs.StoredPositions.{belows_of}
-use Rattle.lrkept.proofs.below.all_below.Given as goal
-
-abbrev pub invariant-loop : goal.invariant-loop
-invariant-loop g l =
-    let number = g.T.IndexStorage.number in
-    AreBelow l.graph (number l.fn.state.0) (belows_of number l.belows.items)
