@@ -1,10 +1,10 @@
 -- what holds of each sentence that is found to be lost
-use Rattle.std.proofs.Common.{◌≡◌, true, false, List, Option, None, Some}
-use Rattle.std.specs.Prelude.{All, IfSome, IsSome, is_some, slice_index_or}
+use Rattle.std.proofs.Common.{◌≡◌, ℕ, Bool, true, false, List, Option, None, Some}
+use Rattle.std.specs.Prelude.{All, IfSome, IsSome, IsTrue, is_some, slice_index_or}
 use Rattle.std.specs.Option.{option_map}
 use Rattle.lrshown.specs.declared.evidence.Evidence.{Evidence}
 use Rattle.lrshown.specs.declared.losses.Loss.{Loss}
-use Rattle.lrevidence.specs.Losses.{Searched, IsLostAt, IsLostAtEntry, IsFoundLoss, IsFoundFor, IsFoundAtEntry, StopsWithoutShift, StopsAtEntry, AreApart, IsDoomedIn, IsDoomedAtEntry}
+use Rattle.lrevidence.specs.Losses.{Searched, IsLostAt, IsLostAtEntry, IsToldOf, IsFoundLoss, IsFoundFor, IsFoundAtEntry, StopsWithoutShift, StopsAtEntry, AreApart, IsDoomedIn, IsDoomedAtEntry}
 
 -- what follows for a value follows for one that there may be
 some_so : {T : Type 0} (P Q : T → Type 0) (o : Option T) → ((x : T) → P x → Q x) → IfSome o P → IfSome o Q
@@ -47,7 +47,18 @@ module _ (x : Searched) (es : List Evidence) (found : All (IsFoundAtEntry x) es)
       some_so (λ b. IsFoundFor x e b.value) (λ b. AreApart x.resolved x.listed)
       e.loss (λ b known. known.found.apart) (found k d l)
 
-  pub are_doomed : All (IsDoomedAtEntry x.grammar x.graph x.table) es
+  pub are_doomed : All (IsDoomedAtEntry x.grammar x.table) es
   are_doomed = λ k d l.
       let e = slice_index_or es k d in
       λ both. some_so (λ b. IsFoundFor x e b.value) (λ b. IsDoomedIn x b.value) e.loss (λ b known. known.doomed both) (found k d l)
+
+-- what is told of what is found is found, and doomed where that is asked
+module _ (x : Searched) (must : Bool) where
+  pub told_found :
+      (s t : ℕ) (found o : Option Loss) → IfSome found (IsFoundLoss x s t) → IfSome o (IsToldOf x found must) → IfSome o (IsFoundLoss x s t)
+  told_found s t found None known told = tt
+  told_found s t found (Some l) known (is, doomed) = rw is at known
+
+  pub told_doomed : IsTrue must → (found o : Option Loss) → IfSome o (IsToldOf x found must) → IfSome o (IsDoomedIn x)
+  told_doomed asked found None told = tt
+  told_doomed asked found (Some l) (is, doomed) = doomed asked

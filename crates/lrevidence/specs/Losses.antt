@@ -1,16 +1,15 @@
 -- sentences that the parser rejects
-use Rattle.std.specs.Prelude.{◌≡◌, ◌≢◌, ℕ, ◌<◌, ◌≤◌, List, None, All, IfSome, IsSome, IsTrue, map}
+use Rattle.std.specs.Prelude.{◌≡◌, ◌≢◌, ℕ, ◌+◌, Bool, List, Option, None, Some, All, IfSome, IsSome, IsTrue, map}
 use Rattle.lrspec.specs.grammars.Grammar.{Token, Grammar}
+use Rattle.lrspec.specs.grammars.Trees.{Tree}
 use Rattle.lrspec.specs.merging.Graph.{Graph, edge}
-use Rattle.lrspec.specs.tables.Table.{Table, IsContender}
-use Rattle.lrspec.specs.tables.Machine.{top, next_token}
-use Rattle.lrconflicts.specs.Moves.{Move, candidate_of}
+use Rattle.lrspec.specs.tables.Table.{Table}
+use Rattle.lrconflicts.specs.Moves.{moves_of, IsTreeOfText}
 use Rattle.lrverdicts.specs.declared.conflicts.Entry.{Entry}
 use Rattle.lrfindings.specs.declared.findings.Findings.{Findings}
-use Rattle.lrlosses.specs.Losses.{Place, StopsAt, machine_after}
+use Rattle.lrlosses.specs.Losses.{Place, StopsAt, GoesAlong}
 use Rattle.lrshown.specs.declared.evidence.Evidence.{Evidence}
 use Rattle.lrshown.specs.declared.losses.Loss.{Loss}
-use Rattle.lrevidence.specs.declared.losses.Lost.{Lost}
 pub use Rattle.lrshown.specs.Losses.{IsLostAt, IsLoss, IsLostAtEntry}
 
 -- the machine of the table rejects the sentence at a place in whose state the token can't be shifted: so it is not `%nonassoc`
@@ -25,27 +24,18 @@ pub record StopsWithoutShift (g : Grammar) (h : Graph) (b : Table) (l : Loss) : 
 abbrev pub StopsAtEntry : Grammar → Graph → Table → Evidence → Type 0
 StopsAtEntry g h b e = IfSome e.loss (λ l. StopsWithoutShift g h b l.value)
 
--- the cell of the state `s` and the token `t` leaves no choice: one move at the most contends for it
-abbrev pub HasNoChoice : Grammar → Graph → ℕ → ℕ → Type 0
-HasNoChoice g h s t =
-    (m n : Move) → IsContender g h s t (candidate_of m) → IsContender g h s t (candidate_of n) → m ≡ n
+-- behind so many steps on the text the machine can put together no tree of it any more: the moves of none begin with these steps
+abbrev pub HasNoTreeLeft : Grammar → Table → List ℕ → ℕ → Type 0
+HasNoTreeLeft g b text n =
+    (t : Tree) → IsTreeOfText g text t → ¬ (GoesAlong g b text (moves_of t) n)
 
--- after `n` steps on the text the machine looks at such a cell
-abbrev pub MeetsNoChoice : Grammar → Graph → Table → List ℕ → ℕ → Type 0
-MeetsNoChoice g h b text n =
-    let c = machine_after g b text n in HasNoChoice g h (top c.stack) (next_token g c.left)
-
--- what the table does where the sentence goes wrong is alone to blame: behind that step the machine has no choice any more, up to
--- the error
-pub record IsDoomed (g : Grammar) (h : Graph) (b : Table) (l : Loss) : Type 0 where
-  pub rejected : Place
-  pub stops : StopsAt g b l.tokens.items rejected
-  pub stop : rejected.used ≡ l.stop
-  pub no_choice : (n : ℕ) → l.made < n → n ≤ rejected.steps → MeetsNoChoice g h b l.tokens.items n
+-- what the table does where the sentence goes wrong is to blame for that: behind that step no tree of it is left
+abbrev pub IsDoomed : Grammar → Table → Loss → Type 0
+IsDoomed g b l = HasNoTreeLeft g b l.tokens.items (l.made + 1)
 
 -- a sentence that is told of an entry beside one with two trees is doomed there
-abbrev pub IsDoomedAtEntry : Grammar → Graph → Table → Evidence → Type 0
-IsDoomedAtEntry g h b e = IsSome e.ambiguity → IfSome e.loss (λ l. IsDoomed g h b l.value)
+abbrev pub IsDoomedAtEntry : Grammar → Table → Evidence → Type 0
+IsDoomedAtEntry g b e = IsSome e.ambiguity → IfSome e.loss (λ l. IsDoomed g b l.value)
 
 -- a cell: its state and token
 abbrev pub Cell : Type 0
@@ -90,9 +80,9 @@ searched f h = record {
   listed = listed_cells f;
 }
 
--- what the table does is alone to blame, in what is searched
+-- the sentence is doomed in what is searched
 abbrev pub IsDoomedIn : Searched → Loss → Type 0
-IsDoomedIn x l = IsDoomed x.grammar x.graph x.table l
+IsDoomedIn x l = IsDoomed x.grammar x.table l
 
 -- the sentence is lost in the state `s`, where the token `t` comes, not by `%nonassoc`, and where Bison's table does the same
 pub record IsFoundLoss (x : Searched) (s t : ℕ) (l : Loss) : Type 0 where
@@ -100,10 +90,9 @@ pub record IsFoundLoss (x : Searched) (s t : ℕ) (l : Loss) : Type 0 where
   pub stops : StopsWithoutShift x.grammar x.graph x.table l
   pub apart : AreApart x.resolved x.listed
 
--- what is found there of such a sentence, where it may be known that it is doomed
-pub record IsFoundAs (x : Searched) (s t : ℕ) (lost : Lost) : Type 0 where
-  pub found : IsFoundLoss x s t lost.loss
-  pub doomed : IsTrue lost.is_doomed → IsDoomedIn x lost.loss
+-- what is told is what was found, which is doomed where that is asked
+abbrev pub IsToldOf : Searched → Option Loss → Bool → Loss → Type 0
+IsToldOf x found must l = (found ≡ Some l) × (IsTrue must → IsDoomedIn x l)
 
 -- a sentence that is told of an entry is found there, and doomed where one with two trees is told too
 pub record IsFoundFor (x : Searched) (e : Evidence) (l : Loss) : Type 0 where

@@ -3,7 +3,7 @@
 ghost use Rattle.std.specs.Prelude.{◌≡◌, ◌∷◌, [], ◌++◌, map, All, IfOk, IfSome, OnOk, MatchOption, option_map};
 ghost use Rattle.lrspec.specs.merging.Graph.{IsGraphOf};
 ghost use Rattle.lrspec.specs.tables.Conflicts.{AreReductionsContested};
-ghost use Rattle.lrspec.specs.tables.Table.{IsTableFor};
+ghost use Rattle.lrspec.specs.tables.Table.{IsTableOf};
 ghost use Rattle.lrconflicts.specs.Entries.{entry_of, IsListed};
 ghost use Rattle.lrreasons.specs.Numbers.{number_of};
 ghost use Rattle.lrevidence.specs.Entries.{AreListedIn};
@@ -184,7 +184,7 @@ fn with_texts(
     };
     let decided = decided(searches, before.entry, is_open)?;
     let Shown { ambiguity, loss } = shown;
-    let loss = searches.losses.told(conflict, loss, !is_open);
+    let loss = searches.losses.told_of(loss, !is_open)?;
     Ok(Evidence {
         entry: before.entry,
         ambiguity: boxed(alloc, ambiguity)?,
@@ -364,7 +364,7 @@ fn searches_for<'a>(
     effort: Effort,
 ) -> Result<Searches<'a>, AllocError>
     requires graph { IsGraphOf found.now.grm graph.now }
-    requires table { IsTableFor found.now.grm found.now.table }
+    requires table { IsTableOf found.now.grm graph.now found.now.table }
     ensures { IfOk result (AreFor found.entry.now graph.entry.now) }
 {
     let grm = &found.grm;
@@ -391,7 +391,7 @@ pub fn evidence_for(
     requires listed { IfSome found.now.graph (λ h.
         AreListedIn found.now.grm h found.now.conflicts.items) }
     requires contested { IfSome found.now.graph (AreReductionsContested found.now.grm) }
-    requires table { IsTableFor found.now.grm found.now.table }
+    requires table { IfSome found.now.graph (λ h. IsTableOf found.now.grm h found.now.table) }
     ensures entries { IfOk result (λ v. map (λ e. e.entry) v.items ≡ entries.now) }
     ensures proved { IfOk result (λ v. All (IsProved found.now.grm) v.items) }
     ensures parts { IfOk result (λ v. MatchOption found.now.graph (v.items ≡ [])
@@ -401,8 +401,8 @@ pub fn evidence_for(
         (λ h. All (StopsAtEntry found.now.grm h found.now.table) v.items)) }
     ensures pairs { IfOk result (λ v.
         All (λ e. IfSome e.loss (λ l. ResolvesPairs found.now)) v.items) }
-    ensures doomed { IfOk result (λ v. MatchOption found.now.graph (v.items ≡ [])
-        (λ h. All (IsDoomedAtEntry found.now.grm h found.now.table) v.items)) }
+    ensures doomed { IfOk result (λ v.
+        All (IsDoomedAtEntry found.now.grm found.now.table) v.items) }
     ensures decided { IfOk result (λ v.
         All (IsToldDecided found.now.grm found.now.graph) v.items) }
 {

@@ -2,13 +2,13 @@
 
 ghost use Rattle.std.specs.Prelude.{◌≡◌, IsTrue, All, IfOk, IfSome, None, false};
 ghost use Rattle.lrspec.specs.grammars.Grammar as math;
-ghost use Rattle.lrspec.specs.merging.Graph.{edge};
-ghost use Rattle.lrspec.specs.tables.Table.{IsTableFor};
+ghost use Rattle.lrspec.specs.merging.Graph.{edge, IsGraphOf};
+ghost use Rattle.lrspec.specs.tables.Table.{IsTableOf};
 ghost use Rattle.lrevidence.specs.Cells.{HasCell, LacksCell};
-ghost use Rattle.lrevidence.specs.Losses.{AreApart, IsFoundAs, IsFoundLoss, IsDoomedIn, cell_of, searched, ResolvesPairs};
+ghost use Rattle.lrevidence.specs.Losses.{AreApart, IsDoomedIn, IsFoundLoss, IsToldOf, cell_of, searched, ResolvesPairs};
 
-use crate::ambiguities::numbers_of;
-use crate::machine::meets_no_choice;
+use crate::ambiguities::{numbers_of, tokens_of};
+use crate::ways::has_no_tree_left;
 use lrconflicts::{Move, Written};
 use lrfindings::{Entry, Findings, Resolved};
 use lrgrammar::idx::Symbol;
@@ -68,14 +68,6 @@ fn is_taken(found: &Findings<u32>, conflict: Conflict<u32>, action: Move<u32>) -
     }
 }
 
-/// A sentence that the parser rejects, since it goes wrong at a conflict.
-#[derive(Drop)]
-pub(crate) struct Lost {
-    pub(crate) loss: Loss,
-    /// Whether it is known that what the table does there is alone to blame: behind that the machine has no choice any more.
-    pub(crate) is_doomed: bool,
-}
-
 /// What finds sentences that the parser rejects.
 #[derive(Drop)]
 pub(crate) struct LossSearch<'a> {
@@ -88,14 +80,16 @@ pub(crate) struct LossSearch<'a> {
 
 impl<'a> Model for LossSearch<'a> {
     ghost use Rattle.std.specs.Prelude.{◌≡◌, Some, false};
-    ghost use Rattle.lrspec.specs.tables.Table.{IsTableFor};
+    ghost use Rattle.lrspec.specs.merging.Graph.{IsGraphOf};
+    ghost use Rattle.lrspec.specs.tables.Table.{IsTableOf};
     ghost use Rattle.lrevidence.specs.Losses.{Searched, searched, ResolvesPairs};
 
     ghost Value = { Searched };
 
     ghost view = { λ l. searched l.found.now l.graph.now };
 
-    ghost invariant = { λ l. IsTableFor l.found.now.grm l.found.now.table
+    ghost invariant = { λ l. IsGraphOf l.found.now.grm l.graph.now
+        × IsTableOf l.found.now.grm l.graph.now l.found.now.table
         × (l.are_crowded ≡ Some false → ResolvesPairs l.found.now) };
 }
 
@@ -114,7 +108,8 @@ impl<'a> LossSearch<'a> {
         graph: &'a StateGraph<u32>,
         work: usize,
     ) -> LossSearch<'a>
-        requires { IsTableFor found.now.grm found.now.table }
+        requires graph { IsGraphOf found.now.grm graph.now }
+        requires table { IsTableOf found.now.grm graph.now found.now.table }
         ensures { result ≡ searched found.entry.now graph.entry.now }
     {
         let losses = Losses::new(&found.grm, graph, &found.table);
@@ -176,16 +171,16 @@ impl<'a> LossSearch<'a> {
         Ok(Some(text))
     }
 
-    /// The loss at the conflict that a text and the moves of its tree show, and whether it is doomed there. None where it is an error
-    /// by `%nonassoc` that rejects the text, since that is what this is for; nor where Bison's table may be another one.
+    /// The loss at the conflict that a text and the moves of its tree show. None where it is an error by `%nonassoc` that rejects the
+    /// text, since that is what this is for; nor where Bison's table may be another one.
     pub(crate) fn loss_by(
         &self,
         conflict: Conflict<u32>,
         text: &Written<u32>,
         steps: usize,
-    ) -> Result<Option<Lost>, AllocError>
+    ) -> Result<Option<Loss>, AllocError>
         ensures { IfOk result (λ o.
-            IfSome o (IsFoundAs self.now conflict.state.0 conflict.token.0)) }
+            IfSome o (IsFoundLoss self.now conflict.state.0 conflict.token.0)) }
     {
         if !self.is_uncrowded() {
             return Ok(None);
@@ -204,35 +199,50 @@ impl<'a> LossSearch<'a> {
         if self.has_shift(rejected) {
             return Ok(None);
         }
-        let (from, to) = (parting.steps, rejected.steps);
-        let is_doomed = meets_no_choice(grm, self.graph, table, tokens, from, to)?;
         let loss = Loss {
             tokens: numbers_of(alloc, tokens)?,
             steps: steps_of(alloc, moves)?,
-            made: from,
+            made: parting.steps,
             dot: parting.used,
             stop: rejected.used,
             lost: step_of(lost),
         };
-        Ok(Some(Lost { loss, is_doomed }))
+        Ok(Some(loss))
     }
 
-    /// The sentence that is told of what was found at the conflict, if anything: only one that is doomed, where that is asked.
-    pub(crate) fn told(
-        &self,
-        _conflict: Conflict<u32>,
-        lost: Option<Lost>,
-        must_be_doomed: bool,
-    ) -> Option<Loss>
-        requires { IfSome lost (IsFoundAs self.now _conflict.state.0 _conflict.token.0) }
-        ensures found { IfSome result
-            (IsFoundLoss self.now _conflict.state.0 _conflict.token.0) }
-        ensures doomed { IsTrue must_be_doomed → IfSome result (IsDoomedIn self.now) }
+    /// Whether it is known that what the table does where the sentence goes wrong is to blame: behind that step no tree of it is left.
+    fn is_doomed(&self, loss: &Loss) -> Result<bool, AllocError>
+        ensures { IfOk result (λ b. IsTrue b → IsDoomedIn self.now loss.now) }
     {
-        let Lost { loss, is_doomed } = lost?;
-        if must_be_doomed && !is_doomed {
-            return None;
+        let (grm, table) = (&self.found.grm, &self.found.table);
+        let Some(steps) = loss.made.checked_add(1) else {
+            return Ok(false);
+        };
+        let Some(tokens) = tokens_of(grm.allocator(), loss.tokens.as_slice())? else {
+            return Ok(false);
+        };
+        let is_known = has_no_tree_left(grm, self.graph, table, tokens.as_slice(), steps)?;
+        Ok(is_known)
+    }
+
+    /// The sentence that is told of what was found, if anything: only one that is doomed, where that is asked.
+    pub(crate) fn told_of(
+        &self,
+        found: Option<Loss>,
+        must_be_doomed: bool,
+    ) -> Result<Option<Loss>, AllocError>
+        ensures { IfOk result (λ o. IfSome o (IsToldOf self.now found must_be_doomed)) }
+    {
+        let Some(loss) = found else {
+            return Ok(None);
+        };
+        if !must_be_doomed {
+            return Ok(Some(loss));
         }
-        Some(loss)
+        let is_known = self.is_doomed(&loss)?;
+        if !is_known {
+            return Ok(None);
+        }
+        Ok(Some(loss))
     }
 }

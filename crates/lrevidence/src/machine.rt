@@ -1,6 +1,6 @@
-//! The machine of a table on a text: the moves by which it accepts, and whether it meets cells that leave a choice.
+//! The machine of a table on a text: the moves by which it accepts, and where it is after some steps.
 
-ghost use Rattle.std.specs.Prelude.{◌≡◌, ℕ, ◌<◌, ◌≤◌, ◌+◌, List, [], ◌∷◌, ◌++◌, length, IfOk, IsTrue};
+ghost use Rattle.std.specs.Prelude.{◌≡◌, ℕ, ◌<◌, ◌+◌, List, [], ◌∷◌, ◌++◌, length, IfOk, IfSome, IsTrue};
 ghost use Rattle.lrgrammar.specs.declared.idx.PIdx.{PIdx};
 ghost use Rattle.lrgrammar.specs.declared.idx.TIdx.{TIdx};
 ghost use Rattle.lrspec.specs.grammars.Grammar.{Grammar};
@@ -10,40 +10,21 @@ ghost use Rattle.lrrows.specs.StoredActions.{stored_action};
 ghost use Rattle.lrtable.specs.RunAnswers.{text_of};
 ghost use Rattle.lrtable.specs.WorkingMachine.{stack_of};
 ghost use Rattle.lrreasons.specs.Numbers.{number_of};
-ghost use Rattle.lrevidence.specs.Losses.{HasNoChoice, MeetsNoChoice};
 ghost use Rattle.lrevidence.specs.Machines.{left_of, config_of, cell_of, HasCome};
 
-use lrdecided::{completes, contenders};
 use lrgrammar::grammar::YaccGrammar;
 use lrgrammar::idx::{PIdx, StIdx, TIdx};
 use lrreasons::Move;
-use lrtable::{Action, StateGraph, StateTable};
+use lrtable::{Action, StateTable};
 use std::alloc::{AllocError, Global};
-
-/// Whether the cell leaves no choice: one move at the most contends for it.
-fn has_no_choice(
-    grm: &YaccGrammar<u32>,
-    graph: &StateGraph<u32>,
-    state: StIdx<u32>,
-    token: TIdx<u32>,
-) -> Result<bool, AllocError>
-    ensures { IfOk result (λ b. IsTrue b → HasNoChoice grm.now graph.now state.0 token.0) }
-{
-    if usize::from(state) >= usize::from(graph.all_states_len()) {
-        return Ok(false);
-    }
-    let completes = completes(grm, graph, state)?;
-    let moves = contenders(grm, graph, state, completes.as_slice(), token)?;
-    Ok(moves.len() < 2)
-}
 
 /// The machine on its way through a text.
 #[derive(Drop)]
-struct Machine {
+pub(crate) struct Machine {
     /// The states that were pushed and not dropped, the last one on top.
-    stack: Vec<StIdx<u32>>,
+    pub(crate) stack: Vec<StIdx<u32>>,
     /// How many tokens of the text were taken.
-    used: usize,
+    pub(crate) used: usize,
 }
 
 impl Machine {
@@ -58,7 +39,7 @@ impl Machine {
     }
 
     /// The state on top of the stack.
-    fn top(&self, table: &StateTable<u32>) -> StIdx<u32>
+    pub(crate) fn top(&self, table: &StateTable<u32>) -> StIdx<u32>
         ensures { 0 < length self.now.stack.items
             → result.0 ≡ math.top (stack_of number_of self.now.stack.items) }
     {
@@ -69,7 +50,7 @@ impl Machine {
     }
 
     /// The next token, or the end token where the text is used up.
-    fn next_token(&self, grm: &YaccGrammar<u32>, text: &[TIdx<u32>]) -> TIdx<u32>
+    pub(crate) fn next_token(&self, grm: &YaccGrammar<u32>, text: &[TIdx<u32>]) -> TIdx<u32>
         ensures { result.0 ≡ math.next_token grm.now (left_of self.now text.now) }
     {
         match text.get(self.used) {
@@ -89,21 +70,6 @@ impl Machine {
             → stored_action number_of result ≡ cell_of grm.now table.now self.now text.now }
     {
         table.action(self.top(table), self.next_token(grm, text))
-    }
-
-    /// Whether the cell leaves no choice at which it looks.
-    fn looks_at_no_choice(
-        &self,
-        grm: &YaccGrammar<u32>,
-        graph: &StateGraph<u32>,
-        table: &StateTable<u32>,
-        text: &[TIdx<u32>],
-    ) -> Result<bool, AllocError>
-        ensures { IfOk result (λ b. IsTrue b → 0 < length self.now.stack.items
-            → HasNoChoice grm.now graph.now (math.top (stack_of number_of self.now.stack.items))
-            (math.next_token grm.now (left_of self.now text.now))) }
-    {
-        has_no_choice(grm, graph, self.top(table), self.next_token(grm, text))
     }
 
     /// Shifts the next token; false where there is none.
@@ -202,27 +168,22 @@ pub(crate) fn accepting_moves(
     Ok(None)
 }
 
-/// Whether the machine meets only cells that leave no choice: behind so many steps on the text, up to so many.
-pub(crate) fn meets_no_choice(
+/// The machine after so many steps on the text; None where it doesn't come so far.
+pub(crate) fn machine_after(
+    alloc: Global,
     grm: &YaccGrammar<u32>,
-    graph: &StateGraph<u32>,
     table: &StateTable<u32>,
     text: &[TIdx<u32>],
-    from: usize,
-    to: usize,
-) -> Result<bool, AllocError>
-    ensures { IfOk result (λ b. IsTrue b → (n : ℕ) → from < n → n ≤ to
-        → MeetsNoChoice grm.now graph.now table.now (text_of number_of text.now) n) }
+    steps: usize,
+) -> Result<Option<Machine>, AllocError>
+    ensures { IfOk result (λ o. IfSome o (HasCome grm.now table.now text.now steps)) }
 {
-    let mut machine = Machine::new(grm.allocator(), table)?;
-    for made in 0..to {
+    let mut machine = Machine::new(alloc, table)?;
+    for _ in 0..steps {
         let cell = machine.cell(grm, table, text);
         if !machine.go(grm, table, text, cell)? {
-            return Ok(false);
-        }
-        if made >= from && !machine.looks_at_no_choice(grm, graph, table, text)? {
-            return Ok(false);
+            return Ok(None);
         }
     }
-    Ok(true)
+    Ok(Some(machine))
 }

@@ -2,10 +2,9 @@
 
 ghost use Rattle.std.specs.Prelude.{◌≡◌, ◌++◌, IfOk, IfSome};
 ghost use Rattle.lrevidence.specs.Ambiguities.{HasTwoTrees, PartsAt};
-ghost use Rattle.lrevidence.specs.Losses.{IsFoundLoss, IsFoundAs, IsDoomedIn};
+ghost use Rattle.lrevidence.specs.Losses.{IsFoundLoss, IsDoomedIn};
 
 use crate::ambiguities::ambiguity_by;
-use crate::losses::Lost;
 use crate::machine::accepting_moves;
 use crate::searches::Searches;
 use lrconflicts::{Move, Written, other_move};
@@ -25,7 +24,7 @@ pub(crate) struct Shown {
     /// One with two trees, which part there.
     pub(crate) ambiguity: Option<Ambiguity>,
     /// One that the parser rejects, since it goes wrong there.
-    pub(crate) loss: Option<Lost>,
+    pub(crate) loss: Option<Loss>,
 }
 
 impl Shown {
@@ -95,7 +94,7 @@ fn shown_by(
     ensures parts { IfOk result (λ s. IfSome s.ambiguity (PartsAt searches.now.reasons.grammar
         searches.now.reasons.graph conflict.state.0 conflict.token.0)) }
     ensures lost { IfOk result (λ s. IfSome s.loss
-        (IsFoundAs searches.now.losses conflict.state.0 conflict.token.0)) }
+        (IsFoundLoss searches.now.losses conflict.state.0 conflict.token.0)) }
 {
     let (alloc, found) = (searches.allocator(), searches.found);
     let (tokens, moves) = (text.tokens.as_slice(), text.moves.as_slice());
@@ -125,7 +124,7 @@ fn shown_behind(
     ensures parts { IfOk result (λ s. IfSome s.ambiguity (PartsAt searches.now.reasons.grammar
         searches.now.reasons.graph conflict.state.0 conflict.token.0)) }
     ensures lost { IfOk result (λ s. IfSome s.loss
-        (IsFoundAs searches.now.losses conflict.state.0 conflict.token.0)) }
+        (IsFoundLoss searches.now.losses conflict.state.0 conflict.token.0)) }
 {
     let Some(
         Outlook {
@@ -151,7 +150,7 @@ fn shown_by_example(
     ensures parts { IfOk result (λ s. IfSome s.ambiguity (PartsAt searches.now.reasons.grammar
         searches.now.reasons.graph conflict.state.0 conflict.token.0)) }
     ensures lost { IfOk result (λ s. IfSome s.loss
-        (IsFoundAs searches.now.losses conflict.state.0 conflict.token.0)) }
+        (IsFoundLoss searches.now.losses conflict.state.0 conflict.token.0)) }
 {
     let Some(input) = &example.input else {
         return Ok(Shown::NOTHING);
@@ -176,7 +175,7 @@ fn shown_by_search(
     ensures parts { IfOk result (λ s. IfSome s.ambiguity (PartsAt searches.now.reasons.grammar
         searches.now.reasons.graph conflict.state.0 conflict.token.0)) }
     ensures lost { IfOk result (λ s. IfSome s.loss
-        (IsFoundAs searches.now.losses conflict.state.0 conflict.token.0)) }
+        (IsFoundLoss searches.now.losses conflict.state.0 conflict.token.0)) }
 {
     match searches.losses.text_at(conflict, action, pairs)? {
         Some(text) => shown_by(searches, conflict, &text),
@@ -195,8 +194,8 @@ fn doomed_by_search(
     ensures doomed { IfOk result (λ o. IfSome o (IsDoomedIn searches.now.losses)) }
 {
     let Shown { loss, .. } = shown_by_search(searches, conflict, action, FEW_PAIRS)?;
-    let loss = searches.losses.told(conflict, loss, true);
-    Ok(loss)
+    let told = searches.losses.told_of(loss, true)?;
+    Ok(told)
 }
 
 /// Such a sentence for either of the candidates of the conflict.
@@ -228,7 +227,7 @@ pub(crate) fn shown_at(
     ensures parts { IfOk result (λ s. IfSome s.ambiguity (PartsAt searches.now.reasons.grammar
         searches.now.reasons.graph conflict.state.0 conflict.token.0)) }
     ensures lost { IfOk result (λ s. IfSome s.loss
-        (IsFoundAs searches.now.losses conflict.state.0 conflict.token.0)) }
+        (IsFoundLoss searches.now.losses conflict.state.0 conflict.token.0)) }
 {
     let shown = shown_by_example(searches, conflict, example)?;
     if shown.is_something() {

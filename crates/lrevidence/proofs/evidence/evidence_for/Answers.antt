@@ -29,7 +29,7 @@ pub returns-clause-pairs : goal.returns-clause-pairs
 returns-clause-pairs c = are_apart _ _ (rw c.in_ok-searches.ensures.lost at c.in_ok-push_evidence.ensures.lost)
 
 pub returns-clause-doomed : goal.returns-clause-doomed
-returns-clause-doomed c = rw c.in-Some-false.is-0 (are_doomed _ _ (rw c.in_ok-searches.ensures.lost at c.in_ok-push_evidence.ensures.lost))
+returns-clause-doomed c = are_doomed _ _ (rw c.in_ok-searches.ensures.lost at c.in_ok-push_evidence.ensures.lost)
 
 pub returns-clause-decided : goal.returns-clause-decided
 returns-clause-decided c =
