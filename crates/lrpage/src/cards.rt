@@ -1,11 +1,11 @@
 //! Conflicts, each as a card that opens.
 
-ghost use Rattle.std.specs.Prelude.{◌≡◌, All, Contains, IsSome, IsTrue, true};
+ghost use Rattle.std.specs.Prelude.{◌≡◌, All, IfOk, IsSome, IsTrue, map, true};
 ghost use Rattle.std.specs.Option.{ForSome};
 ghost use Rattle.lrshown.specs.Ambiguities.{AreShown, IsShown, is_of};
 ghost use Rattle.lrshown.specs.Losses.{AreShownLosses, IsShownLoss};
 ghost use Rattle.lrshown.specs.DecidedEntries.{AreShownDecided, IsShownDecided};
-ghost use Rattle.lrpage.specs.KeptEntries.{AreShownKept};
+ghost use Rattle.lrpage.specs.KeptEntries.{AreShownKept, IsShownKept};
 
 use crate::pages::{Card, Page, add_count};
 use crate::symbols::DOT;
@@ -50,7 +50,9 @@ fn are_decided(meeting: &[Evidence]) -> bool
 
 impl Card<'_> {
     /// Its entries.
-    fn entries(&self, alloc: Global) -> Result<Vec<Entry>, AllocError> {
+    fn entries(&self, alloc: Global) -> Result<Vec<Entry>, AllocError>
+        ensures { IfOk result (λ v. v.items ≡ map (λ e. e.entry) self.now.meeting.now) }
+    {
         self.meeting.iter().map(|it| it.entry).collect(alloc)
     }
 }
@@ -187,31 +189,41 @@ impl<T: IndexStorage> Page<'_, T> {
         }
     }
 
-    /// Whether it is shown that no sentence is lost at each of the entries.
-    fn are_kept(&self, entries: &[Entry]) -> bool
-        ensures { IsTrue result → All (Contains self.now.kept.now) entries.now }
+    /// Whether it is shown that no sentence is lost at an entry.
+    fn is_kept(&self, entry: &Entry) -> bool
+        ensures { IsTrue result → IsShownKept self.now.found.now.grm self.now.found.now.graph
+            self.now.found.now.table entry.now }
+    {
+        is_among(self.kept, entry)
+    }
+
+    /// Whether it is shown of each of the entries.
+    pub(crate) fn are_kept(&self, entries: &[Entry]) -> bool
+        ensures { IsTrue result → AreShownKept self.now.found.now.grm self.now.found.now.graph
+            self.now.found.now.table entries.now }
     {
         for entry in entries {
-            if !is_among(self.kept, entry) {
+            if !self.is_kept(entry) {
                 return false;
             }
         }
         true
     }
 
-    /// Adds that no sentence is lost at the entries by what the table does there.
-    fn add_kept_tag(&self, page: &mut Text, _entries: &[Entry])
-        requires proved { AreShownKept self.now.found.now.grm self.now.found.now.graph
-            self.now.found.now.table _entries.now }
+    /// Adds that no sentence is lost at an entry by what the table does there.
+    fn add_kept_tag(&self, page: &mut Text, _evidence: &Evidence)
+        requires proved { IsShownKept self.now.found.now.grm self.now.found.now.graph
+            self.now.found.now.table _evidence.now.entry }
     {
         page.add(" <span class=\"tag\">loses no sentence (proved)</span>");
     }
 
-    /// Adds the same, where it is shown of each of them.
-    pub(crate) fn add_if_kept(&self, page: &mut Text, entries: &[Entry]) {
-        if self.are_kept(entries) {
-            self.add_kept_tag(page, entries);
-        }
+    /// Adds the same of all entries of a card.
+    fn add_kept_tag_of_all(&self, page: &mut Text, _card: &Card<'_>)
+        requires proved { AreShownKept self.now.found.now.grm self.now.found.now.graph
+            self.now.found.now.table (map (λ e. e.entry) _card.now.meeting.now) }
+    {
+        page.add(" <span class=\"tag\">loses no sentence (proved)</span>");
     }
 
     /// Adds what is known of an entry in few words.
@@ -225,23 +237,30 @@ impl<T: IndexStorage> Page<'_, T> {
     {
         self.add_tag(page, evidence, slice::from_ref(evidence));
         self.add_if_lost(page, evidence);
-        self.add_if_kept(page, slice::from_ref(&evidence.entry));
+        if self.is_kept(&evidence.entry) {
+            self.add_kept_tag(page, evidence);
+        }
     }
 
-    /// Adds the same of entries at which the same meets: what is so at one of them, or at all.
-    fn add_tags_of_all(&self, page: &mut Text, meeting: &[Evidence], entries: &[Entry])
-        requires proved { AreShown self.now.found.now.grm meeting.now }
-        requires lost { AreShownLosses self.now.found.now.grm self.now.found.now.table meeting.now }
+    /// Adds the same of a card, which has these entries: what is so at one of them, or at all.
+    fn add_tags_of_all(&self, page: &mut Text, card: &Card<'_>, entries: &[Entry])
+        requires proved { AreShown self.now.found.now.grm card.now.meeting.now }
+        requires lost { AreShownLosses self.now.found.now.grm self.now.found.now.table
+            card.now.meeting.now }
         requires decided { AreShownDecided self.now.found.now.grm self.now.found.now.graph
-            meeting.now }
+            card.now.meeting.now }
+        requires entries { entries.now ≡ map (λ e. e.entry) card.now.meeting.now }
     {
+        let meeting = card.meeting;
         if let Some(evidence) = meeting.get(first_with_sentence(meeting)) {
             self.add_tag(page, evidence, meeting);
         }
         if let Some(evidence) = meeting.get(first_with_loss(meeting)) {
             self.add_if_lost(page, evidence);
         }
-        self.add_if_kept(page, entries);
+        if self.are_kept(entries) {
+            self.add_kept_tag_of_all(page, card);
+        }
     }
 
     /// Adds how a text goes on by a step at an entry.
@@ -387,7 +406,7 @@ impl<T: IndexStorage> Page<'_, T> {
                 marks: card.marks.as_slice(),
             },
         );
-        self.add_tags_of_all(page, card.meeting, entries.as_slice());
+        self.add_tags_of_all(page, card, entries.as_slice());
         page.add("</summary>\n");
         self.add_places(page, card.marks.as_slice())?;
         self.add_all_known(page, card.meeting);

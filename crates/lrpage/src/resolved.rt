@@ -3,6 +3,7 @@
 ghost use Rattle.std.specs.Option.{ForSome};
 ghost use Rattle.lrshown.specs.Ambiguities.{IsShown};
 ghost use Rattle.lrshown.specs.Losses.{IsShownLoss};
+ghost use Rattle.lrpage.specs.KeptEntries.{AreShownKept};
 
 use crate::cards::{Head, OPEN, end_card};
 use crate::pages::Page;
@@ -35,6 +36,14 @@ pub struct ResolvedCard<'a> {
 }
 
 impl<T: IndexStorage> Page<'_, T> {
+    /// Adds that no sentence is lost at any entry of a card by what the table does there.
+    fn add_resolved_kept_tag(&self, page: &mut Text, _card: &ResolvedCard<'_>)
+        requires proved { AreShownKept self.now.found.now.grm self.now.found.now.graph
+            self.now.found.now.table _card.now.entries.items }
+    {
+        page.add(" <span class=\"tag\">loses no sentence (proved)</span>");
+    }
+
     /// Adds what wins, and that a sentence is rejected, where one is, or that none is lost, where that is shown.
     fn add_resolved_tags(&self, page: &mut Text, card: &ResolvedCard<'_>)
         requires lost { ForSome card.now.loss
@@ -46,7 +55,9 @@ impl<T: IndexStorage> Page<'_, T> {
         if let Some(loss) = card.loss {
             self.add_lost_tag(page, loss);
         }
-        self.add_if_kept(page, card.entries.as_slice());
+        if self.are_kept(card.entries.as_slice()) {
+            self.add_resolved_kept_tag(page, card);
+        }
     }
 
     /// Adds why the entries of a card are resolved so, and what is known of them.
