@@ -13,7 +13,7 @@ The grammar is the one that is told too. By other ways than the program's it is 
 - where no text is told, the list of symbols has the input as a text, the items of each candidate stand in one another after
   the list, and the rest makes a sentence of the input and follows from the items, from the token on;
 - a text that is told to be lost is a sentence, and the machine of the table rejects it where it is said, behind the dot, which
-  stands before the token of the entry; where the entry is ambiguous or resolved, no cell has a choice behind that.
+  stands before the token of the entry; where the entry is ambiguous or resolved, no tree of it is left behind that move.
 
 And there are as many entries of each kind as are counted.
 """
@@ -28,7 +28,6 @@ from pathlib import Path
 import definitions
 import graphs
 import machine
-import tables
 from sentences import MANY, Trees
 
 END = 0  # The number of `$end`, which is the first token.
@@ -288,35 +287,50 @@ def check_lost(told, entry, lost):
 
 
 def places(told, text):
-    """The places to which the machine comes on a text: the state on top, and how many tokens were taken."""
-    stack, used = [0], 0
+    """The places to which the machine comes on a text: the state on top, how many tokens were taken, and the symbols on the stack."""
+    stack, used, symbols = [0], 0, []
     while True:
-        yield stack[-1], used
+        yield stack[-1], used, [*symbols]
         does, what = machine.cell(told.grammar, told.states[stack[-1]], text[used])
         if does == "shift":
+            symbols.append(text[used])
             used += 1
             stack.append(what)
         elif does == "reduce":
             rule, body = told.grammar.prods[what]
-            del stack[len(stack) - len(body) :]
+            del stack[len(stack) - len(body) :], symbols[len(symbols) - len(body) :]
+            symbols.append(rule)
             stack.append(told.states[stack[-1]].edges[rule])
         else:
             return
 
 
-def has_choice(told, state, token):
-    """Whether several moves contend for the cell."""
-    state = told.states[state]
-    return sum(looks >> token & 1 for looks in tables.complete(told.grammar, state).values()) + (token in state.edges) > 1
+def goes_on(told, symbols, rest):
+    """Whether some tree's moves make these symbols first and then read the rest: a tree of the symbols and the rest no part of which
+    ends before the symbols do, where a rule among them has no parts."""
+    text, changes = [*symbols, *rest], True
+    ends = {(symbol, at): {at + 1} for at, symbol in enumerate(text)}
+    while changes:
+        changes = False
+        for rule, body in told.grammar.prods[:-1]:
+            for at in range(len(text) + 1):
+                reached = {at}
+                for symbol in body:
+                    reached = {end for middle in reached for end in ends.get((symbol, middle), ())}
+                known = ends.setdefault((rule, at), set())
+                more = {end for end in reached if end >= len(symbols)} - known
+                known |= more
+                changes |= bool(more)
+    return len(text) in ends.get((told.root, 0), ())
 
 
 def check_doomed(told, entry, lost):
-    """What the table does at the entry is alone to blame: behind the dot the machine comes to no cell that has a choice."""
-    text = [*told.symbols(lost["text"]), END]
-    come = [*places(told, text)]
-    behind = [come[number + 1 :] for number, place in enumerate(come) if place == (entry["state"], lost["dot"])]
-    goes_wrong = lambda rest: any(has_choice(told, state, text[used]) for state, used in rest)
-    hold(not all(map(goes_wrong, behind)), f"{lost['text']} may go wrong again behind the dot")
+    """What the table does at the entry is to blame: no tree's moves begin with those of the machine up to the one behind the dot."""
+    text = told.symbols(lost["text"])
+    come = [*places(told, [*text, END])]
+    behind = [after for before, after in zip(come, come[1:]) if before[:2] == (entry["state"], lost["dot"])]
+    goes_wrong = any(not goes_on(told, symbols, text[used:]) for _, used, symbols in behind)
+    hold(goes_wrong, f"{lost['text']} may be read in another way behind the dot")
 
 
 # All of a file.

@@ -1,6 +1,6 @@
 use Rattle.std.proofs.Common.{false, length, nat_lt}
 use Rattle.lrreport.proofs.KeptGraph.{is_some_referred}
-use Rattle.lrreport.proofs.reports.page_on_findings.Goals as goal
+use Rattle.lrreport.proofs.outputs.page_on_findings.Goals as goal
 
 pub page-requires-clause-words : goal.page-requires-clause-words
 page-requires-clause-words g c = ∣ record {

@@ -7,7 +7,7 @@ use Rattle.lrevidence.specs.Losses.{IsLostAtEntry}
 use Rattle.lrevidence.specs.DecidedEntries.{IsToldDecided}
 use Rattle.lrreport.proofs.KeptGraph.{weaker_without}
 use Rattle.lrreport.proofs.KnownBy.{known_each, known_entries, known_matched, known_unlost}
-use Rattle.lrreport.proofs.reports.known_of.Goals as goal
+use Rattle.lrreport.proofs.known.known_of.Goals as goal
 
 pub evidence_for-requires-clause-graph : goal.evidence_for-requires-clause-graph
 evidence_for-requires-clause-graph c =

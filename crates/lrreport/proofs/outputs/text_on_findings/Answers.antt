@@ -1,7 +1,7 @@
 use Rattle.std.proofs.Common.{◌∙◌}
 use Rattle.lrreport.proofs.KeptGraph.{is_some_referred}
 use Rattle.lrreport.proofs.ToldTexts.{lines_tell}
-use Rattle.lrreport.proofs.reports.text_on_findings.Goals as goal
+use Rattle.lrreport.proofs.outputs.text_on_findings.Goals as goal
 
 pub returns-in-Json : goal.returns-in-Json
 returns-in-Json g c = record {

@@ -1,0 +1,195 @@
+//! What is known of the grammar of a file.
+
+ghost use Rattle.std.specs.Prelude.{◌≡◌, [], true, None, All, map, IfOk, IfSome, IsTrue, MatchOption};
+ghost use Rattle.lrspec.specs.merging.Graph.{IsGraphOf};
+ghost use Rattle.lrspec.specs.tables.Conflicts.{AreReductionsContested};
+ghost use Rattle.lrspec.specs.tables.Recognition.{IsUnambiguous};
+ghost use Rattle.lrspec.specs.tables.Table.{IsTableFor, IsTableOf};
+ghost use Rattle.lryacc.specs.Parsers.{splits};
+ghost use Rattle.lrfindings.specs.Findings.{FindNothing};
+ghost use Rattle.lrverdicts.specs.Verdicts.{counts_of};
+ghost use Rattle.lrshown.specs.Exactness.{IsToldExact, Open};
+ghost use Rattle.lrevidence.specs.Ambiguities.{HasTwoTrees, IsProved, PartsAtEntry};
+ghost use Rattle.lrevidence.specs.Entries.{AreListedIn};
+ghost use Rattle.lrevidence.specs.Losses.{IsLostAtEntry};
+ghost use Rattle.lrevidence.specs.DecidedEntries.{IsToldDecided};
+ghost use Rattle.lrevidence.specs.KeptEntries.{AreToldKept};
+ghost use Rattle.lrreport.specs.Conclusions.{known_by, without_loss};
+
+use crate::efforts::{effort_of, has_many, losses_by, work_of};
+use crate::options::Options;
+use lrdiagnostics::Source;
+use lrevidence::{
+    Accepted, Ambiguity, Effort, Evidence, Exactness, accepted_of, evidence_for, find_ambiguity,
+    shows_unambiguous,
+};
+use lrfindings::{Counts, Entry, Findings, Resolved};
+use lryacc::{Expected, Fault, FileGrammar, Parser};
+use std::alloc::{AllocError, Global};
+
+/// A file that was read as a grammar.
+#[derive(Clone, Copy)]
+pub(crate) struct Read<'a> {
+    pub(crate) source: &'a Source<'a>,
+    pub(crate) file: &'a FileGrammar,
+    pub(crate) expected: Expected,
+    pub(crate) parser: &'a Parser,
+    pub(crate) warnings: &'a [Fault],
+}
+
+/// What is known of a grammar beside what was found in it.
+#[derive(Drop)]
+pub(crate) struct Known {
+    /// How many conflicts are left open.
+    pub(crate) left: Counts,
+    /// Whether it is shown that no sentence has two trees although some are left open.
+    pub(crate) is_unambiguous: bool,
+    /// Whether it is shown that the parser accepts every sentence although something meets in cells of the table.
+    pub(crate) exactness: Exactness,
+    /// Of the conflicts that are left open.
+    pub(crate) evidence: Vec<Evidence>,
+    /// Of what precedences resolve, where that is asked for.
+    pub(crate) resolved: Vec<Evidence>,
+    /// At which of both no sentence is lost, where that is shown, in the order of the file.
+    pub(crate) kept: Vec<Entry>,
+    /// A sentence with two trees, where precedences resolve all conflicts.
+    pub(crate) decided: Option<Ambiguity>,
+}
+
+/// The entries that precedences resolve.
+fn resolved_entries(alloc: Global, resolved: &[Resolved]) -> Result<Vec<Entry>, AllocError>
+    ensures { IfOk result (λ v. v.items ≡ map (λ s. s.entry) resolved.now) }
+{
+    resolved.iter().map(|it| it.entry).collect(alloc)
+}
+
+/// What is known of entries, but for sentences that are rejected.
+fn without_losses(alloc: Global, evidence: Vec<Evidence>) -> Result<Vec<Evidence>, AllocError>
+    ensures { IfOk result (λ v. v.items ≡ map without_loss evidence.items) }
+{
+    evidence
+        .into_iter()
+        .map(|it| Evidence { loss: None, ..it })
+        .collect(alloc)
+}
+
+/// What is known of the conflicts of a file for such a parser. One that splits at a conflict rejects no sentence because of it.
+fn evidence_by(
+    alloc: Global,
+    parser: &Parser,
+    evidence: Vec<Evidence>,
+) -> Result<Vec<Evidence>, AllocError>
+    ensures { IfOk result (λ v. v.items ≡ known_by parser.now evidence.items) }
+{
+    if parser.splits() {
+        without_losses(alloc, evidence)
+    } else {
+        Ok(evidence)
+    }
+}
+
+/// Whether such a parser of a file accepts every sentence, and at which of the entries it loses none, as far as that is shown. Of one
+/// that splits at a conflict nothing is told: it may stop where a text has two trees.
+fn accepted_by(
+    parser: &Parser,
+    found: &Findings<u32>,
+    evidence: &[Evidence],
+    resolved: &[Evidence],
+    effort: Effort,
+) -> Result<Accepted, AllocError>
+    requires graph { IfSome found.now.graph (IsGraphOf found.now.grm) }
+    requires table { IfSome found.now.graph (λ h. IsTableOf found.now.grm h found.now.table) }
+    ensures exact { IfOk result (λ a.
+        IsToldExact found.now.grm found.now.graph found.now.table a.exactness) }
+    ensures kept { IfOk result (λ a.
+        AreToldKept found.now.grm found.now.graph found.now.table a.kept.items) }
+    ensures untold { splits parser.now ≡ true → IfOk result (λ a. a.exactness ≡ Open) }
+    ensures unkept { splits parser.now ≡ true → IfOk result (λ a. a.kept.items ≡ []) }
+{
+    if parser.splits() {
+        return Ok(Accepted::nothing(found.grm.allocator()));
+    }
+    let positions = if has_many(found) { 0 } else { effort.positions };
+    let effort = Effort {
+        positions,
+        ..effort
+    };
+    let accepted = accepted_of(found, evidence, resolved, effort)?;
+    Ok(accepted)
+}
+
+/// What is known of a grammar beside what was found in it.
+pub(crate) fn known_of(
+    alloc: Global,
+    read: Read<'_>,
+    found: &Findings<u32>,
+    options: Options,
+) -> Result<Known, AllocError>
+    requires graph { MatchOption found.now.graph (FindNothing found.now) (IsGraphOf found.now.grm) }
+    requires listed { IfSome found.now.graph (λ h.
+        AreListedIn found.now.grm h found.now.conflicts.items) }
+    requires contested { IfSome found.now.graph (AreReductionsContested found.now.grm) }
+    requires table { IsTableFor found.now.grm found.now.table }
+    requires table_of { IfSome found.now.graph (λ h. IsTableOf found.now.grm h found.now.table) }
+    ensures left { IfOk result (λ k. map (λ e. e.entry) k.evidence.items ≡ found.now.left.items) }
+    ensures unambiguous { IfOk result (λ k. IsTrue k.is_unambiguous
+        → IsUnambiguous found.now.grm) }
+    ensures counts { IfOk result (λ k. k.left ≡ counts_of (map (λ e. e.entry) k.evidence.items)) }
+    ensures proved { IfOk result (λ k. All (IsProved found.now.grm) k.evidence.items) }
+    ensures parts { IfOk result (λ k. MatchOption found.now.graph (k.evidence.items ≡ [])
+        (λ h. All (PartsAtEntry found.now.grm h) k.evidence.items)) }
+    ensures lost { IfOk result (λ k.
+        All (IsLostAtEntry found.now.grm found.now.table) k.evidence.items) }
+    ensures entries { IfOk result (λ k.
+        All (IsToldDecided found.now.grm found.now.graph) k.evidence.items) }
+    ensures resolved { IfOk result (λ k. All (IsProved found.now.grm) k.resolved.items) }
+    ensures settled { IfOk result (λ k.
+        All (IsLostAtEntry found.now.grm found.now.table) k.resolved.items) }
+    ensures decided { IfOk result (λ k. IfSome k.decided (HasTwoTrees found.now.grm)) }
+    ensures exact { IfOk result (λ k.
+        IsToldExact found.now.grm found.now.graph found.now.table k.exactness) }
+    ensures kept { IfOk result (λ k.
+        AreToldKept found.now.grm found.now.graph found.now.table k.kept.items) }
+    ensures unlost { splits read.entry.parser.now ≡ true → IfOk result (λ k.
+        All (λ e. e.loss ≡ None) k.evidence.items) }
+    ensures untold { splits read.entry.parser.now ≡ true → IfOk result (λ k.
+        k.exactness ≡ Open) }
+    ensures unkept { splits read.entry.parser.now ≡ true → IfOk result (λ k.
+        k.kept.items ≡ []) }
+{
+    let file = read.file;
+    let (entries, effort) = (
+        found.left.as_slice(),
+        effort_of(read.parser, found.states, options),
+    );
+    let all = evidence_for(alloc, file, found, entries, effort)?;
+    let evidence = evidence_by(alloc, read.parser, all)?;
+    let is_unambiguous = shows_unambiguous(found, evidence.as_slice(), effort)?;
+    let resolved = resolved_entries(alloc, found.resolved.as_slice())?;
+    let decided = if entries.is_empty() && !resolved.is_empty() {
+        let (entries, steps) = (resolved.as_slice(), options.steps);
+        find_ambiguity(alloc, found, entries, steps, work_of(options))?
+    } else {
+        None
+    };
+    let resolved = if options.detail.resolved {
+        let effort = Effort {
+            losses_in_any_case: losses_by(read.parser, usize::MAX),
+            ..effort
+        };
+        evidence_for(alloc, file, found, resolved.as_slice(), effort)?
+    } else {
+        Vec::new(alloc)
+    };
+    let (known, settled) = (evidence.as_slice(), resolved.as_slice());
+    let Accepted { exactness, kept } = accepted_by(read.parser, found, known, settled, effort)?;
+    Ok(Known {
+        left: Counts::of(entries),
+        is_unambiguous,
+        exactness,
+        evidence,
+        resolved,
+        kept,
+        decided,
+    })
+}
