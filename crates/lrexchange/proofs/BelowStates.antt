@@ -12,8 +12,8 @@ use Rattle.lrexchange.specs.declared.below.Below.{Below}
 use Rattle.lrexchange.proofs.AskedInTurn.{AllBut, end_all}
 
 -- a state with what is above it, by numbers
-abbrev pub below_of : {T : Type 0} → (T → ℕ) → Below T → ℕ × List Symbol
-below_of number b = (number b.state.0, symbols_of number b.symbols.items)
+abbrev pub below_of : Below → ℕ × List Symbol
+below_of b = (b.state.0, symbols_of b.symbols.items)
 
 -- the pair of a state and symbols
 abbrev pub pair : ℕ → List Symbol → ℕ × List Symbol

@@ -30,10 +30,8 @@ front_with_one f xs front new x n e k =
 
 -- what stands at one place of lists that are the same
 pub same_there :
-    {X Y : Type 0} (f : X → Y) (xs ys : List X) (i : ℕ) (x y : X) → map f xs ≡ map f ys → i < length xs → i < length ys → x ≡ get_or xs i x → y ≡ get_or ys i y
-    → f x ≡ f y
-same_there f xs ys i x y same l m e k =
-    ap f e ∙ sym (get_or-map f xs i x (f x) l) ∙ ap (λ z. get_or z i (f x)) same ∙ get_or-map f ys i y (f x) m ∙ ap f (sym k)
+    {X Y : Type 0} (f : X → Y) (xs ys : List X) (i : ℕ) (d e : X) → map f xs ≡ map f ys → i < length xs → i < length ys → f (get_or xs i d) ≡ f (get_or ys i e)
+same_there f xs ys i d e same l m = sym (get_or-map f xs i d (f d) l) ∙ ap (λ z. get_or z i (f d)) same ∙ get_or-map f ys i e (f d) m
 
 module _ (g : Grammar) (p d least : ℕ) (stack : List Symbol) where
   -- without the production nothing is cut

@@ -30,8 +30,8 @@ module _ (h : Graph) (s : ℕ) (theirs ours : List Symbol) where
   }
 
 -- what stands at a place
-pub at_mapped : {X Y : Type 0} (f : X → Y) (xs : List X) (i : ℕ) (x : X) → i < length xs → x ≡ get_or xs i x → f x ≡ get_or (map f xs) i (f x)
-at_mapped f xs i x l e = ap f e ∙ sym (get_or-map f xs i x (f x) l)
+pub at_mapped : {X Y : Type 0} (f : X → Y) (xs : List X) (i : ℕ) (d : X) → i < length xs → f (get_or xs i d) ≡ get_or (map f xs) i (f (get_or xs i d))
+at_mapped f xs i d l = sym (get_or-map f xs i d (f (get_or xs i d)) l)
 
 -- all our symbols, where no mark is among them
 pub all_before : (y : Ours) (v : List Symbol) → y.symbols ≡ v → ((m : Mark) → y.mark ≡ Some m → length v ≤ m.place) → AreBeforeMark y v

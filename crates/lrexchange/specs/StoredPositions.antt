@@ -10,49 +10,50 @@ use Rattle.lrexchange.specs.declared.positions.Ours as own
 use Rattle.lrexchange.specs.declared.positions.Turn as stored
 use Rattle.lrexchange.specs.declared.positions.Turn.TheVariants as code
 use Rattle.lrexchange.specs.declared.positions.Position as kept
+use Rattle.lrexchange.specs.Numbers.{number_of}
 use Rattle.lrexchange.specs.Positions.{Mark, Ours, Turn, Even, Open, Ahead, Before, Behind, Position}
 
 -- symbols by their numbers
-abbrev pub symbols_of : {T : Type 0} → (T → ℕ) → List (Symbol T) → List math.Symbol
-symbols_of number xs = map (symbol_of number) xs
+abbrev pub symbols_of : List (Symbol ℕ) → List math.Symbol
+symbols_of xs = map (symbol_of number_of) xs
 
 -- a mark by the numbers of its symbols and its state
-abbrev pub mark_of : {T : Type 0} → (T → ℕ) → mark.Mark T → Mark
-mark_of number m = record {
+abbrev pub mark_of : mark.Mark → Mark
+mark_of m = record {
   place = m.place;
-  symbol = symbol_of number m.symbol;
-  under = symbol_of number m.under;
-  state = number m.state.0;
+  symbol = symbol_of number_of m.symbol;
+  under = symbol_of number_of m.under;
+  state = m.state.0;
 }
 
 -- ours by the numbers of symbols
-abbrev pub ours_of : {T : Type 0} → (T → ℕ) → own.Ours T → Ours
-ours_of number y = record {
-  symbols = symbols_of number y.symbols.items;
-  mark = option_map (mark_of number) y.mark;
+abbrev pub ours_of : own.Ours → Ours
+ours_of y = record {
+  symbols = symbols_of y.symbols.items;
+  mark = option_map mark_of y.mark;
 }
 
 -- what they do next, by the number of the item
-abbrev pub turn_of : {T : Type 0} → (T → ℕ) → stored.Turn T → Turn
-turn_of number code.Even = Even
-turn_of number (code.Open p d) = Open (number p.0) (number d.0)
-turn_of number (code.Ahead t) = Ahead (number t.0)
-turn_of number (code.Before t) = Before (number t.0)
-turn_of number (code.Behind t) = Behind (number t.0)
+abbrev pub turn_of : stored.Turn → Turn
+turn_of code.Even = Even
+turn_of (code.Open p d) = Open p.0 d.0
+turn_of (code.Ahead t) = Ahead t.0
+turn_of (code.Before t) = Before t.0
+turn_of (code.Behind t) = Behind t.0
 
 -- a position by numbers
-abbrev pub position_of : {T : Type 0} → (T → ℕ) → kept.Position T → Position
-position_of number a = record {
-  turn = turn_of number a.turn;
-  state = number a.state.0;
-  theirs = symbols_of number a.theirs.items;
-  ours = ours_of number a.ours;
+abbrev pub position_of : kept.Position → Position
+position_of a = record {
+  turn = turn_of a.turn;
+  state = a.state.0;
+  theirs = symbols_of a.theirs.items;
+  ours = ours_of a.ours;
 }
 
 -- positions by numbers
-abbrev pub positions_of : {T : Type 0} → (T → ℕ) → List (kept.Position T) → List Position
-positions_of number ps = map (position_of number) ps
+abbrev pub positions_of : List kept.Position → List Position
+positions_of ps = map position_of ps
 
 -- states with what is above them, by numbers
-abbrev pub belows_of : {T : Type 0} → (T → ℕ) → List (step.Below T) → List (ℕ × List math.Symbol)
-belows_of number bs = map (λ b. (number b.state.0, symbols_of number b.symbols.items)) bs
+abbrev pub belows_of : List step.Below → List (ℕ × List math.Symbol)
+belows_of bs = map (λ b. (b.state.0, symbols_of b.symbols.items)) bs

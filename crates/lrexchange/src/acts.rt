@@ -3,6 +3,7 @@
 ghost use Rattle.std.specs.Prelude.{◌≡◌, Contains, IfOk, IsTrue, OnOk};
 ghost use Rattle.lrgrammar.specs.Symbols.{symbol_of};
 ghost use Rattle.lrsearches.specs.StoredWays.{AreWaysOf};
+ghost use Rattle.lrexchange.specs.Numbers.{number_of};
 ghost use Rattle.lrexchange.specs.Asked.{deepened, KeepsPositions, AsksThem, AsksBoth, AsksUs, AsksHidden, Asks, AllAsked, EachAsked};
 ghost use Rattle.lrexchange.specs.StoredActs.{act_of};
 ghost use Rattle.lrexchange.specs.StoredPositions.{symbols_of, turn_of, mark_of, position_of, positions_of, belows_of};
@@ -11,37 +12,37 @@ use crate::below::{Below, all_below};
 use crate::cuts::{cut, ours_cut};
 use crate::positions::{Mark, Ours, Position, Turn};
 use lrgrammar::grammar::YaccGrammar;
-use lrgrammar::idx::{IndexStorage, PIdx, SIdx, Symbol};
+use lrgrammar::idx::{PIdx, SIdx, Symbol};
 use lrgraphs::stategraph::StateGraph;
 use lrsearches::Ways;
 use std::alloc::AllocError;
 
 /// What is done above a stack.
 #[derive(Clone, Copy)]
-pub(crate) enum Act<T> {
+pub(crate) enum Act {
     /// They reduce by the item, and then do this.
-    They(Turn<T>, PIdx<T>, SIdx<T>),
+    They(Turn, PIdx<u32>, SIdx<u32>),
     /// They reduce by the item, and so do we.
-    Both(PIdx<T>, SIdx<T>),
+    Both(PIdx<u32>, SIdx<u32>),
     /// We alone reduce by the production.
-    We(PIdx<T>),
+    We(PIdx<u32>),
     /// They reduce by the production, and the mark stands for what that is made of.
-    Hide(PIdx<T>, Mark<T>),
+    Hide(PIdx<u32>, Mark),
 }
 
 /// Adds what is asked where they reduce by the item; answers whether that can be said.
-fn ask_them<T: IndexStorage>(
-    asked: &mut Vec<Position<T>>,
-    grm: &YaccGrammar<T>,
-    deeper: Position<T>,
-    turn: Turn<T>,
-    item: (PIdx<T>, SIdx<T>),
+fn ask_them(
+    asked: &mut Vec<Position>,
+    grm: &YaccGrammar<u32>,
+    deeper: Position,
+    turn: Turn,
+    item: (PIdx<u32>, SIdx<u32>),
 ) -> Result<bool, AllocError>
-    ensures kept { OnOk result (KeepsPositions (positions_of T.number asked.old.items)
-        (positions_of T.number asked.new.items)) }
+    ensures kept { OnOk result (KeepsPositions (positions_of asked.old.items)
+        (positions_of asked.new.items)) }
     ensures asked { IfOk result (λ b. IsTrue b → AsksThem grm.now
-        (Contains (positions_of T.number asked.new.items)) (turn_of T.number turn)
-        (T.number item.0.0) (T.number item.1.0) (position_of T.number deeper)) }
+        (Contains (positions_of asked.new.items)) (turn_of turn)
+        item.0.0 item.1.0 (position_of deeper)) }
 {
     if deeper.theirs.len() < usize::from(item.1) {
         return Ok(false);
@@ -65,17 +66,16 @@ fn ask_them<T: IndexStorage>(
 }
 
 /// Adds what is asked where they reduce by the item, and so do we; answers whether we can.
-fn ask_both<T: IndexStorage>(
-    asked: &mut Vec<Position<T>>,
-    grm: &YaccGrammar<T>,
-    deeper: Position<T>,
-    item: (PIdx<T>, SIdx<T>),
+fn ask_both(
+    asked: &mut Vec<Position>,
+    grm: &YaccGrammar<u32>,
+    deeper: Position,
+    item: (PIdx<u32>, SIdx<u32>),
 ) -> Result<bool, AllocError>
-    ensures kept { OnOk result (KeepsPositions (positions_of T.number asked.old.items)
-        (positions_of T.number asked.new.items)) }
+    ensures kept { OnOk result (KeepsPositions (positions_of asked.old.items)
+        (positions_of asked.new.items)) }
     ensures asked { IfOk result (λ b. IsTrue b → AsksBoth grm.now
-        (Contains (positions_of T.number asked.new.items)) (T.number item.0.0)
-        (T.number item.1.0) (position_of T.number deeper)) }
+        (Contains (positions_of asked.new.items)) item.0.0 item.1.0 (position_of deeper)) }
 {
     if deeper.theirs.len() < usize::from(item.1) {
         return Ok(false);
@@ -102,17 +102,16 @@ fn ask_both<T: IndexStorage>(
 }
 
 /// Adds what is asked where we alone reduce by the production; answers whether we can.
-fn ask_us<T: IndexStorage>(
-    asked: &mut Vec<Position<T>>,
-    grm: &YaccGrammar<T>,
-    deeper: Position<T>,
-    production: PIdx<T>,
+fn ask_us(
+    asked: &mut Vec<Position>,
+    grm: &YaccGrammar<u32>,
+    deeper: Position,
+    production: PIdx<u32>,
 ) -> Result<bool, AllocError>
-    ensures kept { OnOk result (KeepsPositions (positions_of T.number asked.old.items)
-        (positions_of T.number asked.new.items)) }
+    ensures kept { OnOk result (KeepsPositions (positions_of asked.old.items)
+        (positions_of asked.new.items)) }
     ensures asked { IfOk result (λ b. IsTrue b → AsksUs grm.now
-        (Contains (positions_of T.number asked.new.items)) (T.number production.0)
-        (position_of T.number deeper)) }
+        (Contains (positions_of asked.new.items)) production.0 (position_of deeper)) }
 {
     if usize::from(production) >= usize::from(grm.prods_len()) {
         return Ok(false);
@@ -137,9 +136,9 @@ fn ask_us<T: IndexStorage>(
 }
 
 /// The mark where it waits with the symbol alone.
-fn mark_with<T: IndexStorage>(mark: Mark<T>, symbol: Symbol<T>) -> Mark<T>
-    ensures { mark_of T.number result ≡ record (mark_of T.number mark) {
-      symbol = symbol_of T.number symbol;
+fn mark_with(mark: Mark, symbol: Symbol<u32>) -> Mark
+    ensures { mark_of result ≡ record (mark_of mark) {
+      symbol = symbol_of number_of symbol;
     } }
 {
     Mark {
@@ -152,19 +151,19 @@ fn mark_with<T: IndexStorage>(mark: Mark<T>, symbol: Symbol<T>) -> Mark<T>
 
 /// Adds what is asked where they reduce by the production to one symbol, for which the mark waits behind our symbols; answers
 /// whether that can be said.
-fn ask_hidden<T: IndexStorage>(
-    asked: &mut Vec<Position<T>>,
-    grm: &YaccGrammar<T>,
-    deeper: Position<T>,
-    production: PIdx<T>,
-    mark: Mark<T>,
-    ours: &[Symbol<T>],
+fn ask_hidden(
+    asked: &mut Vec<Position>,
+    grm: &YaccGrammar<u32>,
+    deeper: Position,
+    production: PIdx<u32>,
+    mark: Mark,
+    ours: &[Symbol<u32>],
 ) -> Result<bool, AllocError>
-    ensures kept { OnOk result (KeepsPositions (positions_of T.number asked.old.items)
-        (positions_of T.number asked.new.items)) }
+    ensures kept { OnOk result (KeepsPositions (positions_of asked.old.items)
+        (positions_of asked.new.items)) }
     ensures asked { IfOk result (λ b. IsTrue b → AsksHidden grm.now
-        (Contains (positions_of T.number asked.new.items)) (T.number production.0)
-        (mark_of T.number mark) (symbols_of T.number ours.now) (position_of T.number deeper)) }
+        (Contains (positions_of asked.new.items)) production.0
+        (mark_of mark) (symbols_of ours.now) (position_of deeper)) }
 {
     if usize::from(production) >= usize::from(grm.prods_len()) {
         return Ok(false);
@@ -197,19 +196,19 @@ fn ask_hidden<T: IndexStorage>(
 }
 
 /// Adds what is asked where this is done at the position, above what is below it; answers whether that can be said.
-fn ask_above<T: IndexStorage>(
-    asked: &mut Vec<Position<T>>,
-    grm: &YaccGrammar<T>,
-    position: &Position<T>,
-    act: Act<T>,
-    below: &Below<T>,
+fn ask_above(
+    asked: &mut Vec<Position>,
+    grm: &YaccGrammar<u32>,
+    position: &Position,
+    act: Act,
+    below: &Below,
 ) -> Result<bool, AllocError>
-    ensures kept { OnOk result (KeepsPositions (positions_of T.number asked.old.items)
-        (positions_of T.number asked.new.items)) }
+    ensures kept { OnOk result (KeepsPositions (positions_of asked.old.items)
+        (positions_of asked.new.items)) }
     ensures asked { IfOk result (λ b. IsTrue b → Asks grm.now
-        (Contains (positions_of T.number asked.new.items)) (act_of T.number act)
-        (position_of T.number position.now) (deepened (position_of T.number position.now)
-        (T.number below.now.state.0) (symbols_of T.number below.now.symbols.items))) }
+        (Contains (positions_of asked.new.items)) (act_of act)
+        (position_of position.now) (deepened (position_of position.now)
+        below.now.state.0 (symbols_of below.now.symbols.items))) }
 {
     let Some(deeper) = position.deepened(grm.allocator(), below)? else {
         return Ok(false);
@@ -228,18 +227,18 @@ fn ask_above<T: IndexStorage>(
 }
 
 /// Adds what is asked where this is done at the position, above each of these; answers whether that can be said.
-fn ask_above_all<T: IndexStorage>(
-    asked: &mut Vec<Position<T>>,
-    grm: &YaccGrammar<T>,
-    position: &Position<T>,
-    act: Act<T>,
-    belows: &[Below<T>],
+fn ask_above_all(
+    asked: &mut Vec<Position>,
+    grm: &YaccGrammar<u32>,
+    position: &Position,
+    act: Act,
+    belows: &[Below],
 ) -> Result<bool, AllocError>
-    ensures kept { OnOk result (KeepsPositions (positions_of T.number asked.old.items)
-        (positions_of T.number asked.new.items)) }
+    ensures kept { OnOk result (KeepsPositions (positions_of asked.old.items)
+        (positions_of asked.new.items)) }
     ensures asked { IfOk result (λ b. IsTrue b → AllAsked grm.now
-        (Contains (positions_of T.number asked.new.items)) (act_of T.number act)
-        (position_of T.number position.now) (belows_of T.number belows.now)) }
+        (Contains (positions_of asked.new.items)) (act_of act)
+        (position_of position.now) (belows_of belows.now)) }
 {
     for below in belows {
         if !ask_above(asked, grm, position, act, below)? {
@@ -250,7 +249,7 @@ fn ask_above_all<T: IndexStorage>(
 }
 
 /// The length of the body of the production; 0 without one.
-fn body_len<T: IndexStorage>(grm: &YaccGrammar<T>, production: PIdx<T>) -> usize {
+fn body_len(grm: &YaccGrammar<u32>, production: PIdx<u32>) -> usize {
     if usize::from(production) >= usize::from(grm.prods_len()) {
         return 0;
     }
@@ -258,7 +257,7 @@ fn body_len<T: IndexStorage>(grm: &YaccGrammar<T>, production: PIdx<T>) -> usize
 }
 
 /// How many symbols below the position have to be known.
-fn depth<T: IndexStorage>(grm: &YaccGrammar<T>, position: &Position<T>, act: Act<T>) -> usize {
+fn depth(grm: &YaccGrammar<u32>, position: &Position, act: Act) -> usize {
     let theirs = position.theirs.len();
     let ours = position.ours.symbols.len();
     match act {
@@ -271,20 +270,19 @@ fn depth<T: IndexStorage>(grm: &YaccGrammar<T>, position: &Position<T>, act: Act
 
 /// Adds what is asked where this is done at the position, above each stack that leads to its state; answers whether that can be
 /// said.
-pub(crate) fn ask_each<T: IndexStorage>(
-    asked: &mut Vec<Position<T>>,
-    grm: &YaccGrammar<T>,
-    graph: &StateGraph<T>,
-    ways: &Ways<T>,
-    position: &Position<T>,
-    act: Act<T>,
+pub(crate) fn ask_each(
+    asked: &mut Vec<Position>,
+    grm: &YaccGrammar<u32>,
+    graph: &StateGraph<u32>,
+    ways: &Ways<u32>,
+    position: &Position,
+    act: Act,
 ) -> Result<bool, AllocError>
-    requires { AreWaysOf T.number grm.now graph.now ways.now }
-    ensures kept { OnOk result (KeepsPositions (positions_of T.number asked.old.items)
-        (positions_of T.number asked.new.items)) }
+    requires { AreWaysOf number_of grm.now graph.now ways.now }
+    ensures kept { OnOk result (KeepsPositions (positions_of asked.old.items)
+        (positions_of asked.new.items)) }
     ensures asked { IfOk result (λ b. IsTrue b → EachAsked grm.now graph.now
-        (Contains (positions_of T.number asked.new.items)) (act_of T.number act)
-        (position_of T.number position.now)) }
+        (Contains (positions_of asked.new.items)) (act_of act) (position_of position.now)) }
 {
     let incoming = ways.incoming.as_slice();
     let count = depth(grm, position, act);

@@ -4,7 +4,7 @@ use lrgrammar::idx::PIdx;
 
 /// How a position is won.
 #[derive(Clone, Copy)]
-pub enum Answer<T> {
+pub enum Answer {
     /// By whatever they do next.
     Moves,
     /// We read the same behind the dot as they, and reduce by the item too.
@@ -16,7 +16,7 @@ pub enum Answer<T> {
     /// We read the token too.
     Read,
     /// We alone reduce by the production.
-    Own(PIdx<T>),
+    Own(PIdx<u32>),
     /// We alone reduce what the mark hides, with the symbol behind it.
     Unmark,
 }

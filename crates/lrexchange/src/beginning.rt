@@ -5,6 +5,7 @@ ghost use Rattle.lrgrammar.specs.Symbols.{symbol_of};
 ghost use Rattle.lrsearches.specs.StoredWays.{AreWaysOf};
 ghost use Rattle.lrconflicts.specs.Moves.{Shift, Reduce};
 ghost use Rattle.lrconflicts.specs.StoredMoves.{move_of};
+ghost use Rattle.lrexchange.specs.Numbers.{number_of};
 ghost use Rattle.lrexchange.specs.Asked.{AllOwn};
 ghost use Rattle.lrexchange.specs.Exchanges.{at, Begins};
 ghost use Rattle.lrexchange.specs.StoredPositions.{symbols_of, turn_of, position_of, positions_of};
@@ -13,14 +14,14 @@ use crate::acts::{Act, ask_each};
 use crate::positions::{Ours, Position, Turn};
 use lrconflicts::Move;
 use lrgrammar::grammar::YaccGrammar;
-use lrgrammar::idx::{IndexStorage, PIdx, StIdx, Symbol, TIdx};
+use lrgrammar::idx::{PIdx, StIdx, Symbol, TIdx};
 use lrgraphs::stategraph::StateGraph;
 use lrsearches::Ways;
 use std::alloc::{AllocError, Global};
 
 /// The symbol alone.
-fn alone<T: IndexStorage>(alloc: Global, symbol: Symbol<T>) -> Result<Vec<Symbol<T>>, AllocError>
-    ensures { IfOk result (λ v. symbols_of T.number v.items ≡ symbol_of T.number symbol ∷ []) }
+fn alone(alloc: Global, symbol: Symbol<u32>) -> Result<Vec<Symbol<u32>>, AllocError>
+    ensures { IfOk result (λ v. symbols_of v.items ≡ symbol_of number_of symbol ∷ []) }
 {
     let mut symbols = Vec::new(alloc);
     symbols.push(symbol)?;
@@ -28,15 +29,15 @@ fn alone<T: IndexStorage>(alloc: Global, symbol: Symbol<T>) -> Result<Vec<Symbol
 }
 
 /// The position above the state with these symbols alone.
-fn start<T: IndexStorage>(
-    turn: Turn<T>,
-    state: StIdx<T>,
-    theirs: Vec<Symbol<T>>,
-    ours: Vec<Symbol<T>>,
-) -> Position<T>
-    ensures { position_of T.number result ≡ at (turn_of T.number turn) (T.number state.0)
-        (symbols_of T.number theirs.items) (record {
-          symbols = symbols_of T.number ours.items;
+fn start(
+    turn: Turn,
+    state: StIdx<u32>,
+    theirs: Vec<Symbol<u32>>,
+    ours: Vec<Symbol<u32>>,
+) -> Position
+    ensures { position_of result ≡ at (turn_of turn) state.0
+        (symbols_of theirs.items) (record {
+          symbols = symbols_of ours.items;
           mark = None;
         }) }
 {
@@ -53,18 +54,17 @@ fn start<T: IndexStorage>(
 }
 
 /// Adds what is asked where they reduce and we shift; answers whether that can be said.
-fn ask_shifting<T: IndexStorage>(
-    asked: &mut Vec<Position<T>>,
-    grm: &YaccGrammar<T>,
-    graph: &StateGraph<T>,
-    ways: &Ways<T>,
-    cell: (StIdx<T>, TIdx<T>),
-    production: PIdx<T>,
+fn ask_shifting(
+    asked: &mut Vec<Position>,
+    grm: &YaccGrammar<u32>,
+    graph: &StateGraph<u32>,
+    ways: &Ways<u32>,
+    cell: (StIdx<u32>, TIdx<u32>),
+    production: PIdx<u32>,
 ) -> Result<bool, AllocError>
-    requires { AreWaysOf T.number grm.now graph.now ways.now }
-    ensures { IfOk result (λ b. IsTrue b → Begins grm.now graph.now (T.number cell.0.0)
-        (T.number cell.1.0) (Contains (positions_of T.number asked.new.items))
-        (Reduce (T.number production.0)) Shift) }
+    requires { AreWaysOf number_of grm.now graph.now ways.now }
+    ensures { IfOk result (λ b. IsTrue b → Begins grm.now graph.now cell.0.0 cell.1.0
+        (Contains (positions_of asked.new.items)) (Reduce production.0) Shift) }
 {
     if usize::from(production) >= usize::from(grm.prods_len()) {
         return Ok(false);
@@ -77,18 +77,17 @@ fn ask_shifting<T: IndexStorage>(
 }
 
 /// Adds what is asked where they shift and we reduce; answers whether we can.
-fn ask_reducing<T: IndexStorage>(
-    asked: &mut Vec<Position<T>>,
-    grm: &YaccGrammar<T>,
-    graph: &StateGraph<T>,
-    ways: &Ways<T>,
-    cell: (StIdx<T>, TIdx<T>),
-    production: PIdx<T>,
+fn ask_reducing(
+    asked: &mut Vec<Position>,
+    grm: &YaccGrammar<u32>,
+    graph: &StateGraph<u32>,
+    ways: &Ways<u32>,
+    cell: (StIdx<u32>, TIdx<u32>),
+    production: PIdx<u32>,
 ) -> Result<bool, AllocError>
-    requires { AreWaysOf T.number grm.now graph.now ways.now }
-    ensures { IfOk result (λ b. IsTrue b → Begins grm.now graph.now (T.number cell.0.0)
-        (T.number cell.1.0) (Contains (positions_of T.number asked.new.items)) Shift
-        (Reduce (T.number production.0))) }
+    requires { AreWaysOf number_of grm.now graph.now ways.now }
+    ensures { IfOk result (λ b. IsTrue b → Begins grm.now graph.now cell.0.0 cell.1.0
+        (Contains (positions_of asked.new.items)) Shift (Reduce production.0)) }
 {
     let theirs = alone(grm.allocator(), Symbol::Token(cell.1))?;
     let ours = Vec::new(grm.allocator());
@@ -97,18 +96,17 @@ fn ask_reducing<T: IndexStorage>(
 }
 
 /// Adds what is asked where we alone reduce by the production at each of the positions; answers whether we can.
-fn ask_all_own<T: IndexStorage>(
-    asked: &mut Vec<Position<T>>,
-    grm: &YaccGrammar<T>,
-    graph: &StateGraph<T>,
-    ways: &Ways<T>,
-    positions: &[Position<T>],
-    production: PIdx<T>,
+fn ask_all_own(
+    asked: &mut Vec<Position>,
+    grm: &YaccGrammar<u32>,
+    graph: &StateGraph<u32>,
+    ways: &Ways<u32>,
+    positions: &[Position],
+    production: PIdx<u32>,
 ) -> Result<bool, AllocError>
-    requires { AreWaysOf T.number grm.now graph.now ways.now }
+    requires { AreWaysOf number_of grm.now graph.now ways.now }
     ensures { IfOk result (λ b. IsTrue b → AllOwn grm.now graph.now
-        (Contains (positions_of T.number asked.new.items)) (T.number production.0)
-        (positions_of T.number positions.now)) }
+        (Contains (positions_of asked.new.items)) production.0 (positions_of positions.now)) }
 {
     for position in positions {
         if !ask_each(asked, grm, graph, ways, position, Act::We(production))? {
@@ -119,19 +117,18 @@ fn ask_all_own<T: IndexStorage>(
 }
 
 /// Adds what is asked where they reduce by the one production and we by the other; answers whether that can be said.
-fn ask_both_reducing<T: IndexStorage>(
-    asked: &mut Vec<Position<T>>,
-    grm: &YaccGrammar<T>,
-    graph: &StateGraph<T>,
-    ways: &Ways<T>,
-    cell: (StIdx<T>, TIdx<T>),
-    production: PIdx<T>,
-    other: PIdx<T>,
+fn ask_both_reducing(
+    asked: &mut Vec<Position>,
+    grm: &YaccGrammar<u32>,
+    graph: &StateGraph<u32>,
+    ways: &Ways<u32>,
+    cell: (StIdx<u32>, TIdx<u32>),
+    production: PIdx<u32>,
+    other: PIdx<u32>,
 ) -> Result<bool, AllocError>
-    requires { AreWaysOf T.number grm.now graph.now ways.now }
-    ensures { IfOk result (λ b. IsTrue b → Begins grm.now graph.now (T.number cell.0.0)
-        (T.number cell.1.0) (Contains (positions_of T.number asked.new.items))
-        (Reduce (T.number production.0)) (Reduce (T.number other.0))) }
+    requires { AreWaysOf number_of grm.now graph.now ways.now }
+    ensures { IfOk result (λ b. IsTrue b → Begins grm.now graph.now cell.0.0 cell.1.0
+        (Contains (positions_of asked.new.items)) (Reduce production.0) (Reduce other.0)) }
 {
     if usize::from(production) >= usize::from(grm.prods_len()) {
         return Ok(false);
@@ -148,19 +145,19 @@ fn ask_both_reducing<T: IndexStorage>(
 }
 
 /// Adds what is asked of the cell where they make the first move and we the second one; answers whether that can be said.
-fn ask_begun<T: IndexStorage>(
-    asked: &mut Vec<Position<T>>,
-    grm: &YaccGrammar<T>,
-    graph: &StateGraph<T>,
-    ways: &Ways<T>,
-    cell: (StIdx<T>, TIdx<T>),
-    theirs: Move<T>,
-    ours: Move<T>,
+fn ask_begun(
+    asked: &mut Vec<Position>,
+    grm: &YaccGrammar<u32>,
+    graph: &StateGraph<u32>,
+    ways: &Ways<u32>,
+    cell: (StIdx<u32>, TIdx<u32>),
+    theirs: Move<u32>,
+    ours: Move<u32>,
 ) -> Result<bool, AllocError>
-    requires { AreWaysOf T.number grm.now graph.now ways.now }
-    ensures { IfOk result (λ b. IsTrue b → Begins grm.now graph.now (T.number cell.0.0)
-        (T.number cell.1.0) (Contains (positions_of T.number asked.new.items))
-        (move_of T.number theirs) (move_of T.number ours)) }
+    requires { AreWaysOf number_of grm.now graph.now ways.now }
+    ensures { IfOk result (λ b. IsTrue b → Begins grm.now graph.now cell.0.0 cell.1.0
+        (Contains (positions_of asked.new.items)) (move_of number_of theirs)
+        (move_of number_of ours)) }
 {
     match (theirs, ours) {
         (Move::Reduce(production), Move::Shift) => {
@@ -178,18 +175,17 @@ fn ask_begun<T: IndexStorage>(
 
 /// The positions that must be won of the cell for which they make the first move and we the second one; None where that can't be
 /// said.
-pub fn beginning<T: IndexStorage>(
-    grm: &YaccGrammar<T>,
-    graph: &StateGraph<T>,
-    ways: &Ways<T>,
-    cell: (StIdx<T>, TIdx<T>),
-    theirs: Move<T>,
-    ours: Move<T>,
-) -> Result<Option<Vec<Position<T>>>, AllocError>
-    requires { AreWaysOf T.number grm.now graph.now ways.now }
-    ensures { IfOk result (λ o. IfSome o (λ v. Begins grm.now graph.now (T.number cell.0.0)
-        (T.number cell.1.0) (Contains (positions_of T.number v.items)) (move_of T.number theirs)
-        (move_of T.number ours))) }
+pub fn beginning(
+    grm: &YaccGrammar<u32>,
+    graph: &StateGraph<u32>,
+    ways: &Ways<u32>,
+    cell: (StIdx<u32>, TIdx<u32>),
+    theirs: Move<u32>,
+    ours: Move<u32>,
+) -> Result<Option<Vec<Position>>, AllocError>
+    requires { AreWaysOf number_of grm.now graph.now ways.now }
+    ensures { IfOk result (λ o. IfSome o (λ v. Begins grm.now graph.now cell.0.0 cell.1.0
+        (Contains (positions_of v.items)) (move_of number_of theirs) (move_of number_of ours))) }
 {
     let mut asked = Vec::new(grm.allocator());
     if !ask_begun(&mut asked, grm, graph, ways, cell, theirs, ours)? {

@@ -3,11 +3,12 @@
 ghost use Rattle.std.specs.Prelude.{◌≡◌, ◌∷◌, IfOk, IfSome, OnOk};
 ghost use Rattle.lrgrammar.specs.Symbols.{symbol_of};
 ghost use Rattle.lrsearches.specs.StoredWays.{row_of, AreIncoming};
+ghost use Rattle.lrexchange.specs.Numbers.{number_of};
 ghost use Rattle.lrexchange.specs.Asked.{AreStepsBack, KeepsBelows, HasSteps, AreBelow};
 ghost use Rattle.lrexchange.specs.StoredPositions.{symbols_of, belows_of};
 
 use lrgrammar::grammar::YaccGrammar;
-use lrgrammar::idx::{IndexStorage, StIdx, Symbol};
+use lrgrammar::idx::{StIdx, Symbol};
 use lrgraphs::stategraph::StateGraph;
 use std::alloc::{AllocError, Global};
 
@@ -16,22 +17,22 @@ const MOST: usize = 400;
 
 /// A state, and the symbols above it that lead to another one.
 #[derive(Drop)]
-pub struct Below<T> {
+pub struct Below {
     /// The state.
-    pub state: StIdx<T>,
+    pub state: StIdx<u32>,
     /// The symbols.
-    pub symbols: Vec<Symbol<T>>,
+    pub symbols: Vec<Symbol<u32>>,
 }
 
 /// The step back over the edge, with these symbols above.
-fn step_over_edge<T: IndexStorage>(
+fn step_over_edge(
     alloc: Global,
-    edge: (Symbol<T>, StIdx<T>),
-    symbols: &[Symbol<T>],
-) -> Result<Below<T>, AllocError>
-    ensures state { IfOk result (λ b. T.number b.state.0 ≡ T.number edge.1.0) }
-    ensures symbols { IfOk result (λ b. symbols_of T.number b.symbols.items
-        ≡ symbol_of T.number edge.0 ∷ symbols_of T.number symbols.now) }
+    edge: (Symbol<u32>, StIdx<u32>),
+    symbols: &[Symbol<u32>],
+) -> Result<Below, AllocError>
+    ensures state { IfOk result (λ b. b.state.0 ≡ edge.1.0) }
+    ensures symbols { IfOk result (λ b. symbols_of b.symbols.items
+        ≡ symbol_of number_of edge.0 ∷ symbols_of symbols.now) }
 {
     let mut all = Vec::with_capacity(alloc, symbols.len().saturating_add(1))?;
     all.push(edge.0)?;
@@ -43,16 +44,16 @@ fn step_over_edge<T: IndexStorage>(
 }
 
 /// Adds the steps back over the edges, with these symbols above.
-fn add_steps<T: IndexStorage>(
-    belows: &mut Vec<Below<T>>,
+fn add_steps(
+    belows: &mut Vec<Below>,
     alloc: Global,
-    row: &[(Symbol<T>, StIdx<T>)],
-    symbols: &[Symbol<T>],
+    row: &[(Symbol<u32>, StIdx<u32>)],
+    symbols: &[Symbol<u32>],
 ) -> Result<(), AllocError>
-    ensures kept { OnOk result (KeepsBelows (belows_of T.number belows.old.items)
-        (belows_of T.number belows.new.items)) }
-    ensures added { OnOk result (HasSteps (row_of T.number row.now)
-        (symbols_of T.number symbols.now) (belows_of T.number belows.new.items)) }
+    ensures kept { OnOk result (KeepsBelows (belows_of belows.old.items)
+        (belows_of belows.new.items)) }
+    ensures added { OnOk result (HasSteps (row_of number_of row.now)
+        (symbols_of symbols.now) (belows_of belows.new.items)) }
 {
     for edge in row {
         let step = step_over_edge(alloc, *edge, symbols)?;
@@ -62,15 +63,15 @@ fn add_steps<T: IndexStorage>(
 }
 
 /// A step back from each; None where one is the start state.
-fn steps_back<T: IndexStorage>(
-    grm: &YaccGrammar<T>,
-    graph: &StateGraph<T>,
-    incoming: &[Vec<(Symbol<T>, StIdx<T>)>],
-    belows: &[Below<T>],
-) -> Result<Option<Vec<Below<T>>>, AllocError>
-    requires { AreIncoming T.number graph.now incoming.now }
+fn steps_back(
+    grm: &YaccGrammar<u32>,
+    graph: &StateGraph<u32>,
+    incoming: &[Vec<(Symbol<u32>, StIdx<u32>)>],
+    belows: &[Below],
+) -> Result<Option<Vec<Below>>, AllocError>
+    requires { AreIncoming number_of graph.now incoming.now }
     ensures { IfOk result (λ o. IfSome o (λ v. AreStepsBack graph.now
-        (belows_of T.number belows.now) (belows_of T.number v.items))) }
+        (belows_of belows.now) (belows_of v.items))) }
 {
     let count = usize::from(graph.all_states_len());
     let mut steps = Vec::new(grm.allocator());
@@ -86,16 +87,15 @@ fn steps_back<T: IndexStorage>(
 }
 
 /// What is below the state as many steps back; None where the start state is met before, or these are too many.
-pub(crate) fn all_below<T: IndexStorage>(
-    grm: &YaccGrammar<T>,
-    graph: &StateGraph<T>,
-    incoming: &[Vec<(Symbol<T>, StIdx<T>)>],
-    state: StIdx<T>,
+pub(crate) fn all_below(
+    grm: &YaccGrammar<u32>,
+    graph: &StateGraph<u32>,
+    incoming: &[Vec<(Symbol<u32>, StIdx<u32>)>],
+    state: StIdx<u32>,
     count: usize,
-) -> Result<Option<Vec<Below<T>>>, AllocError>
-    requires { AreIncoming T.number graph.now incoming.now }
-    ensures { IfOk result (λ o. IfSome o (λ v. AreBelow graph.now (T.number state.0)
-        (belows_of T.number v.items))) }
+) -> Result<Option<Vec<Below>>, AllocError>
+    requires { AreIncoming number_of graph.now incoming.now }
+    ensures { IfOk result (λ o. IfSome o (λ v. AreBelow graph.now state.0 (belows_of v.items))) }
 {
     let mut belows = Vec::new(grm.allocator());
     belows.push(Below {

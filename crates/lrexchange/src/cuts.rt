@@ -9,12 +9,12 @@ ghost use Rattle.lrexchange.specs.StoredPositions.{symbols_of, ours_of};
 use crate::positions::Ours;
 use lrclosing::items::is_same_symbol;
 use lrgrammar::grammar::YaccGrammar;
-use lrgrammar::idx::{IndexStorage, PIdx, SIdx, Symbol};
+use lrgrammar::idx::{PIdx, SIdx, Symbol};
 use std::alloc::AllocError;
 
 /// Whether the symbols are the same.
-pub(crate) fn are_same_symbols<T: IndexStorage>(a: &[Symbol<T>], b: &[Symbol<T>]) -> bool
-    ensures { IsTrue result ↔ (symbols_of T.number a.now ≡ symbols_of T.number b.now) }
+pub(crate) fn are_same_symbols(a: &[Symbol<u32>], b: &[Symbol<u32>]) -> bool
+    ensures { IsTrue result ↔ (symbols_of a.now ≡ symbols_of b.now) }
 {
     if a.len() != b.len() {
         return false;
@@ -28,8 +28,8 @@ pub(crate) fn are_same_symbols<T: IndexStorage>(a: &[Symbol<T>], b: &[Symbol<T>]
 }
 
 /// How many symbols are before those with which the stack ends; None where it doesn't end with these.
-fn before_end<T: IndexStorage>(stack: &[Symbol<T>], end: &[Symbol<T>]) -> Option<usize>
-    ensures ends { EndsWith (symbols_of T.number stack.now) (symbols_of T.number end.now) result }
+fn before_end(stack: &[Symbol<u32>], end: &[Symbol<u32>]) -> Option<usize>
+    ensures ends { EndsWith (symbols_of stack.now) (symbols_of end.now) result }
     ensures within { IfSome result (λ n. n ≤ length stack.now) }
 {
     if end.len() > stack.len() {
@@ -43,13 +43,9 @@ fn before_end<T: IndexStorage>(stack: &[Symbol<T>], end: &[Symbol<T>]) -> Option
 }
 
 /// The symbols before the dot of the item.
-fn before_dot<'a, T: IndexStorage>(
-    grm: &'a YaccGrammar<T>,
-    item: (PIdx<T>, SIdx<T>),
-) -> &'a [Symbol<T>]
-    requires { T.number item.0.0 < length grm.now.productions }
-    ensures { symbols_of T.number result.now
-        ≡ take (T.number item.1.0) (body_of grm.entry.now (T.number item.0.0)) }
+fn before_dot<'a>(grm: &'a YaccGrammar<u32>, item: (PIdx<u32>, SIdx<u32>)) -> &'a [Symbol<u32>]
+    requires { item.0.0 < length grm.now.productions }
+    ensures { symbols_of result.now ≡ take item.1.0 (body_of grm.entry.now item.0.0) }
 {
     let body = grm.prod(item.0);
     let dot = usize::from(item.1);
@@ -58,14 +54,14 @@ fn before_dot<'a, T: IndexStorage>(
 
 /// The stack with the rule of the item in the place of the symbols before its dot; None where it doesn't end with these, or they
 /// are among so many first ones.
-pub(crate) fn cut<T: IndexStorage>(
-    grm: &YaccGrammar<T>,
-    mut stack: Vec<Symbol<T>>,
-    item: (PIdx<T>, SIdx<T>),
+pub(crate) fn cut(
+    grm: &YaccGrammar<u32>,
+    mut stack: Vec<Symbol<u32>>,
+    item: (PIdx<u32>, SIdx<u32>),
     least: usize,
-) -> Result<Option<Vec<Symbol<T>>>, AllocError>
-    ensures { IfOk result (λ o. IsCutTo grm.now (T.number item.0.0) (T.number item.1.0) least
-        (symbols_of T.number stack.items) (option_map (λ v. symbols_of T.number v.items) o)) }
+) -> Result<Option<Vec<Symbol<u32>>>, AllocError>
+    ensures { IfOk result (λ o. IsCutTo grm.now item.0.0 item.1.0 least
+        (symbols_of stack.items) (option_map (λ v. symbols_of v.items) o)) }
 {
     if usize::from(item.0) >= usize::from(grm.prods_len()) {
         return Ok(None);
@@ -82,13 +78,13 @@ pub(crate) fn cut<T: IndexStorage>(
 }
 
 /// Ours cut so; None where that can't be.
-pub(crate) fn ours_cut<T: IndexStorage>(
-    grm: &YaccGrammar<T>,
-    ours: Ours<T>,
-    item: (PIdx<T>, SIdx<T>),
-) -> Result<Option<Ours<T>>, AllocError>
-    ensures { IfOk result (λ o. IfSome o (λ y. OursCut grm.now (T.number item.0.0)
-        (T.number item.1.0) (ours_of T.number ours) (ours_of T.number y))) }
+pub(crate) fn ours_cut(
+    grm: &YaccGrammar<u32>,
+    ours: Ours,
+    item: (PIdx<u32>, SIdx<u32>),
+) -> Result<Option<Ours>, AllocError>
+    ensures { IfOk result (λ o. IfSome o (λ y.
+        OursCut grm.now item.0.0 item.1.0 (ours_of ours) (ours_of y))) }
 {
     let least = ours.least();
     let Ours { symbols, mark } = ours;

@@ -3,6 +3,7 @@
 ghost use Rattle.std.specs.Prelude.{◌<◌, length};
 ghost use Rattle.lrspec.specs.merging.Graph.{IsGraphOf};
 ghost use Rattle.lrsearches.specs.StoredWays.{AreWaysOf};
+ghost use Rattle.lrexchange.specs.Numbers.{number_of};
 
 use crate::answers::Answer;
 use crate::listing::{Listing, is_same};
@@ -13,7 +14,6 @@ use crate::retreating::retreating;
 use crate::sinking::sunk;
 use crate::winning::{Node, Tried, Won, all_won, are_set, places_won, used};
 use lrgrammar::grammar::YaccGrammar;
-use lrgrammar::idx::IndexStorage;
 use lrgraphs::stategraph::StateGraph;
 use lrsearches::Ways;
 use std::alloc::{AllocError, Global};
@@ -23,23 +23,23 @@ const LONGEST: usize = 14;
 
 /// Where the game is played.
 #[derive(Clone, Copy)]
-pub struct Board<'a, T: IndexStorage> {
-    pub grm: &'a YaccGrammar<T>,
-    pub graph: &'a StateGraph<T>,
-    pub ways: &'a Ways<T>,
+pub struct Board<'a> {
+    pub grm: &'a YaccGrammar<u32>,
+    pub graph: &'a StateGraph<u32>,
+    pub ways: &'a Ways<u32>,
     /// Positions that were won before.
-    pub won: &'a Listing<T>,
+    pub won: &'a Listing,
 }
 
-impl<T: IndexStorage> Board<'_, T> {
+impl Board<'_> {
     /// Whether the position needs no answer: they have just what we have there, or it was won before.
-    fn is_won(self, position: &Position<T>) -> bool {
+    fn is_won(self, position: &Position) -> bool {
         is_same(position) || self.won.find(position).is_some()
     }
 }
 
 /// The same answer.
-fn same<T: IndexStorage>(answer: &Answer<T>) -> Answer<T> {
+fn same(answer: &Answer) -> Answer {
     match answer {
         Answer::Moves => Answer::Moves,
         Answer::Mirror => Answer::Mirror,
@@ -52,12 +52,12 @@ fn same<T: IndexStorage>(answer: &Answer<T>) -> Answer<T> {
 }
 
 /// What is asked by the answer; None where it can't be given.
-fn asked<T: IndexStorage>(
-    board: Board<'_, T>,
-    position: &Position<T>,
-    answer: Answer<T>,
-) -> Result<Option<Vec<Position<T>>>, AllocError>
-    requires { AreWaysOf T.number board.grm.now board.graph.now board.ways.now }
+fn asked(
+    board: Board<'_>,
+    position: &Position,
+    answer: Answer,
+) -> Result<Option<Vec<Position>>, AllocError>
+    requires { AreWaysOf number_of board.grm.now board.graph.now board.ways.now }
 {
     match answer {
         Answer::Own(_) | Answer::Unmark => {
@@ -69,20 +69,17 @@ fn asked<T: IndexStorage>(
 
 /// An answer that may be given.
 #[derive(Drop)]
-struct Choice<T> {
+struct Choice {
     /// The answer.
-    answer: Answer<T>,
+    answer: Answer,
     /// The greatest size of what it asks.
     size: usize,
     /// What it asks that is not won.
-    open: Vec<Position<T>>,
+    open: Vec<Position>,
 }
 
 /// The position, sunk; None where it needs no answer.
-fn open_one<T: IndexStorage>(
-    board: Board<'_, T>,
-    position: Position<T>,
-) -> Result<Option<Position<T>>, AllocError> {
+fn open_one(board: Board<'_>, position: Position) -> Result<Option<Position>, AllocError> {
     let low = match sunk(board.grm, board.graph, &position)? {
         Some(low) => low,
         None => position,
@@ -94,10 +91,7 @@ fn open_one<T: IndexStorage>(
 }
 
 /// Those of the positions that need an answer, sunk.
-pub fn open_ones<T: IndexStorage>(
-    board: Board<'_, T>,
-    asked: Vec<Position<T>>,
-) -> Result<Vec<Position<T>>, AllocError> {
+pub fn open_ones(board: Board<'_>, asked: Vec<Position>) -> Result<Vec<Position>, AllocError> {
     let mut open = Vec::new(board.grm.allocator());
     for position in asked {
         if let Some(low) = open_one(board, position)? {
@@ -108,7 +102,7 @@ pub fn open_ones<T: IndexStorage>(
 }
 
 /// Whether nothing is done with our stack by the answer: it leads somewhere if it did before.
-fn leaves_ours<T: IndexStorage>(answer: Answer<T>) -> bool {
+fn leaves_ours(answer: Answer) -> bool {
     match answer {
         Answer::Moves | Answer::Release => true,
         _ => false,
@@ -117,11 +111,7 @@ fn leaves_ours<T: IndexStorage>(answer: Answer<T>) -> bool {
 
 /// How many symbols the longer stack of the position has above what both have, and one more, where the answer leads to it; None
 /// where that is not looked at: the stack is too long, or ours leads nowhere.
-fn size_of<T: IndexStorage>(
-    board: Board<'_, T>,
-    answer: Answer<T>,
-    low: &Position<T>,
-) -> Option<usize> {
+fn size_of(board: Board<'_>, answer: Answer, low: &Position) -> Option<usize> {
     let longer = low.theirs.len().max(low.ours.symbols.len());
     if longer > LONGEST {
         return None;
@@ -133,11 +123,11 @@ fn size_of<T: IndexStorage>(
 }
 
 /// The choice of the answer that asks this; None where one of these is not looked at.
-fn choice_of<T: IndexStorage>(
-    board: Board<'_, T>,
-    answer: Answer<T>,
-    asked: Vec<Position<T>>,
-) -> Result<Option<Choice<T>>, AllocError> {
+fn choice_of(
+    board: Board<'_>,
+    answer: Answer,
+    asked: Vec<Position>,
+) -> Result<Option<Choice>, AllocError> {
     let mut size = 0;
     let mut open = Vec::new(board.grm.allocator());
     for position in asked {
@@ -154,12 +144,12 @@ fn choice_of<T: IndexStorage>(
 }
 
 /// The choice of the answer; None where it can't be given, or something that it asks is not looked at.
-fn choice_by<T: IndexStorage>(
-    board: Board<'_, T>,
-    position: &Position<T>,
-    answer: Answer<T>,
-) -> Result<Option<Choice<T>>, AllocError>
-    requires { AreWaysOf T.number board.grm.now board.graph.now board.ways.now }
+fn choice_by(
+    board: Board<'_>,
+    position: &Position,
+    answer: Answer,
+) -> Result<Option<Choice>, AllocError>
+    requires { AreWaysOf number_of board.grm.now board.graph.now board.ways.now }
 {
     match asked(board, position, same(&answer))? {
         Some(asked) => choice_of(board, answer, asked),
@@ -168,7 +158,7 @@ fn choice_by<T: IndexStorage>(
 }
 
 /// Whether nothing is chosen, or something larger than this.
-fn is_smaller<T: IndexStorage>(size: usize, chosen: &Option<Choice<T>>) -> bool {
+fn is_smaller(size: usize, chosen: &Option<Choice>) -> bool {
     match chosen {
         Some(choice) => size < choice.size,
         None => true,
@@ -177,11 +167,11 @@ fn is_smaller<T: IndexStorage>(size: usize, chosen: &Option<Choice<T>>) -> bool 
 
 /// The choice at the position that asks for the shortest stacks, if there is one, and the other answers that may be given there,
 /// the likeliest last. There are none where the first one asks nothing.
-fn choices<T: IndexStorage>(
-    board: Board<'_, T>,
-    position: &Position<T>,
-) -> Result<(Option<Choice<T>>, Vec<Answer<T>>), AllocError>
-    requires { AreWaysOf T.number board.grm.now board.graph.now board.ways.now }
+fn choices(
+    board: Board<'_>,
+    position: &Position,
+) -> Result<(Option<Choice>, Vec<Answer>), AllocError>
+    requires { AreWaysOf number_of board.grm.now board.graph.now board.ways.now }
 {
     let alloc = board.grm.allocator();
     let answers = possible(board.grm, board.graph, position)?;
@@ -206,11 +196,11 @@ fn choices<T: IndexStorage>(
 }
 
 /// Those of the answers that have sizes, by these and how far they are from the end, the greatest first.
-fn by_sizes<T: IndexStorage>(
+fn by_sizes(
     alloc: Global,
-    answers: &[Answer<T>],
+    answers: &[Answer],
     sizes: &[(usize, usize)],
-) -> Result<Vec<Answer<T>>, AllocError> {
+) -> Result<Vec<Answer>, AllocError> {
     let mut sorted = Vec::new(alloc);
     for size in sizes.iter().rev() {
         if let Some(answer) = answers.get(answers.len().saturating_sub(size.1)) {
@@ -221,10 +211,7 @@ fn by_sizes<T: IndexStorage>(
 }
 
 /// The place of the position, which is added if it is not listed.
-fn place_of<T: IndexStorage>(
-    listing: &mut Listing<T>,
-    position: Position<T>,
-) -> Result<usize, AllocError> {
+fn place_of(listing: &mut Listing, position: Position) -> Result<usize, AllocError> {
     if let Some(place) = listing.find(&position) {
         return Ok(place);
     }
@@ -234,10 +221,10 @@ fn place_of<T: IndexStorage>(
 }
 
 /// The places of the positions; those that were not listed are added.
-pub fn places_of<T: IndexStorage>(
-    listing: &mut Listing<T>,
+pub fn places_of(
+    listing: &mut Listing,
     alloc: Global,
-    positions: Vec<Position<T>>,
+    positions: Vec<Position>,
 ) -> Result<Vec<usize>, AllocError> {
     let mut places = Vec::with_capacity(alloc, positions.len())?;
     for position in positions {
@@ -248,24 +235,20 @@ pub fn places_of<T: IndexStorage>(
 }
 
 /// The choice, of which the places of what it asks are known: those that were not listed are added.
-fn tried_by<T: IndexStorage>(
-    listing: &mut Listing<T>,
-    alloc: Global,
-    choice: Choice<T>,
-) -> Result<Tried<T>, AllocError> {
+fn tried_by(listing: &mut Listing, alloc: Global, choice: Choice) -> Result<Tried, AllocError> {
     let Choice { answer, open, .. } = choice;
     let asks = places_of(listing, alloc, open)?;
     Ok(Tried { answer, asks })
 }
 
 /// Gives the next answer at the place; answers whether there is one.
-fn give_next<T: IndexStorage>(
-    listing: &mut Listing<T>,
-    nodes: &mut Vec<Node<T>>,
-    board: Board<'_, T>,
+fn give_next(
+    listing: &mut Listing,
+    nodes: &mut Vec<Node>,
+    board: Board<'_>,
     place: usize,
 ) -> Result<bool, AllocError>
-    requires { AreWaysOf T.number board.grm.now board.graph.now board.ways.now }
+    requires { AreWaysOf number_of board.grm.now board.graph.now board.ways.now }
 {
     if place >= nodes.len() || place >= listing.positions.len() {
         return Ok(false);
@@ -283,12 +266,12 @@ fn give_next<T: IndexStorage>(
 }
 
 /// Looks at the next position, if there is one, and gives the first answer there.
-fn look_at_next<T: IndexStorage>(
-    listing: &mut Listing<T>,
-    nodes: &mut Vec<Node<T>>,
-    board: Board<'_, T>,
+fn look_at_next(
+    listing: &mut Listing,
+    nodes: &mut Vec<Node>,
+    board: Board<'_>,
 ) -> Result<(), AllocError>
-    requires { AreWaysOf T.number board.grm.now board.graph.now board.ways.now }
+    requires { AreWaysOf number_of board.grm.now board.graph.now board.ways.now }
 {
     let place = nodes.len();
     if place >= listing.positions.len() {
@@ -305,13 +288,13 @@ fn look_at_next<T: IndexStorage>(
 }
 
 /// Looks at all positions, but at no more than so many; answers whether these are all.
-fn look_at_all<T: IndexStorage>(
-    listing: &mut Listing<T>,
-    nodes: &mut Vec<Node<T>>,
-    board: Board<'_, T>,
+fn look_at_all(
+    listing: &mut Listing,
+    nodes: &mut Vec<Node>,
+    board: Board<'_>,
     most: usize,
 ) -> Result<bool, AllocError>
-    requires { AreWaysOf T.number board.grm.now board.graph.now board.ways.now }
+    requires { AreWaysOf number_of board.grm.now board.graph.now board.ways.now }
 {
     for _turn in 0..most {
         if nodes.len() >= listing.positions.len() {
@@ -323,13 +306,13 @@ fn look_at_all<T: IndexStorage>(
 }
 
 /// Gives the next answer at each position that is not won; answers whether there is one.
-fn give_others<T: IndexStorage>(
-    listing: &mut Listing<T>,
-    nodes: &mut Vec<Node<T>>,
-    board: Board<'_, T>,
+fn give_others(
+    listing: &mut Listing,
+    nodes: &mut Vec<Node>,
+    board: Board<'_>,
     are_won: &[bool],
 ) -> Result<bool, AllocError>
-    requires { AreWaysOf T.number board.grm.now board.graph.now board.ways.now }
+    requires { AreWaysOf number_of board.grm.now board.graph.now board.ways.now }
 {
     let mut some = false;
     for place in 0..are_won.len() {
@@ -344,14 +327,14 @@ fn give_others<T: IndexStorage>(
 
 /// Plays until the positions at the places are won, or no answers are left, or as many positions were looked at; the positions by
 /// which they are, each behind those to which we come by reductions alone.
-pub fn play<T: IndexStorage>(
-    listing: &mut Listing<T>,
-    nodes: &mut Vec<Node<T>>,
-    board: Board<'_, T>,
+pub fn play(
+    listing: &mut Listing,
+    nodes: &mut Vec<Node>,
+    board: Board<'_>,
     roots: &[usize],
     most: usize,
 ) -> Result<Option<Vec<Won>>, AllocError>
-    requires { AreWaysOf T.number board.grm.now board.graph.now board.ways.now }
+    requires { AreWaysOf number_of board.grm.now board.graph.now board.ways.now }
 {
     let alloc = board.grm.allocator();
     for _round in 0..most {

@@ -11,22 +11,22 @@ use crate::positions::{Mark, Ours, Position, Turn};
 use crate::sinking::sunk;
 use lrclosing::items::is_same_symbol;
 use lrgrammar::grammar::YaccGrammar;
-use lrgrammar::idx::{IndexStorage, Symbol};
+use lrgrammar::idx::Symbol;
 use lrgraphs::stategraph::StateGraph;
 use std::alloc::{AllocError, Global};
 
 /// Positions, with their places by what tells them apart.
 #[derive(Drop)]
-pub struct Listing<T> {
+pub struct Listing {
     /// The positions.
-    pub positions: Vec<Position<T>>,
+    pub positions: Vec<Position>,
     /// Their places by fingerprints.
     places: Places,
 }
 
 /// Whether they do the same next.
-fn is_same_turn<T: IndexStorage>(a: Turn<T>, b: Turn<T>) -> bool
-    ensures { IsTrue result → turn_of T.number a ≡ turn_of T.number b }
+fn is_same_turn(a: Turn, b: Turn) -> bool
+    ensures { IsTrue result → turn_of a ≡ turn_of b }
 {
     match (a, b) {
         (Turn::Even, Turn::Even) => true,
@@ -41,8 +41,8 @@ fn is_same_turn<T: IndexStorage>(a: Turn<T>, b: Turn<T>) -> bool
 }
 
 /// Whether the marks are the same.
-fn is_same_mark<T: IndexStorage>(a: Mark<T>, b: Mark<T>) -> bool
-    ensures { IsTrue result → mark_of T.number a ≡ mark_of T.number b }
+fn is_same_mark(a: Mark, b: Mark) -> bool
+    ensures { IsTrue result → mark_of a ≡ mark_of b }
 {
     a.place == b.place
         && is_same_symbol(a.symbol, b.symbol)
@@ -51,8 +51,8 @@ fn is_same_mark<T: IndexStorage>(a: Mark<T>, b: Mark<T>) -> bool
 }
 
 /// Whether both have the same mark, or none.
-fn have_same_mark<T: IndexStorage>(a: Option<Mark<T>>, b: Option<Mark<T>>) -> bool
-    ensures { IsTrue result → option_map (mark_of T.number) a ≡ option_map (mark_of T.number) b }
+fn have_same_mark(a: Option<Mark>, b: Option<Mark>) -> bool
+    ensures { IsTrue result → option_map mark_of a ≡ option_map mark_of b }
 {
     match (a, b) {
         (Some(one), Some(other)) => is_same_mark(one, other),
@@ -62,15 +62,15 @@ fn have_same_mark<T: IndexStorage>(a: Option<Mark<T>>, b: Option<Mark<T>>) -> bo
 }
 
 /// Whether ours are the same.
-fn are_same_ours<T: IndexStorage>(a: &Ours<T>, b: &Ours<T>) -> bool
-    ensures { IsTrue result → ours_of T.number a.now ≡ ours_of T.number b.now }
+fn are_same_ours(a: &Ours, b: &Ours) -> bool
+    ensures { IsTrue result → ours_of a.now ≡ ours_of b.now }
 {
     are_same_symbols(a.symbols.as_slice(), b.symbols.as_slice()) && have_same_mark(a.mark, b.mark)
 }
 
 /// Whether the positions are the same.
-fn is_same_position<T: IndexStorage>(a: &Position<T>, b: &Position<T>) -> bool
-    ensures { IsTrue result → position_of T.number a.now ≡ position_of T.number b.now }
+fn is_same_position(a: &Position, b: &Position) -> bool
+    ensures { IsTrue result → position_of a.now ≡ position_of b.now }
 {
     usize::from(a.state) == usize::from(b.state)
         && is_same_turn(a.turn, b.turn)
@@ -79,16 +79,16 @@ fn is_same_position<T: IndexStorage>(a: &Position<T>, b: &Position<T>) -> bool
 }
 
 /// Whether the position is the one at this place.
-fn is_at<T: IndexStorage>(positions: &[Position<T>], place: usize, position: &Position<T>) -> bool
-    ensures { IsTrue result → slice_get (positions_of T.number positions.now) place
-        ≡ Some (position_of T.number position.now) }
+fn is_at(positions: &[Position], place: usize, position: &Position) -> bool
+    ensures { IsTrue result → slice_get (positions_of positions.now) place
+        ≡ Some (position_of position.now) }
 {
     place < positions.len() && is_same_position(&positions[place], position)
 }
 
 /// Whether neither we nor they have read more.
-fn is_level<T: IndexStorage>(turn: Turn<T>) -> bool
-    ensures { IsTrue result → IsLevel (turn_of T.number turn) }
+fn is_level(turn: Turn) -> bool
+    ensures { IsTrue result → IsLevel (turn_of turn) }
 {
     match turn {
         Turn::Even => true,
@@ -100,8 +100,8 @@ fn is_level<T: IndexStorage>(turn: Turn<T>) -> bool
 }
 
 /// Whether they have just what we have.
-pub(crate) fn is_same<T: IndexStorage>(position: &Position<T>) -> bool
-    ensures { IsTrue result → IsSame (position_of T.number position.now) }
+pub(crate) fn is_same(position: &Position) -> bool
+    ensures { IsTrue result → IsSame (position_of position.now) }
 {
     let ours = &position.ours;
     is_level(position.turn)
@@ -110,7 +110,7 @@ pub(crate) fn is_same<T: IndexStorage>(position: &Position<T>) -> bool
 }
 
 /// The fingerprint with a symbol more.
-fn print_with_symbol<T: IndexStorage>(print: Print, symbol: Symbol<T>) -> Print {
+fn print_with_symbol(print: Print, symbol: Symbol<u32>) -> Print {
     match symbol {
         Symbol::Rule(rule) => print.with(usize::from(rule).wrapping_mul(2)),
         Symbol::Token(token) => print.with(usize::from(token).wrapping_mul(2).wrapping_add(1)),
@@ -118,7 +118,7 @@ fn print_with_symbol<T: IndexStorage>(print: Print, symbol: Symbol<T>) -> Print 
 }
 
 /// The fingerprint with symbols more.
-fn print_with_symbols<T: IndexStorage>(from: Print, symbols: &[Symbol<T>]) -> Print {
+fn print_with_symbols(from: Print, symbols: &[Symbol<u32>]) -> Print {
     let mut print = from.with(symbols.len());
     for symbol in symbols {
         print = print_with_symbol(print, *symbol);
@@ -127,7 +127,7 @@ fn print_with_symbols<T: IndexStorage>(from: Print, symbols: &[Symbol<T>]) -> Pr
 }
 
 /// The fingerprint with a mark more, if there is one.
-fn print_with_mark<T: IndexStorage>(print: Print, mark: Option<Mark<T>>) -> Print {
+fn print_with_mark(print: Print, mark: Option<Mark>) -> Print {
     let Some(mark) = mark else {
         return print;
     };
@@ -136,7 +136,7 @@ fn print_with_mark<T: IndexStorage>(print: Print, mark: Option<Mark<T>>) -> Prin
 }
 
 /// The fingerprint of what they do next.
-fn print_of_turn<T: IndexStorage>(turn: Turn<T>) -> Print {
+fn print_of_turn(turn: Turn) -> Print {
     match turn {
         Turn::Even => Print::EMPTY,
         Turn::Open(production, dot) => {
@@ -150,17 +150,17 @@ fn print_of_turn<T: IndexStorage>(turn: Turn<T>) -> Print {
 }
 
 /// The fingerprint of the position: other positions hardly ever have it.
-fn print_of<T: IndexStorage>(position: &Position<T>) -> Print {
+fn print_of(position: &Position) -> Print {
     let begun = print_of_turn(position.turn).with(usize::from(position.state));
     let theirs = print_with_symbols(begun, position.theirs.as_slice());
     let both = print_with_symbols(theirs, position.ours.symbols.as_slice());
     print_with_mark(both, position.ours.mark)
 }
 
-impl<T: IndexStorage> Listing<T> {
+impl Listing {
     /// No positions.
-    pub fn new(alloc: Global) -> Result<Listing<T>, AllocError>
-        ensures { IfOk result (λ l. positions_of T.number l.positions.items ≡ []) }
+    pub fn new(alloc: Global) -> Result<Listing, AllocError>
+        ensures { IfOk result (λ l. positions_of l.positions.items ≡ []) }
     {
         Ok(Listing {
             positions: Vec::new(alloc),
@@ -169,9 +169,9 @@ impl<T: IndexStorage> Listing<T> {
     }
 
     /// The place at which the position is listed.
-    pub fn find(&self, position: &Position<T>) -> Option<usize>
-        ensures { IfSome result (λ k. slice_get (positions_of T.number self.now.positions.items) k
-            ≡ Some (position_of T.number position.now)) }
+    pub fn find(&self, position: &Position) -> Option<usize>
+        ensures { IfSome result (λ k. slice_get (positions_of self.now.positions.items) k
+            ≡ Some (position_of position.now)) }
     {
         let place = self.places.find(print_of(position))?;
         if is_at(self.positions.as_slice(), place, position) {
@@ -181,9 +181,9 @@ impl<T: IndexStorage> Listing<T> {
     }
 
     /// Whether the position is won at once, or is one of so many first ones.
-    fn has_sunk(&self, position: &Position<T>, bound: usize) -> bool
-        ensures { IsTrue result → IsWonOrAmong (positions_of T.number self.now.positions.items)
-            bound (position_of T.number position.now) }
+    fn has_sunk(&self, position: &Position, bound: usize) -> bool
+        ensures { IsTrue result → IsWonOrAmong (positions_of self.now.positions.items)
+            bound (position_of position.now) }
     {
         if is_same(position) {
             return true;
@@ -198,14 +198,13 @@ impl<T: IndexStorage> Listing<T> {
     /// what is not named.
     pub fn has(
         &self,
-        grm: &YaccGrammar<T>,
-        graph: &StateGraph<T>,
-        position: &Position<T>,
+        grm: &YaccGrammar<u32>,
+        graph: &StateGraph<u32>,
+        position: &Position,
         bound: usize,
     ) -> Result<bool, AllocError>
         ensures { IfOk result (λ b. IsTrue b → IsListed graph.now
-            (positions_of T.number self.now.positions.items) bound
-            (position_of T.number position.now)) }
+            (positions_of self.now.positions.items) bound (position_of position.now)) }
     {
         let low = sunk(grm, graph, position)?;
         match low {
@@ -215,10 +214,9 @@ impl<T: IndexStorage> Listing<T> {
     }
 
     /// Adds the position behind the others.
-    pub fn add(&mut self, position: Position<T>) -> Result<(), AllocError>
-        ensures { OnOk result (positions_of T.number self.new.positions.items
-            ≡ positions_of T.number self.old.positions.items
-            ++ position_of T.number position ∷ []) }
+    pub fn add(&mut self, position: Position) -> Result<(), AllocError>
+        ensures { OnOk result (positions_of self.new.positions.items
+            ≡ positions_of self.old.positions.items ++ position_of position ∷ []) }
     {
         let print = print_of(&position);
         self.places.add(print, self.positions.len())?;

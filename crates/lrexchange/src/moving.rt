@@ -4,6 +4,7 @@ ghost use Rattle.std.specs.Prelude.{◌≡◌, map, is_some, Contains, IfOk, IfS
 ghost use Rattle.lrspec.specs.grammars.Grammar.{Token};
 ghost use Rattle.lrspec.specs.merging.Graph.{edge};
 ghost use Rattle.lrsearches.specs.StoredWays.{AreWaysOf};
+ghost use Rattle.lrexchange.specs.Numbers.{number_of};
 ghost use Rattle.lrexchange.specs.Asked.{KeepsPositions, TakesShift, TakesStart, TakesReductions, TakesReductionsBy, OpensItems, GoesAhead, GoesBefore};
 ghost use Rattle.lrexchange.specs.Exchanges.{IsMarkOf, IsDeep, TakesReduction};
 ghost use Rattle.lrexchange.specs.Asked.{IsAhead};
@@ -13,22 +14,21 @@ use crate::acts::{Act, ask_each};
 use crate::positions::{Mark, Ours, Position, Turn, with_symbol};
 use crate::tops::{ask_open, end_of, reductions_on};
 use lrgrammar::grammar::YaccGrammar;
-use lrgrammar::idx::{IndexStorage, PIdx, SIdx, StIdx, Symbol, TIdx};
+use lrgrammar::idx::{PIdx, SIdx, StIdx, Symbol, TIdx};
 use lrgraphs::stategraph::StateGraph;
 use lrsearches::Ways;
 use std::alloc::AllocError;
 
 /// Whether some symbol is below the top of each of their stacks.
-fn is_deep<T: IndexStorage>(position: &Position<T>) -> bool
-    ensures { IsTrue result → IsDeep (position_of T.number position.now) }
+fn is_deep(position: &Position) -> bool
+    ensures { IsTrue result → IsDeep (position_of position.now) }
 {
     !position.theirs.is_empty() || usize::from(position.state) != 0
 }
 
 /// The mark at the bottom of ours; where ours has none, and they have one symbol, the first one.
-fn bottom_mark<T: IndexStorage>(position: &Position<T>) -> Option<Mark<T>>
-    ensures { IfSome result (λ m. IsMarkOf (position_of T.number position.now)
-        (mark_of T.number m)) }
+fn bottom_mark(position: &Position) -> Option<Mark>
+    ensures { IfSome result (λ m. IsMarkOf (position_of position.now) (mark_of m)) }
 {
     if let Some(mark) = position.ours.mark {
         return (mark.place == 0).then_some(mark);
@@ -46,10 +46,9 @@ fn bottom_mark<T: IndexStorage>(position: &Position<T>) -> Option<Mark<T>>
 }
 
 /// The mark that may stand for what they reduce to a symbol, where they go on with the token and the production is long enough.
-fn mark_for<T: IndexStorage>(position: &Position<T>, len: SIdx<T>) -> Option<Mark<T>>
-    ensures ahead { IfSome result (λ m. IsAhead (position_of T.number position.now)) }
-    ensures mark { IfSome result (λ m. IsMarkOf (position_of T.number position.now)
-        (mark_of T.number m)) }
+fn mark_for(position: &Position, len: SIdx<u32>) -> Option<Mark>
+    ensures ahead { IfSome result (λ m. IsAhead (position_of position.now)) }
+    ensures mark { IfSome result (λ m. IsMarkOf (position_of position.now) (mark_of m)) }
 {
     if usize::from(len) <= position.theirs.len() {
         return None;
@@ -61,20 +60,19 @@ fn mark_for<T: IndexStorage>(position: &Position<T>, len: SIdx<T>) -> Option<Mar
 }
 
 /// Adds what is asked where they reduce by the production before they have read the token; answers whether that can be said.
-fn ask_reduction<T: IndexStorage>(
-    asked: &mut Vec<Position<T>>,
-    grm: &YaccGrammar<T>,
-    graph: &StateGraph<T>,
-    ways: &Ways<T>,
-    position: &Position<T>,
-    production: PIdx<T>,
+fn ask_reduction(
+    asked: &mut Vec<Position>,
+    grm: &YaccGrammar<u32>,
+    graph: &StateGraph<u32>,
+    ways: &Ways<u32>,
+    position: &Position,
+    production: PIdx<u32>,
 ) -> Result<bool, AllocError>
-    requires { AreWaysOf T.number grm.now graph.now ways.now }
-    ensures kept { OnOk result (KeepsPositions (positions_of T.number asked.old.items)
-        (positions_of T.number asked.new.items)) }
+    requires { AreWaysOf number_of grm.now graph.now ways.now }
+    ensures kept { OnOk result (KeepsPositions (positions_of asked.old.items)
+        (positions_of asked.new.items)) }
     ensures asked { IfOk result (λ b. IsTrue b → TakesReduction grm.now graph.now
-        (Contains (positions_of T.number asked.new.items)) (T.number production.0)
-        (position_of T.number position.now)) }
+        (Contains (positions_of asked.new.items)) production.0 (position_of position.now)) }
 {
     if usize::from(production) >= usize::from(grm.prods_len()) {
         return Ok(false);
@@ -93,20 +91,20 @@ fn ask_reduction<T: IndexStorage>(
 }
 
 /// Adds what is asked where they reduce by one of the productions; answers whether that can be said.
-fn ask_reductions_by<T: IndexStorage>(
-    asked: &mut Vec<Position<T>>,
-    grm: &YaccGrammar<T>,
-    graph: &StateGraph<T>,
-    ways: &Ways<T>,
-    position: &Position<T>,
-    productions: &[PIdx<T>],
+fn ask_reductions_by(
+    asked: &mut Vec<Position>,
+    grm: &YaccGrammar<u32>,
+    graph: &StateGraph<u32>,
+    ways: &Ways<u32>,
+    position: &Position,
+    productions: &[PIdx<u32>],
 ) -> Result<bool, AllocError>
-    requires { AreWaysOf T.number grm.now graph.now ways.now }
-    ensures kept { OnOk result (KeepsPositions (positions_of T.number asked.old.items)
-        (positions_of T.number asked.new.items)) }
+    requires { AreWaysOf number_of grm.now graph.now ways.now }
+    ensures kept { OnOk result (KeepsPositions (positions_of asked.old.items)
+        (positions_of asked.new.items)) }
     ensures asked { IfOk result (λ b. IsTrue b → TakesReductionsBy grm.now graph.now
-        (Contains (positions_of T.number asked.new.items)) (map (λ p. T.number p.0) productions.now)
-        (position_of T.number position.now)) }
+        (Contains (positions_of asked.new.items)) (map (λ p. p.0) productions.now)
+        (position_of position.now)) }
 {
     for production in productions {
         if !ask_reduction(asked, grm, graph, ways, position, *production)? {
@@ -117,20 +115,19 @@ fn ask_reductions_by<T: IndexStorage>(
 }
 
 /// Adds what is asked where they reduce before they have read the token; answers whether that can be said.
-fn ask_reductions<T: IndexStorage>(
-    asked: &mut Vec<Position<T>>,
-    grm: &YaccGrammar<T>,
-    graph: &StateGraph<T>,
-    ways: &Ways<T>,
-    token: TIdx<T>,
-    position: &Position<T>,
+fn ask_reductions(
+    asked: &mut Vec<Position>,
+    grm: &YaccGrammar<u32>,
+    graph: &StateGraph<u32>,
+    ways: &Ways<u32>,
+    token: TIdx<u32>,
+    position: &Position,
 ) -> Result<bool, AllocError>
-    requires { AreWaysOf T.number grm.now graph.now ways.now }
-    ensures kept { OnOk result (KeepsPositions (positions_of T.number asked.old.items)
-        (positions_of T.number asked.new.items)) }
-    ensures asked { IfOk result (λ b. IsTrue b → TakesReductions grm.now graph.now
-        (T.number token.0) (Contains (positions_of T.number asked.new.items))
-        (position_of T.number position.now)) }
+    requires { AreWaysOf number_of grm.now graph.now ways.now }
+    ensures kept { OnOk result (KeepsPositions (positions_of asked.old.items)
+        (positions_of asked.new.items)) }
+    ensures asked { IfOk result (λ b. IsTrue b → TakesReductions grm.now graph.now token.0
+        (Contains (positions_of asked.new.items)) (position_of position.now)) }
 {
     let Some(top) = end_of(graph, position.state, position.theirs.as_slice()) else {
         return Ok(true);
@@ -144,26 +141,25 @@ fn ask_reductions<T: IndexStorage>(
 }
 
 /// Whether the state shifts the token.
-fn shifts<T: IndexStorage>(graph: &StateGraph<T>, state: StIdx<T>, token: TIdx<T>) -> bool
-    ensures { result ≡ is_some (edge graph.now (T.number state.0) (Token (T.number token.0))) }
+fn shifts(graph: &StateGraph<u32>, state: StIdx<u32>, token: TIdx<u32>) -> bool
+    ensures { result ≡ is_some (edge graph.now state.0 (Token token.0)) }
 {
     graph.edge(state, Symbol::Token(token)).is_some()
 }
 
 /// Adds the position behind the token, if they can shift it.
-fn ask_shift<T: IndexStorage>(
-    asked: &mut Vec<Position<T>>,
-    grm: &YaccGrammar<T>,
-    graph: &StateGraph<T>,
-    token: TIdx<T>,
-    position: &Position<T>,
-    shifted: Turn<T>,
+fn ask_shift(
+    asked: &mut Vec<Position>,
+    grm: &YaccGrammar<u32>,
+    graph: &StateGraph<u32>,
+    token: TIdx<u32>,
+    position: &Position,
+    shifted: Turn,
 ) -> Result<(), AllocError>
-    ensures kept { OnOk result (KeepsPositions (positions_of T.number asked.old.items)
-        (positions_of T.number asked.new.items)) }
-    ensures asked { OnOk result (TakesShift graph.now (T.number token.0)
-        (Contains (positions_of T.number asked.new.items)) (turn_of T.number shifted)
-        (position_of T.number position.now)) }
+    ensures kept { OnOk result (KeepsPositions (positions_of asked.old.items)
+        (positions_of asked.new.items)) }
+    ensures asked { OnOk result (TakesShift graph.now token.0
+        (Contains (positions_of asked.new.items)) (turn_of shifted) (position_of position.now)) }
 {
     let Some(top) = end_of(graph, position.state, position.theirs.as_slice()) else {
         return Ok(());
@@ -184,17 +180,17 @@ fn ask_shift<T: IndexStorage>(
 }
 
 /// Adds what is asked where they go on with the token, which we have read; answers whether that can be said.
-pub(crate) fn ask_ahead<T: IndexStorage>(
-    asked: &mut Vec<Position<T>>,
-    grm: &YaccGrammar<T>,
-    graph: &StateGraph<T>,
-    ways: &Ways<T>,
-    token: TIdx<T>,
-    position: &Position<T>,
+pub(crate) fn ask_ahead(
+    asked: &mut Vec<Position>,
+    grm: &YaccGrammar<u32>,
+    graph: &StateGraph<u32>,
+    ways: &Ways<u32>,
+    token: TIdx<u32>,
+    position: &Position,
 ) -> Result<bool, AllocError>
-    requires { AreWaysOf T.number grm.now graph.now ways.now }
-    ensures { IfOk result (λ b. IsTrue b → GoesAhead grm.now graph.now (T.number token.0)
-        (Contains (positions_of T.number asked.new.items)) (position_of T.number position.now)) }
+    requires { AreWaysOf number_of grm.now graph.now ways.now }
+    ensures { IfOk result (λ b. IsTrue b → GoesAhead grm.now graph.now token.0
+        (Contains (positions_of asked.new.items)) (position_of position.now)) }
 {
     if !is_deep(position) {
         return Ok(false);
@@ -207,16 +203,16 @@ pub(crate) fn ask_ahead<T: IndexStorage>(
 }
 
 /// Adds the position at which they have come to the start rule, if the token is the end of the text.
-fn ask_start<T: IndexStorage>(
-    asked: &mut Vec<Position<T>>,
-    grm: &YaccGrammar<T>,
-    token: TIdx<T>,
-    position: &Position<T>,
+fn ask_start(
+    asked: &mut Vec<Position>,
+    grm: &YaccGrammar<u32>,
+    token: TIdx<u32>,
+    position: &Position,
 ) -> Result<(), AllocError>
-    ensures kept { OnOk result (KeepsPositions (positions_of T.number asked.old.items)
-        (positions_of T.number asked.new.items)) }
-    ensures asked { OnOk result (TakesStart grm.now (T.number token.0)
-        (Contains (positions_of T.number asked.new.items)) (position_of T.number position.now)) }
+    ensures kept { OnOk result (KeepsPositions (positions_of asked.old.items)
+        (positions_of asked.new.items)) }
+    ensures asked { OnOk result (TakesStart grm.now token.0
+        (Contains (positions_of asked.new.items)) (position_of position.now)) }
 {
     if usize::from(token) != usize::from(grm.eof_token_idx()) {
         return Ok(());
@@ -229,17 +225,17 @@ fn ask_start<T: IndexStorage>(
 }
 
 /// Adds what is asked where they go on with the token, which we have to read too; answers whether that can be said.
-pub(crate) fn ask_before<T: IndexStorage>(
-    asked: &mut Vec<Position<T>>,
-    grm: &YaccGrammar<T>,
-    graph: &StateGraph<T>,
-    ways: &Ways<T>,
-    token: TIdx<T>,
-    position: &Position<T>,
+pub(crate) fn ask_before(
+    asked: &mut Vec<Position>,
+    grm: &YaccGrammar<u32>,
+    graph: &StateGraph<u32>,
+    ways: &Ways<u32>,
+    token: TIdx<u32>,
+    position: &Position,
 ) -> Result<bool, AllocError>
-    requires { AreWaysOf T.number grm.now graph.now ways.now }
-    ensures { IfOk result (λ b. IsTrue b → GoesBefore grm.now graph.now (T.number token.0)
-        (Contains (positions_of T.number asked.new.items)) (position_of T.number position.now)) }
+    requires { AreWaysOf number_of grm.now graph.now ways.now }
+    ensures { IfOk result (λ b. IsTrue b → GoesBefore grm.now graph.now token.0
+        (Contains (positions_of asked.new.items)) (position_of position.now)) }
 {
     if !is_deep(position) {
         return Ok(false);
@@ -253,14 +249,14 @@ pub(crate) fn ask_before<T: IndexStorage>(
 }
 
 /// Adds the position with each item of the core open that may be open; answers whether that can be said.
-pub(crate) fn ask_items<T: IndexStorage>(
-    asked: &mut Vec<Position<T>>,
-    grm: &YaccGrammar<T>,
-    graph: &StateGraph<T>,
-    position: &Position<T>,
+pub(crate) fn ask_items(
+    asked: &mut Vec<Position>,
+    grm: &YaccGrammar<u32>,
+    graph: &StateGraph<u32>,
+    position: &Position,
 ) -> Result<bool, AllocError>
     ensures { IfOk result (λ b. IsTrue b → OpensItems graph.now
-        (Contains (positions_of T.number asked.new.items)) (position_of T.number position.now)) }
+        (Contains (positions_of asked.new.items)) (position_of position.now)) }
 {
     if !is_deep(position) {
         return Ok(false);

@@ -2,72 +2,73 @@
 
 ghost use Rattle.std.specs.Prelude.{◌≡◌, ◌+◌, ◌∷◌, ◌++◌, [], IfOk, IfSome};
 ghost use Rattle.lrgrammar.specs.Symbols.{symbol_of};
+ghost use Rattle.lrexchange.specs.Numbers.{number_of};
 ghost use Rattle.lrexchange.specs.Positions.{least_of, raised, pushed};
 ghost use Rattle.lrexchange.specs.StoredPositions.{symbols_of, mark_of, turn_of, ours_of, position_of};
 ghost use Rattle.lrexchange.specs.Asked.{deepened};
 
 use crate::below::Below;
-use lrgrammar::idx::{IndexStorage, PIdx, SIdx, StIdx, Symbol, TIdx};
+use lrgrammar::idx::{PIdx, SIdx, StIdx, Symbol, TIdx};
 use std::alloc::{AllocError, Global};
 
 /// What stands for symbols that are not known.
 #[derive(Clone, Copy)]
-pub struct Mark<T> {
+pub struct Mark {
     /// How many of our symbols stand before them.
     pub place: usize,
     /// The symbol to which they are reduced together with the other one behind them.
-    pub symbol: Symbol<T>,
+    pub symbol: Symbol<u32>,
     /// That other one.
-    pub under: Symbol<T>,
+    pub under: Symbol<u32>,
     /// The state to which they lead.
-    pub state: StIdx<T>,
+    pub state: StIdx<u32>,
 }
 
 /// Our symbols above those that both stacks have, and a mark among them.
 #[derive(Drop)]
-pub struct Ours<T> {
+pub struct Ours {
     /// The symbols.
-    pub symbols: Vec<Symbol<T>>,
+    pub symbols: Vec<Symbol<u32>>,
     /// The mark.
-    pub mark: Option<Mark<T>>,
+    pub mark: Option<Mark>,
 }
 
 /// What they do next.
 #[derive(Clone, Copy)]
-pub enum Turn<T> {
+pub enum Turn {
     /// They go on.
     Even,
     /// The item is open on their stack: they read what derives the rest of its body, and reduce by it.
-    Open(PIdx<T>, SIdx<T>),
+    Open(PIdx<u32>, SIdx<u32>),
     /// They go on with the token, which we have read.
-    Ahead(TIdx<T>),
+    Ahead(TIdx<u32>),
     /// They go on with the token, which we have to read too.
-    Before(TIdx<T>),
+    Before(TIdx<u32>),
     /// They go on behind the token, which we have to read.
-    Behind(TIdx<T>),
+    Behind(TIdx<u32>),
 }
 
 /// A position: the state to which what both stacks have leads, and what they and we have above that.
 #[derive(Drop)]
-pub struct Position<T> {
+pub struct Position {
     /// What they do next.
-    pub turn: Turn<T>,
+    pub turn: Turn,
     /// The state.
-    pub state: StIdx<T>,
+    pub state: StIdx<u32>,
     /// Their symbols.
-    pub theirs: Vec<Symbol<T>>,
+    pub theirs: Vec<Symbol<u32>>,
     /// Ours.
-    pub ours: Ours<T>,
+    pub ours: Ours,
 }
 
 /// The symbols of both lists.
-pub(crate) fn joined<T: IndexStorage>(
+pub(crate) fn joined(
     alloc: Global,
-    symbols: &[Symbol<T>],
-    others: &[Symbol<T>],
-) -> Result<Vec<Symbol<T>>, AllocError>
-    ensures { IfOk result (λ v. symbols_of T.number v.items
-        ≡ symbols_of T.number symbols.now ++ symbols_of T.number others.now) }
+    symbols: &[Symbol<u32>],
+    others: &[Symbol<u32>],
+) -> Result<Vec<Symbol<u32>>, AllocError>
+    ensures { IfOk result (λ v. symbols_of v.items
+        ≡ symbols_of symbols.now ++ symbols_of others.now) }
 {
     let count = symbols.len().saturating_add(others.len());
     let mut all = Vec::with_capacity(alloc, count)?;
@@ -77,13 +78,13 @@ pub(crate) fn joined<T: IndexStorage>(
 }
 
 /// The symbols with one more behind them.
-pub(crate) fn with_symbol<T: IndexStorage>(
+pub(crate) fn with_symbol(
     alloc: Global,
-    symbols: &[Symbol<T>],
-    symbol: Symbol<T>,
-) -> Result<Vec<Symbol<T>>, AllocError>
-    ensures { IfOk result (λ v. symbols_of T.number v.items
-        ≡ symbols_of T.number symbols.now ++ symbol_of T.number symbol ∷ []) }
+    symbols: &[Symbol<u32>],
+    symbol: Symbol<u32>,
+) -> Result<Vec<Symbol<u32>>, AllocError>
+    ensures { IfOk result (λ v. symbols_of v.items
+        ≡ symbols_of symbols.now ++ symbol_of number_of symbol ∷ []) }
 {
     let mut all = Vec::with_capacity(alloc, symbols.len().saturating_add(1))?;
     all.extend_from_slice(symbols)?;
@@ -92,8 +93,8 @@ pub(crate) fn with_symbol<T: IndexStorage>(
 }
 
 /// The mark with so many more symbols before it; None where these are too many.
-fn raised_mark<T: IndexStorage>(mark: Mark<T>, by: usize) -> Option<Mark<T>>
-    ensures { IfSome result (λ m. mark_of T.number m ≡ record (mark_of T.number mark) {
+fn raised_mark(mark: Mark, by: usize) -> Option<Mark>
+    ensures { IfSome result (λ m. mark_of m ≡ record (mark_of mark) {
       place = by + mark.place;
     }) }
 {
@@ -106,10 +107,10 @@ fn raised_mark<T: IndexStorage>(mark: Mark<T>, by: usize) -> Option<Mark<T>>
     })
 }
 
-impl<T: IndexStorage> Ours<T> {
+impl Ours {
     /// The same.
-    pub(crate) fn copied(&self, alloc: Global) -> Result<Ours<T>, AllocError>
-        ensures { IfOk result (λ y. ours_of T.number y ≡ ours_of T.number self.now) }
+    pub(crate) fn copied(&self, alloc: Global) -> Result<Ours, AllocError>
+        ensures { IfOk result (λ y. ours_of y ≡ ours_of self.now) }
     {
         let symbols = Vec::from_slice(alloc, self.symbols.as_slice())?;
         let mark = self.mark;
@@ -118,7 +119,7 @@ impl<T: IndexStorage> Ours<T> {
 
     /// Below how many of our symbols none are taken away.
     pub(crate) fn least(&self) -> usize
-        ensures { result ≡ least_of (ours_of T.number self.now).mark }
+        ensures { result ≡ least_of (ours_of self.now).mark }
     {
         match self.mark {
             Some(mark) => mark.place,
@@ -130,10 +131,10 @@ impl<T: IndexStorage> Ours<T> {
     pub(crate) fn raised(
         &self,
         alloc: Global,
-        both: &[Symbol<T>],
-    ) -> Result<Option<Ours<T>>, AllocError>
-        ensures { IfOk result (λ o. IfSome o (λ y. ours_of T.number y
-            ≡ raised (symbols_of T.number both.now) (ours_of T.number self.now))) }
+        both: &[Symbol<u32>],
+    ) -> Result<Option<Ours>, AllocError>
+        ensures { IfOk result (λ o. IfSome o (λ y. ours_of y
+            ≡ raised (symbols_of both.now) (ours_of self.now))) }
     {
         let symbols = joined(alloc, both, self.symbols.as_slice())?;
         let Some(mark) = self.mark else {
@@ -152,9 +153,9 @@ impl<T: IndexStorage> Ours<T> {
     }
 
     /// Ours with a symbol behind them.
-    pub(crate) fn pushed(&self, alloc: Global, symbol: Symbol<T>) -> Result<Ours<T>, AllocError>
-        ensures { IfOk result (λ y. ours_of T.number y
-            ≡ pushed (ours_of T.number self.now) (symbol_of T.number symbol ∷ [])) }
+    pub(crate) fn pushed(&self, alloc: Global, symbol: Symbol<u32>) -> Result<Ours, AllocError>
+        ensures { IfOk result (λ y. ours_of y
+            ≡ pushed (ours_of self.now) (symbol_of number_of symbol ∷ [])) }
     {
         let symbols = with_symbol(alloc, self.symbols.as_slice(), symbol)?;
         let mark = self.mark;
@@ -162,11 +163,11 @@ impl<T: IndexStorage> Ours<T> {
     }
 }
 
-impl<T: IndexStorage> Position<T> {
+impl Position {
     /// The position with the same stacks where they do this next.
-    pub fn with_turn(&self, alloc: Global, turn: Turn<T>) -> Result<Position<T>, AllocError>
-        ensures { IfOk result (λ a. position_of T.number a
-            ≡ record (position_of T.number self.now) { turn = turn_of T.number turn }) }
+    pub fn with_turn(&self, alloc: Global, turn: Turn) -> Result<Position, AllocError>
+        ensures { IfOk result (λ a. position_of a
+            ≡ record (position_of self.now) { turn = turn_of turn }) }
     {
         let theirs = Vec::from_slice(alloc, self.theirs.as_slice())?;
         let ours = self.ours.copied(alloc)?;
@@ -182,11 +183,10 @@ impl<T: IndexStorage> Position<T> {
     pub(crate) fn deepened(
         &self,
         alloc: Global,
-        below: &Below<T>,
-    ) -> Result<Option<Position<T>>, AllocError>
-        ensures { IfOk result (λ o. IfSome o (λ a. position_of T.number a
-            ≡ deepened (position_of T.number self.now) (T.number below.now.state.0)
-            (symbols_of T.number below.now.symbols.items))) }
+        below: &Below,
+    ) -> Result<Option<Position>, AllocError>
+        ensures { IfOk result (λ o. IfSome o (λ a. position_of a ≡ deepened (position_of self.now)
+            below.now.state.0 (symbols_of below.now.symbols.items))) }
     {
         let both = below.symbols.as_slice();
         let theirs = joined(alloc, both, self.theirs.as_slice())?;

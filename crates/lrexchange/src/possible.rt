@@ -4,15 +4,12 @@ use crate::answers::Answer;
 use crate::positions::{Position, Turn};
 use crate::tops::end_of;
 use lrgrammar::grammar::YaccGrammar;
-use lrgrammar::idx::{IndexStorage, PIdx, SIdx, StIdx};
+use lrgrammar::idx::{PIdx, SIdx, StIdx};
 use lrgraphs::stategraph::StateGraph;
 use std::alloc::AllocError;
 
 /// The state to which our stack leads, if there is one.
-pub(crate) fn our_top<T: IndexStorage>(
-    graph: &StateGraph<T>,
-    position: &Position<T>,
-) -> Option<StIdx<T>> {
+pub(crate) fn our_top(graph: &StateGraph<u32>, position: &Position) -> Option<StIdx<u32>> {
     let symbols = position.ours.symbols.as_slice();
     let Some(mark) = position.ours.mark else {
         return end_of(graph, position.state, symbols);
@@ -24,18 +21,18 @@ pub(crate) fn our_top<T: IndexStorage>(
 }
 
 /// Whether the item is complete, and not of the start production.
-fn is_complete<T: IndexStorage>(grm: &YaccGrammar<T>, item: (PIdx<T>, SIdx<T>)) -> bool {
+fn is_complete(grm: &YaccGrammar<u32>, item: (PIdx<u32>, SIdx<u32>)) -> bool {
     usize::from(item.0) < usize::from(grm.prods_len())
         && usize::from(item.0) != usize::from(grm.start_prod())
         && usize::from(item.1) == usize::from(grm.prod_len(item.0))
 }
 
 /// Adds the reductions that we may make alone.
-fn add_own<T: IndexStorage>(
-    answers: &mut Vec<Answer<T>>,
-    grm: &YaccGrammar<T>,
-    graph: &StateGraph<T>,
-    position: &Position<T>,
+fn add_own(
+    answers: &mut Vec<Answer>,
+    grm: &YaccGrammar<u32>,
+    graph: &StateGraph<u32>,
+    position: &Position,
 ) -> Result<(), AllocError> {
     let Some(top) = our_top(graph, position) else {
         return Ok(());
@@ -52,10 +49,10 @@ fn add_own<T: IndexStorage>(
 }
 
 /// Adds what may be done where the item is open.
-fn add_open<T: IndexStorage>(
-    answers: &mut Vec<Answer<T>>,
-    grm: &YaccGrammar<T>,
-    item: (PIdx<T>, SIdx<T>),
+fn add_open(
+    answers: &mut Vec<Answer>,
+    grm: &YaccGrammar<u32>,
+    item: (PIdx<u32>, SIdx<u32>),
 ) -> Result<(), AllocError> {
     let production = usize::from(item.0);
     if production == usize::from(grm.start_prod()) || production >= usize::from(grm.prods_len()) {
@@ -71,11 +68,11 @@ fn add_open<T: IndexStorage>(
 }
 
 /// The answers that may be given at the position.
-pub(crate) fn possible<T: IndexStorage>(
-    grm: &YaccGrammar<T>,
-    graph: &StateGraph<T>,
-    position: &Position<T>,
-) -> Result<Vec<Answer<T>>, AllocError> {
+pub(crate) fn possible(
+    grm: &YaccGrammar<u32>,
+    graph: &StateGraph<u32>,
+    position: &Position,
+) -> Result<Vec<Answer>, AllocError> {
     let mut answers = Vec::new(grm.allocator());
     match position.turn {
         Turn::Even | Turn::Ahead(_) | Turn::Before(_) => {

@@ -3,6 +3,7 @@
 ghost use Rattle.std.specs.Prelude.{◌≡◌, ◌<◌, [], length, Contains, IfOk, IfSome, IsTrue, OnOk};
 ghost use Rattle.lrspec.specs.grammars.Grammar.{rest};
 ghost use Rattle.lrsearches.specs.StoredWays.{AreWaysOf};
+ghost use Rattle.lrexchange.specs.Numbers.{number_of};
 ghost use Rattle.lrexchange.specs.Asked.{IsOpen, Steps, ReadsToo};
 ghost use Rattle.lrexchange.specs.Exchanges.{Proceeds};
 ghost use Rattle.lrexchange.specs.StoredPositions.{position_of, positions_of};
@@ -13,18 +14,14 @@ use crate::moving::{ask_ahead, ask_before, ask_items};
 use crate::positions::{Position, Turn, with_symbol};
 use lrclosing::items::step_over;
 use lrgrammar::grammar::YaccGrammar;
-use lrgrammar::idx::{IndexStorage, PIdx, SIdx, Symbol};
+use lrgrammar::idx::{PIdx, SIdx, Symbol};
 use lrgraphs::stategraph::StateGraph;
 use lrsearches::Ways;
 use std::alloc::AllocError;
 
 /// The item that is open, but for one of the start production.
-fn open_item<T: IndexStorage>(
-    grm: &YaccGrammar<T>,
-    position: &Position<T>,
-) -> Option<(PIdx<T>, SIdx<T>)>
-    ensures { IfSome result (λ i. IsOpen grm.now (position_of T.number position.now)
-        (T.number i.0.0) (T.number i.1.0)) }
+fn open_item(grm: &YaccGrammar<u32>, position: &Position) -> Option<(PIdx<u32>, SIdx<u32>)>
+    ensures { IfSome result (λ i. IsOpen grm.now (position_of position.now) i.0.0 i.1.0) }
 {
     let Turn::Open(production, dot) = position.turn else {
         return None;
@@ -37,16 +34,16 @@ fn open_item<T: IndexStorage>(
 }
 
 /// Adds what is asked where whatever they do next is looked at; answers whether that can be said.
-fn ask_moves<T: IndexStorage>(
-    asked: &mut Vec<Position<T>>,
-    grm: &YaccGrammar<T>,
-    graph: &StateGraph<T>,
-    ways: &Ways<T>,
-    position: &Position<T>,
+fn ask_moves(
+    asked: &mut Vec<Position>,
+    grm: &YaccGrammar<u32>,
+    graph: &StateGraph<u32>,
+    ways: &Ways<u32>,
+    position: &Position,
 ) -> Result<bool, AllocError>
-    requires { AreWaysOf T.number grm.now graph.now ways.now }
+    requires { AreWaysOf number_of grm.now graph.now ways.now }
     ensures { IfOk result (λ b. IsTrue b → Proceeds grm.now graph.now
-        (Contains (positions_of T.number asked.new.items)) (position_of T.number position.now)) }
+        (Contains (positions_of asked.new.items)) (position_of position.now)) }
 {
     match position.turn {
         Turn::Even => ask_items(asked, grm, graph, position),
@@ -57,16 +54,16 @@ fn ask_moves<T: IndexStorage>(
 }
 
 /// Adds what is asked where we reduce by the open item too; answers whether we can.
-fn ask_mirror<T: IndexStorage>(
-    asked: &mut Vec<Position<T>>,
-    grm: &YaccGrammar<T>,
-    graph: &StateGraph<T>,
-    ways: &Ways<T>,
-    position: &Position<T>,
+fn ask_mirror(
+    asked: &mut Vec<Position>,
+    grm: &YaccGrammar<u32>,
+    graph: &StateGraph<u32>,
+    ways: &Ways<u32>,
+    position: &Position,
 ) -> Result<bool, AllocError>
-    requires { AreWaysOf T.number grm.now graph.now ways.now }
+    requires { AreWaysOf number_of grm.now graph.now ways.now }
     ensures { IfOk result (λ b. IsTrue b → Proceeds grm.now graph.now
-        (Contains (positions_of T.number asked.new.items)) (position_of T.number position.now)) }
+        (Contains (positions_of asked.new.items)) (position_of position.now)) }
 {
     let Some(item) = open_item(grm, position) else {
         return Ok(false);
@@ -75,9 +72,9 @@ fn ask_mirror<T: IndexStorage>(
 }
 
 /// Whether nothing is behind the dot of the item.
-fn is_at_end<T: IndexStorage>(grm: &YaccGrammar<T>, item: (PIdx<T>, SIdx<T>)) -> bool
-    requires { T.number item.0.0 < length grm.now.productions }
-    ensures { IsTrue result → rest grm.now (T.number item.0.0) (T.number item.1.0) ≡ [] }
+fn is_at_end(grm: &YaccGrammar<u32>, item: (PIdx<u32>, SIdx<u32>)) -> bool
+    requires { item.0.0 < length grm.now.productions }
+    ensures { IsTrue result → rest grm.now item.0.0 item.1.0 ≡ [] }
 {
     match step_over(grm, item.0, item.1) {
         Some(_) => false,
@@ -86,16 +83,16 @@ fn is_at_end<T: IndexStorage>(grm: &YaccGrammar<T>, item: (PIdx<T>, SIdx<T>)) ->
 }
 
 /// Adds what is asked where they reduce by the open item, behind whose dot nothing is; answers whether that can be said.
-fn ask_release<T: IndexStorage>(
-    asked: &mut Vec<Position<T>>,
-    grm: &YaccGrammar<T>,
-    graph: &StateGraph<T>,
-    ways: &Ways<T>,
-    position: &Position<T>,
+fn ask_release(
+    asked: &mut Vec<Position>,
+    grm: &YaccGrammar<u32>,
+    graph: &StateGraph<u32>,
+    ways: &Ways<u32>,
+    position: &Position,
 ) -> Result<bool, AllocError>
-    requires { AreWaysOf T.number grm.now graph.now ways.now }
+    requires { AreWaysOf number_of grm.now graph.now ways.now }
     ensures { IfOk result (λ b. IsTrue b → Proceeds grm.now graph.now
-        (Contains (positions_of T.number asked.new.items)) (position_of T.number position.now)) }
+        (Contains (positions_of asked.new.items)) (position_of position.now)) }
 {
     let Some(item) = open_item(grm, position) else {
         return Ok(false);
@@ -108,13 +105,13 @@ fn ask_release<T: IndexStorage>(
 }
 
 /// Adds what is asked where both read what the symbol behind the dot derives; answers whether there is one.
-fn ask_step<T: IndexStorage>(
-    asked: &mut Vec<Position<T>>,
-    grm: &YaccGrammar<T>,
-    position: &Position<T>,
+fn ask_step(
+    asked: &mut Vec<Position>,
+    grm: &YaccGrammar<u32>,
+    position: &Position,
 ) -> Result<bool, AllocError>
     ensures { IfOk result (λ b. IsTrue b → Steps grm.now
-        (Contains (positions_of T.number asked.new.items)) (position_of T.number position.now)) }
+        (Contains (positions_of asked.new.items)) (position_of position.now)) }
 {
     let Some(item) = open_item(grm, position) else {
         return Ok(false);
@@ -134,13 +131,13 @@ fn ask_step<T: IndexStorage>(
 }
 
 /// Adds what is asked where we read the token too; answers whether we have to.
-fn ask_read<T: IndexStorage>(
-    asked: &mut Vec<Position<T>>,
-    grm: &YaccGrammar<T>,
-    position: &Position<T>,
+fn ask_read(
+    asked: &mut Vec<Position>,
+    grm: &YaccGrammar<u32>,
+    position: &Position,
 ) -> Result<bool, AllocError>
     ensures { IfOk result (λ b. IsTrue b → ReadsToo
-        (Contains (positions_of T.number asked.new.items)) (position_of T.number position.now)) }
+        (Contains (positions_of asked.new.items)) (position_of position.now)) }
 {
     let Turn::Behind(token) = position.turn else {
         return Ok(false);
@@ -157,17 +154,17 @@ fn ask_read<T: IndexStorage>(
 }
 
 /// Adds what is asked by the answer, where that is of what they do next; answers whether it can be given.
-fn ask_by<T: IndexStorage>(
-    asked: &mut Vec<Position<T>>,
-    grm: &YaccGrammar<T>,
-    graph: &StateGraph<T>,
-    ways: &Ways<T>,
-    position: &Position<T>,
-    answer: Answer<T>,
+fn ask_by(
+    asked: &mut Vec<Position>,
+    grm: &YaccGrammar<u32>,
+    graph: &StateGraph<u32>,
+    ways: &Ways<u32>,
+    position: &Position,
+    answer: Answer,
 ) -> Result<bool, AllocError>
-    requires { AreWaysOf T.number grm.now graph.now ways.now }
+    requires { AreWaysOf number_of grm.now graph.now ways.now }
     ensures { IfOk result (λ b. IsTrue b → Proceeds grm.now graph.now
-        (Contains (positions_of T.number asked.new.items)) (position_of T.number position.now)) }
+        (Contains (positions_of asked.new.items)) (position_of position.now)) }
 {
     match answer {
         Answer::Moves => ask_moves(asked, grm, graph, ways, position),
@@ -181,16 +178,16 @@ fn ask_by<T: IndexStorage>(
 
 /// The positions that must be won where the position is by the answer, which is of what they do next; None where it can't be
 /// given.
-pub fn proceeding<T: IndexStorage>(
-    grm: &YaccGrammar<T>,
-    graph: &StateGraph<T>,
-    ways: &Ways<T>,
-    position: &Position<T>,
-    answer: Answer<T>,
-) -> Result<Option<Vec<Position<T>>>, AllocError>
-    requires { AreWaysOf T.number grm.now graph.now ways.now }
+pub fn proceeding(
+    grm: &YaccGrammar<u32>,
+    graph: &StateGraph<u32>,
+    ways: &Ways<u32>,
+    position: &Position,
+    answer: Answer,
+) -> Result<Option<Vec<Position>>, AllocError>
+    requires { AreWaysOf number_of grm.now graph.now ways.now }
     ensures { IfOk result (λ o. IfSome o (λ v. Proceeds grm.now graph.now
-        (Contains (positions_of T.number v.items)) (position_of T.number position.now))) }
+        (Contains (positions_of v.items)) (position_of position.now))) }
 {
     let mut asked = Vec::new(grm.allocator());
     if !ask_by(&mut asked, grm, graph, ways, position, answer)? {

@@ -3,6 +3,7 @@
 ghost use Rattle.std.specs.Prelude.{Contains, IfOk, IfSome, IsTrue};
 ghost use Rattle.lrgrammar.specs.Symbols.{symbol_of};
 ghost use Rattle.lrsearches.specs.StoredWays.{AreWaysOf};
+ghost use Rattle.lrexchange.specs.Numbers.{number_of};
 ghost use Rattle.lrexchange.specs.Asked.{IsBeforeLast, Unmarks};
 ghost use Rattle.lrexchange.specs.Exchanges.{Retreats};
 ghost use Rattle.lrexchange.specs.StoredPositions.{symbols_of, position_of, positions_of};
@@ -12,19 +13,15 @@ use crate::answers::Answer;
 use crate::positions::{Ours, Position, with_symbol};
 use lrclosing::items::is_same_symbol;
 use lrgrammar::grammar::YaccGrammar;
-use lrgrammar::idx::{IndexStorage, Symbol};
+use lrgrammar::idx::Symbol;
 use lrgraphs::stategraph::StateGraph;
 use lrsearches::Ways;
 use std::alloc::AllocError;
 
 /// The symbols before the last one, where that stands at the place and is the same as this one.
-fn before_last<T: IndexStorage>(
-    symbols: &[Symbol<T>],
-    place: usize,
-    last: Symbol<T>,
-) -> Option<&[Symbol<T>]>
-    ensures { IfSome result (λ v. IsBeforeLast (symbols_of T.number symbols.entry.now) place
-        (symbol_of T.number last) (symbols_of T.number v.now)) }
+fn before_last(symbols: &[Symbol<u32>], place: usize, last: Symbol<u32>) -> Option<&[Symbol<u32>]>
+    ensures { IfSome result (λ v. IsBeforeLast (symbols_of symbols.entry.now) place
+        (symbol_of number_of last) (symbols_of v.now)) }
 {
     if place >= symbols.len() || symbols.len() - place != 1 {
         return None;
@@ -33,13 +30,13 @@ fn before_last<T: IndexStorage>(
 }
 
 /// Adds what is asked where we reduce what the mark hides with the symbol behind it; answers whether we can.
-fn ask_unmarked<T: IndexStorage>(
-    asked: &mut Vec<Position<T>>,
-    grm: &YaccGrammar<T>,
-    position: &Position<T>,
+fn ask_unmarked(
+    asked: &mut Vec<Position>,
+    grm: &YaccGrammar<u32>,
+    position: &Position,
 ) -> Result<bool, AllocError>
     ensures { IfOk result (λ b. IsTrue b → Unmarks
-        (Contains (positions_of T.number asked.new.items)) (position_of T.number position.now)) }
+        (Contains (positions_of asked.new.items)) (position_of position.now)) }
 {
     let Some(mark) = position.ours.mark else {
         return Ok(false);
@@ -63,17 +60,17 @@ fn ask_unmarked<T: IndexStorage>(
 }
 
 /// Adds what is asked by the answer, where that is of our reductions alone; answers whether it can be given.
-fn ask_alone<T: IndexStorage>(
-    asked: &mut Vec<Position<T>>,
-    grm: &YaccGrammar<T>,
-    graph: &StateGraph<T>,
-    ways: &Ways<T>,
-    position: &Position<T>,
-    answer: Answer<T>,
+fn ask_alone(
+    asked: &mut Vec<Position>,
+    grm: &YaccGrammar<u32>,
+    graph: &StateGraph<u32>,
+    ways: &Ways<u32>,
+    position: &Position,
+    answer: Answer,
 ) -> Result<bool, AllocError>
-    requires { AreWaysOf T.number grm.now graph.now ways.now }
+    requires { AreWaysOf number_of grm.now graph.now ways.now }
     ensures { IfOk result (λ b. IsTrue b → Retreats grm.now graph.now
-        (Contains (positions_of T.number asked.new.items)) (position_of T.number position.now)) }
+        (Contains (positions_of asked.new.items)) (position_of position.now)) }
 {
     match answer {
         Answer::Own(production) => {
@@ -88,16 +85,16 @@ fn ask_alone<T: IndexStorage>(
 
 /// The positions that must be won where the position is by the answer, which is of our reductions alone; None where it can't be
 /// given.
-pub fn retreating<T: IndexStorage>(
-    grm: &YaccGrammar<T>,
-    graph: &StateGraph<T>,
-    ways: &Ways<T>,
-    position: &Position<T>,
-    answer: Answer<T>,
-) -> Result<Option<Vec<Position<T>>>, AllocError>
-    requires { AreWaysOf T.number grm.now graph.now ways.now }
+pub fn retreating(
+    grm: &YaccGrammar<u32>,
+    graph: &StateGraph<u32>,
+    ways: &Ways<u32>,
+    position: &Position,
+    answer: Answer,
+) -> Result<Option<Vec<Position>>, AllocError>
+    requires { AreWaysOf number_of grm.now graph.now ways.now }
     ensures { IfOk result (λ o. IfSome o (λ v. Retreats grm.now graph.now
-        (Contains (positions_of T.number v.items)) (position_of T.number position.now))) }
+        (Contains (positions_of v.items)) (position_of position.now))) }
 {
     let mut asked = Vec::new(grm.allocator());
     if !ask_alone(&mut asked, grm, graph, ways, position, answer)? {

@@ -8,20 +8,20 @@ ghost use Rattle.lrexchange.specs.StoredPositions.{symbols_of, mark_of, ours_of,
 use crate::positions::{Mark, Ours, Position, Turn};
 use lrclosing::items::is_same_symbol;
 use lrgrammar::grammar::YaccGrammar;
-use lrgrammar::idx::{IndexStorage, StIdx, Symbol};
+use lrgrammar::idx::{StIdx, Symbol};
 use lrgraphs::stategraph::StateGraph;
 use std::alloc::{AllocError, Global};
 
 /// How many symbols are the same in both lists from their beginning on, where edges lead on these from the state; and the state
 /// to which they lead.
-fn common<T: IndexStorage>(
-    graph: &StateGraph<T>,
-    from: StIdx<T>,
-    theirs: &[Symbol<T>],
-    ours: &[Symbol<T>],
-) -> (usize, StIdx<T>)
-    ensures { IsCommon graph.now (T.number from.0) (T.number result.1.0) result.0
-        (symbols_of T.number theirs.now) (symbols_of T.number ours.now) }
+fn common(
+    graph: &StateGraph<u32>,
+    from: StIdx<u32>,
+    theirs: &[Symbol<u32>],
+    ours: &[Symbol<u32>],
+) -> (usize, StIdx<u32>)
+    ensures { IsCommon graph.now from.0 result.1.0 result.0
+        (symbols_of theirs.now) (symbols_of ours.now) }
 {
     let mut state = from;
     let most = theirs.len().min(ours.len());
@@ -40,9 +40,8 @@ fn common<T: IndexStorage>(
 
 /// Our symbols that may be counted to what is not named: those before a mark. None are where they go on with the token, which we
 /// have read: what they have then is made of its first symbol.
-fn sinkable<T: IndexStorage>(position: &Position<T>) -> &[Symbol<T>]
-    ensures { AreBeforeMark (ours_of T.number position.entry.now.ours)
-        (symbols_of T.number result.now) }
+fn sinkable(position: &Position) -> &[Symbol<u32>]
+    ensures { AreBeforeMark (ours_of position.entry.now.ours) (symbols_of result.now) }
 {
     let symbols = position.ours.symbols.as_slice();
     if let Turn::Ahead(_) = position.turn {
@@ -58,9 +57,9 @@ fn sinkable<T: IndexStorage>(position: &Position<T>) -> &[Symbol<T>]
 }
 
 /// The mark with so many fewer symbols before it.
-fn sunk_mark<T: IndexStorage>(mark: Mark<T>, by: usize) -> Mark<T>
+fn sunk_mark(mark: Mark, by: usize) -> Mark
     requires { by ≤ mark.place }
-    ensures { mark_of T.number mark ≡ record (mark_of T.number result) {
+    ensures { mark_of mark ≡ record (mark_of result) {
       place = by + result.place;
     } }
 {
@@ -73,14 +72,10 @@ fn sunk_mark<T: IndexStorage>(mark: Mark<T>, by: usize) -> Mark<T>
 }
 
 /// Ours without so many first symbols.
-fn sunk_ours<T: IndexStorage>(
-    alloc: Global,
-    ours: &Ours<T>,
-    count: usize,
-) -> Result<Ours<T>, AllocError>
-    requires { MaySink (ours_of T.number ours.now) count }
-    ensures { IfOk result (λ y. ours_of T.number ours.now
-        ≡ raised (take count (symbols_of T.number ours.now.symbols.items)) (ours_of T.number y)) }
+fn sunk_ours(alloc: Global, ours: &Ours, count: usize) -> Result<Ours, AllocError>
+    requires { MaySink (ours_of ours.now) count }
+    ensures { IfOk result (λ y. ours_of ours.now
+        ≡ raised (take count (symbols_of ours.now.symbols.items)) (ours_of y)) }
 {
     let symbols = Vec::from_slice(alloc, &ours.symbols[count..])?;
     let Some(mark) = ours.mark else {
@@ -95,13 +90,13 @@ fn sunk_ours<T: IndexStorage>(
 
 /// The position, of which the beginning that both stacks have is counted to what is not named, as far as edges are there; None
 /// where that is the position itself.
-pub(crate) fn sunk<T: IndexStorage>(
-    grm: &YaccGrammar<T>,
-    graph: &StateGraph<T>,
-    position: &Position<T>,
-) -> Result<Option<Position<T>>, AllocError>
-    ensures { IfOk result (λ o. IfSome o (λ b. Sinks graph.now (position_of T.number position.now)
-        (position_of T.number b))) }
+pub(crate) fn sunk(
+    grm: &YaccGrammar<u32>,
+    graph: &StateGraph<u32>,
+    position: &Position,
+) -> Result<Option<Position>, AllocError>
+    ensures { IfOk result (λ o. IfSome o (λ b. Sinks graph.now (position_of position.now)
+        (position_of b))) }
 {
     let theirs = position.theirs.as_slice();
     let before = sinkable(position);

@@ -8,19 +8,18 @@ ghost use Rattle.lrexchange.specs.StoredPositions.{symbols_of, position_of, posi
 
 use crate::positions::{Position, Turn};
 use lrgrammar::grammar::YaccGrammar;
-use lrgrammar::idx::{IndexStorage, PIdx, SIdx, StIdx, Symbol, TIdx};
+use lrgrammar::idx::{PIdx, SIdx, StIdx, Symbol, TIdx};
 use lrgraphs::stategraph::StateGraph;
 use lritems::itemset::Ctx;
 use std::alloc::AllocError;
 
 /// The state to which the edges on the symbols lead, if they are there.
-pub(crate) fn end_of<T: IndexStorage>(
-    graph: &StateGraph<T>,
-    from: StIdx<T>,
-    symbols: &[Symbol<T>],
-) -> Option<StIdx<T>>
-    ensures { EndsIn graph.now (T.number from.0) (symbols_of T.number symbols.now)
-        (option_map (λ u. T.number u.0) result) }
+pub(crate) fn end_of(
+    graph: &StateGraph<u32>,
+    from: StIdx<u32>,
+    symbols: &[Symbol<u32>],
+) -> Option<StIdx<u32>>
+    ensures { EndsIn graph.now from.0 (symbols_of symbols.now) (option_map (λ u. u.0) result) }
 {
     let mut state = from;
     for symbol in symbols {
@@ -33,15 +32,14 @@ pub(crate) fn end_of<T: IndexStorage>(
 }
 
 /// Whether the item may be complete, of a production but the start production, and look at the token.
-fn may_reduce<T: IndexStorage>(
-    grm: &YaccGrammar<T>,
-    item: (PIdx<T>, SIdx<T>),
+fn may_reduce(
+    grm: &YaccGrammar<u32>,
+    item: (PIdx<u32>, SIdx<u32>),
     tokens: &Ctx,
-    token: TIdx<T>,
+    token: TIdx<u32>,
 ) -> bool
-    ensures { result ≡ false → T.number item.1.0 ≡ length (body_of grm.now (T.number item.0.0))
-        → T.number item.0.0 ≢ grm.now.start_production
-        → ¬ (IsTrue (bit tokens.now (T.number token.0))) }
+    ensures { result ≡ false → item.1.0 ≡ length (body_of grm.now item.0.0) → item.0.0
+        ≢ grm.now.start_production → ¬ (IsTrue (bit tokens.now token.0)) }
 {
     let production = usize::from(item.0);
     if production >= usize::from(grm.prods_len()) {
@@ -55,15 +53,15 @@ fn may_reduce<T: IndexStorage>(
 }
 
 /// The productions, but the start production, whose complete items in the state look at the token.
-pub(crate) fn reductions_on<T: IndexStorage>(
-    grm: &YaccGrammar<T>,
-    graph: &StateGraph<T>,
-    state: StIdx<T>,
-    token: TIdx<T>,
-) -> Result<Vec<PIdx<T>>, AllocError>
-    requires { T.number state.0 < length graph.now }
-    ensures { IfOk result (λ v. HasReductionsOn grm.now graph.now (T.number state.0)
-        (T.number token.0) (map (λ p. T.number p.0) v.items)) }
+pub(crate) fn reductions_on(
+    grm: &YaccGrammar<u32>,
+    graph: &StateGraph<u32>,
+    state: StIdx<u32>,
+    token: TIdx<u32>,
+) -> Result<Vec<PIdx<u32>>, AllocError>
+    requires { state.0 < length graph.now }
+    ensures { IfOk result (λ v. HasReductionsOn grm.now graph.now state.0
+        token.0 (map (λ p. p.0) v.items)) }
 {
     let mut productions = Vec::new(grm.allocator());
     for (key, tokens) in &graph.closed_state(state).items {
@@ -76,16 +74,16 @@ pub(crate) fn reductions_on<T: IndexStorage>(
 }
 
 /// Adds the position with each item of the core of the state open.
-pub(crate) fn ask_open<T: IndexStorage>(
-    asked: &mut Vec<Position<T>>,
-    grm: &YaccGrammar<T>,
-    graph: &StateGraph<T>,
-    position: &Position<T>,
-    state: StIdx<T>,
+pub(crate) fn ask_open(
+    asked: &mut Vec<Position>,
+    grm: &YaccGrammar<u32>,
+    graph: &StateGraph<u32>,
+    position: &Position,
+    state: StIdx<u32>,
 ) -> Result<(), AllocError>
-    requires { T.number state.0 < length graph.now }
-    ensures { OnOk result (HasEachOpen graph.now (T.number state.0)
-        (position_of T.number position.now) (positions_of T.number asked.new.items)) }
+    requires { state.0 < length graph.now }
+    ensures { OnOk result (HasEachOpen graph.now state.0
+        (position_of position.now) (positions_of asked.new.items)) }
 {
     for (key, _) in &graph.core_state(state).items {
         let open = position.with_turn(grm.allocator(), Turn::Open(key.0, key.1))?;

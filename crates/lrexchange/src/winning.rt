@@ -2,29 +2,28 @@
 //! each of its rounds the least one over what we do alone, so that an answer of ours leads to an earlier position.
 
 use crate::answers::Answer;
-use lrgrammar::idx::IndexStorage;
 use std::alloc::{AllocError, Global};
 
 /// An answer that was tried.
 #[derive(Drop)]
-pub struct Tried<T> {
+pub struct Tried {
     /// The answer.
-    pub answer: Answer<T>,
+    pub answer: Answer,
     /// The places of the positions for which it asks.
     pub(crate) asks: Vec<usize>,
 }
 
 /// The answers of a position that was looked at.
 #[derive(Drop)]
-pub struct Node<T> {
+pub struct Node {
     /// Those that were not tried, the likeliest last.
-    pub(crate) waiting: Vec<Answer<T>>,
+    pub(crate) waiting: Vec<Answer>,
     /// Those that were.
-    pub tried: Vec<Tried<T>>,
+    pub tried: Vec<Tried>,
 }
 
 /// Whether by the answer we alone do something.
-pub(crate) fn is_own<T: IndexStorage>(answer: Answer<T>) -> bool {
+pub(crate) fn is_own(answer: Answer) -> bool {
     match answer {
         Answer::Own(_) | Answer::Unmark => true,
         _ => false,
@@ -50,7 +49,7 @@ pub(crate) fn are_set(places: &[usize], set: &[bool]) -> bool {
 }
 
 /// The first of the answers for which all is won, and in order where we alone do something.
-fn winning<T: IndexStorage>(tried: &[Tried<T>], won: &[bool], in_order: &[bool]) -> Option<usize> {
+fn winning(tried: &[Tried], won: &[bool], in_order: &[bool]) -> Option<usize> {
     for number in 0..tried.len() {
         let answer = &tried[number];
         let set = if is_own(answer.answer) { in_order } else { won };
@@ -77,10 +76,10 @@ fn is_set(places: &[bool], place: usize) -> bool {
 }
 
 /// Adds the positions that are won where these are, and stand not yet in order.
-fn add_won<T: IndexStorage>(
+fn add_won(
     order: &mut Vec<Won>,
     in_order: &mut Vec<bool>,
-    nodes: &[Node<T>],
+    nodes: &[Node],
     won: &[bool],
 ) -> Result<(), AllocError> {
     for place in 0..nodes.len() {
@@ -97,9 +96,9 @@ fn add_won<T: IndexStorage>(
 }
 
 /// The positions that are won where these are, in order.
-fn in_order<T: IndexStorage>(
+fn in_order(
     alloc: Global,
-    nodes: &[Node<T>],
+    nodes: &[Node],
     won: &[bool],
 ) -> Result<(Vec<Won>, Vec<bool>), AllocError> {
     let mut order = Vec::new(alloc);
@@ -115,7 +114,7 @@ fn in_order<T: IndexStorage>(
 }
 
 /// Takes the positions away that no answer wins, the last first; answers whether there were some.
-fn drop_lost<T: IndexStorage>(won: &mut Vec<bool>, nodes: &[Node<T>]) -> bool {
+fn drop_lost(won: &mut Vec<bool>, nodes: &[Node]) -> bool {
     let mut some = false;
     for place in (0..nodes.len()).rev() {
         if !is_set(won.as_slice(), place) {
@@ -134,7 +133,7 @@ fn drop_lost<T: IndexStorage>(won: &mut Vec<bool>, nodes: &[Node<T>]) -> bool {
 }
 
 /// Takes all positions away that are lost, as others are.
-fn drop_all_lost<T: IndexStorage>(won: &mut Vec<bool>, nodes: &[Node<T>]) {
+fn drop_all_lost(won: &mut Vec<bool>, nodes: &[Node]) {
     for _turn in 0..nodes.len() {
         if !drop_lost(won, nodes) {
             return;
@@ -154,10 +153,7 @@ fn count_set(places: &[bool]) -> usize {
 }
 
 /// The positions that are won by these answers, in order.
-pub(crate) fn all_won<T: IndexStorage>(
-    alloc: Global,
-    nodes: &[Node<T>],
-) -> Result<Vec<Won>, AllocError> {
+pub(crate) fn all_won(alloc: Global, nodes: &[Node]) -> Result<Vec<Won>, AllocError> {
     let mut won: Vec<bool> = vec![in alloc; true; nodes.len()]?;
     for _turn in 0..nodes.len() {
         drop_all_lost(&mut won, nodes);
@@ -210,11 +206,7 @@ fn add_new(
 }
 
 /// What the answer asks by which the position at the place is won.
-fn asks_of<'a, T: IndexStorage>(
-    nodes: &'a [Node<T>],
-    answers: &[Option<usize>],
-    place: usize,
-) -> &'a [usize] {
+fn asks_of<'a>(nodes: &'a [Node], answers: &[Option<usize>], place: usize) -> &'a [usize] {
     let Some(Some(answer)) = answers.get(place) else {
         return &[];
     };
@@ -228,9 +220,9 @@ fn asks_of<'a, T: IndexStorage>(
 }
 
 /// For each position whether the first ones are won by it, or by what its answer asks.
-fn are_used<T: IndexStorage>(
+fn are_used(
     alloc: Global,
-    nodes: &[Node<T>],
+    nodes: &[Node],
     won: &[Won],
     firsts: &[usize],
 ) -> Result<Vec<bool>, AllocError> {
@@ -249,9 +241,9 @@ fn are_used<T: IndexStorage>(
 }
 
 /// Those of the positions that are won by which the first ones are.
-pub(crate) fn used<T: IndexStorage>(
+pub(crate) fn used(
     alloc: Global,
-    nodes: &[Node<T>],
+    nodes: &[Node],
     won: &[Won],
     firsts: &[usize],
 ) -> Result<Vec<Won>, AllocError> {

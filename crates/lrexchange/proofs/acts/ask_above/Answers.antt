@@ -9,50 +9,46 @@ use Rattle.lrexchange.proofs.AskedPositions.{asks_so}
 use Rattle.lrexchange.proofs.acts.ask_above.Goals as goal
 
 pub returns-in-They-clause-asked : goal.returns-in-They-clause-asked
-returns-in-They-clause-asked g c =
-    let number = g.T.IndexStorage.number in
-    let a = position_of number c.args.position.now in
+returns-in-They-clause-asked c =
+    let a = position_of c.args.position.now in
     let below = c.args.below.now in
     IfOk-weaker c.ask_them.result _ _
     (λ b k t.
-    asks_so c.args.grm.now (Contains (positions_of number c.ask_them.new.asked.items)) (act_of number c.args.act)
-    (They (turn_of number c.in-They.turn) (number c.in-They.production.0) (number c.in-They.dot.0)) a (position_of number c.in-Some.deeper)
-    (deepened a (number below.state.0) (symbols_of number below.symbols.items)) (ap (act_of number) c.in-They.is) (rw c.in-Some.is at c.in_ok-deeper.ensures) (k t))
+    asks_so c.args.grm.now (Contains (positions_of c.ask_them.new.asked.items)) (act_of c.args.act)
+    (They (turn_of c.in-They.turn) c.in-They.production.0 c.in-They.dot.0) a (position_of c.in-Some.deeper)
+    (deepened a below.state.0 (symbols_of below.symbols.items)) (ap act_of c.in-They.is) (rw c.in-Some.is at c.in_ok-deeper.ensures) (k t))
     c.ask_them.ensures.asked
 
 pub returns-in-Both-clause-asked : goal.returns-in-Both-clause-asked
-returns-in-Both-clause-asked g c =
-    let number = g.T.IndexStorage.number in
-    let a = position_of number c.args.position.now in
+returns-in-Both-clause-asked c =
+    let a = position_of c.args.position.now in
     let below = c.args.below.now in
     IfOk-weaker c.ask_both.result _ _
     (λ b k t.
-    asks_so c.args.grm.now (Contains (positions_of number c.ask_both.new.asked.items)) (act_of number c.args.act)
-    (Both (number c.in-Both.production.0) (number c.in-Both.dot.0)) a (position_of number c.in-Some.deeper)
-    (deepened a (number below.state.0) (symbols_of number below.symbols.items)) (ap (act_of number) c.in-Both.is) (rw c.in-Some.is at c.in_ok-deeper.ensures) (k t))
+    asks_so c.args.grm.now (Contains (positions_of c.ask_both.new.asked.items)) (act_of c.args.act)
+    (Both c.in-Both.production.0 c.in-Both.dot.0) a (position_of c.in-Some.deeper)
+    (deepened a below.state.0 (symbols_of below.symbols.items)) (ap act_of c.in-Both.is) (rw c.in-Some.is at c.in_ok-deeper.ensures) (k t))
     c.ask_both.ensures.asked
 
 pub returns-in-We-clause-asked : goal.returns-in-We-clause-asked
-returns-in-We-clause-asked g c =
-    let number = g.T.IndexStorage.number in
-    let a = position_of number c.args.position.now in
+returns-in-We-clause-asked c =
+    let a = position_of c.args.position.now in
     let below = c.args.below.now in
     IfOk-weaker c.ask_us.result _ _
     (λ b k t.
-    asks_so c.args.grm.now (Contains (positions_of number c.ask_us.new.asked.items)) (act_of number c.args.act) (We (number c.in-We.production.0)) a
-    (position_of number c.in-Some.deeper) (deepened a (number below.state.0) (symbols_of number below.symbols.items)) (ap (act_of number) c.in-We.is)
+    asks_so c.args.grm.now (Contains (positions_of c.ask_us.new.asked.items)) (act_of c.args.act) (We c.in-We.production.0) a
+    (position_of c.in-Some.deeper) (deepened a below.state.0 (symbols_of below.symbols.items)) (ap act_of c.in-We.is)
     (rw c.in-Some.is at c.in_ok-deeper.ensures) (k t))
     c.ask_us.ensures.asked
 
 pub returns-in-Hide-clause-asked : goal.returns-in-Hide-clause-asked
-returns-in-Hide-clause-asked g c =
-    let number = g.T.IndexStorage.number in
-    let a = position_of number c.args.position.now in
+returns-in-Hide-clause-asked c =
+    let a = position_of c.args.position.now in
     let below = c.args.below.now in
     IfOk-weaker c.ask_hidden.result _ _
     (λ b k t.
-    asks_so c.args.grm.now (Contains (positions_of number c.ask_hidden.new.asked.items)) (act_of number c.args.act)
-    (Hide (number c.in-Hide.production.0) (mark_of number c.in-Hide.mark)) a (position_of number c.in-Some.deeper)
-    (deepened a (number below.state.0) (symbols_of number below.symbols.items)) (ap (act_of number) c.in-Hide.is) (rw c.in-Some.is at c.in_ok-deeper.ensures)
+    asks_so c.args.grm.now (Contains (positions_of c.ask_hidden.new.asked.items)) (act_of c.args.act)
+    (Hide c.in-Hide.production.0 (mark_of c.in-Hide.mark)) a (position_of c.in-Some.deeper)
+    (deepened a below.state.0 (symbols_of below.symbols.items)) (ap act_of c.in-Hide.is) (rw c.in-Some.is at c.in_ok-deeper.ensures)
     (rw c.as_slice-ours.ensures.value at (k t)))
     c.ask_hidden.ensures.asked

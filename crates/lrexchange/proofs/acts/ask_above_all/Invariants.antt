@@ -8,11 +8,10 @@ use Rattle.lrexchange.proofs.AskedInTurn.{AllBut}
 use Rattle.lrexchange.proofs.acts.ask_above_all.Given as goal
 
 abbrev pub invariant-loop-below : goal.invariant-loop-below
-invariant-loop-below g l =
-    let number = g.T.IndexStorage.number in
-    let a = position_of number l.position in
+invariant-loop-below l =
+    let a = position_of l.position in
     record {
-      kept : KeepsPositions (positions_of number l.fn.asked.items) (positions_of number l.asked.items);
-      asked : AllBut (λ e. Asks l.grm (Contains (positions_of number l.asked.items)) (act_of number l.act) a (deepened a e.0 e.1)) (belows_of number l.belows)
-          (belows_of number (drop l.below-index l.belows));
+      kept : KeepsPositions (positions_of l.fn.asked.items) (positions_of l.asked.items);
+      asked : AllBut (λ e. Asks l.grm (Contains (positions_of l.asked.items)) (act_of l.act) a (deepened a e.0 e.1)) (belows_of l.belows)
+          (belows_of (drop l.below-index l.belows));
     }

@@ -10,28 +10,25 @@ use Rattle.lrexchange.proofs.GrowingAnswers.{own_more}
 use Rattle.lrexchange.proofs.beginning.ask_all_own.Goals as goal
 
 pub loop-position-init : goal.loop-position-init
-loop-position-init g c =
-    let number = g.T.IndexStorage.number in
-    begin_all (λ (a : Position). EachOwn c.args.grm.now c.args.graph.now (Contains (positions_of number c.args.asked.now.items)) (number c.args.production.0) a)
-    (positions_of number c.args.positions.now)
+loop-position-init c =
+    begin_all (λ (a : Position). EachOwn c.args.grm.now c.args.graph.now (Contains (positions_of c.args.asked.now.items)) c.args.production.0 a)
+    (positions_of c.args.positions.now)
 
 pub loop-position-preserved : goal.loop-position-preserved
-loop-position-preserved g c =
-    let number = g.T.IndexStorage.number in
+loop-position-preserved c =
     let grm = c.args.grm.now in
     let h = c.args.graph.now in
-    let p = number c.args.production.0 in
-    let old = positions_of number c.loop-position.asked.items in
-    let new = positions_of number c.ask_each.new.asked.items in
+    let p = c.args.production.0 in
+    let old = positions_of c.loop-position.asked.items in
+    let new = positions_of c.ask_each.new.asked.items in
     let x = c.position-item.result in
-    let left = left_at (position_of number) c.args.positions.now c.loop-position.position-index x x c.loop-position-test.true c.position-item.is refl in
-    next_all (λ (a : Position). EachOwn grm h (Contains old) p a) (λ (a : Position). EachOwn grm h (Contains new) p a) (positions_of number c.args.positions.now) _
-    (position_of number x) (rw left at c.loop-position.invariant) (λ a k. own_more (Contains old) (Contains new) c.in_ok-ask_each.ensures.kept grm h p a k)
+    let left = left_at position_of c.args.positions.now c.loop-position.position-index x x c.loop-position-test.true c.position-item.is refl in
+    next_all (λ (a : Position). EachOwn grm h (Contains old) p a) (λ (a : Position). EachOwn grm h (Contains new) p a) (positions_of c.args.positions.now) _
+    (position_of x) (rw left at c.loop-position.invariant) (λ a k. own_more (Contains old) (Contains new) c.in_ok-ask_each.ensures.kept grm h p a k)
     (c.in_ok-ask_each.ensures.asked c.if-not-branch.false)
 
 pub returns : goal.returns
-returns g c = λ t a k.
-    let number = g.T.IndexStorage.number in
-    end_all (λ (a : Position). EachOwn c.args.grm.now c.args.graph.now (Contains (positions_of number c.loop-position.asked.items)) (number c.args.production.0) a)
-    (positions_of number c.args.positions.now) _ (left_none (position_of number) c.args.positions.now c.loop-position.position-index c.loop-position-test.false)
+returns c = λ t a k.
+    end_all (λ (a : Position). EachOwn c.args.grm.now c.args.graph.now (Contains (positions_of c.loop-position.asked.items)) c.args.production.0 a)
+    (positions_of c.args.positions.now) _ (left_none position_of c.args.positions.now c.loop-position.position-index c.loop-position-test.false)
     c.loop-position.invariant a k

@@ -7,7 +7,6 @@ use Rattle.lrexchange.proofs.AskedInTurn.{AllBut}
 use Rattle.lrexchange.proofs.beginning.ask_all_own.Given as goal
 
 abbrev pub invariant-loop-position : goal.invariant-loop-position
-invariant-loop-position g l =
-    let number = g.T.IndexStorage.number in
-    AllBut (λ a. EachOwn l.grm l.graph (Contains (positions_of number l.asked.items)) (number l.production.0) a) (positions_of number l.positions)
-    (positions_of number (drop l.position-index l.positions))
+invariant-loop-position l =
+    AllBut (λ a. EachOwn l.grm l.graph (Contains (positions_of l.asked.items)) l.production.0 a) (positions_of l.positions)
+    (positions_of (drop l.position-index l.positions))

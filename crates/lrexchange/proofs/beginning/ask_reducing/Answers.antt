@@ -6,10 +6,9 @@ use Rattle.lrexchange.proofs.AskedPositions.{begins_by_reduction}
 use Rattle.lrexchange.proofs.beginning.ask_reducing.Goals as goal
 
 pub returns : goal.returns
-returns g c =
-    let number = g.T.IndexStorage.number in
+returns c =
     IfOk-weaker c.ask_each.result _ _
     (λ b k t.
-    begins_by_reduction c.args.grm.now c.args.graph.now (Contains (positions_of number c.ask_each.new.asked.items)) (number c.args.cell.0.0) (number c.args.cell.1.0)
-    (number c.args.production.0) (position_of number c.start-start.result) (rw (c.in_ok-theirs.ensures, c.new-ours.ensures.items) at c.start-start.ensures) (k t))
+    begins_by_reduction c.args.grm.now c.args.graph.now (Contains (positions_of c.ask_each.new.asked.items)) c.args.cell.0.0 c.args.cell.1.0
+    c.args.production.0 (position_of c.start-start.result) (rw (c.in_ok-theirs.ensures, c.new-ours.ensures.items) at c.start-start.ensures) (k t))
     c.ask_each.ensures.asked

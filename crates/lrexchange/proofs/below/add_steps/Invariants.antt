@@ -2,16 +2,16 @@
 use Rattle.std.proofs.Common.{◌∷◌, drop}
 use Rattle.std.specs.Prelude.{Contains}
 use Rattle.lrsearches.specs.StoredWays.{row_of}
+use Rattle.lrexchange.specs.Numbers.{number_of}
 use Rattle.lrexchange.specs.Asked.{KeepsBelows}
 use Rattle.lrexchange.specs.StoredPositions.{symbols_of, belows_of}
 use Rattle.lrexchange.proofs.AskedInTurn.{AllBut}
 use Rattle.lrexchange.proofs.below.add_steps.Given as goal
 
 abbrev pub invariant-loop-edge : goal.invariant-loop-edge
-invariant-loop-edge g l =
-    let number = g.T.IndexStorage.number in
+invariant-loop-edge l =
     record {
-      kept : KeepsBelows (belows_of number l.fn.belows.items) (belows_of number l.belows.items);
-      added : AllBut (λ e. Contains (belows_of number l.belows.items) (e.1, e.0 ∷ symbols_of number l.symbols)) (row_of number l.row)
-          (row_of number (drop l.edge-index l.row));
+      kept : KeepsBelows (belows_of l.fn.belows.items) (belows_of l.belows.items);
+      added : AllBut (λ e. Contains (belows_of l.belows.items) (e.1, e.0 ∷ symbols_of l.symbols)) (row_of number_of l.row)
+          (row_of number_of (drop l.edge-index l.row));
     }

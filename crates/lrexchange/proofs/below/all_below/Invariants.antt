@@ -4,6 +4,5 @@ use Rattle.lrexchange.specs.StoredPositions.{belows_of}
 use Rattle.lrexchange.proofs.below.all_below.Given as goal
 
 abbrev pub invariant-loop : goal.invariant-loop
-invariant-loop g l =
-    let number = g.T.IndexStorage.number in
-    AreBelow l.graph (number l.fn.state.0) (belows_of number l.belows.items)
+invariant-loop l =
+    AreBelow l.graph l.fn.state.0 (belows_of l.belows.items)

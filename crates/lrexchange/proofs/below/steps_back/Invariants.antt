@@ -6,6 +6,5 @@ use Rattle.lrexchange.proofs.BelowStates.{StepsFrom}
 use Rattle.lrexchange.proofs.below.steps_back.Given as goal
 
 abbrev pub invariant-loop-below : goal.invariant-loop-below
-invariant-loop-below g l =
-    let number = g.T.IndexStorage.number in
-    AllBut (StepsFrom l.graph (belows_of number l.steps.items)) (belows_of number l.belows) (belows_of number (drop l.below-index l.belows))
+invariant-loop-below l =
+    AllBut (StepsFrom l.graph (belows_of l.steps.items)) (belows_of l.belows) (belows_of (drop l.below-index l.belows))

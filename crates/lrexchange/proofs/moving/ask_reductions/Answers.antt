@@ -7,17 +7,15 @@ use Rattle.lrexchange.proofs.ToppedStacks.{reductions_from, no_reductions}
 use Rattle.lrexchange.proofs.moving.ask_reductions.Goals as goal
 
 pub returns-in_default-clause-asked : goal.returns-in_default-clause-asked
-returns-in_default-clause-asked g c = λ t.
-    let number = g.T.IndexStorage.number in
-    no_reductions c.args.graph.now (Contains (positions_of number c.args.asked.now.items)) (position_of number c.args.position.now) c.args.grm.now (number c.args.token.0)
+returns-in_default-clause-asked c = λ t.
+    no_reductions c.args.graph.now (Contains (positions_of c.args.asked.now.items)) (position_of c.args.position.now) c.args.grm.now c.args.token.0
     (rw c.as_slice.ensures.value at c.in_default.ensures)
 
 pub returns-clause-asked : goal.returns-clause-asked
-returns-clause-asked g c =
-    let number = g.T.IndexStorage.number in
+returns-clause-asked c =
     IfOk-weaker c.ask_reductions_by.result _ _
     (λ b k t.
-    reductions_from c.args.graph.now (Contains (positions_of number c.ask_reductions_by.new.asked.items)) (position_of number c.args.position.now) c.args.grm.now
-    (number c.args.token.0) (number c.in-Some.top.0) (map (λ p. number p.0) c.in_ok-productions.productions.items) (rw c.as_slice.ensures.value at c.in-Some.ensures)
+    reductions_from c.args.graph.now (Contains (positions_of c.ask_reductions_by.new.asked.items)) (position_of c.args.position.now) c.args.grm.now
+    c.args.token.0 c.in-Some.top.0 (map (λ p. p.0) c.in_ok-productions.productions.items) (rw c.as_slice.ensures.value at c.in-Some.ensures)
     c.in_ok-productions.ensures (rw c.as_slice-those.ensures.value at (k t)))
     c.ask_reductions_by.ensures.asked

@@ -8,10 +8,9 @@ use Rattle.lrexchange.proofs.AskedInTurn.{AllBut}
 use Rattle.lrexchange.proofs.moving.ask_reductions_by.Given as goal
 
 abbrev pub invariant-loop-production : goal.invariant-loop-production
-invariant-loop-production g l =
-    let number = g.T.IndexStorage.number in
+invariant-loop-production l =
     record {
-      kept : KeepsPositions (positions_of number l.fn.asked.items) (positions_of number l.asked.items);
-      asked : AllBut (λ p. TakesReduction l.grm l.graph (Contains (positions_of number l.asked.items)) p (position_of number l.position))
-          (map (λ p. number p.0) l.productions) (map (λ p. number p.0) (drop l.production-index l.productions));
+      kept : KeepsPositions (positions_of l.fn.asked.items) (positions_of l.asked.items);
+      asked : AllBut (λ p. TakesReduction l.grm l.graph (Contains (positions_of l.asked.items)) p (position_of l.position))
+          (map (λ p. p.0) l.productions) (map (λ p. p.0) (drop l.production-index l.productions));
     }

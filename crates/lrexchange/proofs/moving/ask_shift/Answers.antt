@@ -10,30 +10,27 @@ use Rattle.lrexchange.proofs.ToppedStacks.{shift_from, no_shift}
 use Rattle.lrexchange.proofs.moving.ask_shift.Goals as goal
 
 pub returns-in_default-clause-asked : goal.returns-in_default-clause-asked
-returns-in_default-clause-asked g c =
-    let number = g.T.IndexStorage.number in
-    no_shift c.args.graph.now (Contains (positions_of number c.args.asked.now.items)) (position_of number c.args.position.now) (number c.args.token.0)
-    (turn_of number c.args.shifted) (rw c.as_slice.ensures.value at c.in_default.ensures)
+returns-in_default-clause-asked c =
+    no_shift c.args.graph.now (Contains (positions_of c.args.asked.now.items)) (position_of c.args.position.now) c.args.token.0
+    (turn_of c.args.shifted) (rw c.as_slice.ensures.value at c.in_default.ensures)
 
 pub returns-then-not-shifts-clause-asked : goal.returns-then-not-shifts-clause-asked
-returns-then-not-shifts-clause-asked g c =
-    let number = g.T.IndexStorage.number in
-    shift_from c.args.graph.now (Contains (positions_of number c.args.asked.now.items)) (position_of number c.args.position.now) (number c.args.token.0)
-    (turn_of number c.args.shifted) (number c.in-Some.top.0) (rw c.as_slice.ensures.value at c.in-Some.ensures)
+returns-then-not-shifts-clause-asked c =
+    shift_from c.args.graph.now (Contains (positions_of c.args.asked.now.items)) (position_of c.args.position.now) c.args.token.0
+    (turn_of c.args.shifted) c.in-Some.top.0 (rw c.as_slice.ensures.value at c.in-Some.ensures)
     (λ some. let no : false ≡ true = sym c.if-not-shifts.true ∙ c.shifts.ensures ∙ some in absurd cc)
 
 pub returns-clause-kept : goal.returns-clause-kept
-returns-clause-kept g c = kept (position_of g.T.IndexStorage.number) _ _ _ c.in_ok-push.ensures.items
+returns-clause-kept c = kept position_of _ _ _ c.in_ok-push.ensures.items
 
 pub returns-clause-asked : goal.returns-clause-asked
-returns-clause-asked g c =
-    let number = g.T.IndexStorage.number in
-    let a = position_of number c.args.position.now in
-    let shifted = turn_of number c.args.shifted in
-    let xs = a.theirs ++ math.Token (number c.args.token.0) ∷ [] in
-    shift_from c.args.graph.now (Contains (positions_of number c.push.new.self.items)) a (number c.args.token.0) shifted (number c.in-Some.top.0)
+returns-clause-asked c =
+    let a = position_of c.args.position.now in
+    let shifted = turn_of c.args.shifted in
+    let xs = a.theirs ++ math.Token c.args.token.0 ∷ [] in
+    shift_from c.args.graph.now (Contains (positions_of c.push.new.self.items)) a c.args.token.0 shifted c.in-Some.top.0
     (rw c.as_slice.ensures.value at c.in-Some.ensures)
     (λ some.
-    added (position_of number) _ _ _ c.in_ok-push.ensures.items (at shifted a.state xs a.ours)
-    (same_position shifted shifted a.state a.state (symbols_of number c.in_ok-theirs.theirs.items) xs (ours_of number c.in_ok-ours.ours) a.ours refl refl
+    added position_of _ _ _ c.in_ok-push.ensures.items (at shifted a.state xs a.ours)
+    (same_position shifted shifted a.state a.state (symbols_of c.in_ok-theirs.theirs.items) xs (ours_of c.in_ok-ours.ours) a.ours refl refl
     (rw c.as_slice-2.ensures.value at c.in_ok-theirs.ensures) c.in_ok-ours.ensures))

@@ -6,17 +6,15 @@ use Rattle.lrexchange.proofs.AskedPositions.{proceeds_by_step, proceeds_by_read}
 use Rattle.lrexchange.proofs.proceeding.ask_by.Goals as goal
 
 pub returns-in-Step : goal.returns-in-Step
-returns-in-Step g c =
-    let number = g.T.IndexStorage.number in
+returns-in-Step c =
     IfOk-weaker c.ask_step.result _ _
     (λ b k t.
-    proceeds_by_step c.args.grm.now c.args.graph.now (Contains (positions_of number c.ask_step.new.asked.items)) (position_of number c.args.position.now) (k t))
+    proceeds_by_step c.args.grm.now c.args.graph.now (Contains (positions_of c.ask_step.new.asked.items)) (position_of c.args.position.now) (k t))
     c.ask_step.ensures
 
 pub returns-in-Read : goal.returns-in-Read
-returns-in-Read g c =
-    let number = g.T.IndexStorage.number in
+returns-in-Read c =
     IfOk-weaker c.ask_read.result _ _
     (λ b k t.
-    proceeds_by_read c.args.grm.now c.args.graph.now (Contains (positions_of number c.ask_read.new.asked.items)) (position_of number c.args.position.now) (k t))
+    proceeds_by_read c.args.grm.now c.args.graph.now (Contains (positions_of c.ask_read.new.asked.items)) (position_of c.args.position.now) (k t))
     c.ask_read.ensures

@@ -9,14 +9,13 @@ use Rattle.lrexchange.proofs.SamePositions.{same_position}
 use Rattle.lrexchange.proofs.proceeding.ask_read.Goals as goal
 
 pub returns : goal.returns
-returns g c = λ t.
-    let number = g.T.IndexStorage.number in
-    let a = position_of number c.args.position.now in
-    let read = pushed a.ours (math.Token (number c.in-Behind.token.0) ∷ []) in
+returns c = λ t.
+    let a = position_of c.args.position.now in
+    let read = pushed a.ours (math.Token c.in-Behind.token.0 ∷ []) in
     record {
-      t = number c.in-Behind.token.0;
-      turn = ap (turn_of number) c.in-Behind.is;
-      next = added (position_of number) _ _ _ c.in_ok-push.ensures.items (at Even a.state a.theirs read)
-          (same_position Even Even a.state a.state (symbols_of number c.in_ok-theirs.theirs.items) a.theirs (ours_of number c.in_ok-ours.ours) read refl refl
-          (ap (symbols_of number) (c.in_ok-theirs.ensures.items ∙ c.as_slice.ensures.value)) c.in_ok-ours.ensures);
+      t = c.in-Behind.token.0;
+      turn = ap turn_of c.in-Behind.is;
+      next = added position_of _ _ _ c.in_ok-push.ensures.items (at Even a.state a.theirs read)
+          (same_position Even Even a.state a.state (symbols_of c.in_ok-theirs.theirs.items) a.theirs (ours_of c.in_ok-ours.ours) read refl refl
+          (ap symbols_of (c.in_ok-theirs.ensures.items ∙ c.as_slice.ensures.value)) c.in_ok-ours.ensures);
     }

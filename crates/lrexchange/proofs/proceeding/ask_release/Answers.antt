@@ -6,10 +6,9 @@ use Rattle.lrexchange.proofs.AskedPositions.{proceeds_by_release}
 use Rattle.lrexchange.proofs.proceeding.ask_release.Goals as goal
 
 pub returns : goal.returns
-returns g c =
-    let number = g.T.IndexStorage.number in
+returns c =
     let item = c.in-Some.item in
     IfOk-weaker c.ask_each.result _ _
     (λ b k t.
-    proceeds_by_release c.args.grm.now c.args.graph.now (Contains (positions_of number c.ask_each.new.asked.items)) (position_of number c.args.position.now) (number item.0.0) (number item.1.0) c.in-Some.ensures (c.is_at_end.ensures c.if-not-is_at_end.false) (k t))
+    proceeds_by_release c.args.grm.now c.args.graph.now (Contains (positions_of c.ask_each.new.asked.items)) (position_of c.args.position.now) item.0.0 item.1.0 c.in-Some.ensures (c.is_at_end.ensures c.if-not-is_at_end.false) (k t))
     c.ask_each.ensures.asked

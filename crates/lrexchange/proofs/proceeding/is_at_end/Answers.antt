@@ -4,6 +4,5 @@ use Rattle.lrspec.specs.grammars.Grammar.{rest}
 use Rattle.lrexchange.proofs.proceeding.is_at_end.Goals as goal
 
 pub returns-in-None : goal.returns-in-None
-returns-in-None g c = λ t.
-    let number = g.T.IndexStorage.number in
-    none_behind (rest c.args.grm.now (number c.args.item.0.0) (number c.args.item.1.0)) (λ x y e. c.in-None.ensures.none x (y, e))
+returns-in-None c = λ t.
+    none_behind (rest c.args.grm.now c.args.item.0.0 c.args.item.1.0) (λ x y e. c.in-None.ensures.none x (y, e))

@@ -2,25 +2,24 @@
 use Rattle.std.proofs.Common.{◌<◌, length, sym, arith}
 use Rattle.std.proofs.lemmas.List.{length-map}
 use Rattle.lrgrammar.specs.Symbols.{symbol_of}
+use Rattle.lrexchange.specs.Numbers.{number_of}
 use Rattle.lrexchange.specs.StoredPositions.{symbols_of}
 use Rattle.lrexchange.proofs.SunkPositions.{begin_common, next_common, at_mapped}
 use Rattle.lrexchange.proofs.sinking.common.Goals as goal
 
 pub loop-i-init : goal.loop-i-init
-loop-i-init g c =
-    let number = g.T.IndexStorage.number in
-    begin_common c.args.graph.now (number c.args.from.0) (symbols_of number c.args.theirs.now) (symbols_of number c.args.ours.now)
+loop-i-init c =
+    begin_common c.args.graph.now c.args.from.0 (symbols_of c.args.theirs.now) (symbols_of c.args.ours.now)
 
 pub loop-i-preserved : goal.loop-i-preserved
-loop-i-preserved g c =
-    let number = g.T.IndexStorage.number in
-    let shown = symbol_of number in
+loop-i-preserved c =
+    let shown = symbol_of number_of in
     let theirs = c.args.theirs.now in
     let ours = c.args.ours.now in
     let n = c.loop-i.i in
     let l : n < length theirs = omega (arith, c.loop-i-test.true, c.min-most.ensures) in
     let m : n < length ours = omega (arith, c.loop-i-test.true, c.min-most.ensures) in
-    next_common c.args.graph.now (number c.args.from.0) (symbols_of number theirs) (symbols_of number ours) (number c.loop-i.state.0) (number c.in-Some.next.0) n
-    (shown c.index-theirs-i.result) (shown c.index-ours-i.result) c.loop-i.invariant (omega (arith, l, length-map theirs shown)) (omega (arith, m, length-map ours shown))
-    (at_mapped shown theirs n c.index-theirs-i.result l c.index-theirs-i.is) (at_mapped shown ours n c.index-ours-i.result m c.index-ours-i.is)
+    next_common c.args.graph.now c.args.from.0 (symbols_of theirs) (symbols_of ours) c.loop-i.state.0 c.in-Some.next.0 n
+    _ _ c.loop-i.invariant (omega (arith, l, length-map theirs shown)) (omega (arith, m, length-map ours shown))
+    (at_mapped shown theirs n _ l) (at_mapped shown ours n _ m)
     (c.is_same_symbol.ensures.0 c.if-not-is_same_symbol.false) (sym c.in-Some.ensures)

@@ -4,6 +4,7 @@ use Rattle.lrspec.specs.grammars.ItemSets.{Items}
 use Rattle.lrspec.specs.merging.Graph.{core_of}
 use Rattle.lritems.specs.ItemsOf.{items_of}
 use Rattle.lrdecided.proofs.CollectedInTurn.{kept, added}
+use Rattle.lrexchange.specs.Numbers.{number_of}
 use Rattle.lrexchange.specs.Exchanges.{at}
 use Rattle.lrexchange.specs.Positions.{Open}
 use Rattle.lrexchange.specs.StoredPositions.{position_of, positions_of}
@@ -11,28 +12,25 @@ use Rattle.lrexchange.proofs.ToppedStacks.{HasOpenBut, begin_open, next_open, en
 use Rattle.lrexchange.proofs.tops.ask_open.Goals as goal
 
 pub loop-key-init : goal.loop-key-init
-loop-key-init g c =
-    let number = g.T.IndexStorage.number in
+loop-key-init c =
     let i = c.into_iter-key-iterator.ensures.into_iter_gives in
-    let set = core_of c.args.graph.now (number c.args.state.0) in
-    let a = position_of number c.args.position.now in
-    let ps = positions_of number c.args.asked.now.items in
-    let are = ap (items_of number) i.0 ∙ c.core_state.ensures.items in
+    let set = core_of c.args.graph.now c.args.state.0 in
+    let a = position_of c.args.position.now in
+    let ps = positions_of c.args.asked.now.items in
+    let are = ap (items_of number_of) i.0 ∙ c.core_state.ensures.items in
     subst (λ (left : Items). HasOpenBut set left a ps) (sym are) (begin_open set a ps)
 
 pub loop-key-preserved : goal.loop-key-preserved
-loop-key-preserved g c =
-    let number = g.T.IndexStorage.number in
-    let a = position_of number c.args.position.now in
+loop-key-preserved c =
+    let a = position_of c.args.position.now in
     let old = c.loop-key.asked.items in
     let new = c.push.new.self.items in
-    let p = number c.in-Some.key.now.0.0 in
-    let d = number c.in-Some.key.now.1.0 in
-    next_open (core_of c.args.graph.now (number c.args.state.0)) (items_of number c.next.new.self) p d _ a (positions_of number old) (positions_of number new)
-    (rw c.in-Some.ensures.steps at c.loop-key.invariant) (kept (position_of number) old new _ c.in_ok-push.ensures.items)
-    (added (position_of number) old new _ c.in_ok-push.ensures.items (at (Open p d) a.state a.theirs a.ours) c.in_ok-open.ensures)
+    let p = c.in-Some.key.now.0.0 in
+    let d = c.in-Some.key.now.1.0 in
+    next_open (core_of c.args.graph.now c.args.state.0) (items_of number_of c.next.new.self) p d _ a (positions_of old) (positions_of new)
+    (rw c.in-Some.ensures.steps at c.loop-key.invariant) (kept position_of old new _ c.in_ok-push.ensures.items)
+    (added position_of old new _ c.in_ok-push.ensures.items (at (Open p d) a.state a.theirs a.ours) c.in_ok-open.ensures)
 
 pub returns : goal.returns
-returns g c =
-    let number = g.T.IndexStorage.number in
-    end_open c.args.graph.now (number c.args.state.0) _ (position_of number c.args.position.now) _ (ap (items_of number) c.in-None.ensures.steps.0) c.loop-key.invariant
+returns c =
+    end_open c.args.graph.now c.args.state.0 _ (position_of c.args.position.now) _ (ap (items_of number_of) c.in-None.ensures.steps.0) c.loop-key.invariant

@@ -5,6 +5,5 @@ use Rattle.lrexchange.proofs.ToppedStacks.{LeadsOn}
 use Rattle.lrexchange.proofs.tops.end_of.Given as goal
 
 abbrev pub invariant-loop-symbol : goal.invariant-loop-symbol
-invariant-loop-symbol g l =
-    let number = g.T.IndexStorage.number in
-    LeadsOn l.graph (number l.fn.from.0) (symbols_of number l.symbols) (number l.state.0) (symbols_of number (drop l.symbol-index l.symbols))
+invariant-loop-symbol l =
+    LeadsOn l.graph l.fn.from.0 (symbols_of l.symbols) l.state.0 (symbols_of (drop l.symbol-index l.symbols))
