@@ -78,15 +78,15 @@ fn unlost(
 
 /// How exact the table is, as far as a search shows that looks at so many positions: none for 0.
 fn exactness_within(
-    automaton: Automaton<'_, u32>,
-    certificate: &mut Certificate<u32>,
+    automaton: Automaton<'_>,
+    certificate: &mut Certificate,
     positions: usize,
 ) -> Result<Exactness, AllocError>
     requires graph { IsGraphOf automaton.grm.now automaton.graph.now }
     requires table { IsTableOf automaton.grm.now automaton.graph.now automaton.table.now }
     requires ways { AreWaysOf number_of automaton.grm.now automaton.graph.now automaton.ways.now }
-    requires won { IsWon number_of automaton.grm.now automaton.graph.now certificate.old }
-    ensures won { OnOk result (IsWon number_of automaton.entry.grm.now automaton.entry.graph.now
+    requires won { IsWon automaton.grm.now automaton.graph.now certificate.old }
+    ensures won { OnOk result (IsWon automaton.entry.grm.now automaton.entry.graph.now
         certificate.new) }
     ensures exact { IfOk result (λ e. e ≡ Exact
         → IsExact automaton.entry.grm.now automaton.entry.table.now) }
@@ -103,7 +103,7 @@ fn exactness_within(
 /// How exact the table is, and at which of the entries no sentence is lost, as far as searches show that look at so many positions;
 /// these share what they find.
 fn accepted_within(
-    automaton: Automaton<'_, u32>,
+    automaton: Automaton<'_>,
     entries: &[Entry],
     positions: usize,
     positions_of_entries: usize,

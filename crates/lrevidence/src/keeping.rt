@@ -16,16 +16,16 @@ use std::alloc::AllocError;
 /// Whether it is found that both moves are kept that meet in the entry. Searches look at as many positions as are left, and take
 /// them from these; they share the certificate.
 fn is_kept_entry(
-    automaton: Automaton<'_, u32>,
+    automaton: Automaton<'_>,
     entry: Entry,
-    certificate: &mut Certificate<u32>,
+    certificate: &mut Certificate,
     left: &mut usize,
 ) -> Result<bool, AllocError>
     requires graph { IsGraphOf automaton.grm.now automaton.graph.now }
     requires table { IsTableOf automaton.grm.now automaton.graph.now automaton.table.now }
     requires ways { AreWaysOf number_of automaton.grm.now automaton.graph.now automaton.ways.now }
-    requires won { IsWon number_of automaton.grm.now automaton.graph.now certificate.old }
-    ensures won { OnOk result (IsWon number_of automaton.entry.grm.now automaton.entry.graph.now
+    requires won { IsWon automaton.grm.now automaton.graph.now certificate.old }
+    ensures won { OnOk result (IsWon automaton.entry.grm.now automaton.entry.graph.now
         certificate.new) }
     ensures kept { IfOk result (λ b. IsTrue b → IsKeptEntry automaton.entry.grm.now
         automaton.entry.graph.now automaton.entry.table.now entry) }
@@ -46,15 +46,15 @@ fn is_kept_entry(
 
 /// Those of the entries of which that is found, before no positions are left.
 pub(crate) fn kept_by_each(
-    automaton: Automaton<'_, u32>,
+    automaton: Automaton<'_>,
     entries: &[Entry],
-    certificate: &mut Certificate<u32>,
+    certificate: &mut Certificate,
     left: &mut usize,
 ) -> Result<Vec<Entry>, AllocError>
     requires graph { IsGraphOf automaton.grm.now automaton.graph.now }
     requires table { IsTableOf automaton.grm.now automaton.graph.now automaton.table.now }
     requires ways { AreWaysOf number_of automaton.grm.now automaton.graph.now automaton.ways.now }
-    requires won { IsWon number_of automaton.grm.now automaton.graph.now certificate.old }
+    requires won { IsWon automaton.grm.now automaton.graph.now certificate.old }
     ensures { IfOk result (λ v. All (IsKeptEntry automaton.entry.grm.now
         automaton.entry.graph.now automaton.entry.table.now) v.items) }
 {

@@ -1,6 +1,7 @@
 -- cells whose refused moves are kept, one after another
 use Rattle.std.proofs.Common.{◌≡◌, ℕ, ◌+◌, ◌<◌, List, length, get_or, take, refl, subst}
 use Rattle.std.specs.Prelude.{All}
+use Rattle.std.proofs.lemmas.List.{get_or_default}
 use Rattle.lrspec.specs.grammars.Grammar.{Grammar, IsGrammar}
 use Rattle.lrspec.specs.merging.Graph.{Graph, IsGraphOf}
 use Rattle.lrspec.specs.tables.Table as table
@@ -53,12 +54,12 @@ errors_with_errors = record { of_one = λ g h b s t m k. k; of_other = λ g h b 
 module _ (one other both : Exactness) (k : IsKnownOfBoth one other both) (g : Grammar) (h : Graph) (b : Table) (s : ℕ) where
   -- a turn for each move
   pub move_more :
-      {X : Type 0} (t : ℕ) (f : X → Move) (xs : List X) (i : ℕ) (x : X) → i < length xs → x ≡ get_or xs i x
-      → All (λ z. IsKnownOf one g h b s t (f z)) (take i xs) → IsKnownOf other g h b s t (f x) → All (λ z. IsKnownOf both g h b s t (f z)) (take (i + 1) xs)
-  move_more t f xs i x l e before here =
-      all_more f (IsKnownOf both g h b s t) xs i x l e
-      (λ n d below contends. k.of_one g h b s t (f (get_or (take i xs) n d)) (before n d below contends))
-      (λ contends. k.of_other g h b s t (f x) (here contends))
+      {X : Type 0} (t : ℕ) (f : X → Move) (xs : List X) (i : ℕ) (d : X) → i < length xs → All (λ z. IsKnownOf one g h b s t (f z)) (take i xs)
+      → IsKnownOf other g h b s t (f (get_or xs i d)) → All (λ z. IsKnownOf both g h b s t (f z)) (take (i + 1) xs)
+  move_more t f xs i d l before here =
+      all_more f (IsKnownOf both g h b s t) xs i (get_or xs i d) l (get_or_default xs i d (get_or xs i d) l)
+      (λ n e below contends. k.of_one g h b s t (f (get_or (take i xs) n e)) (before n e below contends))
+      (λ contends. k.of_other g h b s t (f (get_or xs i d)) (here contends))
 
   -- a turn for each token
   pub token_more :

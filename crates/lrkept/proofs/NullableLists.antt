@@ -11,6 +11,7 @@ use Rattle.lrgrammar.specs.declared.idx.RIdx.{RIdx}
 use Rattle.lrgrammar.specs.declared.idx.TIdx.{TIdx}
 use Rattle.lrgrammar.specs.Symbols.{symbol_of}
 use Rattle.lrgrammar.specs.Firsts.{Firsts, AreFirstsOf}
+use Rattle.lrexchange.specs.Numbers.{number_of}
 
 pub null_head : {g : Grammar} {r : ℕ} {y : List Symbol} → AllNullable g (Rule r ∷ y) → Nullable g r
 null_head (first.AllNullable.more n a) = n
@@ -39,23 +40,23 @@ pub null_stop :
     → IsTrue false ↔ AllNullable g whole
 null_stop g x left next whole e none k = (λ t. let no : false ≡ true = t in absurd cc, λ a. absurd (none (null_first x (subst (AllNullable g) e (k.1 a))).0))
 
-module _ {T : Type 0} (number : T → ℕ) (g : Grammar) (f : Firsts) (of : AreFirstsOf g f) where
+module _ (g : Grammar) (f : Firsts) (of : AreFirstsOf g f) where
   -- a rule is nullable as its bit says
   pub rule_null :
-      (x : stored.Symbol T) (r : RIdx T) (b : Bool) → x ≡ code.Rule r → b ≡ bit f.nullable (number r.0) → IsTrue b ↔ AllNullable g (symbol_of number x ∷ [])
+      (x : stored.Symbol ℕ) (r : RIdx ℕ) (b : Bool) → x ≡ code.Rule r → b ≡ bit f.nullable r.0 → IsTrue b ↔ AllNullable g (symbol_of number_of x ∷ [])
   rule_null x r b e is =
       rw (e, is)
-      (λ t. first.AllNullable.more ((of.is_nullable (number r.0)).0 t) first.AllNullable.none, λ a. (of.is_nullable (number r.0)).1 (null_head a))
+      (λ t. first.AllNullable.more ((of.is_nullable r.0).0 t) first.AllNullable.none, λ a. (of.is_nullable r.0).1 (null_head a))
 
   -- there is none past all rules
-  pub past_null : (x : stored.Symbol T) (r : RIdx T) → x ≡ code.Rule r → length g.rule_names ≤ number r.0 → IsTrue false ↔ AllNullable g (symbol_of number x ∷ [])
+  pub past_null : (x : stored.Symbol ℕ) (r : RIdx ℕ) → x ≡ code.Rule r → length g.rule_names ≤ r.0 → IsTrue false ↔ AllNullable g (symbol_of number_of x ∷ [])
   past_null x r e l = (λ t. let no : false ≡ true = t in absurd cc, λ a. absurd (beyond (null_head (rw e at a))))
     where
-      beyond : Nullable g (number r.0) → ⊥
-      beyond (first.Nullable.by_body p i n) = let below : number r.0 < length g.rule_names = of.shape.rules p (number r.0) i in omega arith
+      beyond : Nullable g r.0 → ⊥
+      beyond (first.Nullable.by_body p i n) = let below : r.0 < length g.rule_names = of.shape.rules p r.0 i in omega arith
 
-  pub token_null : (x : stored.Symbol T) (t : TIdx T) → x ≡ code.Token t → IsTrue false ↔ AllNullable g (symbol_of number x ∷ [])
+  pub token_null : (x : stored.Symbol ℕ) (t : TIdx ℕ) → x ≡ code.Token t → IsTrue false ↔ AllNullable g (symbol_of number_of x ∷ [])
   token_null x t e = (λ y. let no : false ≡ true = y in absurd cc, λ a. absurd (none (rw e at a)))
     where
-      none : AllNullable g (Token (number t.0) ∷ []) → ⊥
+      none : AllNullable g (Token t.0 ∷ []) → ⊥
       none a = elim a [ ]

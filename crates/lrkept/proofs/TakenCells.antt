@@ -1,7 +1,8 @@
 -- cells that take all that contends for them, item after item
-use Rattle.std.proofs.Common.{◌≡◌, ◌≢◌, ℕ, ◌<◌, Bool, true, false, cond, ◌&&◌, IsTrue, List, [], ◌∷◌, ◌++◌, append_assoc, length, None, Some, refl, sym, subst, ap, ◌∙◌, ◌⊎◌, inl, inr}
+use Rattle.std.proofs.Common.{◌≡◌, ◌≢◌, ℕ, ◌<◌, Bool, true, false, cond, ◌&&◌, IsTrue, List, [], ◌∷◌, ◌++◌, append_assoc, length, None, Some, refl, sym, subst, ap, ◌∙◌, ◌⊎◌, inl, inr, arith}
 use Rattle.std.specs.Prelude.{◌==◌, ◌↔◌, slice_index_or, slice_get}
 use Rattle.std.specs.Option.{IsSomeAnd}
+use Rattle.std.proofs.lemmas.Bool.Decides.{nat_tests}
 use Rattle.lrspec.specs.grammars.Grammar.{Token, Grammar, body_of}
 use Rattle.lrspec.specs.grammars.ItemSets.{Items, item_at, LooksIn, AreUpwards}
 use Rattle.lrspec.specs.merging.Graph.{Graph, closed_of, edge, IsGraphOf}
@@ -12,6 +13,10 @@ use Rattle.lritems.proofs.ItemsByPlace.{item_at_place}
 use Rattle.lrconflicts.specs.Moves.{Shift, Reduce}
 use Rattle.lrlosses.specs.Losses.{Takes}
 use Rattle.lrkept.specs.Choices.{TakesShift, TakesAllOfItem, TakesReductions}
+
+-- a test of two numbers
+pub same_numbers : (m n : ℕ) → IsTrue (m == n) ↔ (m ≡ n)
+same_numbers m n = (λ t. grind (arith, nat_tests), λ e. grind (arith, nat_tests))
 
 -- an item of a list that looks at a token is the first, or among the rest
 first_or_rest_looks :

@@ -41,8 +41,8 @@ pub record IsKnownOfBoth (one other both : Exactness) : Type 0 where
   pub of_other : (g : Grammar) (h : Graph) (b : Table) (s t : ℕ) (m : Move) → IsKeptAs other g h b s t m → IsKeptAs both g h b s t m
 
 -- each position of the certificate is won
-abbrev pub IsWon : {T : Type 0} → (T → ℕ) → Grammar → Graph → Certificate T → Type 0
-IsWon number g h c = AreWon g h (positions_of number c.listing.positions.items)
+abbrev pub IsWon : Grammar → Graph → Certificate → Type 0
+IsWon g h c = AreWon g h (positions_of c.listing.positions.items)
 
 -- positions certify that in the cell the second move may be made for the first
 abbrev pub IsCertified : Grammar → Graph → ℕ → ℕ → Move → Move → Type 0

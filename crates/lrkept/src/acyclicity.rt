@@ -12,7 +12,7 @@ use std::alloc::AllocError;
 
 /// Whether no rule of the grammar derives itself alone, in one step or more: then rules have ranks that fall from each to those
 /// that it derives alone, and else they have none. A table of such a grammar is exact if all is kept that its cells don't take.
-pub fn is_acyclic<T: IndexStorage>(grm: &YaccGrammar<T>) -> Result<bool, AllocError>
+pub fn is_acyclic(grm: &YaccGrammar<u32>) -> Result<bool, AllocError>
     ensures acyclic { IfOk result (λ b. IsTrue b → IsAcyclic grm.now) }
     ensures no_cycle { IfOk result (λ b. IsTrue b → (r : ℕ) → ¬ (DerivesAlone grm.now r r)) }
     ensures kept { IfOk result (λ b. IsTrue b → IsExactWhereKept grm.now) }

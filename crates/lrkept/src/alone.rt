@@ -4,6 +4,7 @@ ghost use Rattle.std.specs.Prelude.{◌≡◌, ◌<◌, ◌↔◌, [], ◌∷◌
 ghost use Rattle.lrspec.specs.grammars.First.{AllNullable};
 ghost use Rattle.lrgrammar.specs.Firsts.{AreFirstsOf};
 ghost use Rattle.lrgrammar.specs.Symbols.{symbol_of};
+ghost use Rattle.lrexchange.specs.Numbers.{number_of};
 ghost use Rattle.lrkept.specs.Pairs.{StandsAlone, AreAlone, HasAloneOf, KeepsPairs, ArePairsOf, IsAddedAt};
 
 use lrgrammar::firsts::YaccFirsts;
@@ -12,13 +13,9 @@ use lrgrammar::idx::{IndexStorage, PIdx, Symbol};
 use std::alloc::AllocError;
 
 /// Whether the symbol is a nullable rule.
-fn is_nullable<T: IndexStorage>(
-    grm: &YaccGrammar<T>,
-    firsts: &YaccFirsts<T>,
-    symbol: Symbol<T>,
-) -> bool
+fn is_nullable(grm: &YaccGrammar<u32>, firsts: &YaccFirsts<u32>, symbol: Symbol<u32>) -> bool
     requires { AreFirstsOf grm.now firsts.now }
-    ensures { IsTrue result ↔ AllNullable grm.now (symbol_of T.number symbol ∷ []) }
+    ensures { IsTrue result ↔ AllNullable grm.now (symbol_of number_of symbol ∷ []) }
 {
     match symbol {
         Symbol::Token(_) => false,
@@ -29,13 +26,9 @@ fn is_nullable<T: IndexStorage>(
 }
 
 /// Whether all of the symbols are nullable rules.
-fn are_nullable<T: IndexStorage>(
-    grm: &YaccGrammar<T>,
-    firsts: &YaccFirsts<T>,
-    symbols: &[Symbol<T>],
-) -> bool
+fn are_nullable(grm: &YaccGrammar<u32>, firsts: &YaccFirsts<u32>, symbols: &[Symbol<u32>]) -> bool
     requires { AreFirstsOf grm.now firsts.now }
-    ensures { IsTrue result ↔ AllNullable grm.now (map (symbol_of T.number) symbols.now) }
+    ensures { IsTrue result ↔ AllNullable grm.now (map (symbol_of number_of) symbols.now) }
 {
     for symbol in symbols {
         if !is_nullable(grm, firsts, *symbol) {
@@ -46,18 +39,17 @@ fn are_nullable<T: IndexStorage>(
 }
 
 /// The rule that stands at the place in the body among nullable rules, if one does.
-fn alone_at<T: IndexStorage>(
-    grm: &YaccGrammar<T>,
-    firsts: &YaccFirsts<T>,
-    body: &[Symbol<T>],
+fn alone_at(
+    grm: &YaccGrammar<u32>,
+    firsts: &YaccFirsts<u32>,
+    body: &[Symbol<u32>],
     place: usize,
 ) -> Option<usize>
     requires firsts { AreFirstsOf grm.now firsts.now }
     requires within { place < length body.now }
-    ensures some { IfSome result
-        (StandsAlone grm.now (map (symbol_of T.number) body.now) place) }
+    ensures some { IfSome result (StandsAlone grm.now (map (symbol_of number_of) body.now) place) }
     ensures none { IfNone result ((s : ℕ)
-        → ¬ (StandsAlone grm.now (map (symbol_of T.number) body.now) place s)) }
+        → ¬ (StandsAlone grm.now (map (symbol_of number_of) body.now) place s)) }
 {
     let Symbol::Rule(ridx) = body[place] else {
         return None;
@@ -72,17 +64,17 @@ fn alone_at<T: IndexStorage>(
 }
 
 /// Adds the rule with the one that stands alone at the place in the body, if one does.
-fn add_pair_at<T: IndexStorage>(
+fn add_pair_at(
     pairs: &mut Vec<(usize, usize)>,
-    grm: &YaccGrammar<T>,
-    firsts: &YaccFirsts<T>,
+    grm: &YaccGrammar<u32>,
+    firsts: &YaccFirsts<u32>,
     rule: usize,
-    body: &[Symbol<T>],
+    body: &[Symbol<u32>],
     place: usize,
 ) -> Result<(), AllocError>
     requires firsts { AreFirstsOf grm.now firsts.now }
     requires within { place < length body.now }
-    ensures { OnOk result (IsAddedAt grm.now (map (symbol_of T.number) body.now) place rule
+    ensures { OnOk result (IsAddedAt grm.now (map (symbol_of number_of) body.now) place rule
         pairs.old.items pairs.new.items) }
 {
     let Some(other) = alone_at(grm, firsts, body, place) else {
@@ -93,18 +85,18 @@ fn add_pair_at<T: IndexStorage>(
 }
 
 /// Adds the rule of the production with each rule that stands alone in its body.
-fn add_pairs<T: IndexStorage>(
+fn add_pairs(
     pairs: &mut Vec<(usize, usize)>,
-    grm: &YaccGrammar<T>,
-    firsts: &YaccFirsts<T>,
-    pidx: PIdx<T>,
+    grm: &YaccGrammar<u32>,
+    firsts: &YaccFirsts<u32>,
+    pidx: PIdx<u32>,
 ) -> Result<(), AllocError>
     requires firsts { AreFirstsOf grm.now firsts.now }
-    requires production { T.number pidx.0 < length grm.now.productions }
+    requires production { pidx.0 < length grm.now.productions }
     ensures alone { OnOk result
         (AreAlone grm.now pairs.old.items → AreAlone grm.now pairs.new.items) }
     ensures kept { OnOk result (KeepsPairs pairs.old.items pairs.new.items) }
-    ensures added { OnOk result (HasAloneOf grm.now (T.number pidx.0) pairs.new.items) }
+    ensures added { OnOk result (HasAloneOf grm.now pidx.0 pairs.new.items) }
 {
     let rule = usize::from(grm.prod_to_rule(pidx));
     let body = grm.prod(pidx);
@@ -115,9 +107,7 @@ fn add_pairs<T: IndexStorage>(
 }
 
 /// Each rule with each that it derives alone in one step, by their numbers.
-pub(crate) fn alone_pairs<T: IndexStorage>(
-    grm: &YaccGrammar<T>,
-) -> Result<Vec<(usize, usize)>, AllocError>
+pub(crate) fn alone_pairs(grm: &YaccGrammar<u32>) -> Result<Vec<(usize, usize)>, AllocError>
     ensures { IfOk result (λ v. ArePairsOf grm.now v.items) }
 {
     let firsts = grm.firsts()?;
@@ -127,7 +117,7 @@ pub(crate) fn alone_pairs<T: IndexStorage>(
             &mut pairs,
             grm,
             &firsts,
-            PIdx(T::from_usize(number).unwrap()),
+            PIdx(u32::from_usize(number).unwrap()),
         )?;
     }
     Ok(pairs)

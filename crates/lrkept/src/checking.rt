@@ -5,6 +5,7 @@ ghost use Rattle.lrspec.specs.grammars.Grammar.{Grammar};
 ghost use Rattle.lrspec.specs.merging.Graph.{Graph};
 ghost use Rattle.lrsearches.specs.StoredWays.{AreWaysOf};
 ghost use Rattle.lrconflicts.specs.StoredMoves.{move_of};
+ghost use Rattle.lrexchange.specs.Numbers.{number_of};
 ghost use Rattle.lrexchange.specs.Asked.{AreListed, IsWonAt, AreWonBelow};
 ghost use Rattle.lrexchange.specs.Exchanges.{IsListed, Proceeds, Retreats, AreWon, Begins};
 ghost use Rattle.lrkept.specs.Keeping.{IsWon};
@@ -16,24 +17,24 @@ use lrexchange::proceeding::proceeding;
 use lrexchange::retreating::retreating;
 use lrexchange::{Answer, Listing, Position};
 use lrgrammar::grammar::YaccGrammar;
-use lrgrammar::idx::{IndexStorage, StIdx, TIdx};
+use lrgrammar::idx::{StIdx, TIdx};
 use lrgraphs::stategraph::StateGraph;
 use lrsearches::Ways;
 use std::alloc::{AllocError, Global};
 
 /// Positions, and how each is won.
 #[derive(Drop)]
-pub struct Certificate<T> {
+pub struct Certificate {
     /// The positions.
-    pub(crate) listing: Listing<T>,
+    pub(crate) listing: Listing,
     /// For each how it is won.
-    pub(crate) answers: Vec<Answer<T>>,
+    pub(crate) answers: Vec<Answer>,
 }
 
-impl<T: IndexStorage> Certificate<T> {
+impl Certificate {
     /// No positions: each of them is won.
-    pub fn new(alloc: Global) -> Result<Certificate<T>, AllocError>
-        ensures { IfOk result (λ c. (g : Grammar) (h : Graph) → IsWon T.number g h c) }
+    pub fn new(alloc: Global) -> Result<Certificate, AllocError>
+        ensures { IfOk result (λ c. (g : Grammar) (h : Graph) → IsWon g h c) }
     {
         Ok(Certificate {
             listing: Listing::new(alloc)?,
@@ -43,16 +44,15 @@ impl<T: IndexStorage> Certificate<T> {
 }
 
 /// Whether all the positions are won at once, or are some of so many first ones.
-fn are_listed<T: IndexStorage>(
-    grm: &YaccGrammar<T>,
-    graph: &StateGraph<T>,
-    listing: &Listing<T>,
-    positions: &[Position<T>],
+fn are_listed(
+    grm: &YaccGrammar<u32>,
+    graph: &StateGraph<u32>,
+    listing: &Listing,
+    positions: &[Position],
     bound: usize,
 ) -> Result<bool, AllocError>
     ensures { IfOk result (λ b. IsTrue b → AreListed graph.now
-        (positions_of T.number listing.now.positions.items) bound
-        (positions_of T.number positions.now)) }
+        (positions_of listing.now.positions.items) bound (positions_of positions.now)) }
 {
     for position in positions {
         if !listing.has(grm, graph, position, bound)? {
@@ -63,18 +63,18 @@ fn are_listed<T: IndexStorage>(
 }
 
 /// Whether the position leads to listed ones as they go on.
-fn proceeds<T: IndexStorage>(
-    grm: &YaccGrammar<T>,
-    graph: &StateGraph<T>,
-    ways: &Ways<T>,
-    listing: &Listing<T>,
-    position: &Position<T>,
-    answer: Answer<T>,
+fn proceeds(
+    grm: &YaccGrammar<u32>,
+    graph: &StateGraph<u32>,
+    ways: &Ways<u32>,
+    listing: &Listing,
+    position: &Position,
+    answer: Answer,
 ) -> Result<bool, AllocError>
-    requires { AreWaysOf T.number grm.now graph.now ways.now }
-    ensures { let positions = positions_of T.number listing.now.positions.items in
+    requires { AreWaysOf number_of grm.now graph.now ways.now }
+    ensures { let positions = positions_of listing.now.positions.items in
         IfOk result (λ b. IsTrue b → Proceeds grm.now graph.now
-        (IsListed graph.now positions (length positions)) (position_of T.number position.now)) }
+        (IsListed graph.now positions (length positions)) (position_of position.now)) }
 {
     match proceeding(grm, graph, ways, position, answer)? {
         Some(asked) => {
@@ -86,19 +86,19 @@ fn proceeds<T: IndexStorage>(
 }
 
 /// Whether the position, which is the one at this place, leads to earlier ones where we alone reduce.
-fn retreats<T: IndexStorage>(
-    grm: &YaccGrammar<T>,
-    graph: &StateGraph<T>,
-    ways: &Ways<T>,
-    listing: &Listing<T>,
+fn retreats(
+    grm: &YaccGrammar<u32>,
+    graph: &StateGraph<u32>,
+    ways: &Ways<u32>,
+    listing: &Listing,
     place: usize,
-    position: &Position<T>,
-    answer: Answer<T>,
+    position: &Position,
+    answer: Answer,
 ) -> Result<bool, AllocError>
-    requires { AreWaysOf T.number grm.now graph.now ways.now }
+    requires { AreWaysOf number_of grm.now graph.now ways.now }
     ensures { IfOk result (λ b. IsTrue b → Retreats grm.now graph.now
-        (IsListed graph.now (positions_of T.number listing.now.positions.items) place)
-        (position_of T.number position.now)) }
+        (IsListed graph.now (positions_of listing.now.positions.items) place)
+        (position_of position.now)) }
 {
     match retreating(grm, graph, ways, position, answer)? {
         Some(asked) => are_listed(grm, graph, listing, asked.as_slice(), place),
@@ -107,18 +107,18 @@ fn retreats<T: IndexStorage>(
 }
 
 /// Whether the position at this place is won so.
-fn is_won<T: IndexStorage>(
-    grm: &YaccGrammar<T>,
-    graph: &StateGraph<T>,
-    ways: &Ways<T>,
-    listing: &Listing<T>,
+fn is_won(
+    grm: &YaccGrammar<u32>,
+    graph: &StateGraph<u32>,
+    ways: &Ways<u32>,
+    listing: &Listing,
     place: usize,
-    answer: Answer<T>,
+    answer: Answer,
 ) -> Result<bool, AllocError>
-    requires ways { AreWaysOf T.number grm.now graph.now ways.now }
+    requires ways { AreWaysOf number_of grm.now graph.now ways.now }
     requires place { place < length listing.now.positions.items }
     ensures { IfOk result (λ b. IsTrue b → IsWonAt grm.now graph.now
-        (positions_of T.number listing.now.positions.items) place) }
+        (positions_of listing.now.positions.items) place) }
 {
     let position = &listing.positions[place];
     match answer {
@@ -130,18 +130,18 @@ fn is_won<T: IndexStorage>(
 }
 
 /// Whether each listed position is won, where the first ones are.
-pub(crate) fn are_won<T: IndexStorage>(
-    grm: &YaccGrammar<T>,
-    graph: &StateGraph<T>,
-    ways: &Ways<T>,
-    certificate: &Certificate<T>,
+pub(crate) fn are_won(
+    grm: &YaccGrammar<u32>,
+    graph: &StateGraph<u32>,
+    ways: &Ways<u32>,
+    certificate: &Certificate,
     first: usize,
 ) -> Result<bool, AllocError>
-    requires ways { AreWaysOf T.number grm.now graph.now ways.now }
+    requires ways { AreWaysOf number_of grm.now graph.now ways.now }
     requires first { AreWonBelow grm.now graph.now
-        (positions_of T.number certificate.now.listing.positions.items) first }
+        (positions_of certificate.now.listing.positions.items) first }
     ensures { IfOk result (λ b. IsTrue b → AreWon grm.now graph.now
-        (positions_of T.number certificate.now.listing.positions.items)) }
+        (positions_of certificate.now.listing.positions.items)) }
 {
     let listing = &certificate.listing;
     let count = listing.positions.len();
@@ -158,20 +158,20 @@ pub(crate) fn are_won<T: IndexStorage>(
 }
 
 /// Whether what is asked of the cell is listed, for which they make the first move and we the second one.
-pub(crate) fn begins<T: IndexStorage>(
-    grm: &YaccGrammar<T>,
-    graph: &StateGraph<T>,
-    ways: &Ways<T>,
-    cell: (StIdx<T>, TIdx<T>),
-    theirs: Move<T>,
-    ours: Move<T>,
-    listing: &Listing<T>,
+pub(crate) fn begins(
+    grm: &YaccGrammar<u32>,
+    graph: &StateGraph<u32>,
+    ways: &Ways<u32>,
+    cell: (StIdx<u32>, TIdx<u32>),
+    theirs: Move<u32>,
+    ours: Move<u32>,
+    listing: &Listing,
 ) -> Result<bool, AllocError>
-    requires { AreWaysOf T.number grm.now graph.now ways.now }
-    ensures { let positions = positions_of T.number listing.now.positions.items in
-        IfOk result (λ b. IsTrue b → Begins grm.now graph.now (T.number cell.0.0)
-        (T.number cell.1.0) (IsListed graph.now positions (length positions))
-        (move_of T.number theirs) (move_of T.number ours)) }
+    requires { AreWaysOf number_of grm.now graph.now ways.now }
+    ensures { let positions = positions_of listing.now.positions.items in
+        IfOk result (λ b. IsTrue b → Begins grm.now graph.now cell.0.0 cell.1.0
+        (IsListed graph.now positions (length positions)) (move_of number_of theirs)
+        (move_of number_of ours)) }
 {
     match beginning(grm, graph, ways, cell, theirs, ours)? {
         Some(asked) => {

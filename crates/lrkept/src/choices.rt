@@ -7,6 +7,7 @@ ghost use Rattle.lrbits.specs.Bits.{bit};
 ghost use Rattle.lrrows.specs.StoredActions.{stored_action};
 ghost use Rattle.lrconflicts.specs.StoredMoves.{move_of};
 ghost use Rattle.lrlosses.specs.Losses.{Takes};
+ghost use Rattle.lrexchange.specs.Numbers.{number_of};
 ghost use Rattle.lrkept.specs.Choices.{TakesReductions, TakesShift, TakesAll, TakesAllIn, TakesAllOfItem};
 
 use lrcells::statetable::StateTable;
@@ -18,8 +19,8 @@ use lritems::itemset::Ctx;
 use lrrows::action::Action;
 
 /// Whether what the cell says is this move.
-pub(crate) fn takes<T: IndexStorage>(cell: Action<T>, action: Move<T>) -> bool
-    ensures { IsTrue result ↔ Takes (stored_action T.number cell) (move_of T.number action) }
+pub(crate) fn takes(cell: Action<u32>, action: Move<u32>) -> bool
+    ensures { IsTrue result ↔ Takes (stored_action number_of cell) (move_of number_of action) }
 {
     match (cell, action) {
         (Action::Shift(_), Move::Shift) => true,
@@ -29,27 +30,21 @@ pub(crate) fn takes<T: IndexStorage>(cell: Action<T>, action: Move<T>) -> bool
 }
 
 /// Whether the cell of the table takes the move.
-fn takes_at<T: IndexStorage>(
-    table: &StateTable<T>,
-    state: StIdx<T>,
-    token: TIdx<T>,
-    action: Move<T>,
-) -> bool
-    ensures { IsTrue result ↔ Takes (action_of table.now (T.number state.0) (T.number token.0))
-        (move_of T.number action) }
+fn takes_at(table: &StateTable<u32>, state: StIdx<u32>, token: TIdx<u32>, action: Move<u32>) -> bool
+    ensures { IsTrue result ↔ Takes (action_of table.now state.0 token.0)
+        (move_of number_of action) }
 {
     takes(table.action(state, token), action)
 }
 
 /// Whether there is no edge on the token, or the cell says to shift.
-fn takes_shift<T: IndexStorage>(
-    graph: &StateGraph<T>,
-    table: &StateTable<T>,
-    state: StIdx<T>,
-    token: TIdx<T>,
+fn takes_shift(
+    graph: &StateGraph<u32>,
+    table: &StateTable<u32>,
+    state: StIdx<u32>,
+    token: TIdx<u32>,
 ) -> bool
-    ensures { IsTrue result
-        ↔ TakesShift graph.now table.now (T.number state.0) (T.number token.0) }
+    ensures { IsTrue result ↔ TakesShift graph.now table.now state.0 token.0 }
 {
     match graph.edge(state, Symbol::Token(token)) {
         None => true,
@@ -58,8 +53,8 @@ fn takes_shift<T: IndexStorage>(
 }
 
 /// Whether the token is one of these.
-fn looks_at<T: IndexStorage>(tokens: &Ctx, token: TIdx<T>) -> bool
-    ensures { IsTrue result ↔ IsTrue (bit tokens.now (T.number token.0)) }
+fn looks_at(tokens: &Ctx, token: TIdx<u32>) -> bool
+    ensures { IsTrue result ↔ IsTrue (bit tokens.now token.0) }
 {
     let place = usize::from(token);
     if place >= tokens.len() {
@@ -70,16 +65,16 @@ fn looks_at<T: IndexStorage>(tokens: &Ctx, token: TIdx<T>) -> bool
 
 /// Whether the cell takes the reduction by the item, unless that is not complete, is of the start production or doesn't look at
 /// the token.
-fn takes_item<T: IndexStorage>(
-    grm: &YaccGrammar<T>,
-    table: &StateTable<T>,
-    cell: (StIdx<T>, TIdx<T>),
-    item: (PIdx<T>, SIdx<T>),
+fn takes_item(
+    grm: &YaccGrammar<u32>,
+    table: &StateTable<u32>,
+    cell: (StIdx<u32>, TIdx<u32>),
+    item: (PIdx<u32>, SIdx<u32>),
     tokens: &Ctx,
 ) -> bool
-    requires { T.number item.0.0 < length grm.now.productions }
-    ensures { IsTrue result ↔ TakesAllOfItem grm.now table.now (T.number cell.0.0)
-        (T.number cell.1.0) (T.number item.0.0) (T.number item.1.0) tokens.now }
+    requires { item.0.0 < length grm.now.productions }
+    ensures { IsTrue result ↔ TakesAllOfItem grm.now table.now cell.0.0 cell.1.0
+        item.0.0 item.1.0 tokens.now }
 {
     if usize::from(item.1) != usize::from(grm.prod_len(item.0)) {
         return true;
@@ -94,17 +89,16 @@ fn takes_item<T: IndexStorage>(
 }
 
 /// Whether the cell takes each reduction that contends for it.
-fn takes_reductions<T: IndexStorage>(
-    grm: &YaccGrammar<T>,
-    graph: &StateGraph<T>,
-    table: &StateTable<T>,
-    state: StIdx<T>,
-    token: TIdx<T>,
+fn takes_reductions(
+    grm: &YaccGrammar<u32>,
+    graph: &StateGraph<u32>,
+    table: &StateTable<u32>,
+    state: StIdx<u32>,
+    token: TIdx<u32>,
 ) -> bool
     requires graph { IsGraphOf grm.now graph.now }
-    requires state { T.number state.0 < length graph.now }
-    ensures { IsTrue result ↔ TakesReductions grm.now graph.now table.now (T.number state.0)
-        (T.number token.0) }
+    requires state { state.0 < length graph.now }
+    ensures { IsTrue result ↔ TakesReductions grm.now graph.now table.now state.0 token.0 }
 {
     for (key, tokens) in &graph.closed_state(state).items {
         if !takes_item(grm, table, (state, token), *key, tokens) {
@@ -115,18 +109,18 @@ fn takes_reductions<T: IndexStorage>(
 }
 
 /// Whether each cell of the state takes all that contends for it.
-fn takes_all_in<T: IndexStorage>(
-    grm: &YaccGrammar<T>,
-    graph: &StateGraph<T>,
-    table: &StateTable<T>,
-    state: StIdx<T>,
+fn takes_all_in(
+    grm: &YaccGrammar<u32>,
+    graph: &StateGraph<u32>,
+    table: &StateTable<u32>,
+    state: StIdx<u32>,
 ) -> bool
     requires graph { IsGraphOf grm.now graph.now }
-    requires state { T.number state.0 < length graph.now }
-    ensures { IsTrue result ↔ TakesAllIn grm.now graph.now table.now (T.number state.0) }
+    requires state { state.0 < length graph.now }
+    ensures { IsTrue result ↔ TakesAllIn grm.now graph.now table.now state.0 }
 {
     for number in 0..grm.tokens_len().0.to_usize() {
-        let token = TIdx(T::from_usize(number).unwrap());
+        let token = TIdx(u32::from_usize(number).unwrap());
         if !takes_shift(graph, table, state, token) {
             return false;
         }
@@ -138,16 +132,16 @@ fn takes_all_in<T: IndexStorage>(
 }
 
 /// Whether each cell of the table takes all that contends for it.
-pub(crate) fn takes_all<T: IndexStorage>(
-    grm: &YaccGrammar<T>,
-    graph: &StateGraph<T>,
-    table: &StateTable<T>,
+pub(crate) fn takes_all(
+    grm: &YaccGrammar<u32>,
+    graph: &StateGraph<u32>,
+    table: &StateTable<u32>,
 ) -> bool
     requires { IsGraphOf grm.now graph.now }
     ensures { IsTrue result ↔ TakesAll grm.now graph.now table.now }
 {
     for number in 0..graph.all_states_len().0.to_usize() {
-        let state = StIdx(T::from_usize(number).unwrap());
+        let state = StIdx(u32::from_usize(number).unwrap());
         if !takes_all_in(grm, graph, table, state) {
             return false;
         }

@@ -9,6 +9,7 @@ ghost use Rattle.lrconflicts.specs.Moves.{Reduce};
 ghost use Rattle.lrconflicts.specs.StoredMoves.{move_of, moves_stored};
 ghost use Rattle.lrsearches.specs.StoredWays.{AreWaysOf};
 ghost use Rattle.lrlosses.specs.Losses.{Takes};
+ghost use Rattle.lrexchange.specs.Numbers.{number_of};
 ghost use Rattle.lrkept.specs.declared.keeping.Exactness.TheVariants as known;
 ghost use Rattle.lrkept.specs.Keeping.{IsWon, IsCertified, IsKeptAs, IsKnownOf, AreKnownOf, IsStateKeptAs, IsKnownOfBoth};
 
@@ -54,16 +55,16 @@ impl Exactness {
 
 /// The table of a grammar, with its graph and the ways into the states of that.
 #[derive(Clone, Copy)]
-pub struct Automaton<'a, T: IndexStorage> {
-    pub grm: &'a YaccGrammar<T>,
-    pub graph: &'a StateGraph<T>,
-    pub table: &'a StateTable<T>,
-    pub ways: &'a Ways<T>,
+pub struct Automaton<'a> {
+    pub grm: &'a YaccGrammar<u32>,
+    pub graph: &'a StateGraph<u32>,
+    pub table: &'a StateTable<u32>,
+    pub ways: &'a Ways<u32>,
 }
 
 /// The move that the cell takes, if it takes one.
-fn taken<T: IndexStorage>(cell: Action<T>) -> Option<Move<T>>
-    ensures { IfSome result (λ m. Takes (stored_action T.number cell) (move_of T.number m)) }
+fn taken(cell: Action<u32>) -> Option<Move<u32>>
+    ensures { IfSome result (λ m. Takes (stored_action number_of cell) (move_of number_of m)) }
 {
     match cell {
         Action::Shift(_) => Some(Move::Shift),
@@ -73,8 +74,8 @@ fn taken<T: IndexStorage>(cell: Action<T>) -> Option<Move<T>>
 }
 
 /// What is known where the cell takes no move: it may be an error.
-fn known_without<T: IndexStorage>(cell: Action<T>) -> Exactness
-    ensures error { result ≡ known.ButAtErrors → stored_action T.number cell ≡ math.Action.Error }
+fn known_without(cell: Action<u32>) -> Exactness
+    ensures error { result ≡ known.ButAtErrors → stored_action number_of cell ≡ math.Action.Error }
     ensures not_exact { result ≢ known.Exact }
 {
     match cell {
@@ -85,23 +86,23 @@ fn known_without<T: IndexStorage>(cell: Action<T>) -> Exactness
 
 /// Whether positions are found and checked which show that in the cell the second move may be made for the first: they are added
 /// to the certificate. The search looks at as many positions as are left of those that are allowed, and takes them from these.
-fn is_certified<T: IndexStorage>(
-    automaton: Automaton<'_, T>,
-    cell: (StIdx<T>, TIdx<T>),
-    theirs: Move<T>,
-    ours: Move<T>,
-    certificate: &mut Certificate<T>,
+fn is_certified(
+    automaton: Automaton<'_>,
+    cell: (StIdx<u32>, TIdx<u32>),
+    theirs: Move<u32>,
+    ours: Move<u32>,
+    certificate: &mut Certificate,
     left: &mut usize,
 ) -> Result<bool, AllocError>
     requires graph { IsGraphOf automaton.grm.now automaton.graph.now }
-    requires ways { AreWaysOf T.number automaton.grm.now automaton.graph.now automaton.ways.now }
-    requires state { T.number cell.0.0 < length automaton.graph.now }
-    requires won { IsWon T.number automaton.grm.now automaton.graph.now certificate.old }
-    ensures won { OnOk result (IsWon T.number automaton.entry.grm.now automaton.entry.graph.now
+    requires ways { AreWaysOf number_of automaton.grm.now automaton.graph.now automaton.ways.now }
+    requires state { cell.0.0 < length automaton.graph.now }
+    requires won { IsWon automaton.grm.now automaton.graph.now certificate.old }
+    ensures won { OnOk result (IsWon automaton.entry.grm.now automaton.entry.graph.now
         certificate.new) }
     ensures certified { IfOk result (λ b. IsTrue b → IsCertified automaton.entry.grm.now
-        automaton.entry.graph.now (T.number cell.0.0) (T.number cell.1.0) (move_of T.number theirs)
-        (move_of T.number ours)) }
+        automaton.entry.graph.now cell.0.0 cell.1.0 (move_of number_of theirs)
+        (move_of number_of ours)) }
 {
     let grm = automaton.grm;
     let graph = automaton.graph;
@@ -117,23 +118,22 @@ fn is_certified<T: IndexStorage>(
 }
 
 /// What is known of the move in the cell.
-pub(crate) fn kept_as<T: IndexStorage>(
-    automaton: Automaton<'_, T>,
-    cell: (StIdx<T>, TIdx<T>),
-    theirs: Move<T>,
-    certificate: &mut Certificate<T>,
+pub(crate) fn kept_as(
+    automaton: Automaton<'_>,
+    cell: (StIdx<u32>, TIdx<u32>),
+    theirs: Move<u32>,
+    certificate: &mut Certificate,
     left: &mut usize,
 ) -> Result<Exactness, AllocError>
     requires graph { IsGraphOf automaton.grm.now automaton.graph.now }
     requires table { IsTableOf automaton.grm.now automaton.graph.now automaton.table.now }
-    requires ways { AreWaysOf T.number automaton.grm.now automaton.graph.now automaton.ways.now }
-    requires state { T.number cell.0.0 < length automaton.graph.now }
-    requires won { IsWon T.number automaton.grm.now automaton.graph.now certificate.old }
-    ensures won { OnOk result (IsWon T.number automaton.entry.grm.now automaton.entry.graph.now
+    requires ways { AreWaysOf number_of automaton.grm.now automaton.graph.now automaton.ways.now }
+    requires state { cell.0.0 < length automaton.graph.now }
+    requires won { IsWon automaton.grm.now automaton.graph.now certificate.old }
+    ensures won { OnOk result (IsWon automaton.entry.grm.now automaton.entry.graph.now
         certificate.new) }
     ensures known { IfOk result (λ e. IsKeptAs e automaton.entry.grm.now automaton.entry.graph.now
-        automaton.entry.table.now (T.number cell.0.0) (T.number cell.1.0)
-        (move_of T.number theirs)) }
+        automaton.entry.table.now cell.0.0 cell.1.0 (move_of number_of theirs)) }
 {
     let grm = automaton.grm;
     grm.in_order();
@@ -151,8 +151,8 @@ pub(crate) fn kept_as<T: IndexStorage>(
 }
 
 /// Whether the move is the reduction by the start production, which is no move: where it would be, the text is accepted.
-fn is_by_start<T: IndexStorage>(grm: &YaccGrammar<T>, action: Move<T>) -> bool
-    ensures { IsTrue result → move_of T.number action ≡ Reduce grm.now.start_production }
+fn is_by_start(grm: &YaccGrammar<u32>, action: Move<u32>) -> bool
+    ensures { IsTrue result → move_of number_of action ≡ Reduce grm.now.start_production }
 {
     match action {
         Move::Shift => false,
@@ -161,23 +161,22 @@ fn is_by_start<T: IndexStorage>(grm: &YaccGrammar<T>, action: Move<T>) -> bool
 }
 
 /// What is known of the move in the cell, if it contends for that.
-fn known_of<T: IndexStorage>(
-    automaton: Automaton<'_, T>,
-    cell: (StIdx<T>, TIdx<T>),
-    theirs: Move<T>,
-    certificate: &mut Certificate<T>,
+fn known_of(
+    automaton: Automaton<'_>,
+    cell: (StIdx<u32>, TIdx<u32>),
+    theirs: Move<u32>,
+    certificate: &mut Certificate,
     left: &mut usize,
 ) -> Result<Exactness, AllocError>
     requires graph { IsGraphOf automaton.grm.now automaton.graph.now }
     requires table { IsTableOf automaton.grm.now automaton.graph.now automaton.table.now }
-    requires ways { AreWaysOf T.number automaton.grm.now automaton.graph.now automaton.ways.now }
-    requires state { T.number cell.0.0 < length automaton.graph.now }
-    requires won { IsWon T.number automaton.grm.now automaton.graph.now certificate.old }
-    ensures won { OnOk result (IsWon T.number automaton.entry.grm.now automaton.entry.graph.now
+    requires ways { AreWaysOf number_of automaton.grm.now automaton.graph.now automaton.ways.now }
+    requires state { cell.0.0 < length automaton.graph.now }
+    requires won { IsWon automaton.grm.now automaton.graph.now certificate.old }
+    ensures won { OnOk result (IsWon automaton.entry.grm.now automaton.entry.graph.now
         certificate.new) }
     ensures known { IfOk result (λ e. IsKnownOf e automaton.entry.grm.now automaton.entry.graph.now
-        automaton.entry.table.now (T.number cell.0.0) (T.number cell.1.0)
-        (move_of T.number theirs)) }
+        automaton.entry.table.now cell.0.0 cell.1.0 (move_of number_of theirs)) }
 {
     if is_by_start(automaton.grm, theirs) {
         return Ok(Exactness::Exact);
@@ -186,23 +185,22 @@ fn known_of<T: IndexStorage>(
 }
 
 /// What is known of all the moves in the cell.
-fn all_known_of<T: IndexStorage>(
-    automaton: Automaton<'_, T>,
-    cell: (StIdx<T>, TIdx<T>),
-    moves: &[Move<T>],
-    certificate: &mut Certificate<T>,
+fn all_known_of(
+    automaton: Automaton<'_>,
+    cell: (StIdx<u32>, TIdx<u32>),
+    moves: &[Move<u32>],
+    certificate: &mut Certificate,
     left: &mut usize,
 ) -> Result<Exactness, AllocError>
     requires graph { IsGraphOf automaton.grm.now automaton.graph.now }
     requires table { IsTableOf automaton.grm.now automaton.graph.now automaton.table.now }
-    requires ways { AreWaysOf T.number automaton.grm.now automaton.graph.now automaton.ways.now }
-    requires state { T.number cell.0.0 < length automaton.graph.now }
-    requires won { IsWon T.number automaton.grm.now automaton.graph.now certificate.old }
-    ensures won { OnOk result (IsWon T.number automaton.entry.grm.now automaton.entry.graph.now
+    requires ways { AreWaysOf number_of automaton.grm.now automaton.graph.now automaton.ways.now }
+    requires state { cell.0.0 < length automaton.graph.now }
+    requires won { IsWon automaton.grm.now automaton.graph.now certificate.old }
+    ensures won { OnOk result (IsWon automaton.entry.grm.now automaton.entry.graph.now
         certificate.new) }
-    ensures known { IfOk result (λ e. AreKnownOf e automaton.entry.grm.now
-        automaton.entry.graph.now automaton.entry.table.now (T.number cell.0.0) (T.number cell.1.0)
-        (moves_stored T.number moves.now)) }
+    ensures known { IfOk result (λ e. AreKnownOf e automaton.entry.grm.now automaton.entry.graph.now
+        automaton.entry.table.now cell.0.0 cell.1.0 (moves_stored number_of moves.now)) }
 {
     let mut known = Exactness::Exact;
     for theirs in moves {
@@ -213,27 +211,27 @@ fn all_known_of<T: IndexStorage>(
 }
 
 /// What is known of all moves in each cell of the state.
-fn state_kept_as<T: IndexStorage>(
-    automaton: Automaton<'_, T>,
-    state: StIdx<T>,
-    certificate: &mut Certificate<T>,
+fn state_kept_as(
+    automaton: Automaton<'_>,
+    state: StIdx<u32>,
+    certificate: &mut Certificate,
     left: &mut usize,
 ) -> Result<Exactness, AllocError>
     requires graph { IsGraphOf automaton.grm.now automaton.graph.now }
     requires table { IsTableOf automaton.grm.now automaton.graph.now automaton.table.now }
-    requires ways { AreWaysOf T.number automaton.grm.now automaton.graph.now automaton.ways.now }
-    requires state { T.number state.0 < length automaton.graph.now }
-    requires won { IsWon T.number automaton.grm.now automaton.graph.now certificate.old }
-    ensures won { OnOk result (IsWon T.number automaton.entry.grm.now automaton.entry.graph.now
+    requires ways { AreWaysOf number_of automaton.grm.now automaton.graph.now automaton.ways.now }
+    requires state { state.0 < length automaton.graph.now }
+    requires won { IsWon automaton.grm.now automaton.graph.now certificate.old }
+    ensures won { OnOk result (IsWon automaton.entry.grm.now automaton.entry.graph.now
         certificate.new) }
     ensures known { IfOk result (λ e. IsStateKeptAs e automaton.entry.grm.now
-        automaton.entry.graph.now automaton.entry.table.now (T.number state.0)) }
+        automaton.entry.graph.now automaton.entry.table.now state.0) }
 {
     let grm = automaton.grm;
     let completes = completes(grm, automaton.graph, state)?;
     let mut known = Exactness::Exact;
     for number in 0..grm.tokens_len().0.to_usize() {
-        let token = TIdx(T::from_usize(number).unwrap());
+        let token = TIdx(u32::from_usize(number).unwrap());
         let moves = contenders(grm, automaton.graph, state, completes.as_slice(), token)?;
         let of_this = all_known_of(
             automaton,
@@ -251,16 +249,16 @@ fn state_kept_as<T: IndexStorage>(
 }
 
 /// What is known of all moves in each cell of the table.
-pub(crate) fn table_kept_as<T: IndexStorage>(
-    automaton: Automaton<'_, T>,
-    certificate: &mut Certificate<T>,
+pub(crate) fn table_kept_as(
+    automaton: Automaton<'_>,
+    certificate: &mut Certificate,
     left: &mut usize,
 ) -> Result<Exactness, AllocError>
     requires graph { IsGraphOf automaton.grm.now automaton.graph.now }
     requires table { IsTableOf automaton.grm.now automaton.graph.now automaton.table.now }
-    requires ways { AreWaysOf T.number automaton.grm.now automaton.graph.now automaton.ways.now }
-    requires won { IsWon T.number automaton.grm.now automaton.graph.now certificate.old }
-    ensures won { OnOk result (IsWon T.number automaton.entry.grm.now automaton.entry.graph.now
+    requires ways { AreWaysOf number_of automaton.grm.now automaton.graph.now automaton.ways.now }
+    requires won { IsWon automaton.grm.now automaton.graph.now certificate.old }
+    ensures won { OnOk result (IsWon automaton.entry.grm.now automaton.entry.graph.now
         certificate.new) }
     ensures known { IfOk result (λ e. (s : ℕ) → s < length automaton.entry.graph.now
         → IsStateKeptAs e automaton.entry.grm.now automaton.entry.graph.now
@@ -268,7 +266,7 @@ pub(crate) fn table_kept_as<T: IndexStorage>(
 {
     let mut known = Exactness::Exact;
     for number in 0..automaton.graph.all_states_len().0.to_usize() {
-        let state = StIdx(T::from_usize(number).unwrap());
+        let state = StIdx(u32::from_usize(number).unwrap());
         let of_this = state_kept_as(automaton, state, certificate, left)?;
         known = known.and(of_this);
         if known == Exactness::Open {

@@ -2,6 +2,7 @@
 
 ghost use Rattle.std.specs.Prelude.{OnOk};
 ghost use Rattle.lrsearches.specs.StoredWays.{AreWaysOf};
+ghost use Rattle.lrexchange.specs.Numbers.{number_of};
 ghost use Rattle.lrexchange.specs.Asked.{AddsPositions};
 ghost use Rattle.lrexchange.specs.StoredPositions.{positions_of};
 
@@ -10,23 +11,22 @@ use crate::keeping::Automaton;
 use lrconflicts::Move;
 use lrexchange::beginning::beginning;
 use lrexchange::{Board, Listing, Node, Won, open_ones, places_of, play};
-use lrgrammar::idx::{IndexStorage, StIdx, TIdx};
+use lrgrammar::idx::{StIdx, TIdx};
 use std::alloc::{AllocError, Global};
 
 /// At how many positions a search looks at the most.
 const MOST: usize = 10_000;
 
 /// Adds the position to the certificate, with its answer.
-fn add_won<T: IndexStorage>(
-    certificate: &mut Certificate<T>,
+fn add_won(
+    certificate: &mut Certificate,
     alloc: Global,
-    listing: &Listing<T>,
-    nodes: &[Node<T>],
+    listing: &Listing,
+    nodes: &[Node],
     won: Won,
 ) -> Result<(), AllocError>
-    ensures { OnOk result (AddsPositions
-        (positions_of T.number certificate.old.listing.positions.items)
-        (positions_of T.number certificate.new.listing.positions.items)) }
+    ensures { OnOk result (AddsPositions (positions_of certificate.old.listing.positions.items)
+        (positions_of certificate.new.listing.positions.items)) }
 {
     let Some(position) = listing.positions.get(won.place) else {
         return Ok(());
@@ -45,16 +45,15 @@ fn add_won<T: IndexStorage>(
 }
 
 /// Adds the positions that are won to the certificate.
-fn add_all_won<T: IndexStorage>(
-    certificate: &mut Certificate<T>,
+fn add_all_won(
+    certificate: &mut Certificate,
     alloc: Global,
-    listing: &Listing<T>,
-    nodes: &[Node<T>],
+    listing: &Listing,
+    nodes: &[Node],
     won: &[Won],
 ) -> Result<(), AllocError>
-    ensures { OnOk result (AddsPositions
-        (positions_of T.number certificate.old.listing.positions.items)
-        (positions_of T.number certificate.new.listing.positions.items)) }
+    ensures { OnOk result (AddsPositions (positions_of certificate.old.listing.positions.items)
+        (positions_of certificate.new.listing.positions.items)) }
 {
     for one in won {
         add_won(certificate, alloc, listing, nodes, *one)?;
@@ -64,18 +63,17 @@ fn add_all_won<T: IndexStorage>(
 
 /// Adds positions with their answers to the certificate which are to show that in the cell the second move may be made for the
 /// first, if they are found by looking at as many as are left of those that are allowed, from which they are taken.
-pub(crate) fn search<T: IndexStorage>(
-    automaton: Automaton<'_, T>,
-    cell: (StIdx<T>, TIdx<T>),
-    theirs: Move<T>,
-    ours: Move<T>,
-    certificate: &mut Certificate<T>,
+pub(crate) fn search(
+    automaton: Automaton<'_>,
+    cell: (StIdx<u32>, TIdx<u32>),
+    theirs: Move<u32>,
+    ours: Move<u32>,
+    certificate: &mut Certificate,
     left: &mut usize,
 ) -> Result<(), AllocError>
-    requires { AreWaysOf T.number automaton.grm.now automaton.graph.now automaton.ways.now }
-    ensures { OnOk result (AddsPositions
-        (positions_of T.number certificate.old.listing.positions.items)
-        (positions_of T.number certificate.new.listing.positions.items)) }
+    requires { AreWaysOf number_of automaton.grm.now automaton.graph.now automaton.ways.now }
+    ensures { OnOk result (AddsPositions (positions_of certificate.old.listing.positions.items)
+        (positions_of certificate.new.listing.positions.items)) }
 {
     let grm = automaton.grm;
     let graph = automaton.graph;

@@ -3,4 +3,4 @@ use Rattle.lrkept.proofs.AlonePairs.{AreAdded}
 use Rattle.lrkept.proofs.alone.add_pairs.Given as goal
 
 abbrev pub invariant-loop-place : goal.invariant-loop-place
-invariant-loop-place g l = AreAdded l.grm (g.T.IndexStorage.number l.fn.pidx.0) l.rule l.place l.fn.pairs.items l.pairs.items
+invariant-loop-place l = AreAdded l.grm l.fn.pidx.0 l.rule l.place l.fn.pairs.items l.pairs.items

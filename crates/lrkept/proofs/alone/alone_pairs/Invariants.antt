@@ -3,4 +3,4 @@ use Rattle.lrkept.proofs.AlonePairs.{ArePairsSoFar}
 use Rattle.lrkept.proofs.alone.alone_pairs.Given as goal
 
 abbrev pub invariant-loop-number : goal.invariant-loop-number
-invariant-loop-number g l = ArePairsSoFar l.grm l.number l.pairs.items
+invariant-loop-number l = ArePairsSoFar l.grm l.number l.pairs.items

@@ -3,9 +3,10 @@ use Rattle.std.proofs.Common.{map, drop}
 use Rattle.std.specs.Prelude.{◌↔◌}
 use Rattle.lrspec.specs.grammars.First.{AllNullable}
 use Rattle.lrgrammar.specs.Symbols.{symbol_of}
+use Rattle.lrexchange.specs.Numbers.{number_of}
 use Rattle.lrkept.proofs.alone.are_nullable.Given as goal
 
 abbrev pub invariant-loop-symbol : goal.invariant-loop-symbol
-invariant-loop-symbol g l =
-    let f = symbol_of g.T.IndexStorage.number in
+invariant-loop-symbol l =
+    let f = symbol_of number_of in
     AllNullable l.grm (map f (drop l.symbol-index l.symbols)) ↔ AllNullable l.grm (map f l.symbols)

@@ -4,6 +4,5 @@ use Rattle.lrexchange.specs.Asked.{AreWonBelow}
 use Rattle.lrkept.proofs.checking.are_won.Given as goal
 
 abbrev pub invariant-loop-place : goal.invariant-loop-place
-invariant-loop-place g l =
-    let number = g.T.IndexStorage.number in
-    AreWonBelow l.grm l.graph (positions_of number l.listing.positions.items) l.place
+invariant-loop-place l =
+    AreWonBelow l.grm l.graph (positions_of l.listing.positions.items) l.place

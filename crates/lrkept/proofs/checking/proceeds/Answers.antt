@@ -7,13 +7,12 @@ use Rattle.lrexchange.proofs.WonPositions.{proceeds_to_listed}
 use Rattle.lrkept.proofs.checking.proceeds.Goals as goal
 
 pub returns-in-Some : goal.returns-in-Some
-returns-in-Some g c =
-    let number = g.T.IndexStorage.number in
+returns-in-Some c =
     let listed = c.args.listing.now.positions in
     let n = c.len-bound.result in
-    let all : n ≡ length (positions_of number listed.items) = omega (arith, c.len-bound.ensures, listed.ok.0, length-map listed.items (position_of number)) in
+    let all : n ≡ length (positions_of listed.items) = omega (arith, c.len-bound.ensures, listed.ok.0, length-map listed.items position_of) in
     IfOk-weaker c.are_listed.result _ _
     (λ b k t.
-    proceeds_to_listed c.args.grm.now c.args.graph.now (positions_of number listed.items) n (positions_of number c.in-Some.asked.items)
-    (position_of number c.args.position.now) (rw c.in-Some.is at c.in_ok-asked.ensures) (rw c.as_slice.ensures.value at (k t)) all)
+    proceeds_to_listed c.args.grm.now c.args.graph.now (positions_of listed.items) n (positions_of c.in-Some.asked.items)
+    (position_of c.args.position.now) (rw c.in-Some.is at c.in_ok-asked.ensures) (rw c.as_slice.ensures.value at (k t)) all)
     c.are_listed.ensures

@@ -2,4 +2,4 @@
 use Rattle.lrkept.proofs.choices.takes_at.Goals as goal
 
 pub returns : goal.returns
-returns g c = rw c.action.ensures.cell at c.takes.ensures
+returns c = rw c.action.ensures.cell at c.takes.ensures

@@ -4,8 +4,8 @@ use Rattle.lrkept.specs.Keeping.{IsWon, IsStateKeptAs}
 use Rattle.lrkept.proofs.keeping.table_kept_as.Given as goal
 
 abbrev pub invariant-loop-number : goal.invariant-loop-number
-invariant-loop-number g l =
+invariant-loop-number l =
     record {
-      won : IsWon g.T.IndexStorage.number l.automaton.grm.now l.automaton.graph.now l.certificate;
+      won : IsWon l.automaton.grm.now l.automaton.graph.now l.certificate;
       known : (s : ℕ) → s < l.number → IsStateKeptAs l.known l.automaton.grm.now l.automaton.graph.now l.automaton.table.now s;
     }

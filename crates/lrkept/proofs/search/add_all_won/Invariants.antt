@@ -4,6 +4,5 @@ use Rattle.lrexchange.specs.StoredPositions.{positions_of}
 use Rattle.lrkept.proofs.search.add_all_won.Given as goal
 
 abbrev pub invariant-loop-one : goal.invariant-loop-one
-invariant-loop-one g l =
-    let number = g.T.IndexStorage.number in
-    AddsPositions (positions_of number l.fn.certificate.listing.positions.items) (positions_of number l.certificate.listing.positions.items)
+invariant-loop-one l =
+    AddsPositions (positions_of l.fn.certificate.listing.positions.items) (positions_of l.certificate.listing.positions.items)
