@@ -1,20 +1,16 @@
 -- what holds of each sentence that is found to be lost
-use Rattle.std.proofs.Common.{◌≡◌, ℕ, Bool, true, false, List, Option, None, Some}
+use Rattle.std.proofs.Common.{◌≡◌, ℕ, Bool, true, List, Option, None, Some}
 use Rattle.std.specs.Prelude.{All, IfSome, IsSome, IsTrue, is_some, slice_index_or}
 use Rattle.std.specs.Option.{option_map}
 use Rattle.lrshown.specs.declared.evidence.Evidence.{Evidence}
 use Rattle.lrshown.specs.declared.losses.Loss.{Loss}
-use Rattle.lrevidence.specs.Losses.{Searched, IsLostAt, IsLostAtEntry, IsToldOf, IsFoundLoss, IsFoundFor, IsFoundAtEntry, StopsWithoutShift, StopsAtEntry, AreApart, IsDoomedIn, IsDoomedAtEntry}
+use Rattle.lrentries.specs.Losses.{Searched, IsToldOf, IsFoundLoss, StopsWithoutShift, AreApart, IsDoomedIn}
+use Rattle.lrevidence.specs.Losses.{IsLostAt, IsLostAtEntry, IsFoundFor, IsFoundAtEntry, StopsAtEntry, IsDoomedAtEntry}
 
 -- what follows for a value follows for one that there may be
 some_so : {T : Type 0} (P Q : T → Type 0) (o : Option T) → ((x : T) → P x → Q x) → IfSome o P → IfSome o Q
 some_so P Q None f h = tt
 some_so P Q (Some x) f h = f x h
-
--- without an image there is no value
-pub no_image : {A B : Type 0} (f : A → B) (o : Option A) (e : Option B) → option_map f o ≡ e → is_some o ≡ false → e ≡ None
-no_image f None e image none = cc
-no_image f (Some a) e image none = absurd (cc)
 
 -- with a value there is an image
 pub has_image : {A B : Type 0} (f : A → B) (o : Option A) (e : Option B) → option_map f o ≡ e → IsSome o → is_some e ≡ true

@@ -5,7 +5,7 @@ use Rattle.lrspec.specs.tables.Conflicts.{AreReductionsContested}
 use Rattle.lrfindings.specs.declared.findings.Findings.{Findings}
 use Rattle.lrevidence.specs.declared.searches.Searches.{Searches}
 use Rattle.lrevidence.specs.Entries.{AreListedIn}
-use Rattle.lrevidence.specs.Losses.{searched}
+use Rattle.lrentries.specs.Losses.{searched}
 
 -- all are of one grammar and one graph, whose table lists the conflicts that were found
 pub record AreOfOne (s : Searches) : Type 0 where

@@ -7,12 +7,12 @@ ghost use Rattle.lrsearches.specs.StoredWays.{AreWaysOf};
 ghost use Rattle.lrkept.specs.Keeping.{IsWon};
 ghost use Rattle.lrreasons.specs.Numbers.{number_of};
 ghost use Rattle.lrevidence.specs.KeptEntries.{IsKeptEntry, AreToldKept};
-ghost use Rattle.lrevidence.specs.Losses.{ResolvesPairs};
+ghost use Rattle.lrentries.specs.Losses.{ResolvesPairs};
 ghost use Rattle.lrshown.specs.Exactness.{Exact, ButAtErrors, Open, IsExact, IsExactButAtErrors, IsToldExact};
 
 use crate::evidence::Effort;
 use crate::keeping::kept_by_each;
-use crate::losses::are_crowded;
+use lrentries::are_crowded;
 use lrfindings::{Entry, Findings};
 use lrkept::{Automaton, Certificate, exactness};
 use lrsearches::Ways;

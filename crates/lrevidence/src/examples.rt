@@ -1,6 +1,6 @@
 //! After what conflicts are real, by the numbers of a file.
 
-use crate::ambiguities::numbers_of;
+use lrentries::numbers_of;
 use lrgrammar::grammar::{PartSymbol, YaccGrammar};
 use lrgrammar::idx::{RIdx, Symbol};
 use lrshown::{Example, Outlook};

@@ -8,7 +8,7 @@ ghost use Rattle.lrkept.specs.Keeping.{IsWon};
 ghost use Rattle.lrreasons.specs.Numbers.{number_of};
 ghost use Rattle.lrevidence.specs.KeptEntries.{IsKeptEntry};
 
-use crate::decisions::meeting;
+use lrentries::meeting;
 use lrfindings::Entry;
 use lrkept::{Automaton, Certificate, is_kept};
 use std::alloc::AllocError;

@@ -4,21 +4,13 @@
 
 mod accepting;
 mod ambiguities;
-mod charting;
-mod charts;
-mod closedness;
 mod conflicts;
-mod decisions;
 mod evidence;
 mod examples;
 mod keeping;
-mod laying;
-mod losses;
-mod machine;
 mod searches;
 mod texts;
 mod unambiguity;
-mod ways;
 
 pub use crate::accepting::{Accepted, accepted_of};
 pub use crate::evidence::{Effort, Evidence, evidence_for, find_ambiguity};

@@ -2,9 +2,8 @@
 
 ghost use Rattle.std.specs.Prelude.{◌≡◌};
 
-use crate::decisions::Decisions;
 use crate::examples::Numbering;
-use crate::losses::LossSearch;
+use lrentries::{Decisions, LossSearch};
 use lrfindings::Findings;
 use lrreasons::Reasons;
 use std::alloc::{AllocError, Global};

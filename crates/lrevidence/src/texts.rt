@@ -2,11 +2,11 @@
 
 ghost use Rattle.std.specs.Prelude.{◌≡◌, ◌++◌, IfOk, IfSome};
 ghost use Rattle.lrevidence.specs.Ambiguities.{HasTwoTrees, PartsAt};
-ghost use Rattle.lrevidence.specs.Losses.{IsFoundLoss, IsDoomedIn};
+ghost use Rattle.lrentries.specs.Losses.{IsFoundLoss, IsDoomedIn};
 
 use crate::ambiguities::ambiguity_by;
-use crate::machine::accepting_moves;
 use crate::searches::Searches;
+use lrcharts::accepting_moves;
 use lrconflicts::{Move, Written, other_move};
 use lrreasons::{Conflict, Outlook};
 use lrshown::{Ambiguity, Loss};

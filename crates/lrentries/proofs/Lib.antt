@@ -1,0 +1,4 @@
+-- cells, images, and what is decided
+pub mod CellsInTurn
+pub mod Images
+pub mod FoundDecisions

@@ -1,8 +1,0 @@
--- those so far
-use Rattle.std.proofs.Common.{◌≡◌, take}
-use Rattle.lrtable.specs.RunAnswers.{text_of}
-use Rattle.lrreasons.specs.Numbers.{number_of}
-use Rattle.lrevidence.proofs.ambiguities.tokens_of.Given as goal
-
-abbrev pub invariant-loop-number : goal.invariant-loop-number
-invariant-loop-number l = text_of number_of l.tokens.items ≡ take l.number-index l.numbers

@@ -1,9 +1,0 @@
--- the set has those so far
-use Rattle.std.proofs.Common.{take}
-use Rattle.std.specs.Prelude.{All}
-use Rattle.lrevidence.specs.Cells.{HasCell}
-use Rattle.lrevidence.specs.Losses.{cell_of}
-use Rattle.lrevidence.proofs.losses.cells_of.Given as goal
-
-abbrev pub invariant-loop-one : goal.invariant-loop-one
-invariant-loop-one l = All (λ r. HasCell l.cells (cell_of r.entry)) (take l.one-index l.resolved)
