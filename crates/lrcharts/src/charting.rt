@@ -41,42 +41,12 @@ fn is_nullable(nullable: &[bool], symbol: Symbol<u32>) -> bool {
     }
 }
 
-/// Whether all symbols derive nothing.
-fn are_nullable(nullable: &[bool], symbols: &[Symbol<u32>]) -> bool {
-    for symbol in symbols {
-        if !is_nullable(nullable, *symbol) {
-            return false;
-        }
-    }
-    true
-}
-
-/// Notes the rules that derive nothing, by what is noted so far; answers whether one is new.
-fn note_nullable(nullable: &mut Vec<bool>, grm: &YaccGrammar<u32>) -> bool {
-    let mut is_new = false;
-    for number in 0..grm.prods_len().0 {
-        let rule = grm.prod_to_rule(PIdx(number));
-        if is_nullable(nullable.as_slice(), Symbol::Rule(rule)) {
-            continue;
-        }
-        if are_nullable(nullable.as_slice(), grm.prod(PIdx(number))) {
-            if let Some(is) = nullable.get_mut(usize::from(rule)) {
-                *is = true;
-                is_new = true;
-            }
-        }
-    }
-    is_new
-}
-
 /// Of each rule whether it derives nothing.
 fn nullable_rules(grm: &YaccGrammar<u32>) -> Result<Vec<bool>, AllocError> {
-    let rules = usize::from(grm.rules_len());
-    let mut nullable = vec![in grm.allocator(); false; rules]?;
-    for _ in 0..rules {
-        if !note_nullable(&mut nullable, grm) {
-            return Ok(nullable);
-        }
+    let firsts = grm.firsts()?;
+    let mut nullable = Vec::new(grm.allocator());
+    for number in 0..grm.rules_len().0 {
+        nullable.push(firsts.is_epsilon_set(RIdx(number)))?;
     }
     Ok(nullable)
 }
