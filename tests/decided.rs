@@ -3,7 +3,6 @@
 use lrconflicts::{Move, entries, other_move};
 use lrdecided::{Entry, decide};
 use lrgrammar::grammar::YaccGrammar;
-use lrgrammar::idx::IndexStorage;
 use lrsearches::Ways;
 use lrtable::{Minimiser, from_yacc};
 use std::alloc::Global;
@@ -21,8 +20,8 @@ fn word_of(tokens: Option<Option<usize>>) -> &'static str {
 }
 
 /// How each of the grammar's conflicts is decided, in order.
-fn told<T: IndexStorage>(alloc: Global, grammar: &str, allowance: usize) -> Result<String, Fail> {
-    let grm = YaccGrammar::<T>::from_text(alloc, grammar)?;
+fn told(alloc: Global, grammar: &str, allowance: usize) -> Result<String, Fail> {
+    let grm = YaccGrammar::<u32>::from_text(alloc, grammar)?;
     let Ok((graph, table)) = from_yacc(alloc, &grm, Minimiser::Pager) else {
         return Err(Fail::from("a table"));
     };
@@ -62,7 +61,7 @@ fn which_conflicts_are_decided(rt: HostRuntime) -> Result<(), Fail> {
         ("%% E: E '+' E | 'n';", "-"),
         ("%% S: 'i' S 'e' S | 'i' S | 'x';", "-"),
     ] {
-        let said = told::<u8>(rt.alloc(), grammar, 3000)?;
+        let said = told(rt.alloc(), grammar, 3000)?;
         assert_eq!(rt; said.as_str(), words, "{grammar}");
     }
     Ok(())
@@ -71,8 +70,8 @@ fn which_conflicts_are_decided(rt: HostRuntime) -> Result<(), Fail> {
 #[test]
 fn too_few_nodes(rt: HostRuntime) -> Result<(), Fail> {
     let grammar = "%% l: l r | r; r: 'ID' ':' b; b: b 'ID' | ;";
-    assert_eq!(rt; told::<u32>(rt.alloc(), grammar, 3000)?.as_str(), "2");
-    assert_eq!(rt; told::<u32>(rt.alloc(), grammar, 3)?.as_str(), "-");
-    assert_eq!(rt; told::<u32>(rt.alloc(), grammar, 0)?.as_str(), "-");
+    assert_eq!(rt; told(rt.alloc(), grammar, 3000)?.as_str(), "2");
+    assert_eq!(rt; told(rt.alloc(), grammar, 3)?.as_str(), "-");
+    assert_eq!(rt; told(rt.alloc(), grammar, 0)?.as_str(), "-");
     Ok(())
 }

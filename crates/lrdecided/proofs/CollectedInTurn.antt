@@ -6,7 +6,7 @@ use Rattle.std.specs.declared.vec.Vec.{Vec}
 use Rattle.std.specs.declared.alloc.Global.{Global}
 use Rattle.std.proofs.lemmas.Bool.{cases_eq}
 use Rattle.std.proofs.lemmas.Option.{slice_get_past}
-use Rattle.std.proofs.lemmas.List.{get_or-set_other, map-append}
+use Rattle.std.proofs.lemmas.List.{get_or_default, get_or-set_other, map-append}
 use Rattle.std.proofs.lemmas.List.Elements.{Contains-append_left, Contains-push}
 use Rattle.std.proofs.lemmas.List.Sorted.{IsPermutation-map, Contains-permutation}
 use Rattle.lrspec.specs.grammars.Grammar as math
@@ -16,9 +16,11 @@ use Rattle.lrspec.proofs.grammars.ListMembers.{among_from_contains, contains_fro
 use Rattle.lrbits.specs.Bits.{bit}
 use Rattle.lrgrammar.specs.declared.idx.StIdx.{StIdx}
 use Rattle.lrgrammar.specs.declared.idx.Symbol.{Symbol}
+use Rattle.lrgrammar.specs.declared.idx.Symbol.TheVariants as code
 use Rattle.lrgrammar.specs.Symbols.{symbol_of}
 use Rattle.lrclosing.proofs.SymbolsBehindDots.{left_at, left_none}
 use Rattle.lrsearches.specs.StoredWays.{row_of, IsRowOf, AreIncoming}
+use Rattle.lrdecided.specs.Numbers.{number_of}
 use Rattle.lrdecided.specs.StoredNodes.{states_of}
 use Rattle.lrdecided.specs.StoredStates.{AreSeen, IsMarked, KeepsStates, HasSources}
 
@@ -43,17 +45,16 @@ module _ {X Y : Type 0} (f : X → Y) (old new : List X) (x : X) (pushed : new �
   pub added : (a : Y) → f x ≡ a → Contains (map f new) a
   added a e = rw (one_more, e) (Contains-push (map f old) a)
 
-module _ {T : Type 0} (number : T → ℕ) where
-  -- states with one more
-  pub push_keeps : (old new : List (StIdx T)) (x : StIdx T) → new ≡ old ++ x ∷ [] → KeepsStates (states_of number old) (states_of number new)
-  push_keeps old new x e = kept (λ (s : StIdx T). number s.0) old new x e
+-- states with one more
+pub push_keeps : (old new : List (StIdx ℕ)) (x : StIdx ℕ) → new ≡ old ++ x ∷ [] → KeepsStates (states_of old) (states_of new)
+push_keeps old new x e = kept (λ (s : StIdx ℕ). s.0) old new x e
 
-  pub push_has : (old new : List (StIdx T)) (x : StIdx T) → new ≡ old ++ x ∷ [] → Contains (states_of number new) (number x.0)
-  push_has old new x e = added (λ (s : StIdx T). number s.0) old new x e (number x.0) refl
+pub push_has : (old new : List (StIdx ℕ)) (x : StIdx ℕ) → new ≡ old ++ x ∷ [] → Contains (states_of new) x.0
+push_has old new x e = added (λ (s : StIdx ℕ). s.0) old new x e x.0 refl
 
-  -- the same states in another order
-  pub sorted_has : (old new : List (StIdx T)) → IsPermutation old new → KeepsStates (states_of number old) (states_of number new)
-  sorted_has old new p s h = Contains-permutation (states_of number old) (states_of number new) s (IsPermutation-map (λ (x : StIdx T). number x.0) old new p) h
+-- the same states in another order
+pub sorted_has : (old new : List (StIdx ℕ)) → IsPermutation old new → KeepsStates (states_of old) (states_of new)
+sorted_has old new p s h = Contains-permutation (states_of old) (states_of new) s (IsPermutation-map (λ (x : StIdx ℕ). x.0) old new p) h
 
 -- one more that was seen
 pub seen_more : (seen : List Bool) (n : ℕ) (old new : List ℕ) → n < length seen → AreSeen seen old → KeepsStates old new → Contains new n → AreSeen (set seen n true) new
@@ -163,25 +164,34 @@ marked seen new n false l e is = λ states k.
     was_set true i = refl
     was_set false i = let no : false ≡ true = is.1 (λ t. let both : false ≡ true = sym i ∙ t in absurd cc) in no
 
-module _ {T : Type 0} (number : T → ℕ) where
-  -- what is left of a row at a place
-  pub edge_left :
-      (row : List (Symbol T × StIdx T)) (i : ℕ) (e : Symbol T × StIdx T) → i < length row → e ≡ get_or row i e
-      → row_of number (drop i row) ≡ (symbol_of number e.0, number e.1.0) ∷ row_of number (drop (i + 1) row)
-  edge_left row i e l is =
-      let shown : Symbol T × StIdx T → math.Symbol × ℕ = λ x. (symbol_of number x.0, number x.1.0) in left_at {Y = math.Symbol × ℕ} shown row i e e l is refl
+-- what is left of a list at a place
+pub left_there : {X Y : Type 0} (f : X → Y) (xs : List X) (i : ℕ) (d : X) → i < length xs → map f (drop i xs) ≡ f (get_or xs i d) ∷ map f (drop (i + 1) xs)
+left_there f xs i d l = left_at f xs i (get_or xs i d) (get_or xs i d) l (get_or_default xs i d (get_or xs i d) l) refl
 
-  pub edges_none : (row : List (Symbol T × StIdx T)) (i : ℕ) → length row ≤ i → row_of number (drop i row) ≡ []
-  edges_none row i l =
-      let shown : Symbol T × StIdx T → math.Symbol × ℕ = λ x. (symbol_of number x.0, number x.1.0) in left_none {Y = math.Symbol × ℕ} shown row i l
+-- what stands in a row at a place
+abbrev pub edge_at : List (Symbol ℕ × StIdx ℕ) → ℕ → Symbol ℕ × StIdx ℕ
+edge_at row i = get_or row i (code.Rule (record { 0 = 0 }), record { 0 = 0 })
 
-  -- and of states
-  pub state_left :
-      (ss : List (StIdx T)) (i : ℕ) (s : StIdx T) → i < length ss → s ≡ get_or ss i s → states_of number (drop i ss) ≡ number s.0 ∷ states_of number (drop (i + 1) ss)
-  state_left ss i s l is = let shown : StIdx T → ℕ = λ x. number x.0 in left_at {Y = ℕ} shown ss i s s l is refl
+-- an edge by its numbers
+abbrev pub edge_of : Symbol ℕ × StIdx ℕ → math.Symbol × ℕ
+edge_of e = (symbol_of number_of e.0, e.1.0)
 
-  pub states_none : (ss : List (StIdx T)) (i : ℕ) → length ss ≤ i → states_of number (drop i ss) ≡ []
-  states_none ss i l = let shown : StIdx T → ℕ = λ x. number x.0 in left_none {Y = ℕ} shown ss i l
+pub edge_left :
+    (row : List (Symbol ℕ × StIdx ℕ)) (i : ℕ) → i < length row → row_of number_of (drop i row) ≡ edge_of (edge_at row i) ∷ row_of number_of (drop (i + 1) row)
+edge_left row i l = left_there edge_of row i (code.Rule (record { 0 = 0 }), record { 0 = 0 }) l
+
+pub edges_none : (row : List (Symbol ℕ × StIdx ℕ)) (i : ℕ) → length row ≤ i → row_of number_of (drop i row) ≡ []
+edges_none row i l = left_none edge_of row i l
+
+-- and of states
+abbrev pub state_at : List (StIdx ℕ) → ℕ → StIdx ℕ
+state_at ss i = get_or ss i (record { 0 = 0 })
+
+pub state_left : (ss : List (StIdx ℕ)) (i : ℕ) → i < length ss → states_of (drop i ss) ≡ (state_at ss i).0 ∷ states_of (drop (i + 1) ss)
+state_left ss i l = let shown : StIdx ℕ → ℕ = λ x. x.0 in left_there shown ss i (record { 0 = 0 }) l
+
+pub states_none : (ss : List (StIdx ℕ)) (i : ℕ) → length ss ≤ i → states_of (drop i ss) ≡ []
+states_none ss i l = let shown : StIdx ℕ → ℕ = λ x. x.0 in left_none shown ss i l
 
 no_bit : (n i : ℕ) → get_or (replicate n false) i false ≡ false
 no_bit zero i = refl
@@ -194,11 +204,11 @@ none_seen n seen states e s b = let no : false ≡ true = sym (no_bit n s) ∙ r
 
 -- the row of a state
 pub row_is :
-    {T : Type 0} (number : T → ℕ) (h : Graph) (lists : List (Vec (Symbol T × StIdx T) Global)) (u n : ℕ) (row : Vec (Symbol T × StIdx T) Global)
-    → AreIncoming number h lists → n ≡ u → u < length h → row ≡ get_or lists n row → IsRowOf h u (row_of number row.items)
-row_is {T} number h lists u n row k same l e =
+    (h : Graph) (lists : List (Vec (Symbol ℕ × StIdx ℕ) Global)) (u n : ℕ) (row : Vec (Symbol ℕ × StIdx ℕ) Global)
+    → AreIncoming number_of h lists → n ≡ u → u < length h → row ≡ get_or lists n row → IsRowOf h u (row_of number_of row.items)
+row_is h lists u n row k same l e =
     let is : row ≡ get_or lists u row = rw same at e in
-    subst (λ (v : Vec (Symbol T × StIdx T) Global). IsRowOf h u (row_of number v.items)) (sym is) (k.rows u row l)
+    subst (λ (v : Vec (Symbol ℕ × StIdx ℕ) Global). IsRowOf h u (row_of number_of v.items)) (sym is) (k.rows u row l)
 
 -- past the end of the graph no state has an item
 pub no_item : (h : Graph) (s p d : ℕ) → length h ≤ s → HasItem (closed_of h s) p d → ⊥

@@ -113,10 +113,10 @@ expands g h a r ms e k = rule.Proceeds.expand r (drop 1 a.one.symbols) e k
 
 -- the node with its one way so, in these states
 pub so_with_one :
-    {T : Type 0} (number : T → ℕ) (a b : Node) (x y : Side) (ss ts : List (StIdx T)) → b ≡ record a { one = x; states = states_of number ss } → ss ≡ ts → x ≡ y
-    → b ≡ record a { one = y; states = states_of number ts }
-so_with_one {T} number a b x y ss ts e s o =
-    e ∙ ap (λ (us : List (StIdx T)). record a { one = x; states = states_of number us }) s ∙ ap (λ (z : Side). record a { one = z; states = states_of number ts }) o
+    (a b : Node) (x y : Side) (ss ts : List (StIdx ℕ)) → b ≡ record a { one = x; states = states_of ss } → ss ≡ ts → x ≡ y
+    → b ≡ record a { one = y; states = states_of ts }
+so_with_one a b x y ss ts e s o =
+    e ∙ ap (λ (us : List (StIdx ℕ)). record a { one = x; states = states_of us }) s ∙ ap (λ (z : Side). record a { one = z; states = states_of ts }) o
 
 -- a list that begins with something has something
 pub not_none : {X Y : Type 0} (f : X → Y) (xs : List X) (y : Y) (ys : List Y) → map f xs ≡ y ∷ ys → 0 < length xs
@@ -137,7 +137,7 @@ behind_rule f g p d r n m xs y body e i is =
     sliced f xs n (body_of g p) body ∙ ap (λ (k : ℕ). drop k (body_of g p)) at ∙ rest_next (body_of g p) d (Rule r) y is
 
 pub swapped_so :
-    {T : Type 0} (number : T → ℕ) (g : Grammar) (h : Graph) (a b : Node) → b ≡ swap a → (o : Option (Vec (kept.Node T) Global))
-    → AreMoves g h b (option_map (λ v. nodes_of number v.items) o) → AreMoves g h a (option_map (λ v. nodes_of number v.items) o)
-swapped_so number g h a b e o k =
-    swapped_moves g h a (option_map (λ v. nodes_of number v.items) o) (subst (λ (c : Node). AreMoves g h c (option_map (λ v. nodes_of number v.items) o)) e k)
+    (g : Grammar) (h : Graph) (a b : Node) → b ≡ swap a → (o : Option (Vec kept.Node Global))
+    → AreMoves g h b (option_map (λ v. nodes_of v.items) o) → AreMoves g h a (option_map (λ v. nodes_of v.items) o)
+swapped_so g h a b e o k =
+    swapped_moves g h a (option_map (λ v. nodes_of v.items) o) (subst (λ (c : Node). AreMoves g h c (option_map (λ v. nodes_of v.items) o)) e k)

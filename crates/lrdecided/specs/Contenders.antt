@@ -11,12 +11,12 @@ use Rattle.lrdecided.specs.declared.contending.Complete.{Complete}
 use Rattle.lrdecided.specs.Decided.{IsDecided}
 
 -- a complete item by its production, with its lookaheads
-abbrev pub complete_of : {T : Type 0} → (T → ℕ) → Complete T → ℕ × List Bool
-complete_of number c = (number c.production.0, c.tokens.now)
+abbrev pub complete_of : Complete → ℕ × List Bool
+complete_of c = (c.production.0, c.tokens.now)
 
 -- complete items
-abbrev pub completes_of : {T : Type 0} → (T → ℕ) → List (Complete T) → List (ℕ × List Bool)
-completes_of number cs = map (complete_of number) cs
+abbrev pub completes_of : List Complete → List (ℕ × List Bool)
+completes_of cs = map complete_of cs
 
 -- the complete items that were listed are listed
 abbrev pub KeepsCompletes : List (ℕ × List Bool) → List (ℕ × List Bool) → Type 0

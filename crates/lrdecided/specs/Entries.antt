@@ -8,6 +8,7 @@ use Rattle.lrdecided.specs.declared.decided.Entry as stored
 use Rattle.lrdecided.specs.Certificates.{IsCertificate}
 use Rattle.lrdecided.specs.Decided.{IsDecided, IsDecidedBy}
 use Rattle.lrdecided.specs.Nodes.{Side, Node}
+use Rattle.lrdecided.specs.Numbers.{number_of}
 use Rattle.lrdecided.specs.Starts.{HasCores, HasSides, HasStarts}
 
 -- two moves that meet in a state on a token
@@ -18,12 +19,12 @@ pub record Entry : Type 0 where
   pub other : Move
 
 -- an entry by its numbers
-abbrev pub entry_of : {T : Type 0} → (T → ℕ) → stored.Entry T → Entry
-entry_of number e = record {
-  state = number e.state.0;
-  token = number e.token.0;
-  one = move_of number e.one;
-  other = move_of number e.other;
+abbrev pub entry_of : stored.Entry → Entry
+entry_of e = record {
+  state = e.state.0;
+  token = e.token.0;
+  one = move_of number_of e.one;
+  other = move_of number_of e.other;
 }
 
 -- all nodes are listed at which ways begin that go on with its moves

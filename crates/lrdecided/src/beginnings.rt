@@ -7,20 +7,19 @@ ghost use Rattle.lrdecided.specs.StoredNodes.{symbols_of};
 
 use lrgrammar::firsts::YaccFirsts;
 use lrgrammar::grammar::YaccGrammar;
-use lrgrammar::idx::{IndexStorage, Symbol};
+use lrgrammar::idx::Symbol;
 use lrgrammar::vob::Vob;
 use std::alloc::AllocError;
 
 /// The tokens with which texts of the symbols begin, one bit a token; None where such a text may be empty, or where a symbol
 /// isn't one of the grammar.
-pub(crate) fn beginning<T: IndexStorage>(
-    grm: &YaccGrammar<T>,
-    firsts: &YaccFirsts<T>,
-    symbols: &[Symbol<T>],
+pub(crate) fn beginning(
+    grm: &YaccGrammar<u32>,
+    firsts: &YaccFirsts<u32>,
+    symbols: &[Symbol<u32>],
 ) -> Result<Option<Vob>, AllocError>
     requires { AreFirstsOf grm.now firsts.now }
-    ensures { IfOk result (λ o. IfSome o
-        (λ v. BeginsWithin grm.now (symbols_of T.number symbols.now) v)) }
+    ensures { IfOk result (λ o. IfSome o (λ v. BeginsWithin grm.now (symbols_of symbols.now) v)) }
 {
     let rules = usize::from(grm.rules_len());
     let mut tokens = Vob::from_elem(grm.allocator(), false, usize::from(grm.tokens_len()))?;

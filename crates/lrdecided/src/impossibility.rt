@@ -13,7 +13,7 @@ use crate::beginnings::beginning;
 use crate::nodes::{Node, Side};
 use lrgrammar::firsts::YaccFirsts;
 use lrgrammar::grammar::YaccGrammar;
-use lrgrammar::idx::{IndexStorage, StIdx, TIdx};
+use lrgrammar::idx::{StIdx, TIdx};
 use lrgrammar::vob::Vob;
 use std::alloc::AllocError;
 
@@ -76,8 +76,8 @@ fn are_apart(one: &Option<Vob>, other: &Option<Vob>, left: Option<usize>) -> boo
 }
 
 /// Whether the side is at the beginning of the start item, and nothing comes any more.
-fn is_at_end<T: IndexStorage>(grm: &YaccGrammar<T>, side: &Side<T>) -> bool
-    ensures { IsTrue result → IsAtEnd grm.now (side_of T.number side.now) }
+fn is_at_end(grm: &YaccGrammar<u32>, side: &Side) -> bool
+    ensures { IsTrue result → IsAtEnd grm.now (side_of side.now) }
 {
     usize::from(side.production) == usize::from(grm.start_prod())
         && usize::from(side.dot) == 0
@@ -86,10 +86,10 @@ fn is_at_end<T: IndexStorage>(grm: &YaccGrammar<T>, side: &Side<T>) -> bool
 }
 
 /// Whether the token that comes next is known, and symbols that begin so can't begin with it.
-fn cannot_go_on<T: IndexStorage>(tokens: &Option<Vob>, next: Option<TIdx<T>>) -> bool
+fn cannot_go_on(tokens: &Option<Vob>, next: Option<TIdx<u32>>) -> bool
     ensures { IsTrue result → (g : math.Grammar) (a : nodes.Node)
         → IfSome tokens.now (BeginsWithin g a.one.symbols)
-        → a.next ≡ next_of T.number next → IsImpossible g a }
+        → a.next ≡ next_of next → IsImpossible g a }
 {
     match next {
         Some(token) => cannot_begin(tokens, usize::from(token)),
@@ -98,8 +98,8 @@ fn cannot_go_on<T: IndexStorage>(tokens: &Option<Vob>, next: Option<TIdx<T>>) ->
 }
 
 /// Whether the token that comes next is known, and is another one.
-fn is_another<T: IndexStorage>(next: Option<TIdx<T>>, token: usize) -> bool
-    ensures { IsTrue result → (t : ℕ) × (next_of T.number next ≡ Some t) × (t ≢ token) }
+fn is_another(next: Option<TIdx<u32>>, token: usize) -> bool
+    ensures { IsTrue result → (t : ℕ) × (next_of next ≡ Some t) × (t ≢ token) }
 {
     match next {
         Some(known) => usize::from(known) != token,
@@ -108,19 +108,19 @@ fn is_another<T: IndexStorage>(next: Option<TIdx<T>>, token: usize) -> bool
 }
 
 /// Whether the one way can't go on with the next token, or is at the end of its text where the other isn't.
-fn is_refused<T: IndexStorage>(
-    grm: &YaccGrammar<T>,
-    one: &Side<T>,
+fn is_refused(
+    grm: &YaccGrammar<u32>,
+    one: &Side,
     tokens: &Option<Vob>,
     others: &Option<Vob>,
-    next: Option<TIdx<T>>,
+    next: Option<TIdx<u32>>,
     left: Option<usize>,
 ) -> bool
     ensures { IsTrue result → (y : nodes.Side) (states : List ℕ)
-        → IfSome tokens.now (BeginsWithin grm.now (side_of T.number one.now).symbols)
+        → IfSome tokens.now (BeginsWithin grm.now (side_of one.now).symbols)
         → IfSome others.now (BeginsWithin grm.now y.symbols)
         → IsImpossible grm.now
-        (node_with (side_of T.number one.now) y states (next_of T.number next) left) }
+        (node_with (side_of one.now) y states (next_of next) left) }
 {
     if cannot_go_on(tokens, next) {
         return true;
@@ -136,24 +136,23 @@ fn is_refused<T: IndexStorage>(
 }
 
 /// Whether there are no states.
-fn is_nowhere<T: IndexStorage>(states: &[StIdx<T>]) -> bool
-    ensures { IsTrue result → states_of T.number states.now ≡ [] }
+fn is_nowhere(states: &[StIdx<u32>]) -> bool
+    ensures { IsTrue result → states_of states.now ≡ [] }
 {
     states.is_empty()
 }
 
 /// Whether no two ways stand as the node says, as far as can be told by what they begin with.
-fn is_impossible_by<T: IndexStorage>(
-    grm: &YaccGrammar<T>,
-    node: &Node<T>,
+fn is_impossible_by(
+    grm: &YaccGrammar<u32>,
+    node: &Node,
     one: &Option<Vob>,
     other: &Option<Vob>,
 ) -> bool
-    requires one { IfSome one.now
-        (BeginsWithin grm.now (symbols_of T.number node.now.one.symbols.items)) }
+    requires one { IfSome one.now (BeginsWithin grm.now (symbols_of node.now.one.symbols.items)) }
     requires other { IfSome other.now
-        (BeginsWithin grm.now (symbols_of T.number node.now.other.symbols.items)) }
-    ensures { IsTrue result → IsImpossible grm.now (node_of T.number node.now) }
+        (BeginsWithin grm.now (symbols_of node.now.other.symbols.items)) }
+    ensures { IsTrue result → IsImpossible grm.now (node_of node.now) }
 {
     if is_nowhere(node.states.as_slice()) {
         return true;
@@ -168,13 +167,13 @@ fn is_impossible_by<T: IndexStorage>(
 }
 
 /// Whether no two ways stand as the node says, as far as can be told.
-pub(crate) fn is_impossible<T: IndexStorage>(
-    grm: &YaccGrammar<T>,
-    firsts: &YaccFirsts<T>,
-    node: &Node<T>,
+pub(crate) fn is_impossible(
+    grm: &YaccGrammar<u32>,
+    firsts: &YaccFirsts<u32>,
+    node: &Node,
 ) -> Result<bool, AllocError>
     requires { AreFirstsOf grm.now firsts.now }
-    ensures { IfOk result (λ b. IsTrue b → IsImpossible grm.now (node_of T.number node.now)) }
+    ensures { IfOk result (λ b. IsTrue b → IsImpossible grm.now (node_of node.now)) }
 {
     let one = beginning(grm, firsts, node.one.symbols.as_slice())?;
     let other = beginning(grm, firsts, node.other.symbols.as_slice())?;

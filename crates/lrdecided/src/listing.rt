@@ -5,7 +5,7 @@ ghost use Rattle.lrdecided.specs.StoredNodes.{symbols_of, states_of, next_of, si
 
 use crate::nodes::{Node, Side};
 use lrclosing::items::is_same_symbol;
-use lrgrammar::idx::{IndexStorage, StIdx, Symbol, TIdx};
+use lrgrammar::idx::{StIdx, Symbol, TIdx};
 use std::alloc::{AllocError, Global};
 
 /// In how many rows the places of nodes are kept.
@@ -13,16 +13,16 @@ const ROWS: usize = 1024;
 
 /// Nodes, with their places in rows by what tells them apart.
 #[derive(Drop)]
-pub(crate) struct Listing<T> {
+pub(crate) struct Listing {
     /// The nodes.
-    pub(crate) nodes: Vec<Node<T>>,
+    pub(crate) nodes: Vec<Node>,
     /// For each remainder of a fingerprint the places of the nodes that have it.
     rows: Vec<Vec<usize>>,
 }
 
 /// Whether the symbols are the same.
-fn are_same_symbols<T: IndexStorage>(a: &[Symbol<T>], b: &[Symbol<T>]) -> bool
-    ensures { IsTrue result → symbols_of T.number a.now ≡ symbols_of T.number b.now }
+fn are_same_symbols(a: &[Symbol<u32>], b: &[Symbol<u32>]) -> bool
+    ensures { IsTrue result → symbols_of a.now ≡ symbols_of b.now }
 {
     if a.len() != b.len() {
         return false;
@@ -36,8 +36,8 @@ fn are_same_symbols<T: IndexStorage>(a: &[Symbol<T>], b: &[Symbol<T>]) -> bool
 }
 
 /// Whether the states are the same.
-fn are_same_states<T: IndexStorage>(a: &[StIdx<T>], b: &[StIdx<T>]) -> bool
-    ensures { IsTrue result → states_of T.number a.now ≡ states_of T.number b.now }
+fn are_same_states(a: &[StIdx<u32>], b: &[StIdx<u32>]) -> bool
+    ensures { IsTrue result → states_of a.now ≡ states_of b.now }
 {
     if a.len() != b.len() {
         return false;
@@ -53,8 +53,8 @@ fn are_same_states<T: IndexStorage>(a: &[StIdx<T>], b: &[StIdx<T>]) -> bool
 }
 
 /// Whether the same token is known to come next, or of both none is known.
-fn is_same_next<T: IndexStorage>(a: Option<TIdx<T>>, b: Option<TIdx<T>>) -> bool
-    ensures { IsTrue result → next_of T.number a ≡ next_of T.number b }
+fn is_same_next(a: Option<TIdx<u32>>, b: Option<TIdx<u32>>) -> bool
+    ensures { IsTrue result → next_of a ≡ next_of b }
 {
     match a {
         Some(token) => match b {
@@ -66,8 +66,8 @@ fn is_same_next<T: IndexStorage>(a: Option<TIdx<T>>, b: Option<TIdx<T>>) -> bool
 }
 
 /// Whether the sides are the same.
-fn is_same_side<T: IndexStorage>(a: &Side<T>, b: &Side<T>) -> bool
-    ensures { IsTrue result → side_of T.number a.now ≡ side_of T.number b.now }
+fn is_same_side(a: &Side, b: &Side) -> bool
+    ensures { IsTrue result → side_of a.now ≡ side_of b.now }
 {
     usize::from(a.production) == usize::from(b.production)
         && usize::from(a.dot) == usize::from(b.dot)
@@ -76,8 +76,8 @@ fn is_same_side<T: IndexStorage>(a: &Side<T>, b: &Side<T>) -> bool
 }
 
 /// Whether the nodes are the same.
-fn is_same_node<T: IndexStorage>(a: &Node<T>, b: &Node<T>) -> bool
-    ensures { IsTrue result → node_of T.number a.now ≡ node_of T.number b.now }
+fn is_same_node(a: &Node, b: &Node) -> bool
+    ensures { IsTrue result → node_of a.now ≡ node_of b.now }
 {
     is_same_side(&a.one, &b.one)
         && is_same_side(&a.other, &b.other)
@@ -87,14 +87,14 @@ fn is_same_node<T: IndexStorage>(a: &Node<T>, b: &Node<T>) -> bool
 }
 
 /// Whether the node is the one at this place.
-fn is_at<T: IndexStorage>(nodes: &[Node<T>], place: usize, node: &Node<T>) -> bool
-    ensures { IsTrue result → Contains (nodes_of T.number nodes.now) (node_of T.number node.now) }
+fn is_at(nodes: &[Node], place: usize, node: &Node) -> bool
+    ensures { IsTrue result → Contains (nodes_of nodes.now) (node_of node.now) }
 {
     place < nodes.len() && is_same_node(&nodes[place], node)
 }
 
 /// A number that tells symbols apart, begun with another.
-fn mark_of_symbols<T: IndexStorage>(from: usize, symbols: &[Symbol<T>]) -> usize {
+fn mark_of_symbols(from: usize, symbols: &[Symbol<u32>]) -> usize {
     let mut mark = from;
     for symbol in symbols {
         let number = match symbol {
@@ -107,7 +107,7 @@ fn mark_of_symbols<T: IndexStorage>(from: usize, symbols: &[Symbol<T>]) -> usize
 }
 
 /// A number that tells states apart, begun with another.
-fn mark_of_states<T: IndexStorage>(from: usize, states: &[StIdx<T>]) -> usize {
+fn mark_of_states(from: usize, states: &[StIdx<u32>]) -> usize {
     let mut mark = from;
     for state in states {
         mark = mark.wrapping_mul(31).wrapping_add(usize::from(*state));
@@ -116,7 +116,7 @@ fn mark_of_states<T: IndexStorage>(from: usize, states: &[StIdx<T>]) -> usize {
 }
 
 /// A number that tells sides apart, begun with another.
-fn mark_of_side<T: IndexStorage>(from: usize, side: &Side<T>) -> usize {
+fn mark_of_side(from: usize, side: &Side) -> usize {
     let item = from
         .wrapping_mul(31)
         .wrapping_add(usize::from(side.production))
@@ -126,7 +126,7 @@ fn mark_of_side<T: IndexStorage>(from: usize, side: &Side<T>) -> usize {
 }
 
 /// In which row the place of the node is kept.
-fn row_of_node<T: IndexStorage>(node: &Node<T>) -> usize {
+fn row_of_node(node: &Node) -> usize {
     let one = mark_of_side(node.left.unwrap_or(5), &node.one);
     let other = mark_of_side(one, &node.other);
     mark_of_states(other, node.states.as_slice()) % ROWS
@@ -137,9 +137,9 @@ fn empty_rows(alloc: Global, count: usize) -> Result<Vec<Vec<usize>>, AllocError
     (0..count).map(|_row| Vec::new(alloc)).collect(alloc)
 }
 
-impl<T: IndexStorage> Listing<T> {
+impl Listing {
     /// No nodes.
-    pub(crate) fn new(alloc: Global) -> Result<Listing<T>, AllocError> {
+    pub(crate) fn new(alloc: Global) -> Result<Listing, AllocError> {
         Ok(Listing {
             nodes: Vec::new(alloc),
             rows: empty_rows(alloc, ROWS)?,
@@ -147,9 +147,8 @@ impl<T: IndexStorage> Listing<T> {
     }
 
     /// Whether the node is found among those that are listed.
-    pub(crate) fn has(&self, node: &Node<T>) -> bool
-        ensures { IsTrue result
-            → Contains (nodes_of T.number self.now.nodes.items) (node_of T.number node.now) }
+    pub(crate) fn has(&self, node: &Node) -> bool
+        ensures { IsTrue result → Contains (nodes_of self.now.nodes.items) (node_of node.now) }
     {
         let Some(row) = self.rows.get(row_of_node(node)) else {
             return false;
@@ -163,7 +162,7 @@ impl<T: IndexStorage> Listing<T> {
     }
 
     /// Adds the node.
-    pub(crate) fn add(&mut self, node: Node<T>) -> Result<(), AllocError> {
+    pub(crate) fn add(&mut self, node: Node) -> Result<(), AllocError> {
         let row = row_of_node(&node);
         if row < self.rows.len() {
             self.rows[row].push(self.nodes.len())?;

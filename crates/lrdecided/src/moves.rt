@@ -5,6 +5,7 @@ ghost use Rattle.lrspec.specs.grammars.Grammar as math;
 ghost use Rattle.lrspec.specs.merging.Graph.{IsGraphOf};
 ghost use Rattle.lrsearches.specs.StoredUses.{keys_of, HasUsesOfRule};
 ghost use Rattle.lrsearches.specs.StoredWays.{AreWaysOf};
+ghost use Rattle.lrdecided.specs.Numbers.{number_of};
 ghost use Rattle.lrdecided.specs.Moved.{expanded, HasExpansions, HasOutside, HasAllOutside, HasNodes, AreMoves};
 ghost use Rattle.lrdecided.specs.Nodes as nodes;
 ghost use Rattle.lrdecided.specs.Nodes.{outside};
@@ -20,15 +21,10 @@ use lrsearches::Ways;
 use std::alloc::AllocError;
 
 /// The side with the body of the production in place of its first symbol.
-fn expanded_side<T: IndexStorage>(
-    grm: &YaccGrammar<T>,
-    side: &Side<T>,
-    pidx: PIdx<T>,
-) -> Result<Side<T>, AllocError>
-    requires production { T.number pidx.0 < length grm.now.productions }
+fn expanded_side(grm: &YaccGrammar<u32>, side: &Side, pidx: PIdx<u32>) -> Result<Side, AllocError>
+    requires production { pidx.0 < length grm.now.productions }
     requires some { 0 < length side.now.symbols.items }
-    ensures { IfOk result (λ x. side_of T.number x
-        ≡ expanded grm.now (side_of T.number side.now) (T.number pidx.0)) }
+    ensures { IfOk result (λ x. side_of x ≡ expanded grm.now (side_of side.now) pidx.0) }
 {
     let symbols = joined(grm.allocator(), grm.prod(pidx), &side.symbols[1..])?;
     Ok(Side {
@@ -40,15 +36,11 @@ fn expanded_side<T: IndexStorage>(
 }
 
 /// The nodes with each body of the rule in place of the first symbol of the one way.
-fn expansions<T: IndexStorage>(
-    grm: &YaccGrammar<T>,
-    node: &Node<T>,
-    rule: RIdx<T>,
-) -> Result<Vec<Node<T>>, AllocError>
-    requires rule { T.number rule.0 < length grm.now.rule_names }
+fn expansions(grm: &YaccGrammar<u32>, node: &Node, rule: RIdx<u32>) -> Result<Vec<Node>, AllocError>
+    requires rule { rule.0 < length grm.now.rule_names }
     requires some { 0 < length node.now.one.symbols.items }
-    ensures { IfOk result (λ v. HasExpansions grm.now (node_of T.number node.now)
-        (T.number rule.0) (nodes_of T.number v.items)) }
+    ensures { IfOk result (λ v. HasExpansions grm.now (node_of node.now)
+        rule.0 (nodes_of v.items)) }
 {
     let mut moves = Vec::new(grm.allocator());
     for pidx in grm.rule_to_prods(rule) {
@@ -61,9 +53,9 @@ fn expansions<T: IndexStorage>(
 }
 
 /// The first of the symbols, if it is a rule.
-fn first_rule<T: IndexStorage>(symbols: &[Symbol<T>]) -> Option<RIdx<T>>
-    ensures { IfSome result (λ r. symbols_of T.number symbols.now
-        ≡ math.Rule (T.number r.0) ∷ drop 1 (symbols_of T.number symbols.now)) }
+fn first_rule(symbols: &[Symbol<u32>]) -> Option<RIdx<u32>>
+    ensures { IfSome result (λ r. symbols_of symbols.now
+        ≡ math.Rule r.0 ∷ drop 1 (symbols_of symbols.now)) }
 {
     if symbols.is_empty() {
         return None;
@@ -75,13 +67,13 @@ fn first_rule<T: IndexStorage>(symbols: &[Symbol<T>]) -> Option<RIdx<T>>
 }
 
 /// The moves where the first symbol of the one way is a rule; None where it is not.
-fn expand<T: IndexStorage>(
-    grm: &YaccGrammar<T>,
-    graph: &StateGraph<T>,
-    node: &Node<T>,
-) -> Result<Option<Vec<Node<T>>>, AllocError>
-    ensures { IfOk result (λ o. AreMoves grm.now graph.now (node_of T.number node.now)
-        (option_map (λ v. nodes_of T.number v.items) o)) }
+fn expand(
+    grm: &YaccGrammar<u32>,
+    graph: &StateGraph<u32>,
+    node: &Node,
+) -> Result<Option<Vec<Node>>, AllocError>
+    ensures { IfOk result (λ o. AreMoves grm.now graph.now (node_of node.now)
+        (option_map (λ v. nodes_of v.items) o)) }
 {
     let Some(rule) = first_rule(node.one.symbols.as_slice()) else {
         return Ok(None);
@@ -94,24 +86,19 @@ fn expand<T: IndexStorage>(
 }
 
 /// The dot before, if there is one.
-fn dot_before<T: IndexStorage>(dot: SIdx<T>) -> Option<SIdx<T>>
-    ensures { IfSome result (λ d. T.number dot.0 ≡ suc (T.number d.0)) }
+fn dot_before(dot: SIdx<u32>) -> Option<SIdx<u32>>
+    ensures { IfSome result (λ d. dot.0 ≡ suc d.0) }
 {
     let place = dot.0.to_usize();
     if place == 0 {
         return None;
     }
-    Some(SIdx(T::from_usize(place - 1).unwrap()))
+    Some(SIdx(u32::from_usize(place - 1).unwrap()))
 }
 
 /// The side at this dot.
-fn side_at<T: IndexStorage>(
-    grm: &YaccGrammar<T>,
-    side: &Side<T>,
-    dot: SIdx<T>,
-) -> Result<Side<T>, AllocError>
-    ensures { IfOk result (λ x. side_of T.number x
-        ≡ record (side_of T.number side.now) { dot = T.number dot.0 }) }
+fn side_at(grm: &YaccGrammar<u32>, side: &Side, dot: SIdx<u32>) -> Result<Side, AllocError>
+    ensures { IfOk result (λ x. side_of x ≡ record (side_of side.now) { dot = dot.0 }) }
 {
     let symbols = Vec::from_slice(grm.allocator(), side.symbols.as_slice())?;
     Ok(Side {
@@ -123,16 +110,16 @@ fn side_at<T: IndexStorage>(
 }
 
 /// The move where both go back over the symbol before their dots; None where there is none before one of these.
-fn back<T: IndexStorage>(
-    grm: &YaccGrammar<T>,
-    graph: &StateGraph<T>,
-    ways: &Ways<T>,
-    node: &Node<T>,
-) -> Result<Option<Vec<Node<T>>>, AllocError>
+fn back(
+    grm: &YaccGrammar<u32>,
+    graph: &StateGraph<u32>,
+    ways: &Ways<u32>,
+    node: &Node,
+) -> Result<Option<Vec<Node>>, AllocError>
     requires graph { IsGraphOf grm.now graph.now }
-    requires ways { AreWaysOf T.number grm.now graph.now ways.now }
-    ensures { IfOk result (λ o. AreMoves grm.now graph.now (node_of T.number node.now)
-        (option_map (λ v. nodes_of T.number v.items) o)) }
+    requires ways { AreWaysOf number_of grm.now graph.now ways.now }
+    ensures { IfOk result (λ o. AreMoves grm.now graph.now (node_of node.now)
+        (option_map (λ v. nodes_of v.items) o)) }
 {
     let Some(dot) = dot_before(node.one.dot) else {
         return Ok(None);
@@ -158,14 +145,14 @@ fn back<T: IndexStorage>(
 
 /// The side at the dot of the item before a rule in which it stood, with these symbols behind its own, which are not known
 /// where it is cut.
-fn outside_side<T: IndexStorage>(
-    grm: &YaccGrammar<T>,
-    side: &Side<T>,
-    item: (PIdx<T>, SIdx<T>),
-    rest: &[Symbol<T>],
-) -> Result<Side<T>, AllocError>
-    ensures { IfOk result (λ x. side_of T.number x ≡ outside (side_of T.number side.now)
-        (T.number item.0.0) (T.number item.1.0) (symbols_of T.number rest.now)) }
+fn outside_side(
+    grm: &YaccGrammar<u32>,
+    side: &Side,
+    item: (PIdx<u32>, SIdx<u32>),
+    rest: &[Symbol<u32>],
+) -> Result<Side, AllocError>
+    ensures { IfOk result (λ x. side_of x ≡ outside (side_of side.now)
+        item.0.0 item.1.0 (symbols_of rest.now)) }
 {
     let behind = if side.is_cut { &rest[..0] } else { rest };
     let symbols = joined(grm.allocator(), side.symbols.as_slice(), behind)?;
@@ -178,19 +165,18 @@ fn outside_side<T: IndexStorage>(
 }
 
 /// Adds the node with its one way out at the item, where that stands before the rule.
-fn add_outside<T: IndexStorage>(
-    moves: &mut Vec<Node<T>>,
-    grm: &YaccGrammar<T>,
-    graph: &StateGraph<T>,
-    node: &Node<T>,
-    item: (PIdx<T>, SIdx<T>),
-    rule: RIdx<T>,
+fn add_outside(
+    moves: &mut Vec<Node>,
+    grm: &YaccGrammar<u32>,
+    graph: &StateGraph<u32>,
+    node: &Node,
+    item: (PIdx<u32>, SIdx<u32>),
+    rule: RIdx<u32>,
 ) -> Result<(), AllocError>
-    ensures kept { OnOk result (HasNodes (nodes_of T.number moves.old.items)
-        (nodes_of T.number moves.new.items)) }
-    ensures added { OnOk result (HasOutside graph.now grm.now (node_of T.number node.now)
-        (T.number rule.0) (T.number item.0.0) (T.number item.1.0)
-        (nodes_of T.number moves.new.items)) }
+    ensures kept { OnOk result (HasNodes (nodes_of moves.old.items) (nodes_of moves.new.items)) }
+    ensures added { OnOk result (HasOutside graph.now grm.now (node_of node.now)
+        rule.0 item.0.0 item.1.0
+        (nodes_of moves.new.items)) }
 {
     let production = usize::from(item.0);
     let count = usize::from(grm.prods_len());
@@ -213,16 +199,16 @@ fn add_outside<T: IndexStorage>(
 }
 
 /// The nodes with the one way out at each item before the rule, of which all are in the row.
-fn outsides<T: IndexStorage>(
-    grm: &YaccGrammar<T>,
-    graph: &StateGraph<T>,
-    node: &Node<T>,
-    rule: RIdx<T>,
-    row: &[(PIdx<T>, SIdx<T>)],
-) -> Result<Vec<Node<T>>, AllocError>
-    requires { HasUsesOfRule grm.now (T.number rule.0) (keys_of T.number row.now) }
-    ensures { IfOk result (λ v. HasAllOutside graph.now grm.now (node_of T.number node.now)
-        (T.number rule.0) (nodes_of T.number v.items)) }
+fn outsides(
+    grm: &YaccGrammar<u32>,
+    graph: &StateGraph<u32>,
+    node: &Node,
+    rule: RIdx<u32>,
+    row: &[(PIdx<u32>, SIdx<u32>)],
+) -> Result<Vec<Node>, AllocError>
+    requires { HasUsesOfRule grm.now rule.0 (keys_of number_of row.now) }
+    ensures { IfOk result (λ v. HasAllOutside graph.now grm.now (node_of node.now)
+        rule.0 (nodes_of v.items)) }
 {
     let mut moves = Vec::new(grm.allocator());
     for item in row {
@@ -233,15 +219,15 @@ fn outsides<T: IndexStorage>(
 
 /// The moves where the one way, its dot before its body, goes out to the items before its rule; None where it isn't before a
 /// body, or is in the start item.
-fn close<T: IndexStorage>(
-    grm: &YaccGrammar<T>,
-    graph: &StateGraph<T>,
-    ways: &Ways<T>,
-    node: &Node<T>,
-) -> Result<Option<Vec<Node<T>>>, AllocError>
-    requires { AreWaysOf T.number grm.now graph.now ways.now }
-    ensures { IfOk result (λ o. AreMoves grm.now graph.now (node_of T.number node.now)
-        (option_map (λ v. nodes_of T.number v.items) o)) }
+fn close(
+    grm: &YaccGrammar<u32>,
+    graph: &StateGraph<u32>,
+    ways: &Ways<u32>,
+    node: &Node,
+) -> Result<Option<Vec<Node>>, AllocError>
+    requires { AreWaysOf number_of grm.now graph.now ways.now }
+    ensures { IfOk result (λ o. AreMoves grm.now graph.now (node_of node.now)
+        (option_map (λ v. nodes_of v.items) o)) }
 {
     let dot = usize::from(node.one.dot);
     if dot > 0 {
@@ -265,16 +251,16 @@ fn close<T: IndexStorage>(
 
 /// The moves of the one way, or of both: where both derive something that the other has not met, its first symbol is replaced;
 /// else both go back, or it goes out.
-fn moves_of_one<T: IndexStorage>(
-    grm: &YaccGrammar<T>,
-    graph: &StateGraph<T>,
-    ways: &Ways<T>,
-    node: &Node<T>,
-) -> Result<Option<Vec<Node<T>>>, AllocError>
+fn moves_of_one(
+    grm: &YaccGrammar<u32>,
+    graph: &StateGraph<u32>,
+    ways: &Ways<u32>,
+    node: &Node,
+) -> Result<Option<Vec<Node>>, AllocError>
     requires graph { IsGraphOf grm.now graph.now }
-    requires ways { AreWaysOf T.number grm.now graph.now ways.now }
-    ensures { IfOk result (λ o. AreMoves grm.now graph.now (node_of T.number node.now)
-        (option_map (λ v. nodes_of T.number v.items) o)) }
+    requires ways { AreWaysOf number_of grm.now graph.now ways.now }
+    ensures { IfOk result (λ o. AreMoves grm.now graph.now (node_of node.now)
+        (option_map (λ v. nodes_of v.items) o)) }
 {
     if !node.one.symbols.is_empty() && !node.other.symbols.is_empty() {
         return expand(grm, graph, node);
@@ -286,16 +272,16 @@ fn moves_of_one<T: IndexStorage>(
 }
 
 /// The moves of the other way.
-fn moves_of_other<T: IndexStorage>(
-    grm: &YaccGrammar<T>,
-    graph: &StateGraph<T>,
-    ways: &Ways<T>,
-    node: &Node<T>,
-) -> Result<Option<Vec<Node<T>>>, AllocError>
+fn moves_of_other(
+    grm: &YaccGrammar<u32>,
+    graph: &StateGraph<u32>,
+    ways: &Ways<u32>,
+    node: &Node,
+) -> Result<Option<Vec<Node>>, AllocError>
     requires graph { IsGraphOf grm.now graph.now }
-    requires ways { AreWaysOf T.number grm.now graph.now ways.now }
-    ensures { IfOk result (λ o. AreMoves grm.now graph.now (node_of T.number node.now)
-        (option_map (λ v. nodes_of T.number v.items) o)) }
+    requires ways { AreWaysOf number_of grm.now graph.now ways.now }
+    ensures { IfOk result (λ o. AreMoves grm.now graph.now (node_of node.now)
+        (option_map (λ v. nodes_of v.items) o)) }
 {
     let swapped = node.swapped(grm.allocator())?;
     moves_of_one(grm, graph, ways, &swapped)
@@ -303,16 +289,16 @@ fn moves_of_other<T: IndexStorage>(
 
 /// The nodes to one of which each two ways that stand as the node says proceed: those of a move that is always there. None where
 /// there is no such move. A way of which nothing is left to meet goes out first.
-pub(crate) fn moves<T: IndexStorage>(
-    grm: &YaccGrammar<T>,
-    graph: &StateGraph<T>,
-    ways: &Ways<T>,
-    node: &Node<T>,
-) -> Result<Option<Vec<Node<T>>>, AllocError>
+pub(crate) fn moves(
+    grm: &YaccGrammar<u32>,
+    graph: &StateGraph<u32>,
+    ways: &Ways<u32>,
+    node: &Node,
+) -> Result<Option<Vec<Node>>, AllocError>
     requires graph { IsGraphOf grm.now graph.now }
-    requires ways { AreWaysOf T.number grm.now graph.now ways.now }
-    ensures { IfOk result (λ o. AreMoves grm.now graph.now (node_of T.number node.now)
-        (option_map (λ v. nodes_of T.number v.items) o)) }
+    requires ways { AreWaysOf number_of grm.now graph.now ways.now }
+    ensures { IfOk result (λ o. AreMoves grm.now graph.now (node_of node.now)
+        (option_map (λ v. nodes_of v.items) o)) }
 {
     if node.one.symbols.is_empty() {
         return match moves_of_one(grm, graph, ways, node)? {

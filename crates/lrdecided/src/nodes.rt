@@ -4,43 +4,43 @@ ghost use Rattle.std.specs.Prelude.{◌≡◌, ◌++◌, IfOk};
 ghost use Rattle.lrdecided.specs.Nodes.{swap};
 ghost use Rattle.lrdecided.specs.StoredNodes.{symbols_of, side_of, states_of, node_of};
 
-use lrgrammar::idx::{IndexStorage, PIdx, SIdx, StIdx, Symbol, TIdx};
+use lrgrammar::idx::{PIdx, SIdx, StIdx, Symbol, TIdx};
 use std::alloc::{AllocError, Global};
 
 /// One of two ways to read.
 #[derive(Drop)]
-pub struct Side<T> {
+pub struct Side {
     /// The production of the item at whose dot it stands.
-    pub production: PIdx<T>,
+    pub production: PIdx<u32>,
     /// The dot.
-    pub dot: SIdx<T>,
+    pub dot: SIdx<u32>,
     /// The symbols that it derives from there on, and that the other way has not met yet.
-    pub symbols: Vec<Symbol<T>>,
+    pub symbols: Vec<Symbol<u32>>,
     /// Whether these are only the beginning of what it derives so.
     pub is_cut: bool,
 }
 
 /// Both ways.
 #[derive(Drop)]
-pub struct Node<T> {
+pub struct Node {
     /// The one way.
-    pub one: Side<T>,
+    pub one: Side,
     /// The other way.
-    pub other: Side<T>,
+    pub other: Side,
     /// The states to which what both have before their dots may lead, upwards.
-    pub states: Vec<StIdx<T>>,
+    pub states: Vec<StIdx<u32>>,
     /// The token that comes next, if it is known.
-    pub next: Option<TIdx<T>>,
+    pub next: Option<TIdx<u32>>,
     /// In how many tokens the texts still agree; without a number in all.
     pub left: Option<usize>,
 }
 
 /// The symbols of both lists.
-pub(crate) fn joined<T: IndexStorage>(
+pub(crate) fn joined(
     alloc: Global,
-    symbols: &[Symbol<T>],
-    others: &[Symbol<T>],
-) -> Result<Vec<Symbol<T>>, AllocError>
+    symbols: &[Symbol<u32>],
+    others: &[Symbol<u32>],
+) -> Result<Vec<Symbol<u32>>, AllocError>
     ensures { IfOk result (λ v. v.items ≡ symbols.now ++ others.now) }
 {
     let mut all = Vec::from_slice(alloc, symbols)?;
@@ -48,10 +48,10 @@ pub(crate) fn joined<T: IndexStorage>(
     Ok(all)
 }
 
-impl<T: IndexStorage> Side<T> {
+impl Side {
     /// The same side.
-    pub(crate) fn copied(&self, alloc: Global) -> Result<Side<T>, AllocError>
-        ensures { IfOk result (λ x. side_of T.number x ≡ side_of T.number self.now) }
+    pub(crate) fn copied(&self, alloc: Global) -> Result<Side, AllocError>
+        ensures { IfOk result (λ x. side_of x ≡ side_of self.now) }
     {
         let symbols = Vec::from_slice(alloc, self.symbols.as_slice())?;
         Ok(Side {
@@ -63,17 +63,17 @@ impl<T: IndexStorage> Side<T> {
     }
 }
 
-impl<T: IndexStorage> Node<T> {
+impl Node {
     /// The node with this one way in these states.
     pub(crate) fn with_one(
         &self,
         alloc: Global,
-        one: Side<T>,
-        states: &[StIdx<T>],
-    ) -> Result<Node<T>, AllocError>
-        ensures { IfOk result (λ a. node_of T.number a ≡ record (node_of T.number self.now) {
-          one = side_of T.number one;
-          states = states_of T.number states.now;
+        one: Side,
+        states: &[StIdx<u32>],
+    ) -> Result<Node, AllocError>
+        ensures { IfOk result (λ a. node_of a ≡ record (node_of self.now) {
+          one = side_of one;
+          states = states_of states.now;
         }) }
     {
         let other = self.other.copied(alloc)?;
@@ -88,16 +88,16 @@ impl<T: IndexStorage> Node<T> {
     }
 
     /// The same node.
-    pub(crate) fn copied(&self, alloc: Global) -> Result<Node<T>, AllocError>
-        ensures { IfOk result (λ a. node_of T.number a ≡ node_of T.number self.now) }
+    pub(crate) fn copied(&self, alloc: Global) -> Result<Node, AllocError>
+        ensures { IfOk result (λ a. node_of a ≡ node_of self.now) }
     {
         let one = self.one.copied(alloc)?;
         self.with_one(alloc, one, self.states.as_slice())
     }
 
     /// The node with its ways exchanged.
-    pub(crate) fn swapped(&self, alloc: Global) -> Result<Node<T>, AllocError>
-        ensures { IfOk result (λ a. node_of T.number a ≡ swap (node_of T.number self.now)) }
+    pub(crate) fn swapped(&self, alloc: Global) -> Result<Node, AllocError>
+        ensures { IfOk result (λ a. node_of a ≡ swap (node_of self.now)) }
     {
         let one = self.other.copied(alloc)?;
         let other = self.one.copied(alloc)?;

@@ -5,6 +5,7 @@ ghost use Rattle.lrspec.specs.merging.Graph.{IsGraphOf};
 ghost use Rattle.lrconflicts.specs.Moves.{Shift};
 ghost use Rattle.lrconflicts.specs.StoredMoves.{move_of};
 ghost use Rattle.lrsearches.specs.StoredWays.{AreFingerprints};
+ghost use Rattle.lrdecided.specs.Numbers.{number_of};
 ghost use Rattle.lrdecided.specs.Moved.{HasNodes};
 ghost use Rattle.lrdecided.specs.Starts.{reduced, HasCores, HasSide, HasSides, KeepsSides, HasStarts, HasStartsOf};
 ghost use Rattle.lrdecided.specs.StoredNodes.{side_of, sides_of, states_of, nodes_of};
@@ -18,16 +19,15 @@ use lrgraphs::stategraph::StateGraph;
 use std::alloc::{AllocError, Global};
 
 /// The states with the core of the state, and those that can't be told from them.
-pub(crate) fn states_with_core<T: IndexStorage>(
-    grm: &YaccGrammar<T>,
-    graph: &StateGraph<T>,
+pub(crate) fn states_with_core(
+    grm: &YaccGrammar<u32>,
+    graph: &StateGraph<u32>,
     fingerprints: &[u64],
-    state: StIdx<T>,
-) -> Result<Vec<StIdx<T>>, AllocError>
+    state: StIdx<u32>,
+) -> Result<Vec<StIdx<u32>>, AllocError>
     requires fingerprints { AreFingerprints graph.now fingerprints.now }
-    requires state { T.number state.0 < length graph.now }
-    ensures { IfOk result
-        (λ v. HasCores graph.now (T.number state.0) (states_of T.number v.items)) }
+    requires state { state.0 < length graph.now }
+    ensures { IfOk result (λ v. HasCores graph.now state.0 (states_of v.items)) }
 {
     let place = usize::from(state);
     let fingerprint = fingerprints[place];
@@ -37,22 +37,21 @@ pub(crate) fn states_with_core<T: IndexStorage>(
         if other != fingerprint {
             continue;
         }
-        states.push(StIdx(T::from_usize(number).unwrap()))?;
+        states.push(StIdx(u32::from_usize(number).unwrap()))?;
     }
     Ok(states)
 }
 
 /// Adds the side at the dot of the item, if that stands before the token.
-fn add_side<T: IndexStorage>(
-    sides: &mut Vec<Side<T>>,
-    grm: &YaccGrammar<T>,
-    item: (PIdx<T>, SIdx<T>),
-    token: TIdx<T>,
+fn add_side(
+    sides: &mut Vec<Side>,
+    grm: &YaccGrammar<u32>,
+    item: (PIdx<u32>, SIdx<u32>),
+    token: TIdx<u32>,
 ) -> Result<(), AllocError>
-    ensures kept { OnOk result (KeepsSides (sides_of T.number sides.old.items)
-        (sides_of T.number sides.new.items)) }
-    ensures added { OnOk result (HasSide grm.now (T.number item.0.0) (T.number item.1.0)
-        (T.number token.0) (sides_of T.number sides.new.items)) }
+    ensures kept { OnOk result (KeepsSides (sides_of sides.old.items) (sides_of sides.new.items)) }
+    ensures added { OnOk result (HasSide grm.now item.0.0 item.1.0
+        token.0 (sides_of sides.new.items)) }
 {
     let production = usize::from(item.0);
     let count = usize::from(grm.prods_len());
@@ -76,15 +75,15 @@ fn add_side<T: IndexStorage>(
 }
 
 /// How a way may stand that goes on with the shift of the token in the state.
-fn shifts<T: IndexStorage>(
-    grm: &YaccGrammar<T>,
-    graph: &StateGraph<T>,
-    state: StIdx<T>,
-    token: TIdx<T>,
-) -> Result<Vec<Side<T>>, AllocError>
-    requires { T.number state.0 < length graph.now }
-    ensures { IfOk result (λ v. HasSides grm.now graph.now (T.number state.0) (T.number token.0)
-        Shift (sides_of T.number v.items)) }
+fn shifts(
+    grm: &YaccGrammar<u32>,
+    graph: &StateGraph<u32>,
+    state: StIdx<u32>,
+    token: TIdx<u32>,
+) -> Result<Vec<Side>, AllocError>
+    requires { state.0 < length graph.now }
+    ensures { IfOk result (λ v. HasSides grm.now graph.now state.0 token.0
+        Shift (sides_of v.items)) }
 {
     let mut sides = Vec::new(grm.allocator());
     for (key, _ctx) in &graph.closed_state(state).items {
@@ -94,13 +93,9 @@ fn shifts<T: IndexStorage>(
 }
 
 /// How a way stands that goes on with the reduction.
-fn reduction<T: IndexStorage>(
-    grm: &YaccGrammar<T>,
-    pidx: PIdx<T>,
-) -> Result<Vec<Side<T>>, AllocError>
-    requires { T.number pidx.0 < length grm.now.productions }
-    ensures { IfOk result (λ v. Contains (sides_of T.number v.items)
-        (reduced grm.now (T.number pidx.0))) }
+fn reduction(grm: &YaccGrammar<u32>, pidx: PIdx<u32>) -> Result<Vec<Side>, AllocError>
+    requires { pidx.0 < length grm.now.productions }
+    ensures { IfOk result (λ v. Contains (sides_of v.items) (reduced grm.now pidx.0)) }
 {
     let dot = grm.prod_len(pidx);
     let symbols = Vec::new(grm.allocator());
@@ -115,16 +110,16 @@ fn reduction<T: IndexStorage>(
 }
 
 /// How a way may stand that goes on with the move in the state on the token; None where there is no such production.
-pub(crate) fn sides_before<T: IndexStorage>(
-    grm: &YaccGrammar<T>,
-    graph: &StateGraph<T>,
-    state: StIdx<T>,
-    token: TIdx<T>,
-    action: Move<T>,
-) -> Result<Option<Vec<Side<T>>>, AllocError>
-    requires { T.number state.0 < length graph.now }
-    ensures { IfOk result (λ o. IfSome o (λ v. HasSides grm.now graph.now (T.number state.0)
-        (T.number token.0) (move_of T.number action) (sides_of T.number v.items))) }
+pub(crate) fn sides_before(
+    grm: &YaccGrammar<u32>,
+    graph: &StateGraph<u32>,
+    state: StIdx<u32>,
+    token: TIdx<u32>,
+    action: Move<u32>,
+) -> Result<Option<Vec<Side>>, AllocError>
+    requires { state.0 < length graph.now }
+    ensures { IfOk result (λ o. IfSome o (λ v. HasSides grm.now graph.now state.0
+        token.0 (move_of number_of action) (sides_of v.items))) }
 {
     match action {
         Move::Shift => {
@@ -142,20 +137,19 @@ pub(crate) fn sides_before<T: IndexStorage>(
 }
 
 /// Adds the nodes of the one side with each of the others.
-fn add_starts<T: IndexStorage>(
-    starts: &mut Vec<Node<T>>,
+fn add_starts(
+    starts: &mut Vec<Node>,
     alloc: Global,
-    one: &Side<T>,
-    others: &[Side<T>],
-    states: &[StIdx<T>],
-    token: TIdx<T>,
+    one: &Side,
+    others: &[Side],
+    states: &[StIdx<u32>],
+    token: TIdx<u32>,
     left: Option<usize>,
 ) -> Result<(), AllocError>
-    ensures kept { OnOk result (HasNodes (nodes_of T.number starts.old.items)
-        (nodes_of T.number starts.new.items)) }
-    ensures added { OnOk result (HasStartsOf (side_of T.number one.now)
-        (sides_of T.number others.now) (states_of T.number states.now) (T.number token.0) left
-        (nodes_of T.number starts.new.items)) }
+    ensures kept { OnOk result (HasNodes (nodes_of starts.old.items) (nodes_of starts.new.items)) }
+    ensures added { OnOk result (HasStartsOf (side_of one.now)
+        (sides_of others.now) (states_of states.now) token.0 left
+        (nodes_of starts.new.items)) }
 {
     for other in others {
         let first = one.copied(alloc)?;
@@ -173,17 +167,17 @@ fn add_starts<T: IndexStorage>(
 }
 
 /// The nodes of each of the first sides with each of the second.
-pub(crate) fn starts<T: IndexStorage>(
+pub(crate) fn starts(
     alloc: Global,
-    ones: &[Side<T>],
-    others: &[Side<T>],
-    states: &[StIdx<T>],
-    token: TIdx<T>,
+    ones: &[Side],
+    others: &[Side],
+    states: &[StIdx<u32>],
+    token: TIdx<u32>,
     left: Option<usize>,
-) -> Result<Vec<Node<T>>, AllocError>
-    ensures { IfOk result (λ v. HasStarts (sides_of T.number ones.now)
-        (sides_of T.number others.now) (states_of T.number states.now) (T.number token.0) left
-        (nodes_of T.number v.items)) }
+) -> Result<Vec<Node>, AllocError>
+    ensures { IfOk result (λ v. HasStarts (sides_of ones.now)
+        (sides_of others.now) (states_of states.now) token.0 left
+        (nodes_of v.items)) }
 {
     let mut starts = Vec::new(alloc);
     for one in ones {

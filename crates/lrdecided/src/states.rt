@@ -4,12 +4,13 @@ ghost use Rattle.std.specs.Prelude.{◌≡◌, ◌<◌, false, length, IsTrue, I
 ghost use Rattle.lrspec.specs.grammars.ItemSets.{HasItem};
 ghost use Rattle.lrspec.specs.merging.Graph.{closed_of, IsGraphOf};
 ghost use Rattle.lrsearches.specs.StoredWays.{row_of, AreIncoming};
+ghost use Rattle.lrdecided.specs.Numbers.{number_of};
 ghost use Rattle.lrdecided.specs.Moved.{HasBefore, HasWithItem};
 ghost use Rattle.lrdecided.specs.StoredNodes.{states_of};
 ghost use Rattle.lrdecided.specs.StoredStates.{AreSeen, IsMarked, KeepsStates, HasSources};
 
 use lrgrammar::grammar::YaccGrammar;
-use lrgrammar::idx::{IndexStorage, PIdx, SIdx, StIdx, Symbol};
+use lrgrammar::idx::{PIdx, SIdx, StIdx, Symbol};
 use lrgrammar::vob::Vob;
 use lrgraphs::stategraph::StateGraph;
 use std::alloc::AllocError;
@@ -26,18 +27,18 @@ fn mark(seen: &mut Vob, place: usize) -> bool
 }
 
 /// Adds the states from which the edges lead, if they were not seen.
-fn add_sources<T: IndexStorage>(
+fn add_sources(
     seen: &mut Vob,
-    before: &mut Vec<StIdx<T>>,
-    row: &[(Symbol<T>, StIdx<T>)],
+    before: &mut Vec<StIdx<u32>>,
+    row: &[(Symbol<u32>, StIdx<u32>)],
 ) -> Result<(), AllocError>
-    requires { AreSeen seen.old (states_of T.number before.old.items) }
+    requires { AreSeen seen.old (states_of before.old.items) }
     ensures size { length seen.new ≡ length seen.old }
-    ensures seen { OnOk result (AreSeen seen.new (states_of T.number before.new.items)) }
-    ensures kept { OnOk result (KeepsStates (states_of T.number before.old.items)
-        (states_of T.number before.new.items)) }
-    ensures added { OnOk result (HasSources (row_of T.number row.now)
-        (states_of T.number before.new.items)) }
+    ensures seen { OnOk result (AreSeen seen.new (states_of before.new.items)) }
+    ensures kept { OnOk result (KeepsStates (states_of before.old.items)
+        (states_of before.new.items)) }
+    ensures added { OnOk result (HasSources (row_of number_of row.now)
+        (states_of before.new.items)) }
 {
     for edge in row {
         if !mark(seen, usize::from(edge.1)) {
@@ -49,16 +50,15 @@ fn add_sources<T: IndexStorage>(
 }
 
 /// The states from which edges lead to one of the states, upwards.
-pub(crate) fn states_before<T: IndexStorage>(
-    grm: &YaccGrammar<T>,
-    graph: &StateGraph<T>,
-    incoming: &[Vec<(Symbol<T>, StIdx<T>)>],
-    states: &[StIdx<T>],
-) -> Result<Vec<StIdx<T>>, AllocError>
+pub(crate) fn states_before(
+    grm: &YaccGrammar<u32>,
+    graph: &StateGraph<u32>,
+    incoming: &[Vec<(Symbol<u32>, StIdx<u32>)>],
+    states: &[StIdx<u32>],
+) -> Result<Vec<StIdx<u32>>, AllocError>
     requires graph { IsGraphOf grm.now graph.now }
-    requires incoming { AreIncoming T.number graph.now incoming.now }
-    ensures { IfOk result (λ v. HasBefore graph.now (states_of T.number states.now)
-        (states_of T.number v.items)) }
+    requires incoming { AreIncoming number_of graph.now incoming.now }
+    ensures { IfOk result (λ v. HasBefore graph.now (states_of states.now) (states_of v.items)) }
 {
     let count = usize::from(graph.all_states_len());
     let mut seen = Vob::from_elem(grm.allocator(), false, count)?;
@@ -75,13 +75,8 @@ pub(crate) fn states_before<T: IndexStorage>(
 }
 
 /// Whether the closed state of the state has the item.
-fn has_item<T: IndexStorage>(
-    graph: &StateGraph<T>,
-    state: StIdx<T>,
-    item: (PIdx<T>, SIdx<T>),
-) -> bool
-    ensures { result ≡ false → ¬ (HasItem (closed_of graph.now (T.number state.0))
-        (T.number item.0.0) (T.number item.1.0)) }
+fn has_item(graph: &StateGraph<u32>, state: StIdx<u32>, item: (PIdx<u32>, SIdx<u32>)) -> bool
+    ensures { result ≡ false → ¬ (HasItem (closed_of graph.now state.0) item.0.0 item.1.0) }
 {
     if usize::from(state) >= usize::from(graph.all_states_len()) {
         return false;
@@ -93,14 +88,14 @@ fn has_item<T: IndexStorage>(
 }
 
 /// Those of the states whose closed state has the item.
-pub(crate) fn states_with_item<T: IndexStorage>(
-    grm: &YaccGrammar<T>,
-    graph: &StateGraph<T>,
-    states: &[StIdx<T>],
-    item: (PIdx<T>, SIdx<T>),
-) -> Result<Vec<StIdx<T>>, AllocError>
-    ensures { IfOk result (λ v. HasWithItem graph.now (T.number item.0.0) (T.number item.1.0)
-        (states_of T.number states.now) (states_of T.number v.items)) }
+pub(crate) fn states_with_item(
+    grm: &YaccGrammar<u32>,
+    graph: &StateGraph<u32>,
+    states: &[StIdx<u32>],
+    item: (PIdx<u32>, SIdx<u32>),
+) -> Result<Vec<StIdx<u32>>, AllocError>
+    ensures { IfOk result (λ v. HasWithItem graph.now item.0.0 item.1.0
+        (states_of states.now) (states_of v.items)) }
 {
     let mut kept = Vec::new(grm.allocator());
     for state in states {

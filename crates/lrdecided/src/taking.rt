@@ -13,13 +13,13 @@ use crate::impossibility::{is_impossible, spent};
 use crate::nodes::{Node, Side};
 use lrgrammar::firsts::YaccFirsts;
 use lrgrammar::grammar::YaccGrammar;
-use lrgrammar::idx::{IndexStorage, Symbol, TIdx};
+use lrgrammar::idx::{Symbol, TIdx};
 use std::alloc::AllocError;
 
 /// The first of the symbols, if it is a token.
-fn first_token<T: IndexStorage>(symbols: &[Symbol<T>]) -> Option<TIdx<T>>
-    ensures { IfSome result (λ t. symbols_of T.number symbols.now
-        ≡ math.Token (T.number t.0) ∷ drop 1 (symbols_of T.number symbols.now)) }
+fn first_token(symbols: &[Symbol<u32>]) -> Option<TIdx<u32>>
+    ensures { IfSome result (λ t. symbols_of symbols.now
+        ≡ math.Token t.0 ∷ drop 1 (symbols_of symbols.now)) }
 {
     if symbols.is_empty() {
         return None;
@@ -31,23 +31,23 @@ fn first_token<T: IndexStorage>(symbols: &[Symbol<T>]) -> Option<TIdx<T>>
 }
 
 /// Takes the first symbol away.
-fn drop_first<T: IndexStorage>(side: &mut Side<T>)
+fn drop_first(side: &mut Side)
     requires { 0 < length side.old.symbols.items }
-    ensures side { side_of T.number side.new ≡ nodes.with_symbols (side_of T.number side.old)
-        (drop 1 (side_of T.number side.old).symbols) }
+    ensures side { side_of side.new ≡ nodes.with_symbols (side_of side.old)
+        (drop 1 (side_of side.old).symbols) }
     ensures shorter { length side.new.symbols.items < length side.old.symbols.items }
 {
     side.symbols.remove(0);
 }
 
 /// Takes the token that both ways have next, if there is one that they may take; answers whether.
-fn take_token<T: IndexStorage>(node: &mut Node<T>) -> bool
+fn take_token(node: &mut Node) -> bool
     ensures settled { IsTrue result → (g : math.Grammar) (listed : List nodes.Node)
-        → IsSettled g listed (node_of T.number node.new)
-        → IsSettled g listed (node_of T.number node.old) }
+        → IsSettled g listed (node_of node.new)
+        → IsSettled g listed (node_of node.old) }
     ensures shorter { IsTrue result
         → length node.new.one.symbols.items < length node.old.one.symbols.items }
-    ensures same { result ≡ false → node_of T.number node.new ≡ node_of T.number node.old }
+    ensures same { result ≡ false → node_of node.new ≡ node_of node.old }
 {
     let Some(token) = first_token(node.one.symbols.as_slice()) else {
         return false;
@@ -71,17 +71,17 @@ fn take_token<T: IndexStorage>(node: &mut Node<T>) -> bool
 }
 
 /// Takes the tokens that both ways have next.
-fn take_tokens<T: IndexStorage>(node: &mut Node<T>)
+fn take_tokens(node: &mut Node)
     ensures { (g : math.Grammar) (listed : List nodes.Node)
-        → IsSettled g listed (node_of T.number node.new)
-        → IsSettled g listed (node_of T.number node.old) }
+        → IsSettled g listed (node_of node.new)
+        → IsSettled g listed (node_of node.old) }
 {
     while take_token(node) {}
 }
 
 /// Cuts the symbols to so many.
-fn cut_side<T: IndexStorage>(side: &mut Side<T>, most: usize)
-    ensures { SideCovers (side_of T.number side.new) (side_of T.number side.old) }
+fn cut_side(side: &mut Side, most: usize)
+    ensures { SideCovers (side_of side.new) (side_of side.old) }
 {
     if side.symbols.len() > most {
         side.symbols.truncate(most);
@@ -90,23 +90,22 @@ fn cut_side<T: IndexStorage>(side: &mut Side<T>, most: usize)
 }
 
 /// Cuts the symbols of both ways to so many.
-fn cut<T: IndexStorage>(node: &mut Node<T>, most: usize)
-    ensures { Covers (node_of T.number node.new) (node_of T.number node.old) }
+fn cut(node: &mut Node, most: usize)
+    ensures { Covers (node_of node.new) (node_of node.old) }
 {
     cut_side(&mut node.one, most);
     cut_side(&mut node.other, most);
 }
 
 /// To what the node comes, where of what a way derives only so many symbols are kept; None where no two ways stand so.
-pub(crate) fn normed<T: IndexStorage>(
-    grm: &YaccGrammar<T>,
-    firsts: &YaccFirsts<T>,
-    node: &Node<T>,
+pub(crate) fn normed(
+    grm: &YaccGrammar<u32>,
+    firsts: &YaccFirsts<u32>,
+    node: &Node,
     most: usize,
-) -> Result<Option<Node<T>>, AllocError>
+) -> Result<Option<Node>, AllocError>
     requires { AreFirstsOf grm.now firsts.now }
-    ensures { IfOk result (λ o. ComesTo grm.now (node_of T.number node.now)
-        (option_map (node_of T.number) o)) }
+    ensures { IfOk result (λ o. ComesTo grm.now (node_of node.now) (option_map node_of o)) }
 {
     let mut to = node.copied(grm.allocator())?;
     take_tokens(&mut to);

@@ -55,8 +55,8 @@ fn move_against(other: Option<usize>) -> Option<Move<u32>>
 }
 
 /// The two moves that meet in an entry; None where its numbers are too large for 32 bits.
-pub fn meeting(entry: Entry) -> Option<lrdecided::Entry<u32>>
-    ensures { IfSome result (λ e. entry_of number_of e ≡ meeting_of entry) }
+pub fn meeting(entry: Entry) -> Option<lrdecided::Entry>
+    ensures { IfSome result (λ e. entry_of e ≡ meeting_of entry) }
 {
     let other = move_against(entry.other)?;
     let production = u32::from_usize(entry.production)?;

@@ -1,8 +1,6 @@
 -- lists that are gone through, and what is asked by them
-use Rattle.std.proofs.Common.{◌≡◌, ℕ, ◌+◌, ◌<◌, List, [], ◌∷◌, length, map, get_or, drop, refl, sym, subst, ◌⊎◌, inl, inr}
+use Rattle.std.proofs.Common.{◌≡◌, List, [], ◌∷◌, sym, subst, ◌⊎◌, inl, inr}
 use Rattle.std.specs.Prelude.{Contains}
-use Rattle.std.proofs.lemmas.List.{get_or_default}
-use Rattle.lrclosing.proofs.SymbolsBehindDots.{left_at}
 use Rattle.lrdecided.proofs.CollectedInTurn.{first_or_behind, none_contained}
 
 -- each element of a list that is not left is so
@@ -26,7 +24,3 @@ next_all P Q all left y k more here = record {
 
 pub end_all : {A : Type 0} (P : A → Type 0) (all left : List A) → left ≡ [] → AllBut P all left → (x : A) → Contains all x → P x
 end_all P all left e k x i = elim (k.so x i) [ inl j ↦ absurd (none_contained x (rw e at j)) | inr j ↦ j ]
-
--- what is left of a list at a place
-pub left_there : {X Y : Type 0} (f : X → Y) (xs : List X) (i : ℕ) (d : X) → i < length xs → map f (drop i xs) ≡ f (get_or xs i d) ∷ map f (drop (i + 1) xs)
-left_there f xs i d l = left_at f xs i (get_or xs i d) (get_or xs i d) l (get_or_default xs i d (get_or xs i d) l) refl

@@ -6,8 +6,6 @@ pub mod Exchanges
 pub mod Asked
 -- positions that sink
 pub mod Sinking
--- the numbers of indices
-pub mod Numbers
 -- acts, as the code stores them
 pub mod StoredActs
 -- positions, as the code stores them

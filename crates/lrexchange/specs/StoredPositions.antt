@@ -10,7 +10,7 @@ use Rattle.lrexchange.specs.declared.positions.Ours as own
 use Rattle.lrexchange.specs.declared.positions.Turn as stored
 use Rattle.lrexchange.specs.declared.positions.Turn.TheVariants as code
 use Rattle.lrexchange.specs.declared.positions.Position as kept
-use Rattle.lrexchange.specs.Numbers.{number_of}
+use Rattle.lrdecided.specs.Numbers.{number_of}
 use Rattle.lrexchange.specs.Positions.{Mark, Ours, Turn, Even, Open, Ahead, Before, Behind, Position}
 
 -- symbols by their numbers

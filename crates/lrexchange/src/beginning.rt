@@ -5,7 +5,7 @@ ghost use Rattle.lrgrammar.specs.Symbols.{symbol_of};
 ghost use Rattle.lrsearches.specs.StoredWays.{AreWaysOf};
 ghost use Rattle.lrconflicts.specs.Moves.{Shift, Reduce};
 ghost use Rattle.lrconflicts.specs.StoredMoves.{move_of};
-ghost use Rattle.lrexchange.specs.Numbers.{number_of};
+ghost use Rattle.lrdecided.specs.Numbers.{number_of};
 ghost use Rattle.lrexchange.specs.Asked.{AllOwn};
 ghost use Rattle.lrexchange.specs.Exchanges.{at, Begins};
 ghost use Rattle.lrexchange.specs.StoredPositions.{symbols_of, turn_of, position_of, positions_of};

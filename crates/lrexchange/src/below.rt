@@ -3,7 +3,7 @@
 ghost use Rattle.std.specs.Prelude.{◌≡◌, ◌∷◌, IfOk, IfSome, OnOk};
 ghost use Rattle.lrgrammar.specs.Symbols.{symbol_of};
 ghost use Rattle.lrsearches.specs.StoredWays.{row_of, AreIncoming};
-ghost use Rattle.lrexchange.specs.Numbers.{number_of};
+ghost use Rattle.lrdecided.specs.Numbers.{number_of};
 ghost use Rattle.lrexchange.specs.Asked.{AreStepsBack, KeepsBelows, HasSteps, AreBelow};
 ghost use Rattle.lrexchange.specs.StoredPositions.{symbols_of, belows_of};
 

@@ -3,7 +3,7 @@
 ghost use Rattle.std.specs.Prelude.{Contains, IfOk, IfSome, IsTrue};
 ghost use Rattle.lrgrammar.specs.Symbols.{symbol_of};
 ghost use Rattle.lrsearches.specs.StoredWays.{AreWaysOf};
-ghost use Rattle.lrexchange.specs.Numbers.{number_of};
+ghost use Rattle.lrdecided.specs.Numbers.{number_of};
 ghost use Rattle.lrexchange.specs.Asked.{IsBeforeLast, Unmarks};
 ghost use Rattle.lrexchange.specs.Exchanges.{Retreats};
 ghost use Rattle.lrexchange.specs.StoredPositions.{symbols_of, position_of, positions_of};

@@ -4,7 +4,7 @@ ghost use Rattle.std.specs.Prelude.{◌≡◌, ◌<◌, ◌↔◌, [], ◌∷◌
 ghost use Rattle.lrspec.specs.grammars.First.{AllNullable};
 ghost use Rattle.lrgrammar.specs.Firsts.{AreFirstsOf};
 ghost use Rattle.lrgrammar.specs.Symbols.{symbol_of};
-ghost use Rattle.lrexchange.specs.Numbers.{number_of};
+ghost use Rattle.lrdecided.specs.Numbers.{number_of};
 ghost use Rattle.lrkept.specs.Pairs.{StandsAlone, AreAlone, HasAloneOf, KeepsPairs, ArePairsOf, IsAddedAt};
 
 use lrgrammar::firsts::YaccFirsts;

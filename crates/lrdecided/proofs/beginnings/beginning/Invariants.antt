@@ -5,6 +5,5 @@ use Rattle.lrdecided.proofs.BeginningsInTurn.{Begun}
 use Rattle.lrdecided.proofs.beginnings.beginning.Given as goal
 
 abbrev pub invariant-loop-symbol : goal.invariant-loop-symbol
-invariant-loop-symbol g l =
-    let number = g.T.IndexStorage.number in
-    Begun l.grm (symbols_of number l.symbols) (symbols_of number (drop l.symbol-index l.symbols)) l.tokens
+invariant-loop-symbol l =
+    Begun l.grm (symbols_of l.symbols) (symbols_of (drop l.symbol-index l.symbols)) l.tokens

@@ -6,6 +6,5 @@ use Rattle.lrdecided.specs.StoredNodes.{node_of, nodes_of}
 use Rattle.lrdecided.proofs.checking.all_proceed.Given as goal
 
 abbrev pub invariant-loop-node : goal.invariant-loop-node
-invariant-loop-node g l =
-    let number = g.T.IndexStorage.number in
-    All (λ a. Proceeds l.grm l.graph (IsSettled l.grm (nodes_of number l.listing.nodes.items)) (node_of number a)) (take l.node-index l.listing.nodes.items)
+invariant-loop-node l =
+    All (λ a. Proceeds l.grm l.graph (IsSettled l.grm (nodes_of l.listing.nodes.items)) (node_of a)) (take l.node-index l.listing.nodes.items)

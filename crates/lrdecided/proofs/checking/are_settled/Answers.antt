@@ -5,12 +5,10 @@ use Rattle.lrdecided.proofs.SameNodes.{all_more, all_of}
 use Rattle.lrdecided.proofs.checking.are_settled.Goals as goal
 
 pub loop-node-preserved : goal.loop-node-preserved
-loop-node-preserved g c =
-    let number = g.T.IndexStorage.number in
-    all_more (node_of number) (IsSettled c.args.grm.now (nodes_of number c.args.listing.now.nodes.items)) c.args.nodes.now c.loop-node.node-index c.node-item.result
+loop-node-preserved c =
+    all_more node_of (IsSettled c.args.grm.now (nodes_of c.args.listing.now.nodes.items)) c.args.nodes.now c.loop-node.node-index c.node-item.result
     c.loop-node-test.true c.node-item.is c.loop-node.invariant (c.in_ok-is_settled.ensures c.if-not-branch.false)
 
 pub returns : goal.returns
-returns g c = λ t.
-    let number = g.T.IndexStorage.number in
-    all_of (node_of number) (IsSettled c.args.grm.now (nodes_of number c.args.listing.now.nodes.items)) c.args.nodes.now c.loop-node.node-index c.loop-node-test.false c.loop-node.invariant
+returns c = λ t.
+    all_of node_of (IsSettled c.args.grm.now (nodes_of c.args.listing.now.nodes.items)) c.args.nodes.now c.loop-node.node-index c.loop-node-test.false c.loop-node.invariant

@@ -5,10 +5,10 @@ use Rattle.lrdecided.proofs.CollectedInTurn.{kept, added}
 use Rattle.lrdecided.proofs.contending.add_complete.Goals as goal
 
 pub returns-then-goes_on-clause-added : goal.returns-then-goes_on-clause-added
-returns-then-goes_on-clause-added g c = λ whole. absurd (omega (arith, whole, c.goes_on.ensures c.if-goes_on.true))
+returns-then-goes_on-clause-added c = λ whole. absurd (omega (arith, whole, c.goes_on.ensures c.if-goes_on.true))
 
 pub returns-clause-kept : goal.returns-clause-kept
-returns-clause-kept g c = kept (complete_of g.T.IndexStorage.number) _ _ _ c.in_ok-push.ensures.items
+returns-clause-kept c = kept complete_of _ _ _ c.in_ok-push.ensures.items
 
 pub returns-clause-added : goal.returns-clause-added
-returns-clause-added g c = λ whole. added (complete_of g.T.IndexStorage.number) _ _ _ c.in_ok-push.ensures.items _ refl
+returns-clause-added c = λ whole. added complete_of _ _ _ c.in_ok-push.ensures.items _ refl

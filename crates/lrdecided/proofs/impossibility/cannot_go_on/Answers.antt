@@ -5,6 +5,5 @@ use Rattle.lrdecided.specs.StoredNodes.{next_of}
 use Rattle.lrdecided.proofs.impossibility.cannot_go_on.Goals as goal
 
 pub returns-in-Some : goal.returns-in-Some
-returns-in-Some g c = λ t gr a b e.
-    let number = g.T.IndexStorage.number in
-    rule.IsImpossible.known (number c.in-Some.token.0) (e ∙ ap (next_of number) c.in-Some.is) (rw c.from.ensures at (c.cannot_begin.ensures t gr a.one.symbols b))
+returns-in-Some c = λ t gr a b e.
+    rule.IsImpossible.known c.in-Some.token.0 (e ∙ ap next_of c.in-Some.is) (rw c.from.ensures at (c.cannot_begin.ensures t gr a.one.symbols b))

@@ -5,19 +5,16 @@ use Rattle.lrdecided.specs.StoredNodes.{side_of, states_of, node_of}
 use Rattle.lrdecided.proofs.impossibility.is_impossible_by.Goals as goal
 
 pub returns-then-is_nowhere : goal.returns-then-is_nowhere
-returns-then-is_nowhere g c = λ t. rule.IsImpossible.nowhere (rw c.as_slice.ensures.value at (c.is_nowhere.ensures c.if-is_nowhere.true))
+returns-then-is_nowhere c = λ t. rule.IsImpossible.nowhere (rw c.as_slice.ensures.value at (c.is_nowhere.ensures c.if-is_nowhere.true))
 
 pub returns-then-are_apart : goal.returns-then-are_apart
-returns-then-are_apart g c = λ t.
-    let number = g.T.IndexStorage.number in
-    c.are_apart.ensures c.if-are_apart.true c.args.grm.now (node_of number c.args.node.now) c.requires.one c.requires.other refl
+returns-then-are_apart c = λ t.
+    c.are_apart.ensures c.if-are_apart.true c.args.grm.now (node_of c.args.node.now) c.requires.one c.requires.other refl
 
 pub returns-then-is_refused : goal.returns-then-is_refused
-returns-then-is_refused g c = λ t.
-    let number = g.T.IndexStorage.number in
-    c.is_refused.ensures c.if-is_refused.true (side_of number c.args.node.now.other) (states_of number c.args.node.now.states.items) c.requires.one c.requires.other
+returns-then-is_refused c = λ t.
+    c.is_refused.ensures c.if-is_refused.true (side_of c.args.node.now.other) (states_of c.args.node.now.states.items) c.requires.one c.requires.other
 
 pub returns : goal.returns
-returns g c = λ t.
-    let number = g.T.IndexStorage.number in
-    rule.IsImpossible.swapped (c.is_refused-2.ensures t (side_of number c.args.node.now.one) (states_of number c.args.node.now.states.items) c.requires.other c.requires.one)
+returns c = λ t.
+    rule.IsImpossible.swapped (c.is_refused-2.ensures t (side_of c.args.node.now.one) (states_of c.args.node.now.states.items) c.requires.other c.requires.one)

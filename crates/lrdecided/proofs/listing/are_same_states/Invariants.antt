@@ -4,6 +4,5 @@ use Rattle.lrdecided.specs.StoredNodes.{states_of}
 use Rattle.lrdecided.proofs.listing.are_same_states.Given as goal
 
 abbrev pub invariant-loop-i : goal.invariant-loop-i
-invariant-loop-i g l =
-    let number = g.T.IndexStorage.number in
-    states_of number (take l.i l.a) ≡ states_of number (take l.i l.b)
+invariant-loop-i l =
+    states_of (take l.i l.a) ≡ states_of (take l.i l.b)

@@ -4,6 +4,5 @@ use Rattle.lrdecided.specs.StoredNodes.{symbols_of}
 use Rattle.lrdecided.proofs.listing.are_same_symbols.Given as goal
 
 abbrev pub invariant-loop-i : goal.invariant-loop-i
-invariant-loop-i g l =
-    let number = g.T.IndexStorage.number in
-    symbols_of number (take l.i l.a) ≡ symbols_of number (take l.i l.b)
+invariant-loop-i l =
+    symbols_of (take l.i l.a) ≡ symbols_of (take l.i l.b)

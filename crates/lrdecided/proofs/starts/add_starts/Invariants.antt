@@ -6,11 +6,10 @@ use Rattle.lrdecided.proofs.FoundStarts.{HasStartsBut}
 use Rattle.lrdecided.proofs.starts.add_starts.Given as goal
 
 abbrev pub invariant-loop-other : goal.invariant-loop-other
-invariant-loop-other g l =
-    let number = g.T.IndexStorage.number in
+invariant-loop-other l =
     record {
-      kept : HasNodes (nodes_of number l.fn.starts.items) (nodes_of number l.starts.items);
+      kept : HasNodes (nodes_of l.fn.starts.items) (nodes_of l.starts.items);
       so_far :
-          HasStartsBut (side_of number l.one) (sides_of number l.others) (sides_of number (drop l.other-index l.others)) (states_of number l.states) (number l.token.0) l.left
-          (nodes_of number l.starts.items);
+          HasStartsBut (side_of l.one) (sides_of l.others) (sides_of (drop l.other-index l.others)) (states_of l.states) l.token.0 l.left
+          (nodes_of l.starts.items);
     }

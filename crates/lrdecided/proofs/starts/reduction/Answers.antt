@@ -6,7 +6,6 @@ use Rattle.lrdecided.proofs.FoundStarts.{reduced_so}
 use Rattle.lrdecided.proofs.starts.reduction.Goals as goal
 
 pub returns : goal.returns
-returns g c =
-    let number = g.T.IndexStorage.number in
-    added (side_of number) _ _ _ c.in_ok-push.ensures.items _
-    (reduced_so c.args.grm.now (number c.args.pidx.0) (number c.prod_len-dot.result.0) _ c.prod_len-dot.ensures (ap (symbols_of number) c.new-symbols.ensures.items))
+returns c =
+    added side_of _ _ _ c.in_ok-push.ensures.items _
+    (reduced_so c.args.grm.now c.args.pidx.0 c.prod_len-dot.result.0 _ c.prod_len-dot.ensures (ap symbols_of c.new-symbols.ensures.items))

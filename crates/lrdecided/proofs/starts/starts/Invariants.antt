@@ -5,7 +5,6 @@ use Rattle.lrdecided.proofs.FoundStarts.{HasAllStartsBut}
 use Rattle.lrdecided.proofs.starts.starts.Given as goal
 
 abbrev pub invariant-loop-one : goal.invariant-loop-one
-invariant-loop-one g l =
-    let number = g.T.IndexStorage.number in
-    HasAllStartsBut (sides_of number l.ones) (sides_of number (drop l.one-index l.ones)) (sides_of number l.others) (states_of number l.states) (number l.token.0) l.left
-    (nodes_of number l.starts.items)
+invariant-loop-one l =
+    HasAllStartsBut (sides_of l.ones) (sides_of (drop l.one-index l.ones)) (sides_of l.others) (states_of l.states) l.token.0 l.left
+    (nodes_of l.starts.items)

@@ -4,6 +4,5 @@ use Rattle.lrdecided.proofs.FoundStarts.{HasCoresBelow}
 use Rattle.lrdecided.proofs.starts.states_with_core.Given as goal
 
 abbrev pub invariant-loop-number : goal.invariant-loop-number
-invariant-loop-number g l =
-    let number = g.T.IndexStorage.number in
-    HasCoresBelow l.graph (number l.fn.state.0) l.number (states_of number l.states.items)
+invariant-loop-number l =
+    HasCoresBelow l.graph l.fn.state.0 l.number (states_of l.states.items)

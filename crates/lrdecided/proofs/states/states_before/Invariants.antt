@@ -6,9 +6,8 @@ use Rattle.lrdecided.proofs.CollectedInTurn.{HasBeforeSo}
 use Rattle.lrdecided.proofs.states.states_before.Given as goal
 
 abbrev pub invariant-loop-state : goal.invariant-loop-state
-invariant-loop-state g l =
-    let number = g.T.IndexStorage.number in
+invariant-loop-state l =
     record {
-      seen : AreSeen l.seen (states_of number l.before.items);
-      before : HasBeforeSo l.graph (states_of number l.states) (states_of number (drop l.state-index l.states)) (states_of number l.before.items);
+      seen : AreSeen l.seen (states_of l.before.items);
+      before : HasBeforeSo l.graph (states_of l.states) (states_of (drop l.state-index l.states)) (states_of l.before.items);
     }

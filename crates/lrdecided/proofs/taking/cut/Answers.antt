@@ -4,6 +4,5 @@ use Rattle.lrdecided.proofs.TakenAndCut.{sides_cover}
 use Rattle.lrdecided.proofs.taking.cut.Goals as goal
 
 pub returns : goal.returns
-returns g c =
-    let number = g.T.IndexStorage.number in
-    sides_cover (node_of number c.args.node.now) (side_of number c.cut_side.new.side) (side_of number c.cut_side-2.new.side) c.cut_side.ensures c.cut_side-2.ensures
+returns c =
+    sides_cover (node_of c.args.node.now) (side_of c.cut_side.new.side) (side_of c.cut_side-2.new.side) c.cut_side.ensures c.cut_side-2.ensures

@@ -5,15 +5,15 @@ use Rattle.lrdecided.specs.Rules.{IsSettled}
 use Rattle.lrdecided.proofs.taking.take_tokens.Goals as goal
 
 pub loop-init : goal.loop-init
-loop-init g c = λ grm listed k. k
+loop-init c = λ grm listed k. k
 
 pub loop-preserved : goal.loop-preserved
-loop-preserved g c = λ grm listed k. c.loop.invariant grm listed (c.take_token.ensures.settled c.loop-test.true grm listed k)
+loop-preserved c = λ grm listed k. c.loop.invariant grm listed (c.take_token.ensures.settled c.loop-test.true grm listed k)
 
 pub loop-smaller : goal.loop-smaller
-loop-smaller g c = c.take_token.ensures.shorter c.loop-test.true
+loop-smaller c = c.take_token.ensures.shorter c.loop-test.true
 
 pub returns : goal.returns
-returns g c = λ grm listed k.
+returns c = λ grm listed k.
     let P : nodes.Node → Type 0 = λ a. IsSettled grm listed a in
     c.loop.invariant grm listed (subst P (c.take_token.ensures.same c.loop-test.false) k)

@@ -7,9 +7,8 @@ use Rattle.lrdecided.specs.StoredNodes.{node_of}
 use Rattle.lrdecided.proofs.taking.take_tokens.Given as goal
 
 abbrev pub invariant-loop : goal.invariant-loop
-invariant-loop g l =
-    let number = g.T.IndexStorage.number in
-    (grm : math.Grammar) (listed : List nodes.Node) → IsSettled grm listed (node_of number l.node) → IsSettled grm listed (node_of number l.fn.node)
+invariant-loop l =
+    (grm : math.Grammar) (listed : List nodes.Node) → IsSettled grm listed (node_of l.node) → IsSettled grm listed (node_of l.fn.node)
 
 abbrev pub decreases-loop : goal.decreases-loop
-decreases-loop g l = length l.node.one.symbols.items
+decreases-loop l = length l.node.one.symbols.items

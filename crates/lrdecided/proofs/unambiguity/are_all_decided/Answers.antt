@@ -4,9 +4,9 @@ use Rattle.lrdecided.proofs.UnambiguousGrammars.{unambiguous}
 use Rattle.lrdecided.proofs.unambiguity.are_all_decided.Goals as goal
 
 pub returns-clause-decided : goal.returns-clause-decided
-returns-clause-decided g c = λ t. all_decided c.args.grm.now c.args.graph.now c.in_order.ensures.shape c.requires.graph (c.in_ok-are.ensures t)
+returns-clause-decided c = λ t. all_decided c.args.grm.now c.args.graph.now c.in_order.ensures.shape c.requires.graph (c.in_ok-are.ensures t)
 
 pub returns-clause-unambiguous : goal.returns-clause-unambiguous
-returns-clause-unambiguous g c = λ t.
+returns-clause-unambiguous c = λ t.
     unambiguous c.args.grm.now c.args.graph.now c.in_order.ensures.shape c.requires.graph c.requires.accepts
     (all_decided c.args.grm.now c.args.graph.now c.in_order.ensures.shape c.requires.graph (c.in_ok-are.ensures t))

@@ -4,9 +4,8 @@ use Rattle.lrdecided.proofs.CertifiedEntries.{certified_decided}
 use Rattle.lrdecided.proofs.unambiguity.is_decided.Goals as goal
 
 pub returns-then-is_same_move : goal.returns-then-is_same_move
-returns-then-is_same_move g c = λ t differ. absurd (differ (c.is_same_move.ensures c.if-is_same_move.true))
+returns-then-is_same_move c = λ t differ. absurd (differ (c.is_same_move.ensures c.if-is_same_move.true))
 
 pub returns : goal.returns
-returns g c = λ t differ.
-    let number = g.T.IndexStorage.number in
-    certified_decided c.args.search.grm.now c.args.search.graph.now c.requires.graph c.in_order.ensures.shape (entry_of number c.args.entry.now) (c.in_ok-is.ensures t)
+returns c = λ t differ.
+    certified_decided c.args.search.grm.now c.args.search.graph.now c.requires.graph c.in_order.ensures.shape (entry_of c.args.entry.now) (c.in_ok-is.ensures t)

@@ -3,7 +3,7 @@ use Rattle.std.proofs.Common.{◌<◌, length, refl, ◌∙◌, arith}
 use Rattle.lrsearches.specs.StoredWays.{row_of}
 use Rattle.lrclosing.proofs.SymbolsBehindDots.{left_at, left_none}
 use Rattle.lrdecided.proofs.CollectedInTurn.{row_is}
-use Rattle.lrexchange.specs.Numbers.{number_of}
+use Rattle.lrdecided.specs.Numbers.{number_of}
 use Rattle.lrexchange.specs.StoredPositions.{symbols_of, belows_of}
 use Rattle.lrexchange.proofs.AskedInTurn.{begin_all, next_all}
 use Rattle.lrexchange.proofs.BelowStates.{StepsFrom, below_of, more_steps, steps_of_row, all_steps}
@@ -20,7 +20,7 @@ loop-below-preserved c =
     let q = b.state.0 in
     let left = left_at below_of c.args.belows.now c.loop-below.below-index b b c.loop-below-test.true c.below-item.is refl in
     let within : q < length h = omega (arith, c.if-place-count.false, c.from-place.ensures, c.from-count.ensures, c.all_states_len.ensures) in
-    let row = row_is number_of h c.args.incoming.now q c.from-place.result c.index-incoming-place.result c.requires c.from-place.ensures within c.index-incoming-place.is in
+    let row = row_is h c.args.incoming.now q c.from-place.result c.index-incoming-place.result c.requires c.from-place.ensures within c.index-incoming-place.is in
     let old = belows_of c.loop-below.steps.items in
     let new = belows_of c.add_steps.new.belows.items in
     next_all (StepsFrom h old) (StepsFrom h new) (belows_of c.args.belows.now) _ (below_of b) (rw left at c.loop-below.invariant)

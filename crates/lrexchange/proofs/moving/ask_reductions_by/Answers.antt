@@ -2,9 +2,10 @@
 use Rattle.std.proofs.Common.{ℕ, map, subst}
 use Rattle.std.specs.Prelude.{Contains}
 use Rattle.lrclosing.proofs.SymbolsBehindDots.{left_none}
+use Rattle.lrdecided.proofs.CollectedInTurn.{left_there}
 use Rattle.lrexchange.specs.Exchanges.{TakesReduction}
 use Rattle.lrexchange.specs.StoredPositions.{position_of, positions_of}
-use Rattle.lrexchange.proofs.AskedInTurn.{AllBut, left_there, begin_all, next_all, end_all}
+use Rattle.lrexchange.proofs.AskedInTurn.{AllBut, begin_all, next_all, end_all}
 use Rattle.lrexchange.proofs.GrowingAnswers.{reduction_more}
 use Rattle.lrexchange.proofs.moving.ask_reductions_by.Goals as goal
 

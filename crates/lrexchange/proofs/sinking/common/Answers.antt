@@ -2,7 +2,7 @@
 use Rattle.std.proofs.Common.{◌<◌, length, sym, arith}
 use Rattle.std.proofs.lemmas.List.{length-map}
 use Rattle.lrgrammar.specs.Symbols.{symbol_of}
-use Rattle.lrexchange.specs.Numbers.{number_of}
+use Rattle.lrdecided.specs.Numbers.{number_of}
 use Rattle.lrexchange.specs.StoredPositions.{symbols_of}
 use Rattle.lrexchange.proofs.SunkPositions.{begin_common, next_common, at_mapped}
 use Rattle.lrexchange.proofs.sinking.common.Goals as goal

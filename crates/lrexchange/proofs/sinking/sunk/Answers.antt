@@ -2,7 +2,7 @@
 use Rattle.std.proofs.Common.{drop, refl, ap, ◌∙◌}
 use Rattle.lrclosing.proofs.SymbolsBehindDots.{sliced}
 use Rattle.lrgrammar.specs.Symbols.{symbol_of}
-use Rattle.lrexchange.specs.Numbers.{number_of}
+use Rattle.lrdecided.specs.Numbers.{number_of}
 use Rattle.lrexchange.specs.StoredPositions.{symbols_of, ours_of, position_of}
 use Rattle.lrexchange.proofs.SamePositions.{the_position}
 use Rattle.lrexchange.proofs.SunkPositions.{sinks}

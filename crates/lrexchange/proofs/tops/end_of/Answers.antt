@@ -2,9 +2,9 @@
 use Rattle.std.proofs.Common.{subst}
 use Rattle.lrgrammar.specs.Symbols.{symbol_of}
 use Rattle.lrclosing.proofs.SymbolsBehindDots.{left_none}
-use Rattle.lrexchange.specs.Numbers.{number_of}
+use Rattle.lrdecided.proofs.CollectedInTurn.{left_there}
+use Rattle.lrdecided.specs.Numbers.{number_of}
 use Rattle.lrexchange.specs.StoredPositions.{symbols_of}
-use Rattle.lrexchange.proofs.AskedInTurn.{left_there}
 use Rattle.lrexchange.proofs.ToppedStacks.{LeadsOn, begin_leading, next_leading, no_lead, end_leading}
 use Rattle.lrexchange.proofs.tops.end_of.Goals as goal
 
