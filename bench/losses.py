@@ -17,10 +17,11 @@ all moves of the machine up to a cell, its next one is another candidate there, 
 - A lost text that is told has to be a sentence, which the machine rejects where it is said; it comes to the entry's state at the
   dot; and if it is short, it has to be lost there. No short text has two trees that part by the candidates of an entry that is
   told to be decided. Ends with status 1 where something is told wrongly.
-- An entry is missed if a short text is lost there by one of its two candidates, and neither a lost text nor an ambiguity is told.
+- An entry is missed if a short text is lost there by one of its two candidates, and no lost text is told of it: of an ambiguous one
+  only if its conflict is to blame, which is so where no tree of the text goes on by the machine's move.
 
 Missed entries are counted by what the search has to find beyond the text of the example, the commonest kind first, each with the
-smallest grammar and a shortest text; with `--list` all of them.
+smallest grammar and a shortest text; with `--list` all of them. Those to blame for a short text are counted by themselves.
 """
 
 import argparse
@@ -133,13 +134,14 @@ def places(grammar, states, text, trees):
 
 @dataclass
 class Loss:
-    """A lost text, with the place of the dot and the symbols on the stack there, and whether no rest is shorter that can be read
-    behind these by the lost move."""
+    """A lost text, with the place of the dot and the symbols on the stack there, whether no rest is shorter that can be read behind
+    these by the lost move, and whether the machine's move is to blame: the text's own rest can't be read by that."""
 
     text: list
     dot: int
     symbols: list
     is_least: bool
+    is_to_blame: bool
 
 
 class Losses:
@@ -169,7 +171,8 @@ class Losses:
             token = text[used]
             for other in self.cells.get((state, token), ()):
                 if other != move and self.is_read(symbols, other, text[used:]):
-                    loss = Loss(text[:-1], used, symbols, not any(self.behind(symbols, other, token)[: len(text) - used]))
+                    is_least = not any(self.behind(symbols, other, token)[: len(text) - used])
+                    loss = Loss(text[:-1], used, symbols, is_least, not self.is_read(symbols, move, text[used:]))
                     self.found.setdefault((state, token, other), []).append(loss)
 
     def behind(self, symbols, move, token):
@@ -269,6 +272,8 @@ class Beside:
 
 def missed(drawn, told, conflict, entry, losses):
     """A missed entry by the first kind that one of its losses gives."""
+    if entry["ambiguity"]:
+        return Missed(drawn, conflict, losses[0], "one beside a text with two trees")
     after = entry["after"]
     symbols, given = told.symbols(after["list"]), told.symbols(after["input"])
     is_elsewhere = told.symbol(after["token"]) != conflict.token
@@ -286,16 +291,19 @@ def check_grammar(drawn, told, counts):
     for conflict in drawn.conflicts:
         entry = alone[conflict.state, conflict.token, conflict.pair]
         found = losses.at(conflict, conflict.pair)
+        to_blame = [it for it in found if it.is_to_blame]
         for kind in kinds_of_entry(entry):
             counts[kind] += 1
             counts[kind, "short"] += bool(found)
+            counts[kind, "to blame"] += bool(to_blame)
         try:
             check_told(told, losses, conflict, entry)
         except Wrong as why:
             counts["wrong"] += 1
             print(f"wrong: state {conflict.state}, {entry['tokens'][0]}: {why}\n{drawn.text}")
-        if found and not entry["lost"] and not entry["ambiguity"]:
-            yield missed(drawn, told, conflict, entry, found)
+        counted = to_blame if entry["ambiguity"] else found
+        if counted and not entry["lost"]:
+            yield missed(drawn, told, conflict, entry, counted)
 
 
 def told_of_drawn(lrcheck, options, all_drawn):
@@ -332,6 +340,8 @@ def print_drawn(lrcheck, options, count, is_listed):
             counts["too large"] += 1
     columns = ", ".join(f"{name.lower()} {counts[name]} ({counts[name, 'short']})" for name in COLUMNS)
     print(f"{len(all_drawn)} grammars, in brackets with a short lost text: {columns}")
+    blamed = [counts[name, "to blame"] for name in ("Entries", "Lost")]
+    print("to blame for a short lost text {}, of which {} tell one".format(*blamed))
     print(f"{counts['wrong']} told wrongly, {len(all_missed)} missed")
     print(f"too large {counts['too large']}, with more stacks than are looked at {counts['not whole']}")
     print_missed(all_missed, is_listed)

@@ -143,7 +143,7 @@ fn push_find(
     candidate: Candidate,
     pairs: usize,
 ) -> Result<(), AllocError> {
-    match losses.loss_at(candidate, pairs)? {
+    match losses.loss_at(candidate, 0, pairs)? {
         Some(find) => {
             told.push_str(find_told(grm, &find)?.as_str())?;
             find.take_apart();

@@ -1,4 +1,4 @@
-//! What is known of an entry of a table's conflicts: a sentence that the parser rejects because of it, or that no sentence has two
+//! What is found at an entry of a table's conflicts: a sentence that the parser rejects because of it, or that no sentence has two
 //! trees that part there.
 #![tactic(auto)]
 

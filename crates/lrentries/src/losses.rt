@@ -143,11 +143,13 @@ impl<'a> LossSearch<'a> {
         self.graph.edge(place.state, symbol).is_some()
     }
 
-    /// A text that may be lost at the conflict by this candidate, where one is found; at most so many pairs of stacks are looked at.
+    /// A text that may be lost at the conflict by this candidate, behind so many others, where one is found; at most so many pairs of
+    /// stacks are looked at.
     pub fn text_at(
         &self,
         conflict: Conflict<u32>,
         action: Move<u32>,
+        passed_over: usize,
         pairs: usize,
     ) -> Result<Option<Written<u32>>, AllocError> {
         if !self.is_uncrowded() || is_taken(self.found, conflict, action) {
@@ -158,7 +160,7 @@ impl<'a> LossSearch<'a> {
             token: conflict.token,
             action,
         };
-        let Some(find) = self.losses.loss_at(candidate, pairs)? else {
+        let Some(find) = self.losses.loss_at(candidate, passed_over, pairs)? else {
             return Ok(None);
         };
         let Find { text, loss } = find;

@@ -58,6 +58,14 @@ pub struct Effort {
 /// At how many of the entries that stand together, where not each is tried: until one is found.
 const FIRST_TOGETHER: usize = 3;
 
+/// How many pairs of stacks a search for a sentence that the parser rejects looks at where one is looked for in any case: at each of
+/// few entries, and at each of more.
+const FEW: usize = 100;
+
+const PAIRS_AT_FEW: usize = 40;
+
+const PAIRS_AT_MANY: usize = 10;
+
 /// Whether an entry is the first of those that stand together, behind what is known of those before it.
 fn is_first(before: &[Evidence], entry: &Entry) -> bool {
     match before.last() {
@@ -94,6 +102,17 @@ impl Effort {
         let most = self.losses_in_any_case;
         self.steps > 0 && done < most && (all <= most || is_among_first(before, entry))
     }
+
+    /// How many pairs of stacks that search looks at there; 0 where there is none.
+    fn pairs(self, before: &[Evidence], entry: &Entry, all: usize, done: usize) -> usize {
+        if !self.seeks_loss(before, entry, all, done) {
+            return 0;
+        }
+        if all <= FEW {
+            return PAIRS_AT_FEW;
+        }
+        PAIRS_AT_MANY
+    }
 }
 
 /// What is looked for of an entry.
@@ -105,8 +124,8 @@ struct Wanted {
     has_example: bool,
     /// Whether other texts are tried then: they may have two trees, or be rejected by the parser.
     has_texts: bool,
-    /// Whether a sentence that the parser rejects is looked for in any case.
-    has_loss: bool,
+    /// How many pairs of stacks are looked at for a sentence that the parser rejects, in any case; for 0 none is looked for.
+    pairs: usize,
 }
 
 impl Wanted {
@@ -248,8 +267,13 @@ fn evidence_of(
     Ok(evidence)
 }
 
-/// What is known of an entry, with a sentence that the parser rejects and that is doomed there, if one is found.
-fn with_loss(searches: &mut Searches<'_>, before: Evidence) -> Result<Evidence, AllocError>
+/// What is known of an entry, with a sentence that the parser rejects and that is doomed there, if one is found; so many pairs of
+/// stacks are looked at.
+fn with_loss(
+    searches: &mut Searches<'_>,
+    before: Evidence,
+    pairs: usize,
+) -> Result<Evidence, AllocError>
     requires proved { IsProved searches.old.reasons.grammar before }
     requires parts { PartsAtEntry searches.old.reasons.grammar searches.old.reasons.graph before }
     requires lost { IsFoundAtEntry searches.old.losses before }
@@ -268,7 +292,7 @@ fn with_loss(searches: &mut Searches<'_>, before: Evidence) -> Result<Evidence, 
         return Ok(before);
     };
     searches.losses.prepare()?;
-    let loss = loss_found(searches, conflict)?;
+    let loss = loss_found(searches, conflict, pairs)?;
     Ok(Evidence {
         loss: boxed(searches.allocator(), loss)?,
         ..before
@@ -299,9 +323,9 @@ fn known_of(
         (IsDecidedOf searches.new.decisions.grammar searches.new.decisions.graph) }
 {
     let evidence = evidence_of(searches, entry, wanted)?;
-    let is_wanted = wanted.has_loss && evidence.loss.is_none();
+    let is_wanted = wanted.pairs > 0 && evidence.loss.is_none();
     if is_wanted && !is_tried(searches, &evidence, wanted) {
-        return with_loss(searches, evidence);
+        return with_loss(searches, evidence, wanted.pairs);
     }
     Ok(evidence)
 }
@@ -333,12 +357,12 @@ fn push_evidence(
     for entry in entries {
         let counts = effort.counts(list.as_slice(), entry);
         let has_example = counts && told < effort.examples;
-        let has_loss = effort.seeks_loss(list.as_slice(), entry, entries.len(), sought);
+        let pairs = effort.pairs(list.as_slice(), entry, entries.len(), sought);
         let wanted = Wanted {
             steps: effort.steps,
             has_example,
             has_texts: effort.steps > 0 && (has_example || unknown < effort.losses),
-            has_loss,
+            pairs,
         };
         let evidence = known_of(searches, *entry, wanted)?;
         let is_known = evidence.ambiguity.is_some();
@@ -349,7 +373,7 @@ fn push_evidence(
         if !is_known {
             unknown = unknown.saturating_add(1);
         }
-        if has_loss {
+        if pairs > 0 {
             sought = sought.saturating_add(1);
         }
     }

@@ -12,11 +12,11 @@ use lrreasons::{Conflict, Outlook};
 use lrshown::{Ambiguity, Loss};
 use std::alloc::{AllocError, Global};
 
-/// How many pairs of stacks a search for a sentence that the parser rejects looks at, at a conflict; and how many where such a
-/// sentence is looked for in any case, as at each entry that precedences resolve: these are many.
+/// How many pairs of stacks a search for a sentence that the parser rejects looks at, at a conflict without one that has two trees.
 const PAIRS: usize = 200;
 
-const FEW_PAIRS: usize = 10;
+/// How many sentences that the parser rejects are tried for one that no other conflict has a part in.
+const TEXTS: usize = 8;
 
 /// What texts show at a conflict.
 #[derive(Drop)]
@@ -177,42 +177,56 @@ fn shown_by_search(
     ensures lost { IfOk result (λ s. IfSome s.loss
         (IsFoundLoss searches.now.losses conflict.state.0 conflict.token.0)) }
 {
-    match searches.losses.text_at(conflict, action, pairs)? {
+    match searches.losses.text_at(conflict, action, 0, pairs)? {
         Some(text) => shown_by(searches, conflict, &text),
         None => Ok(Shown::NOTHING),
     }
 }
 
-/// A sentence that the parser rejects, and which is doomed at the conflict, where a search finds such a one for the candidate.
+/// A sentence that the parser rejects, and which is doomed at the conflict, where a search finds such a one for the candidate among the
+/// first of those that the parser rejects.
 fn doomed_by_search(
     searches: &Searches<'_>,
     conflict: Conflict<u32>,
     action: Move<u32>,
+    pairs: usize,
 ) -> Result<Option<Loss>, AllocError>
     ensures found { IfOk result (λ o. IfSome o
         (IsFoundLoss searches.now.losses conflict.state.0 conflict.token.0)) }
     ensures doomed { IfOk result (λ o. IfSome o (IsDoomedIn searches.now.losses)) }
 {
-    let Shown { loss, .. } = shown_by_search(searches, conflict, action, FEW_PAIRS)?;
-    let told = searches.losses.told_of(loss, true)?;
-    Ok(told)
+    for passed_over in 0..TEXTS {
+        let found = searches
+            .losses
+            .text_at(conflict, action, passed_over, pairs)?;
+        let Some(text) = found else {
+            return Ok(None);
+        };
+        let Shown { loss, .. } = shown_by(searches, conflict, &text)?;
+        let told = searches.losses.told_of(loss, true)?;
+        if told.is_some() {
+            return Ok(told);
+        }
+    }
+    Ok(None)
 }
 
 /// Such a sentence for either of the candidates of the conflict.
 pub(crate) fn loss_found(
     searches: &Searches<'_>,
     conflict: Conflict<u32>,
+    pairs: usize,
 ) -> Result<Option<Loss>, AllocError>
     ensures found { IfOk result (λ o. IfSome o
         (IsFoundLoss searches.now.losses conflict.state.0 conflict.token.0)) }
     ensures doomed { IfOk result (λ o. IfSome o (IsDoomedIn searches.now.losses)) }
 {
     let (reduced, other) = (Move::Reduce(conflict.production), other_move(&conflict));
-    let loss = doomed_by_search(searches, conflict, reduced)?;
+    let loss = doomed_by_search(searches, conflict, reduced, pairs)?;
     if loss.is_some() {
         return Ok(loss);
     }
-    let loss = doomed_by_search(searches, conflict, other)?;
+    let loss = doomed_by_search(searches, conflict, other, pairs)?;
     Ok(loss)
 }
 

@@ -30,6 +30,8 @@ pub(crate) struct Edge {
     pub(crate) to: StIdx<u32>,
     /// A shortest text; None where it can't be used.
     pub(crate) along: Option<Along>,
+    /// Where that is empty, a production of which a shortest text isn't, if there is one.
+    pub(crate) longer: Option<PIdx<u32>>,
 }
 
 /// The edges of a graph.
@@ -83,6 +85,7 @@ impl Edges {
                 symbol: *symbol,
                 to: *to,
                 along: None,
+                longer: None,
             })?;
         }
         Ok(())
@@ -293,12 +296,16 @@ impl<'a> Search<'a> {
         Ok(())
     }
 
-    /// Keeps a text along an edge, unless there is one, which came before and is as short.
+    /// Keeps a text along an edge, unless there is one, which came before and is as short; then its production is kept where that
+    /// text is empty, and this one isn't.
     fn settle(&mut self, number: usize, text: Along) -> Result<(), AllocError> {
         let Some(edge) = self.edges.edges.get_mut(number) else {
             return Ok(());
         };
-        if edge.along.is_some() {
+        if let Some(along) = edge.along {
+            if along.tokens == 0 && text.tokens > 0 && edge.longer.is_none() {
+                edge.longer = text.production;
+            }
             return Ok(());
         }
         edge.along = Some(text);

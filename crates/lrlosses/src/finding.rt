@@ -77,32 +77,39 @@ impl<'a> Losses<'a> {
         Ok(self.known.get())
     }
 
-    /// A text that may be lost at the candidate; at most so many pairs of stacks are looked at.
+    /// A text that may be lost at the candidate, behind so many others; at most so many pairs of stacks are looked at.
     fn search(
         &self,
         candidate: Candidate,
+        passed_over: usize,
         pairs: usize,
     ) -> Result<Option<Written<u32>>, AllocError> {
         let Some(known) = self.known()? else {
             return Ok(None);
         };
         let most = self.work.get();
-        let mut search = Search::new(&self.checker, known, candidate, pairs, most);
+        let mut search = Search::new(&self.checker, known, candidate, passed_over, pairs, most);
         let found = search.run()?;
         self.work.set(most.saturating_sub(search.work()));
         Ok(found)
     }
 
-    /// A sentence that the machine rejects, since at a cell it doesn't go on by this candidate, by which the sentence does. At most
-    /// so many pairs of stacks are looked at. None says nothing. An error at a cell that `%nonassoc` makes one is no loss, unless
-    /// the candidate's own cell is such a one. The error says that memory was refused.
-    pub fn loss_at(&self, candidate: Candidate, pairs: usize) -> Result<Option<Find>, AllocError>
+    /// A sentence that the machine rejects, since at a cell it doesn't go on by this candidate, by which the sentence does. So many
+    /// of those that are found first are passed over, and at most so many pairs of stacks are looked at. None says nothing. An error
+    /// at a cell that `%nonassoc` makes one is no loss, unless the candidate's own cell is such a one. The error says that memory
+    /// was refused.
+    pub fn loss_at(
+        &self,
+        candidate: Candidate,
+        passed_over: usize,
+        pairs: usize,
+    ) -> Result<Option<Find>, AllocError>
         ensures { IfOk result (λ o. IfSome o (IsFoundAt self.now candidate)) }
     {
         if self.is_used_up() {
             return Ok(None);
         }
-        let Some(text) = self.search(candidate, pairs)? else {
+        let Some(text) = self.search(candidate, passed_over, pairs)? else {
             return Ok(None);
         };
         match self.checker.check(candidate, &text)? {

@@ -9,7 +9,7 @@ use crate::machine::{Arrival, Machine, Outcome, arrivals};
 use crate::pairs::{Origin, Pairs, Start, copied};
 use crate::readings::readings;
 use crate::rules::{START, body_of};
-use crate::texts::text_along;
+use crate::texts::{longer_text_along, text_along};
 use lrconflicts::{Move, Written};
 use lrforms::Outlook;
 use lrgrammar::idx::{PIdx, StIdx, Symbol, TIdx};
@@ -49,6 +49,8 @@ pub(crate) struct Search<'a> {
     known: &'a Known<'a>,
     candidate: Candidate,
     starts: Vec<Start>,
+    /// How many lost texts are still passed over.
+    passed_over: usize,
     /// How many pairs may be looked at.
     pairs: usize,
     /// How much work may be done, and how much was done: steps of the machine, stacks of trees, tokens of texts.
@@ -57,11 +59,12 @@ pub(crate) struct Search<'a> {
 }
 
 impl<'a> Search<'a> {
-    /// At a candidate, with so many pairs and so much work at the most.
+    /// At a candidate, behind so many lost texts, with so many pairs and so much work at the most.
     pub(crate) fn new(
         checker: &'a Checker<'a>,
         known: &'a Known<'a>,
         candidate: Candidate,
+        passed_over: usize,
         pairs: usize,
         most: usize,
     ) -> Search<'a> {
@@ -72,6 +75,7 @@ impl<'a> Search<'a> {
             known,
             candidate,
             starts: Vec::new(alloc),
+            passed_over,
             pairs,
             most: most.min(pairs.saturating_mul(MOST_WORK)),
             work: 0,
@@ -138,15 +142,29 @@ impl<'a> Search<'a> {
         Ok(lists)
     }
 
-    /// Keeps how the machine comes to the cell behind a shortest text of a list.
+    /// Keeps how the machine comes to the cell behind a text of a list: a shortest one, or else one whose last symbol isn't empty,
+    /// since what the machine does at the cell's token may be something else where it is.
     fn add_start(&mut self, list: &[Symbol<u32>]) -> Result<(), AllocError> {
         let (alloc, known) = (self.alloc, self.known);
-        let Candidate { state, token, .. } = self.candidate;
-        let Some(tokens) = text_along(alloc, known.grm, &known.edges, list)? else {
+        let before = self.starts.len();
+        if let Some(tokens) = text_along(alloc, known.grm, &known.edges, list)? {
+            self.add_arrivals(&tokens)?;
+        }
+        if self.starts.len() > before {
             return Ok(());
-        };
+        }
+        match longer_text_along(alloc, known.grm, &known.edges, list)? {
+            Some(tokens) => self.add_arrivals(&tokens),
+            None => Ok(()),
+        }
+    }
+
+    /// Keeps how the machine comes to the cell behind a text.
+    fn add_arrivals(&mut self, tokens: &Vec<TIdx<u32>>) -> Result<(), AllocError> {
+        let (alloc, known) = (self.alloc, self.known);
+        let Candidate { state, token, .. } = self.candidate;
         let mut machine = Machine::new(known.grm, known.table, vec![in alloc; START]?);
-        let found = arrivals(alloc, &mut machine, &tokens, token, state)?;
+        let found = arrivals(alloc, &mut machine, tokens, token, state)?;
         self.count(machine.steps);
         for arrival in found {
             let Arrival { moves, stack } = arrival;
@@ -196,7 +214,8 @@ impl<'a> Search<'a> {
         }
     }
 
-    /// The text behind the list, with a shortest rest that begins with the token and goes on by the move, if that is lost.
+    /// The text behind the list, with a shortest rest that begins with the token and goes on by the move, if that is lost, and no more
+    /// lost ones are passed over.
     fn completed(
         &mut self,
         text: Written<u32>,
@@ -211,11 +230,14 @@ impl<'a> Search<'a> {
         text.tokens.extend_from_slice(rest.tokens.as_slice())?;
         text.moves.extend_from_slice(rest.moves.as_slice())?;
         self.count(text.tokens.len());
-        if self.is_lost(&text)? {
-            Ok(Some(text))
-        } else {
-            Ok(None)
+        if !self.is_lost(&text)? {
+            return Ok(None);
         }
+        if self.passed_over > 0 {
+            self.passed_over = self.passed_over.saturating_sub(1);
+            return Ok(None);
+        }
+        Ok(Some(text))
     }
 
     /// Whether an error at the cell doesn't count, since it is meant; but at a cell that is itself such an error it does.

@@ -23,6 +23,16 @@ struct Writer<'a> {
 }
 
 impl<'a> Writer<'a> {
+    /// Before a text.
+    fn new(alloc: Global, grm: &'a YaccGrammar<u32>, edges: &'a Edges) -> Writer<'a> {
+        Writer {
+            grm,
+            edges,
+            tokens: Vec::new(alloc),
+            open: Vec::new(alloc),
+        }
+    }
+
     /// Goes on along the symbols from a state before all else; false where no edge leads there.
     fn add(&mut self, state: StIdx<u32>, symbols: &[Symbol<u32>]) -> Result<bool, AllocError> {
         let start = self.open.len();
@@ -60,6 +70,20 @@ impl<'a> Writer<'a> {
         let body = body_of(self.grm, body);
         self.add(state, body)
     }
+
+    /// The text along the edges that are open; None where there is none, or it is too long.
+    fn written(self) -> Result<Option<Vec<TIdx<u32>>>, AllocError> {
+        let mut writer = self;
+        for _ in 0..MOST_EDGES {
+            let Some((state, symbol)) = writer.open.pop() else {
+                return Ok(Some(writer.tokens));
+            };
+            if !writer.write(state, symbol)? {
+                break;
+            }
+        }
+        Ok(None)
+    }
 }
 
 /// A shortest text along a list from the start state; None where there is none, or it is too long.
@@ -69,22 +93,42 @@ pub(crate) fn text_along<'a>(
     edges: &'a Edges,
     list: &[Symbol<u32>],
 ) -> Result<Option<Vec<TIdx<u32>>>, AllocError> {
-    let mut writer = Writer {
-        grm,
-        edges,
-        tokens: Vec::new(alloc),
-        open: Vec::new(alloc),
-    };
+    let mut writer = Writer::new(alloc, grm, edges);
     if !writer.add(START, list)? {
         return Ok(None);
     }
-    for _ in 0..MOST_EDGES {
-        let Some((state, symbol)) = writer.open.pop() else {
-            return Ok(Some(writer.tokens));
-        };
-        if !writer.write(state, symbol)? {
-            break;
-        }
+    writer.written()
+}
+
+/// The state behind a list from the start state; None where no edge leads there.
+fn state_behind(edges: &Edges, list: &[Symbol<u32>]) -> Option<StIdx<u32>> {
+    let mut state = START;
+    for symbol in list {
+        state = edges.on(state, *symbol)?.to;
     }
-    Ok(None)
+    Some(state)
+}
+
+/// A text along a list from the start state whose last symbol isn't empty, where in a shortest one it is; None where there is none,
+/// or it is too long.
+pub(crate) fn longer_text_along<'a>(
+    alloc: Global,
+    grm: &'a YaccGrammar<u32>,
+    edges: &'a Edges,
+    list: &[Symbol<u32>],
+) -> Result<Option<Vec<TIdx<u32>>>, AllocError> {
+    let Some((last, before)) = list.split_last() else {
+        return Ok(None);
+    };
+    let Some(state) = state_behind(edges, before) else {
+        return Ok(None);
+    };
+    let Some(production) = edges.on(state, *last).and_then(|edge| edge.longer) else {
+        return Ok(None);
+    };
+    let mut writer = Writer::new(alloc, grm, edges);
+    if !writer.write_body(state, production)? || !writer.add(START, before)? {
+        return Ok(None);
+    }
+    writer.written()
 }

@@ -14,7 +14,7 @@ const WORK: usize = 1_000;
 const LOSSES: usize = 1_000;
 
 /// At how many conflicts such a sentence is looked for in any case, also where one with two trees is found.
-const LOSSES_IN_ANY_CASE: usize = 50;
+const LOSSES_IN_ANY_CASE: usize = 100;
 
 /// In a graph with more states than these none is: what such searches share takes a second to make there.
 const STATES_SEARCHED: usize = 5_000;
