@@ -1,9 +1,9 @@
 -- entries that are told in groups: what holds of each holds of those of each group
-use Rattle.std.proofs.Common.{◌≡◌, ℕ, Option, None, Some, ◌<◌, ◌≤◌, List, [], ◌∷◌, ◌++◌, length, map, take, get_or, sym, ap, subst, ◌∙◌}
+use Rattle.std.proofs.Common.{◌≡◌, ℕ, Option, None, Some, ◌<◌, List, [], ◌∷◌, ◌++◌, length, map, get_or, sym, ap, subst, ◌∙◌}
 use Rattle.std.proofs.Math.Seq.{take-append_seam, drop-append_seam}
-use Rattle.std.proofs.lemmas.List.{take_all}
-use Rattle.std.proofs.lemmas.List.Elements.{All-nil, All-cons, All-head, All-tail, All-take, All-drop}
-use Rattle.std.proofs.lemmas.List.Elements.{All-same, All-map, All-weaker}
+use Rattle.std.proofs.lemmas.List.Folds.{flat_map-map}
+use Rattle.std.proofs.lemmas.List.Elements.{All-nil, All-cons, All-take, All-drop}
+use Rattle.std.proofs.lemmas.List.Elements.{All-same, All-weaker}
 use Rattle.std.specs.List.{All, flat_map}
 use Rattle.std.specs.Option.{ForSome}
 use Rattle.std.specs.Prelude.{IfSome}
@@ -20,13 +20,6 @@ use Rattle.lrevidence.specs.KeptEntries.{IsKeptEntry, IsToldKept, AreToldKept}
 use Rattle.lrpage.specs.KeptEntries.{IsShownKept, AreShownKept}
 use Rattle.lrverdicts.specs.declared.conflicts.Entry.{Entry}
 
-module _ {X Y : Type 0} (P : X → Type 0) (f : Y → X) where
-  of_images : (ys : List Y) → All P (map f ys) → All (λ y. P (f y)) ys
-  of_images [] each = All-nil (λ y. P (f y))
-  of_images (y ∷ ys) each =
-      let first = All-head P (f y) (map f ys) each in
-      All-cons (λ z. P (f z)) y ys first (of_images ys (All-tail P (f y) (map f ys) each))
-
 module _ {A X : Type 0} (P : X → Type 0) (items : A → List X) where
   parted : (one others : List X) → All P (one ++ others) → All P one × All P others
   parted one others each = (
@@ -41,21 +34,18 @@ module _ {A X : Type 0} (P : X → Type 0) (items : A → List X) where
       All-cons (λ group. All P (items group)) first groups front (joined groups behind)
 
   module _ (groups : List A) (all : List X) (are : flat_map items groups ≡ all) (each : All P all) where
-    in_groups : All (λ group. All P (items group)) groups
+    pub in_groups : All (λ group. All P (items group)) groups
     in_groups = joined groups (All-same P (flat_map items groups) all are each)
 
     pub in_group :
         (i : ℕ) (group : A) → i < length groups → group ≡ get_or groups i group → All P (items group)
     in_group i group inside is = subst (λ it. All P (items it)) (sym is) (in_groups i group inside)
 
-    -- where something else tells of the same groups
-    pub in_told :
-        {B : Type 0} (told : B → List X) (those : List B) (i : ℕ) → length groups ≤ i
-        → map told those ≡ map items (take i groups) → All (λ one. All P (told one)) those
-    in_told told those i past are_those =
-        let same = are_those ∙ ap (map items) (take_all i groups past) in
-        let images = All-map (All P) items groups in_groups in
-        of_images (All P) told those (All-same (All P) (map told those) (map items groups) same images)
+-- what is joined of the same lists is the same
+pub same_joined :
+    {A B X : Type 0} (f : A → List X) (g : B → List X) (xs : List A) (ys : List B) → map f xs ≡ map g ys
+    → flat_map f xs ≡ flat_map g ys
+same_joined f g xs ys same = sym (flat_map-map (λ v. v) f xs) ∙ ap (flat_map (λ v. v)) same ∙ flat_map-map (λ v. v) g ys
 
 -- what is proved of a value, if there is one, may be shown
 pub known_shown : {X : Type 0} (P : X → Type 0) (o : Option X) → IfSome o P → ForSome o (λ x. ∥ P x ∥₁)

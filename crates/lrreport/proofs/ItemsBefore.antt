@@ -101,6 +101,6 @@ chosen false x = refl
 
 -- what the table does at entries, by the first of these
 pub common :
-    (most : ℕ) (b : Table) (e : Entry) (others : List Entry) (r : Bool) (choice : Choice) → choice ≡ choice_at most b e
-    → r ≡ list_all (λ f. is_choice choice (choice_at most b f)) others → then_some r choice ≡ common_choice most b (e ∷ others)
-common most b e others r choice is all = chosen r choice ∙ rw (all, is) refl
+    (b : Table) (e : Entry) (others : List Entry) (r : Bool) (choice : Choice) → choice ≡ choice_at b e
+    → r ≡ list_all (λ f. is_choice choice (choice_at b f)) others → then_some r choice ≡ common_choice b (e ∷ others)
+common b e others r choice is all = chosen r choice ∙ rw (all, is) refl

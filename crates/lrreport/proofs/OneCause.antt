@@ -1,6 +1,6 @@
 -- entries that stand together, and meetings that have one cause
 use Rattle.std.proofs.Common.{◌≡◌, ℕ, ◌<◌, List, [], ◌∷◌, ◌++◌, length, map, take, get_or, refl, sym, ap, subst, ◌∙◌, append-nil, ◌+◌, drop, add-one, arith}
-use Rattle.std.proofs.lemmas.List.{take-append-drop, take-take, drop-take}
+use Rattle.std.proofs.lemmas.List.{take_more, take-append-drop, take-take, drop-take, map-append}
 use Rattle.std.proofs.lemmas.List.Sorted.{IsPermutation-map, IsPermutation-trans}
 use Rattle.std.specs.List.Sorted.{IsPermutation}
 use Rattle.lrreport.proofs.JoinedInOrder.{joined_in_order}
@@ -56,6 +56,17 @@ are_one_cause first ms cause like met are = record {
       let P = λ (meeting : _). MeetTogether first.kind.production first.kind.other first.kind.tokens.items meeting.now in
       All-same P _ _ are (All-map P (λ m. m.evidence) ms (λ k d inside. of_first first (get_or ms k d) (like k d inside) (met k d inside)));
 }
+
+-- entries of the first states, and those of one more
+module _ {X Y Z : Type 0} (f : X → List Y) (g : Y → Z) where
+  pub one_state_more :
+      (xs : List X) (i : ℕ) (x : X) → i < length xs → x ≡ get_or xs i x
+      → map g (flat_map f (take i xs)) ++ map g (f x) ≡ map g (flat_map f (take (i + 1) xs))
+  one_state_more xs i x inside is =
+      let taken : take (i + 1) xs ≡ take i xs ++ x ∷ [] = take_more xs i x inside ∙ ap (λ y. take i xs ++ y ∷ []) (sym is) in
+      let joined : flat_map f (take (i + 1) xs) ≡ flat_map f (take i xs) ++ f x =
+      ap (flat_map f) taken ∙ flat_map-append f (take i xs) (x ∷ []) ∙ ap (λ v. flat_map f (take i xs) ++ v) (append-nil (f x)) in
+      sym (ap (map g) joined ∙ map-append g (flat_map f (take i xs)) (f x))
 
 -- the first ones, and some behind them
 taken_on : {X : Type 0} (xs : List X) (i n : ℕ) → take i xs ++ take n (drop i xs) ≡ take (i + n) xs

@@ -1,7 +1,7 @@
 -- conflicts of meetings and their kinds: both are the same in two meetings, or neither is
-use Rattle.std.proofs.Common.{◌≡◌, ◌≢◌, ℕ, ◌+◌, ◌-◌, ◌<◌, ◌≤◌, false, List, [], ◌∷◌, Option, length, map, take, drop, get_or, refl, sym, ap, subst, ◌∙◌, add-one, arith}
-use Rattle.std.proofs.lemmas.List.{drop-drop, drop-map, get_or-drop, get_or-take, get_or_default, length-drop, length-map, length-take, take-map}
-use Rattle.std.proofs.lemmas.List.Elements.{All-drop, All-map, All-same, All-take, All-weaker}
+use Rattle.std.proofs.Common.{◌≡◌, ◌≢◌, ℕ, ◌+◌, ◌-◌, ◌<◌, false, List, [], ◌∷◌, Option, length, map, take, drop, get_or, refl, sym, ap, subst, ◌∙◌, arith}
+use Rattle.std.proofs.lemmas.List.{drop-map, get_or-drop, get_or-take, get_or_default, length-drop, length-map, length-take, take-map}
+use Rattle.std.proofs.lemmas.List.Elements.{All-drop, All-map, All-same, All-take}
 use Rattle.std.proofs.lemmas.Simd.{map-map}
 use Rattle.std.specs.List.{All, HoldsAt}
 use denote.Ref.{Bor}
@@ -93,37 +93,37 @@ heads p q o r (t ∷ ts) (u ∷ us) some is =
 same_parts : (one other : Conflict) → one.met ≡ other.met → one.shifting ≡ other.shifting → one.choice ≡ other.choice → one.decided ≡ other.decided → one ≡ other
 same_parts one other a b c d = λ i. record { met = a i; shifting = b i; choice = c i; decided = d i }
 
-module _ {T : Type 0} (most : ℕ) (c : Checked T) where
+module _ (c : Checked) where
   -- no state of the cause has the conflict of one of the meetings
   abbrev pub AreOthers : List Meeting → Cause → Type 0
-  AreOthers ms cause = All (λ one. All (λ m. conflict_of most c one.now ≢ conflict_of most c m.evidence.now) ms) cause.meetings.items
+  AreOthers ms cause = All (λ one. All (λ m. conflict_of c one.now ≢ conflict_of c m.evidence.now) ms) cause.meetings.items
 
   -- so it is apart from a cause of some of these
-  pub apart_from : (old new : Cause) (n : ℕ) (ms : List Meeting) → new.meetings.items ≡ map (λ m. m.evidence) (take n ms) → AreOthers ms old → AreApart most c old new
+  pub apart_from : (old new : Cause) (n : ℕ) (ms : List Meeting) → new.meetings.items ≡ map (λ m. m.evidence) (take n ms) → AreOthers ms old → AreApart c old new
   apart_from old new n ms are others = λ k d inside.
-      let P : Bor (List Evidence) → Type 0 = λ e. conflict_of most c (get_or old.meetings.items k d).now ≢ conflict_of most c e.now in
+      let P : Bor (List Evidence) → Type 0 = λ e. conflict_of c (get_or old.meetings.items k d).now ≢ conflict_of c e.now in
       All-same P _ _ are (All-map P (λ m. m.evidence) (take n ms) (All-take (λ m. P m.evidence) n ms (others k d inside)))
 
   pub others_behind : (n : ℕ) (ms : List Meeting) (cause : Cause) → AreOthers ms cause → AreOthers (drop n ms) cause
   others_behind n ms cause others = λ k d inside.
-      All-drop (λ m. conflict_of most c (get_or cause.meetings.items k d).now ≢ conflict_of most c m.evidence.now) n ms (others k d inside)
+      All-drop (λ m. conflict_of c (get_or cause.meetings.items k d).now ≢ conflict_of c m.evidence.now) n ms (others k d inside)
 
-  pub apart_turns : (one other : Cause) → AreApart most c one other → AreApart most c other one
+  pub apart_turns : (one other : Cause) → AreApart c one other → AreApart c other one
   apart_turns one other apart = λ k d inside l e also same. apart l e also k d inside (sym same)
 
-module _ {T : Type 0} (most : ℕ) (c : Checked T) (grouped : c.told.options.detail.all ≡ false) where
-  module _ (m n : Meeting) (met_m : IsMet m) (met_n : IsMet n) (kind_m : HasKind most c m) (kind_n : HasKind most c n) where
-    same_conflict : AreAlike m.kind n.kind → conflict_of most c m.evidence.now ≡ conflict_of most c n.evidence.now
+module _ (c : Checked) (grouped : c.told.options.detail.all ≡ false) where
+  module _ (m n : Meeting) (met_m : IsMet m) (met_n : IsMet n) (kind_m : HasKind c m) (kind_n : HasKind c n) where
+    same_conflict : AreAlike m.kind n.kind → conflict_of c m.evidence.now ≡ conflict_of c n.evidence.now
     same_conflict a =
         let told_m = told_by _ _ _ _ met_m in
         let told_n = told_by _ _ _ _ met_n in
         let between : map (at_token m.kind.production m.kind.other) m.kind.tokens.items ≡ map (at_token n.kind.production n.kind.other) n.kind.tokens.items =
         rw (a.production, a.other, a.tokens) refl in
-        same_parts (conflict_of most c m.evidence.now) (conflict_of most c n.evidence.now) (told_m ∙ between ∙ sym told_n)
+        same_parts (conflict_of c m.evidence.now) (conflict_of c n.evidence.now) (told_m ∙ between ∙ sym told_n)
         (sym (kind_m.shifting grouped) ∙ a.items ∙ kind_n.shifting grouped) (sym (kind_m.choice grouped) ∙ a.choice ∙ kind_n.choice grouped)
         (sym kind_m.decided ∙ a.decided ∙ kind_n.decided)
 
-    same_kind : conflict_of most c m.evidence.now ≡ conflict_of most c n.evidence.now → AreAlike m.kind n.kind
+    same_kind : conflict_of c m.evidence.now ≡ conflict_of c n.evidence.now → AreAlike m.kind n.kind
     same_kind is =
         let told_m = told_by _ _ _ _ met_m in
         let told_n = told_by _ _ _ _ met_n in
@@ -141,18 +141,18 @@ module _ {T : Type 0} (most : ℕ) (c : Checked T) (grouped : c.told.options.det
         }
 
   -- some meetings of one kind, of which those behind them are not
-  module _ (ms : List Meeting) (i n : ℕ) (met : All IsMet ms) (kinds : All (HasKind most c) ms) (one : AreOneKind (take n (drop i ms)))
+  module _ (ms : List Meeting) (i n : ℕ) (met : All IsMet ms) (kinds : All (HasKind c) ms) (one : AreOneKind (take n (drop i ms)))
       (cause : Cause) (are : cause.meetings.items ≡ map (λ m. m.evidence) (take n (drop i ms))) where
     group_met : All IsMet (take n (drop i ms))
     group_met = All-take IsMet n (drop i ms) (All-drop IsMet i ms met)
 
-    group_kinds : All (HasKind most c) (take n (drop i ms))
-    group_kinds = All-take (HasKind most c) n (drop i ms) (All-drop (HasKind most c) i ms kinds)
+    group_kinds : All (HasKind c) (take n (drop i ms))
+    group_kinds = All-take (HasKind c) n (drop i ms) (All-drop (HasKind c) i ms kinds)
 
-    pub is_one_conflict : IsOneConflict most c cause
+    pub is_one_conflict : IsOneConflict c cause
     is_one_conflict =
         let group = take n (drop i ms) in
-        let P : Bor (List Evidence) → Bor (List Evidence) → Type 0 = λ x y. conflict_of most c x.now ≡ conflict_of most c y.now in
+        let P : Bor (List Evidence) → Bor (List Evidence) → Type 0 = λ x y. conflict_of c x.now ≡ conflict_of c y.now in
         let Q : Bor (List Evidence) → Type 0 = λ x. All (P x) cause.meetings.items in
         All-same Q _ _ are (All-map Q (λ m. m.evidence) group (λ k d inside.
         let m = get_or group k d in
@@ -161,14 +161,14 @@ module _ {T : Type 0} (most : ℕ) (c : Checked T) (grouped : c.told.options.det
 
     pub are_others :
         StandTogether ms → (n < length (drop i ms) → HoldsAt (λ x. All (λ m. ¬ (AreAlike m.kind x.kind)) (take n (drop i ms))) (drop i ms) n)
-        → AreOthers most c (drop n (drop i ms)) cause
+        → AreOthers c (drop n (drop i ms)) cause
     are_others together last =
         let rest = drop i ms in
         let group = take n rest in
         let behind = drop n rest in
-        let rest_kinds = All-drop (HasKind most c) i ms kinds in
+        let rest_kinds = All-drop (HasKind c) i ms kinds in
         let rest_met = All-drop IsMet i ms met in
-        let P : Bor (List Evidence) → Type 0 = λ x. All (λ m. conflict_of most c x.now ≢ conflict_of most c m.evidence.now) behind in
+        let P : Bor (List Evidence) → Type 0 = λ x. All (λ m. conflict_of c x.now ≢ conflict_of c m.evidence.now) behind in
         All-same P _ _ are (All-map P (λ m. m.evidence) group (λ k d inside l e also same.
         let long_rest : length rest ≡ length ms - i = length-drop i ms in
         let in_group : k < n = omega (arith, inside, length-take n rest) in
@@ -178,7 +178,7 @@ module _ {T : Type 0} (most : ℕ) (c : Checked T) (grouped : c.told.options.det
         get_or_default behind l e d also ∙ get_or-drop n rest l d ∙ get_or-drop i ms (n + l) d in
         let next : get_or rest n d ≡ get_or ms (i + n) d = get_or-drop i ms n d in
         let like = same_kind (get_or group k d) (get_or behind l e) (group_met k d inside) (All-drop IsMet n rest rest_met l e also)
-        (group_kinds k d inside) (All-drop (HasKind most c) n rest rest_kinds l e also) same in
+        (group_kinds k d inside) (All-drop (HasKind c) n rest rest_kinds l e also) same in
         let far : AreAlike (get_or ms (i + k) d).kind (get_or ms (i + (n + l)) d).kind = rw (x, y) at like in
         let near = together (i + k) (i + n) (i + (n + l)) d (omega (arith, in_group)) (omega arith) (omega (arith, past, long_rest)) far in
         last (omega (arith, past)) d k d inside (rw (x, next) near)))

@@ -46,25 +46,25 @@ pub record IsOneCause (cause : Cause) : Type 0 where
   pub alike : All (λ meeting. MeetTogether production other tokens meeting.now) cause.meetings.items
 
 -- all the states of a cause have one conflict
-abbrev pub IsOneConflict : {T : Type 0} → ℕ → Checked T → Cause → Type 0
-IsOneConflict most c cause =
-    All (λ one. All (λ another. conflict_of most c one.now ≡ conflict_of most c another.now) cause.meetings.items) cause.meetings.items
+abbrev pub IsOneConflict : Checked → Cause → Type 0
+IsOneConflict c cause =
+    All (λ one. All (λ another. conflict_of c one.now ≡ conflict_of c another.now) cause.meetings.items) cause.meetings.items
 
 -- no state of one cause has the conflict of a state of another
-abbrev pub AreApart : {T : Type 0} → ℕ → Checked T → Cause → Cause → Type 0
-AreApart most c cause other =
-    All (λ one. All (λ another. conflict_of most c one.now ≢ conflict_of most c another.now) other.meetings.items) cause.meetings.items
+abbrev pub AreApart : Checked → Cause → Cause → Type 0
+AreApart c cause other =
+    All (λ one. All (λ another. conflict_of c one.now ≢ conflict_of c another.now) other.meetings.items) cause.meetings.items
 
 -- what a meeting keeps is what meets in its entries
 abbrev pub IsMet : Meeting → Type 0
 IsMet m = MeetTogether m.kind.production m.kind.other m.kind.tokens.items m.evidence.now
 
 -- and what its state does there, unless all are told
-pub record HasKind {T : Type 0} (most : ℕ) (c : Checked T) (m : Meeting) : Type 0 where
+pub record HasKind (c : Checked) (m : Meeting) : Type 0 where
   pub some : 0 < length m.evidence.now
-  pub decided : m.kind.decided.items ≡ (conflict_of most c m.evidence.now).decided
-  pub shifting : c.told.options.detail.all ≡ false → m.kind.items.items ≡ (conflict_of most c m.evidence.now).shifting
-  pub choice : c.told.options.detail.all ≡ false → m.kind.choice ≡ (conflict_of most c m.evidence.now).choice
+  pub decided : m.kind.decided.items ≡ (conflict_of c m.evidence.now).decided
+  pub shifting : c.told.options.detail.all ≡ false → m.kind.items.items ≡ (conflict_of c m.evidence.now).shifting
+  pub choice : c.told.options.detail.all ≡ false → m.kind.choice ≡ (conflict_of c m.evidence.now).choice
 
 -- both kinds are the same
 pub record AreAlike (one another : Kind) : Type 0 where

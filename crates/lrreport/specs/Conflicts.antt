@@ -24,9 +24,14 @@ choice_by e (table.Reduce p) = if p == e.production then Reduce else if option_e
 choice_by e Accept = Neither
 choice_by e Error = Neither
 
+-- the greatest index of a state or a token
+abbrev pub greatest_index : ℕ
+greatest_index = 4294967295
+
 -- that of the cell of an entry; none where its state or its token is above the greatest index
-abbrev pub choice_at : ℕ → Table → Entry → Choice
-choice_at most b e = if nat_le e.state most && nat_le e.token most then choice_by e (action_of b e.state e.token) else Neither
+abbrev pub choice_at : Table → Entry → Choice
+choice_at b e =
+    if nat_le e.state greatest_index && nat_le e.token greatest_index then choice_by e (action_of b e.state e.token) else Neither
 
 -- whether both are the same
 abbrev pub is_choice : Choice → Choice → Bool
@@ -37,14 +42,14 @@ is_choice Neither Neither = true
 is_choice _ _ = false
 
 -- that of all the entries, if it is one
-abbrev pub common_choice : ℕ → Table → List Entry → Option Choice
-common_choice most b [] = None
-common_choice most b (e ∷ es) =
-    if list_all (λ f. is_choice (choice_at most b e) (choice_at most b f)) es then Some (choice_at most b e) else None
+abbrev pub common_choice : Table → List Entry → Option Choice
+common_choice b [] = None
+common_choice b (e ∷ es) =
+    if list_all (λ f. is_choice (choice_at b e) (choice_at b f)) es then Some (choice_at b e) else None
 
 -- none where the parser splits, and does both
-abbrev pub choice_of : ℕ → Table → Bool → List Entry → Option Choice
-choice_of most b split entries = if split then None else common_choice most b entries
+abbrev pub choice_of : Table → Bool → List Entry → Option Choice
+choice_of b split entries = if split then None else common_choice b entries
 
 -- the symbol behind the dot of an item, which is a production and a dot, if there is one
 abbrev pub symbol_behind : FileGrammar → ℕ × ℕ → Option PartSymbol
@@ -82,10 +87,10 @@ pub record Conflict : Type 0 where
   pub decided : List (Option (Option ℕ))
 
 -- that of entries at which the same meets in one state
-abbrev pub conflict_of : {T : Type 0} → ℕ → Checked T → List Evidence → Conflict
-conflict_of most c evidence = record {
+abbrev pub conflict_of : Checked → List Evidence → Conflict
+conflict_of c evidence = record {
   met = map (λ e. (e.entry.token, e.entry.production, e.entry.other)) evidence;
   shifting = shifting_items c.told.file.now c.found.now.graph (map (λ e. e.entry) evidence);
-  choice = choice_of most c.found.now.table (splits c.told.parser.now) (map (λ e. e.entry) evidence);
+  choice = choice_of c.found.now.table (splits c.told.parser.now) (map (λ e. e.entry) evidence);
   decided = map (λ e. option_map (λ d. d.tokens) e.decided) evidence;
 }

@@ -9,3 +9,5 @@ pub mod Sentences
 -- conflicts, whatever their states, and those of one cause
 pub mod Conflicts
 pub mod Causes
+-- what notes tell of
+pub mod Wholes

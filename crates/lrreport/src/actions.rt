@@ -19,6 +19,13 @@ pub(crate) struct Cell {
     pub(crate) token: usize,
 }
 
+impl Cell {
+    /// Whether both have one production.
+    pub(crate) fn is_like(&self, other: &Cell) -> bool {
+        self.production == other.production
+    }
+}
+
 /// A symbol, and the state that it leads to.
 #[derive(Clone, Copy)]
 pub(crate) struct Target<'a> {
@@ -37,17 +44,26 @@ pub(crate) struct Row<'a> {
 
 /// The cells that entries are about.
 fn cells_of(alloc: Global, entries: &[Entry]) -> Result<Vec<Cell>, AllocError> {
-    let cells = entries.iter().map(|entry| Cell {
-        production: entry.production,
-        token: entry.token,
-    });
-    cells.collect(alloc)
+    let mut cells = Vec::new(alloc);
+    for entry in entries {
+        let (production, token) = (entry.production, entry.token);
+        cells.push(Cell { production, token })?;
+    }
+    Ok(cells)
+}
+
+/// How many columns the widest of the symbols takes.
+fn widest(targets: &[Target<'_>]) -> usize {
+    let mut width = 0;
+    for target in targets {
+        width = target.name.width().max(width);
+    }
+    width
 }
 
 /// Adds symbols, each with the state that it leads to, one under the other, behind an empty line, if there are some.
 pub(crate) fn push_targets(text: &mut Text, targets: &[Target<'_>], how: &str) {
-    let widths = targets.iter().map(|target| target.name.width());
-    let width = widths.max().unwrap_or(0);
+    let width = widest(targets);
     if !targets.is_empty() {
         text.add_char('\n');
     }
@@ -62,12 +78,7 @@ pub(crate) fn push_targets(text: &mut Text, targets: &[Target<'_>], how: &str) {
 
 impl<'a> Row<'a> {
     /// Adds what the table does at a token of that name.
-    fn add<T: IndexStorage>(
-        &mut self,
-        name: &'a str,
-        token: usize,
-        action: Action<T>,
-    ) -> Result<(), AllocError> {
+    fn add(&mut self, name: &'a str, token: usize, action: Action<u32>) -> Result<(), AllocError> {
         match action {
             Action::Shift(target) => {
                 let state = usize::from(target);
@@ -90,7 +101,6 @@ impl Told<'_> {
         let rule = self.rule_name(production);
         let body = body_of(self.file, production);
         let mut words = Words::new(alloc);
-        words.begin();
         write!(words, "{front}reduce by {rule}:");
         for symbol in body {
             words.add(symbol_name(self.file, *symbol));
@@ -136,7 +146,7 @@ impl Told<'_> {
 
     /// Adds reductions, with a text before and behind what is said of each.
     fn push_reductions(&self, text: &mut Text, cells: &[Cell], front: &str, back: &str) {
-        for alike in cells.chunk_by(|one, other| one.production == other.production) {
+        for alike in cells.chunk_by(Cell::is_like) {
             if let Some(first) = alike.first() {
                 let action = self.reduction(text.allocator(), first.production, front, back);
                 self.push_cells(text, alike, &action);
@@ -145,9 +155,9 @@ impl Told<'_> {
     }
 }
 
-impl<'a, T: IndexStorage> Listing<'a, T> {
+impl<'a> Listing<'a> {
     /// What the table does in a state.
-    pub(crate) fn row(&self, alloc: Global, state: StIdx<T>) -> Result<Row<'a>, AllocError> {
+    pub(crate) fn row(&self, alloc: Global, state: StIdx<u32>) -> Result<Row<'a>, AllocError> {
         let told = self.checked.told;
         let mut row = Row {
             shifts: Vec::new(alloc),
@@ -155,7 +165,7 @@ impl<'a, T: IndexStorage> Listing<'a, T> {
             accepts: false,
         };
         for token in 0..told.file.parts.tokens.len().saturating_add(1) {
-            if let Some(number) = T::from_usize(token) {
+            if let Some(number) = u32::from_usize(token) {
                 let action = self.checked.found.table.action(state, TIdx(number));
                 row.add(told.token_name(token), token, action)?;
             }
@@ -165,8 +175,8 @@ impl<'a, T: IndexStorage> Listing<'a, T> {
     }
 
     /// Whether the table reduces in a state as a cell says.
-    fn does(&self, state: StIdx<T>, cell: Cell) -> bool {
-        let Some(token) = T::from_usize(cell.token) else {
+    fn does(&self, state: StIdx<u32>, cell: Cell) -> bool {
+        let Some(token) = u32::from_usize(cell.token) else {
             return true;
         };
         match self.checked.found.table.action(state, TIdx(token)) {
@@ -179,7 +189,7 @@ impl<'a, T: IndexStorage> Listing<'a, T> {
     fn alternatives(
         &self,
         alloc: Global,
-        state: StIdx<T>,
+        state: StIdx<u32>,
         entries: &[Entry],
     ) -> Result<Vec<Cell>, AllocError> {
         let mut cells = cells_of(alloc, entries)?;
@@ -196,7 +206,7 @@ impl<'a, T: IndexStorage> Listing<'a, T> {
     }
 
     /// Adds what else would be possible in a state, where there are conflicts, and what is an error by precedences.
-    fn push_others(&self, text: &mut Text, state: StIdx<T>) -> Result<(), AllocError> {
+    fn push_others(&self, text: &mut Text, state: StIdx<u32>) -> Result<(), AllocError> {
         let (alloc, number) = (text.allocator(), usize::from(state));
         if let Some(entries) = self.conflicts.get(&number) {
             let cells = self.alternatives(alloc, state, entries.as_slice())?;
@@ -219,7 +229,7 @@ impl<'a, T: IndexStorage> Listing<'a, T> {
     pub(crate) fn gotos(
         &self,
         alloc: Global,
-        state: StIdx<T>,
+        state: StIdx<u32>,
     ) -> Result<Vec<Target<'a>>, AllocError> {
         let checked = self.checked;
         let file = checked.told.file;
@@ -239,7 +249,7 @@ impl<'a, T: IndexStorage> Listing<'a, T> {
     pub(crate) fn push_reducing(
         &self,
         text: &mut Text,
-        state: StIdx<T>,
+        state: StIdx<u32>,
         row: &Row<'a>,
     ) -> Result<(), AllocError> {
         self.push_others(text, state)?;

@@ -9,7 +9,7 @@ use lryacc::{Dialect, FileGrammar};
 const NAMED: usize = 4;
 
 /// Where a new precedence line stands.
-#[derive(Clone, Copy, PartialEq, Eq)]
+#[derive(Clone, Copy)]
 pub(crate) enum Place {
     /// Above all others.
     Above,
@@ -38,40 +38,31 @@ pub(crate) enum Hindrance {
     Others,
 }
 
-/// Levels that resolve a conflict. Where they do so the other way round too, by the reduction, `can_reduce` says so.
-#[derive(Drop)]
-pub(crate) enum NewLevels {
+/// How levels resolve a conflict. Where they do so the other way round too, by the reduction, `can_reduce` says so.
+#[derive(Clone, Copy)]
+pub(crate) enum Way {
     /// An associativity for a line of `%precedence`; either one where a rule and its own operator meet.
-    Associativity {
-        is_of_operator: bool,
-    },
-    /// One level for the tokens of the conflict, from one of which the production has its own: by `%right`, or else by `%left`
-    /// too.
-    One {
-        tokens: Vec<usize>,
-        is_right: bool,
-    },
-    /// A level for the token from which the production has its own, and one below it for the tokens of the conflict.
-    Two {
-        source: usize,
-        tokens: Vec<usize>,
-        can_reduce: bool,
-    },
-    /// A level for tokens in a new line.
-    Line {
-        tokens: Vec<usize>,
-        place: Place,
-        can_reduce: bool,
-    },
+    Associativity { is_of_operator: bool },
+    /// One level for the tokens, from one of which the production has its own: by `%right`, or else by `%left` too.
+    One { is_right: bool },
+    /// A level for the token from which the production has its own, and one below it for the tokens.
+    Two { source: usize, can_reduce: bool },
+    /// A level for that token in a new line above all others.
+    Above { source: usize, can_reduce: bool },
+    /// A level for the tokens in a new line below all others.
+    Below { can_reduce: bool },
     /// A level for the production by `%prec`, above all others.
-    Prec {
-        can_reduce: bool,
-    },
-    /// A level for it in that place, and one right below it for tokens.
-    PrecAndLine {
-        tokens: Vec<usize>,
-        place: Place,
-    },
+    Prec { can_reduce: bool },
+    /// A level for it in that place, and one right below it for the tokens.
+    PrecAndLine { place: Place },
+}
+
+/// Levels that resolve a conflict.
+#[derive(Drop)]
+pub(crate) struct NewLevels {
+    /// The tokens of the conflict that have none yet.
+    pub(crate) tokens: Vec<usize>,
+    pub(crate) way: Way,
 }
 
 /// How a conflict can be resolved.
@@ -189,6 +180,14 @@ impl Told<'_> {
         }
     }
 
+    /// Adds that tokens get a level in a new line.
+    fn add_line(&self, words: &mut Words, tokens: &[usize], place: Place, can_reduce: bool) {
+        words.add("give");
+        self.add_plain_level(words, tokens);
+        words.add_piece(":");
+        add_places(words, place, can_reduce);
+    }
+
     /// Adds that the production gets a level in a place, and tokens one below it.
     fn add_prec_and_line(&self, words: &mut Words, tokens: &[usize], place: Place) {
         words.add_all("to keep the shift, give this production a level by %prec");
@@ -205,36 +204,22 @@ impl Told<'_> {
 
     /// Adds levels that resolve a conflict.
     pub(crate) fn add_levels(&self, words: &mut Words, levels: &NewLevels) {
-        match levels {
-            NewLevels::Associativity { is_of_operator } => add_associativity(
-                words,
-                *is_of_operator,
-            ),
-            NewLevels::One { tokens, is_right } => {
-                self.add_one_level(words, tokens.as_slice(), *is_right);
+        let tokens = levels.tokens.as_slice();
+        match levels.way {
+            Way::Associativity { is_of_operator } => add_associativity(words, is_of_operator),
+            Way::One { is_right } => self.add_one_level(words, tokens, is_right),
+            Way::Two { source, can_reduce } => {
+                self.add_two_levels(words, source, tokens, can_reduce);
             }
-            NewLevels::Two {
-                source,
-                tokens,
-                can_reduce,
-            } => self.add_two_levels(words, *source, tokens.as_slice(), *can_reduce),
-            NewLevels::Line {
-                tokens,
-                place,
-                can_reduce,
-            } => {
-                words.add("give");
-                self.add_plain_level(words, tokens.as_slice());
-                words.add_piece(":");
-                add_places(words, *place, *can_reduce);
+            Way::Above { source, can_reduce } => {
+                self.add_line(words, &[source], Place::Above, can_reduce);
             }
-            NewLevels::Prec { can_reduce } => {
+            Way::Below { can_reduce } => self.add_line(words, tokens, Place::Below, can_reduce),
+            Way::Prec { can_reduce } => {
                 words.add_all("give this production a level by %prec:");
-                add_places(words, Place::Above, *can_reduce);
+                add_places(words, Place::Above, can_reduce);
             }
-            NewLevels::PrecAndLine { tokens, place } => {
-                self.add_prec_and_line(words, tokens.as_slice(), *place);
-            }
+            Way::PrecAndLine { place } => self.add_prec_and_line(words, tokens, place),
         }
     }
 
@@ -261,8 +246,7 @@ impl Told<'_> {
                 self.add_other_parser(words);
             }
             Advice::Decide(tokens) => {
-                words.begin();
-                write!(words, "{tokens}");
+                words.add_number(*tokens);
                 words.add_all("tokens of lookahead would decide, and levels would not mend it:");
                 self.add_other_parser(words);
             }

@@ -8,7 +8,6 @@ use crate::words::Words;
 use lrdiagnostics::TOLD;
 use lrevidence::{Ambiguity, Evidence, Step};
 use lrfindings::Entry;
-use lrgrammar::idx::IndexStorage;
 use lrwriter::Text;
 use lryacc::Span;
 use std::alloc::{AllocError, Global};
@@ -21,7 +20,7 @@ const LINES: usize = 50;
 const NAMED: usize = 4;
 
 /// A step by which both trees of a form are put together, whatever its symbols are.
-#[derive(Clone, Copy, Debug, PartialEq, Eq, PartialOrd, Ord)]
+#[derive(Clone, Copy, PartialEq, Eq, PartialOrd, Ord)]
 enum Piece {
     /// Some symbols become leaves.
     Symbols,
@@ -161,7 +160,10 @@ impl Told<'_> {
             return Ok(None);
         };
         let entry = first.entry;
-        let other = entry.other.map(|other| self.rule_of(other));
+        let other = match entry.other {
+            Some(other) => Some(self.rule_of(other)),
+            None => None,
+        };
         let rejects = cause.rejecting().is_some();
         let pieces = self.pieces(alloc, ambiguity)?;
         Ok(Some((self.rule_of(entry.production), other, rejects, pieces)))
@@ -198,18 +200,16 @@ impl Told<'_> {
 
     /// Adds in which states a conflict is, if in several; where each entry is told, in which one.
     pub(crate) fn add_states(&self, words: &mut Words, cause: &Cause<'_>) {
-        let count = cause.meetings.len();
+        let count = cause.states();
         if self.options.detail.all {
             if let Some(first) = cause.first_evidence() {
                 let state = first.entry.state;
                 words.add_all("in state");
-                words.begin();
-                write!(words, "{state}");
+                words.add_number(state);
             }
         } else if count > 1 {
             words.add("in");
-            words.begin();
-            write!(words, "{count}");
+            words.add_number(count);
             words.add("states");
         }
     }
@@ -224,8 +224,7 @@ impl Told<'_> {
         let more = entries.len().saturating_sub(NAMED);
         if more > 0 {
             words.add("and");
-            words.begin();
-            write!(words, "{more}");
+            words.add_number(more);
             words.add("more");
         }
     }
@@ -234,14 +233,12 @@ impl Told<'_> {
     fn add_at(&self, words: &mut Words, entry: &Entry) {
         let at = self.source.position(self.place(entry.production).start);
         let (name, line, column) = (self.source.name, at.line, at.column);
-        words.begin();
         write!(words, "{name}:{line}:{column}:");
     }
 
     /// Adds the line and the column of another place.
     fn add_other_place(&self, words: &mut Words, place: Span) {
         let at = self.source.position(place.start);
-        words.begin();
         write!(words, "({}:{})", at.line, at.column);
     }
 
@@ -258,8 +255,7 @@ impl Told<'_> {
         self.add_other_place(words, self.symbol_place(production, dot));
         if more > 0 {
             words.add("and");
-            words.begin();
-            write!(words, "{more}");
+            words.add_number(more);
             words.add("more");
         }
     }
@@ -294,7 +290,6 @@ impl Told<'_> {
     /// Adds how many conflicts are told behind one, if some are.
     fn add_behind(&self, words: &mut Words, count: usize) {
         if count > 0 {
-            words.begin();
             write!(words, "({count}");
             words.add_all(if count == 1 {
                 "more conflict like this)"
@@ -331,7 +326,7 @@ pub(crate) fn kinds(entries: &[Entry]) -> &'static str {
     }
 }
 
-impl<T: IndexStorage> Trials<'_, '_, T> {
+impl Trials<'_, '_> {
     /// Adds how a conflict can be resolved, unless that is said already.
     fn add_help(
         &self,
@@ -340,7 +335,8 @@ impl<T: IndexStorage> Trials<'_, '_, T> {
         said: Option<&Words>,
     ) -> Result<(), AllocError> {
         let help = self.help_on(words.allocator(), cause)?;
-        if !help.is_empty() && !said.is_some_and(|said| said.is_same(&help)) {
+        let is_said = matches!(said, Some(said) if said.is_same(&help));
+        if !help.is_empty() && !is_said {
             words.add_piece(";");
             words.append(&help);
         }

@@ -12,7 +12,6 @@ use crate::notes::have_sentences;
 use crate::verdicts::own_sentences;
 use lrevidence::Evidence;
 use lrfindings::Entry;
-use lrgrammar::idx::IndexStorage;
 use std::alloc::{AllocError, Global};
 
 /// What is compared of a conflict in several states. In the order of the fields, those that are equal stand together.
@@ -54,7 +53,7 @@ struct Meeting<'e> {
 #[derive(Drop)]
 pub(crate) struct Cause<'e> {
     /// What is known of its entries, state by state.
-    pub(crate) meetings: Vec<&'e [Evidence]>,
+    meetings: Vec<&'e [Evidence]>,
 }
 
 /// The first of those with a sentence that has two trees, if there is one.
@@ -69,12 +68,22 @@ fn with_sentence<'e>(meetings: &[&'e [Evidence]]) -> Option<&'e [Evidence]>
     None
 }
 
+/// Whether of one of the entries a sentence is known that the parser rejects.
+pub(crate) fn have_loss(meeting: &[Evidence]) -> bool {
+    for evidence in meeting {
+        if evidence.loss.is_some() {
+            return true;
+        }
+    }
+    false
+}
+
 /// The first of those with a sentence that the parser rejects, if there is one.
 fn with_loss<'e>(meetings: &[&'e [Evidence]]) -> Option<&'e [Evidence]>
     ensures { IfSome result (Contains meetings.now) }
 {
     for meeting in meetings {
-        if meeting.iter().any(|it| it.loss.is_some()) {
+        if have_loss(meeting) {
             return Some(*meeting);
         }
     }
@@ -120,8 +129,16 @@ impl<'e> Cause<'e> {
         Some(self.first_evidence()?.entry)
     }
 
+    /// In how many states it is.
+    pub(crate) fn states(&self) -> usize {
+        self.meetings.len()
+    }
+
     /// Its entries, state by state.
-    pub(crate) fn entries(&self, alloc: Global) -> Result<Vec<Entry>, AllocError> {
+    pub(crate) fn entries(&self, alloc: Global) -> Result<Vec<Entry>, AllocError>
+        ensures { IfOk result (λ entries.
+            entries.items ≡ map (λ e. e.entry) (entries_in self.now)) }
+    {
         let mut entries = Vec::new(alloc);
         for meeting in &self.meetings {
             let met = entries_of(alloc, meeting)?;
@@ -132,8 +149,13 @@ impl<'e> Cause<'e> {
 
     /// In how many states not each of its entries has a sentence with two trees that part by what meets in it.
     pub(crate) fn states_without(&self) -> usize {
-        let states = self.meetings.iter();
-        states.filter(|it| !have_sentences(it)).count()
+        let mut count: usize = 0;
+        for meeting in &self.meetings {
+            if !have_sentences(meeting) {
+                count = count.saturating_add(1);
+            }
+        }
+        count
     }
 
     /// Whether each of its entries has such a sentence.
@@ -200,7 +222,7 @@ fn evidence_of<'e>(
 }
 
 /// The tokens of entries.
-fn tokens_at(alloc: Global, evidence: &[Evidence]) -> Result<Vec<usize>, AllocError>
+pub(crate) fn tokens_at(alloc: Global, evidence: &[Evidence]) -> Result<Vec<usize>, AllocError>
     ensures { IfOk result (λ v. v.items ≡ map (λ e. e.entry.token) evidence.now) }
 {
     evidence.iter().map(|it| it.entry.token).collect(alloc)
@@ -273,7 +295,7 @@ fn first_cause<'e>(
     Ok((cause_of(alloc, first, one)?, count))
 }
 
-impl<'a, T: IndexStorage> Checked<'a, T> {
+impl<'a> Checked<'a> {
     /// The items by which the state of entries goes on where they meet a shift, and what the table does there.
     fn done_by(
         &self,
@@ -281,9 +303,9 @@ impl<'a, T: IndexStorage> Checked<'a, T> {
         evidence: &[Evidence],
     ) -> Result<(Vec<(usize, usize)>, Option<Choice>), AllocError>
         ensures items { IfOk result (λ done. done.0.items
-            ≡ (conflict_of T.MAX self.now evidence.now).shifting) }
+            ≡ (conflict_of self.now evidence.now).shifting) }
         ensures choice { IfOk result (λ done. done.1
-            ≡ (conflict_of T.MAX self.now evidence.now).choice) }
+            ≡ (conflict_of self.now evidence.now).choice) }
     {
         let entries = entries_of(alloc, evidence)?;
         let items = self.shifting_items(alloc, entries.as_slice())?;
@@ -298,9 +320,9 @@ impl<'a, T: IndexStorage> Checked<'a, T> {
         tells_all: bool,
     ) -> Result<(Vec<(usize, usize)>, Option<Choice>), AllocError>
         ensures items { IfOk result (λ done. tells_all ≡ false → done.0.items
-            ≡ (conflict_of T.MAX self.now evidence.now).shifting) }
+            ≡ (conflict_of self.now evidence.now).shifting) }
         ensures choice { IfOk result (λ done. tells_all ≡ false → done.1
-            ≡ (conflict_of T.MAX self.now evidence.now).choice) }
+            ≡ (conflict_of self.now evidence.now).choice) }
     {
         if tells_all {
             Ok((Vec::new(alloc), None))
@@ -321,11 +343,11 @@ impl<'a, T: IndexStorage> Checked<'a, T> {
         ensures evidence { IfOk result (λ m. m.evidence.now ≡ evidence.now) }
         ensures met { IfOk result IsMet }
         ensures decided { IfOk result (λ m. m.kind.decided.items
-            ≡ (conflict_of T.MAX self.now evidence.now).decided) }
+            ≡ (conflict_of self.now evidence.now).decided) }
         ensures items { IfOk result (λ m. tells_all ≡ false → m.kind.items.items
-            ≡ (conflict_of T.MAX self.now evidence.now).shifting) }
+            ≡ (conflict_of self.now evidence.now).shifting) }
         ensures choice { IfOk result (λ m. tells_all ≡ false → m.kind.choice
-            ≡ (conflict_of T.MAX self.now evidence.now).choice) }
+            ≡ (conflict_of self.now evidence.now).choice) }
     {
         let (items, choice) = self.done_unless(alloc, evidence, tells_all)?;
         let decided = decided_by(alloc, evidence)?;
@@ -355,7 +377,7 @@ impl<'a, T: IndexStorage> Checked<'a, T> {
             → runs_of evidence.now
             ≡ m.evidence.now ∷ runs_of (drop (length m.evidence.now) evidence.now)) }
         ensures met { IfOk result IsMet }
-        ensures kind { IfOk result (HasKind T.MAX self.now) }
+        ensures kind { IfOk result (HasKind self.now) }
     {
         let tells_all = self.told.options.detail.all;
         let (_, others) = evidence.split_at(1);
@@ -372,7 +394,7 @@ impl<'a, T: IndexStorage> Checked<'a, T> {
         ensures runs { IfOk result (λ met. self.now.told.options.detail.all ≡ false
             → map (λ m. m.evidence.now) met.items ≡ runs_of self.now.told.evidence.now) }
         ensures met { IfOk result (λ met. All IsMet met.items) }
-        ensures kinds { IfOk result (λ met. All (HasKind T.MAX self.now) met.items) }
+        ensures kinds { IfOk result (λ met. All (HasKind self.now) met.items) }
     {
         let evidence = self.told.evidence;
         let mut met = Vec::new(alloc);
@@ -389,16 +411,16 @@ impl<'a, T: IndexStorage> Checked<'a, T> {
     /// Meetings in groups, one for each kind, whose meetings stand together; each by itself where all are told.
     fn split(&self, alloc: Global, meetings: &[Meeting<'a>]) -> Result<Vec<Cause<'a>>, AllocError>
         requires met { All IsMet meetings.now }
-        requires kinds { All (HasKind T.MAX self.now) meetings.now }
+        requires kinds { All (HasKind self.now) meetings.now }
         requires together { self.now.told.options.detail.all ≡ false
             → StandTogether meetings.now }
         ensures states { IfOk result (λ causes.
             flat_map states_of causes.items ≡ map (λ m. m.evidence.now) meetings.now) }
         ensures alike { IfOk result (λ causes. All IsOneCause causes.items) }
         ensures kind { IfOk result (λ causes. self.now.told.options.detail.all ≡ false
-            → All (IsOneConflict T.MAX self.now) causes.items) }
+            → All (IsOneConflict self.now) causes.items) }
         ensures apart { IfOk result (λ causes. self.now.told.options.detail.all ≡ false
-            → AllPairs (AreApart T.MAX self.now) causes.items) }
+            → AllPairs (AreApart self.now) causes.items) }
     {
         let mut causes = Vec::new(alloc);
         let mut from = 0;
@@ -421,9 +443,9 @@ impl<'a, T: IndexStorage> Checked<'a, T> {
             (flat_map states_of causes.items)) }
         ensures alike { IfOk result (λ causes. All IsOneCause causes.items) }
         ensures kind { IfOk result (λ causes. self.now.told.options.detail.all ≡ false
-            → All (IsOneConflict T.MAX self.now) causes.items) }
+            → All (IsOneConflict self.now) causes.items) }
         ensures apart { IfOk result (λ causes. self.now.told.options.detail.all ≡ false
-            → AllPairs (AreApart T.MAX self.now) causes.items) }
+            → AllPairs (AreApart self.now) causes.items) }
     {
         let mut met = self.met(alloc)?;
         put_in_order(&mut met, self.told.options.detail.all)?;

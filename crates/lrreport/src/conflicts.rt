@@ -25,7 +25,7 @@ use crate::told::Told;
 use crate::words::Words;
 use lrdiagnostics::{Mark, Style};
 use lrevidence::{Ambiguity, Evidence, Loss};
-use lrfindings::{Entry, Findings};
+use lrfindings::{Entry, Findings, is_among};
 use lrgrammar::idx::{IndexStorage, StIdx, TIdx};
 use lrtable::itemset::Itemset;
 use lrtable::{Action, StateGraph};
@@ -70,9 +70,9 @@ impl Choice {
 
 /// A file's grammar, with what was found in it.
 #[derive(Drop)]
-pub(crate) struct Checked<'a, T: IndexStorage> {
+pub(crate) struct Checked<'a> {
     pub(crate) told: Told<'a>,
-    pub(crate) found: &'a Findings<T>,
+    pub(crate) found: &'a Findings<u32>,
 }
 
 /// What a table does by an action in the cell of an entry.
@@ -88,8 +88,12 @@ fn choice_by<T: IndexStorage>(entry: &Entry, action: Action<T>) -> Choice
 }
 
 /// The closed state of a state of a graph, if there is such a one.
-fn closed_state<T: IndexStorage>(graph: &StateGraph<T>, state: usize) -> Option<&Itemset<T>>
-    ensures some { IfSome result (λ closed. set_of T.number closed.now ≡ closed_of graph.now state) }
+pub(crate) fn closed_state<T: IndexStorage>(
+    graph: &StateGraph<T>,
+    state: usize,
+) -> Option<&Itemset<T>>
+    ensures some { IfSome result (λ closed.
+        set_of T.number closed.now ≡ closed_of graph.now state) }
     ensures none { IfNone result (closed_of graph.now state ≡ []) }
 {
     if state >= graph.all_states_len().0.to_usize() {
@@ -143,12 +147,12 @@ impl Told<'_> {
     }
 }
 
-impl<T: IndexStorage> Checked<'_, T> {
+impl Checked<'_> {
     /// What the table does in the cell of an entry.
     pub(crate) fn choice(&self, entry: &Entry) -> Choice
-        ensures { result ≡ choice_at T.MAX self.now.found.now.table entry.now }
+        ensures { result ≡ choice_at self.now.found.now.table entry.now }
     {
-        match (T::from_usize(entry.state), T::from_usize(entry.token)) {
+        match (u32::from_usize(entry.state), u32::from_usize(entry.token)) {
             (Some(state), Some(token)) => {
                 choice_by(entry, self.found.table.action(StIdx(state), TIdx(token)))
             }
@@ -159,14 +163,14 @@ impl<T: IndexStorage> Checked<'_, T> {
     /// Whether that is what it does in the cells of all the entries.
     fn is_common(&self, choice: Choice, entries: &[Entry]) -> bool
         ensures { result ≡ list_all (λ e.
-            is_choice choice (choice_at T.MAX self.now.found.now.table e)) entries.now }
+            is_choice choice (choice_at self.now.found.now.table e)) entries.now }
     {
         entries.iter().all(|entry| choice.is(self.choice(entry)))
     }
 
     /// What it does in the cells of all the entries, where that is the same, and no more.
     pub(crate) fn choice_of(&self, entries: &[Entry]) -> Option<Choice>
-        ensures { result ≡ choice_of T.MAX self.now.found.now.table
+        ensures { result ≡ choice_of self.now.found.now.table
             (splits self.now.told.parser.now) entries.now }
     {
         if self.told.parser.splits() {
@@ -176,6 +180,21 @@ impl<T: IndexStorage> Checked<'_, T> {
         let choice = self.choice(first);
         let is_one = self.is_common(choice, others);
         is_one.then_some(choice)
+    }
+
+    /// Whether it is shown that no sentence is lost at each of the entries.
+    pub(crate) fn are_kept(&self, entries: &[Entry]) -> bool
+        requires { AreToldKept self.now.found.now.grm self.now.found.now.graph
+            self.now.found.now.table self.now.told.kept.now }
+        ensures { IsTrue result → AreToldKept self.now.found.now.grm self.now.found.now.graph
+            self.now.found.now.table entries.now }
+    {
+        for entry in entries {
+            if !is_among(self.told.kept, entry) {
+                return false;
+            }
+        }
+        true
     }
 
     /// The items of the state of entries, as production and dot, in which it goes on by the token of one of them, where a production
@@ -331,7 +350,7 @@ impl<T: IndexStorage> Checked<'_, T> {
         causes: &[Cause<'_>],
         leads: &Leads,
         most: usize,
-        trials: &Trials<'_, '_, T>,
+        trials: &Trials<'_, '_>,
     ) -> Result<(), AllocError>
         requires proved { All (IsProved self.now.found.now.grm) (flat_map entries_in causes.now) }
         requires lost { All (IsLostAtEntry self.now.found.now.grm self.now.found.now.table)
@@ -363,10 +382,11 @@ impl<T: IndexStorage> Checked<'_, T> {
         requires kept { AreToldKept self.now.found.now.grm self.now.found.now.graph
             self.now.found.now.table self.now.told.kept.now }
     {
-        let causes = self.causes(text.allocator())?;
+        let alloc = text.allocator();
+        let causes = self.causes(alloc)?;
         let causes = causes.as_slice();
-        let leads = self.told.leads(text.allocator(), causes)?;
-        let trials = Trials::new(text.allocator(), self)?;
+        let leads = self.told.leads(alloc, causes)?;
+        let trials = Trials::new(alloc, self)?;
         self.push_causes(text, causes, &leads, most, &trials)?;
         trials.push_further(text, causes, &leads, most)
     }
@@ -376,7 +396,7 @@ impl<T: IndexStorage> Checked<'_, T> {
 pub(crate) fn are_decided(meeting: &[Evidence]) -> bool
     ensures { IsTrue result → All (λ evidence. IsSome evidence.decided) meeting.now }
 {
-    meeting.iter().all(|it| it.is_decided())
+    meeting.iter().all(Evidence::is_decided)
 }
 
 /// How many tokens decide each of the entries, if that is known, and the same of all.

@@ -13,7 +13,13 @@ pub(crate) fn rules_of_file(file: &FileGrammar) -> usize {
 
 /// How many productions the file has, without those of `$accept`.
 pub(crate) fn productions_of_file(file: &FileGrammar) -> usize {
-    file.parts.prods.iter().filter(|prod| prod.rule > 0).count()
+    let mut count: usize = 0;
+    for prod in &file.parts.prods {
+        if prod.rule > 0 {
+            count = count.saturating_add(1);
+        }
+    }
+    count
 }
 
 /// Whether a token is one of the file, and not one that stands below those of a `%precedence` line.
@@ -29,8 +35,13 @@ fn is_of_file(file: &FileGrammar, token: usize) -> bool {
 
 /// How many tokens the file has.
 pub(crate) fn tokens_of_file(file: &FileGrammar) -> usize {
-    let tokens = 0..file.parts.tokens.len();
-    tokens.filter(|token| is_of_file(file, *token)).count()
+    let mut count: usize = 0;
+    for token in 0..file.parts.tokens.len() {
+        if is_of_file(file, token) {
+            count = count.saturating_add(1);
+        }
+    }
+    count
 }
 
 /// Whether a token stands below those of the `%precedence` line of a level.
@@ -41,14 +52,22 @@ fn is_below(token: &PartToken, level: u64) -> bool {
     }
 }
 
+/// Whether the line of a level is one of `%precedence`: tokens stand below those of it.
+fn is_precedence(file: &FileGrammar, level: u64) -> bool {
+    for token in &file.parts.tokens {
+        if is_below(token, level) {
+            return true;
+        }
+    }
+    false
+}
+
 /// The word of a precedence line, without its mark.
 fn kind_of(file: &FileGrammar, level: u64, kind: AssocKind) -> &'static str {
     match kind {
         AssocKind::Left => "left",
         AssocKind::Right => "right",
-        AssocKind::Nonassoc if file.parts.tokens.iter().any(|token| is_below(token, level)) => {
-            "precedence"
-        }
+        AssocKind::Nonassoc if is_precedence(file, level) => "precedence",
         AssocKind::Nonassoc => "nonassoc",
     }
 }
@@ -63,8 +82,7 @@ fn add_token(json: &mut JsonText, file: &FileGrammar, token: &PartToken) {
         None => (None, None),
     };
     json.begin_object();
-    json.key("name");
-    json.string(token.name.as_str());
+    json.string_at("name", token.name.as_str());
     json.key("level");
     json.number_or_null(level);
     json.key("kind");
@@ -99,8 +117,7 @@ fn add_production(json: &mut JsonText, file: &FileGrammar, number: usize, prod: 
         None => None,
     };
     json.begin_object();
-    json.key("rule");
-    json.string(rule_name(file, prod.rule));
+    json.string_at("rule", rule_name(file, prod.rule));
     json.key("body");
     add_symbols(json, file, prod.symbols.as_slice());
     json.key("prec");

@@ -1,6 +1,7 @@
 //! Searches how conflicts can be resolved: by the levels that an author would try first, each tried on all conflicts of the file.
 
-use crate::advice::{Advice, Hindrance, NewLevels, Place};
+use crate::advice::{Advice, Hindrance, NewLevels, Place, Way};
+use crate::causes::have_loss;
 use crate::conflicts::tokens_of_each;
 use crate::levels::{Group, Level, Proposal, Rank, Trial, Trials};
 use crate::told::Told;
@@ -8,7 +9,6 @@ use crate::verdicts::own_sentences;
 use crate::words::Words;
 use lrevidence::{Evidence, Exactness};
 use lrfindings::is_among;
-use lrgrammar::idx::IndexStorage;
 use lrwriter::Text;
 use lryacc::Dialect;
 use std::alloc::{AllocError, Global};
@@ -32,10 +32,10 @@ struct Sides {
 }
 
 /// What comes of trying levels.
-#[derive(Drop)]
+#[derive(Clone, Copy)]
 enum Tried {
     /// They resolve the conflict, and nothing else is decided otherwise than before.
-    Good(NewLevels),
+    Good(Way),
     /// They don't, or something else is.
     Bad,
     /// Too much was tried already.
@@ -44,9 +44,9 @@ enum Tried {
 
 impl Trial {
     /// The same with the levels where it is good.
-    fn with(self, levels: NewLevels) -> Tried {
+    fn with(self, way: Way) -> Tried {
         match self {
-            Trial::Good => Tried::Good(levels),
+            Trial::Good => Tried::Good(way),
             Trial::Bad => Tried::Bad,
             Trial::Untried => Tried::Untried,
         }
@@ -63,7 +63,13 @@ fn rank_of(place: Place) -> Rank {
 
 /// At how many entries the search was not through when the allowance of the file was used up.
 pub(crate) fn cut_off(evidence: &[Evidence]) -> usize {
-    evidence.iter().filter(|it| it.is_cut_off).count()
+    let mut count: usize = 0;
+    for one in evidence {
+        if one.is_cut_off {
+            count = count.saturating_add(1);
+        }
+    }
+    count
 }
 
 impl Told<'_> {
@@ -78,28 +84,60 @@ impl Told<'_> {
     }
 
     /// Whether an entry is ambiguous at which the parser rejects a sentence, and levels could reduce there, so that it may accept it.
-    fn may_reduce(&self, evidence: &Evidence) -> bool {
+    fn may_reduce_at(&self, evidence: &Evidence) -> bool {
         let entry = &evidence.entry;
         let is_both = evidence.rejects() && evidence.has_own_sentence();
         is_both && entry.other.is_none() && self.can_have_level(entry.token)
     }
 
-    /// Whether it is shown that no sentence is lost at the conflicts.
-    fn loses_none(&self) -> bool {
-        let mut evidence = self.evidence.iter();
-        self.exactness == Exactness::Exact || evidence.all(|it| is_among(self.kept, &it.entry))
+    /// Whether one of the entries is such a one.
+    fn may_reduce(&self, meeting: &[Evidence]) -> bool {
+        for evidence in meeting {
+            if self.may_reduce_at(evidence) {
+                return true;
+            }
+        }
+        false
     }
 
-    /// That the conflicts can be expected, unless they are, where each is one with a shift, and no sentence is known that the parser
-    /// rejects: that would be hidden.
-    fn expected_note(&self, alloc: Global) -> Result<Option<String>, AllocError> {
+    /// Whether it is shown that no sentence is lost at the conflicts.
+    fn loses_none(&self) -> bool {
+        if self.exactness == Exactness::Exact {
+            return true;
+        }
+        for evidence in self.evidence {
+            if !is_among(self.kept, &evidence.entry) {
+                return false;
+            }
+        }
+        true
+    }
+
+    /// Whether each of the conflicts is one with a shift.
+    fn have_shifts(&self) -> bool {
+        for evidence in self.evidence {
+            if evidence.entry.other.is_some() {
+                return false;
+            }
+        }
+        true
+    }
+
+    /// Whether it may be said that the conflicts can be expected, unless they are: each is one with a shift, and no sentence is known
+    /// that the parser rejects, which would be hidden.
+    fn can_be_expected(&self) -> bool {
         let count = self.evidence.len();
-        let with_shifts = self.evidence.iter().all(|it| it.entry.other.is_none());
-        let loses = self.evidence.iter().any(|it| it.loss.is_some());
         let is_expected = self.options.expected == Some(count as u64);
-        if count == 0 || !with_shifts || loses || is_expected || self.options.ignores_precedences {
+        let is_open = count > 0 && !is_expected && !self.options.ignores_precedences;
+        is_open && self.have_shifts() && !have_loss(self.evidence)
+    }
+
+    /// That the conflicts can be expected, where that may be said.
+    fn expected_note(&self, alloc: Global) -> Result<Option<String>, AllocError> {
+        if !self.can_be_expected() {
             return Ok(None);
         }
+        let count = self.evidence.len();
         let wanted = if self.parser.splits() {
             "if the parser is to split there"
         } else if self.loses_none() {
@@ -140,14 +178,26 @@ impl Told<'_> {
         Ok(())
     }
 
-    /// Whether a production stands for an action in the middle of another one.
-    fn is_action(&self, production: usize) -> bool {
-        let rule = self.rule_name(production);
-        rule.starts_with("$@") || rule.starts_with('@')
+    /// The tokens of entries that have no level.
+    fn without_level(&self, alloc: Global, meeting: &[Evidence]) -> Result<Vec<usize>, AllocError> {
+        let mut tokens = Vec::new(alloc);
+        for evidence in meeting {
+            let token = evidence.entry.token;
+            if !self.has_level(token) {
+                tokens.push(token)?;
+            }
+        }
+        Ok(tokens)
     }
-}
 
-impl<'a, T: IndexStorage> Trials<'_, 'a, T> {
+    /// The token by which an author would give a production its level.
+    fn source(&self, production: usize) -> Option<usize> {
+        match self.token_of(production) {
+            Some(token) if self.can_have_level(token) => Some(token),
+            _ => None,
+        }
+    }
+
     /// What is known of the levels of a conflict with a shift.
     fn sides(
         &self,
@@ -155,32 +205,46 @@ impl<'a, T: IndexStorage> Trials<'_, 'a, T> {
         production: usize,
         meeting: &[Evidence],
     ) -> Result<Sides, AllocError> {
-        let told = self.told();
-        let source = match told.token_of(production) {
-            Some(token) if told.can_have_level(token) => Some(token),
-            _ => None,
-        };
-        let tokens = meeting.iter().map(|evidence| evidence.entry.token);
-        let without: Vec<usize> = tokens
-            .filter(|token| !told.has_level(*token))
-            .collect(alloc)?;
+        let without = self.without_level(alloc, meeting)?;
+        let source = self.source(production);
         Ok(Sides {
             production,
             has_other: without.len() < meeting.len(),
             without,
             source,
-            has_source: source.is_some_and(|token| told.has_level(token)),
+            has_source: match source {
+                Some(token) => self.has_level(token),
+                None => false,
+            },
         })
     }
 
-    /// Whether levels resolve the conflict, and decide nothing else.
-    fn is_good(
-        &self,
-        alloc: Global,
-        proposal: &Proposal,
-        meeting: &[Evidence],
-    ) -> Result<bool, AllocError> {
-        Ok(self.run(alloc, proposal, meeting)? == Trial::Good)
+    /// Whether a production stands for an action in the middle of another one.
+    fn is_action(&self, production: usize) -> bool {
+        let rule = self.rule_name(production);
+        rule.starts_with("$@") || rule.starts_with('@')
+    }
+}
+
+impl<'a> Trials<'_, 'a> {
+    /// Whether a rule and its operator meet in each of the entries.
+    fn are_of_operator(&self, meeting: &[Evidence]) -> bool {
+        for evidence in meeting {
+            if !self.is_of_operator(&evidence.entry) {
+                return false;
+            }
+        }
+        true
+    }
+
+    /// Whether more than two candidates meet in the cell of one of the entries.
+    fn has_crowded(&self, meeting: &[Evidence]) -> bool {
+        for evidence in meeting {
+            if self.is_crowded(&evidence.entry) {
+                return true;
+            }
+        }
+        false
     }
 
     /// The group of a line in which nothing is resolved.
@@ -191,14 +255,46 @@ impl<'a, T: IndexStorage> Trials<'_, 'a, T> {
         }
     }
 
-    /// That tokens stand in a new line of a level in which nothing is resolved.
-    fn one_line(
+    /// What comes of it that tokens stand in a new line.
+    fn with_line(
         &self,
         alloc: Global,
         tokens: &[usize],
         rank: Rank,
-    ) -> Result<Proposal, AllocError> {
-        Proposal::of_tokens(alloc, tokens, rank, self.plain_group())
+        group: Group,
+        meeting: &[Evidence],
+    ) -> Result<Trial, AllocError> {
+        let proposal = Proposal::of_tokens(alloc, tokens, rank, group)?;
+        self.run(alloc, &proposal, meeting)
+    }
+
+    /// What comes of it that tokens stand in a new line in which nothing is resolved, and others in such a one below it.
+    fn with_two_lines(
+        &self,
+        alloc: Global,
+        above: &[usize],
+        below: &[usize],
+        meeting: &[Evidence],
+    ) -> Result<Trial, AllocError> {
+        let group = self.plain_group();
+        let mut proposal = Proposal::of_tokens(alloc, above, Rank::Below, group)?;
+        proposal.add(below, Rank::LastBelow, group)?;
+        self.run(alloc, &proposal, meeting)
+    }
+
+    /// What comes of it that a production gets a level by `%prec`, and tokens one in the last line.
+    fn with_prec(
+        &self,
+        alloc: Global,
+        production: usize,
+        rank: Rank,
+        tokens: &[usize],
+        meeting: &[Evidence],
+    ) -> Result<Trial, AllocError> {
+        let group = self.plain_group();
+        let mut proposal = Proposal::of_tokens(alloc, tokens, Rank::LastBelow, group)?;
+        proposal.production = Some((production, Level { rank, group }));
+        self.run(alloc, &proposal, meeting)
     }
 
     /// That the tokens of the conflict get one level, which is that of its production too.
@@ -209,16 +305,13 @@ impl<'a, T: IndexStorage> Trials<'_, 'a, T> {
         meeting: &[Evidence],
     ) -> Result<Tried, AllocError> {
         let tokens = sides.without.as_slice();
-        let either = Proposal::of_tokens(alloc, tokens, Rank::Below, Group::Either)?;
         let mut is_right = false;
-        let mut trial = self.run(alloc, &either, meeting)?;
+        let mut trial = self.with_line(alloc, tokens, Rank::Below, Group::Either, meeting)?;
         if trial != Trial::Good {
-            let right = Proposal::of_tokens(alloc, tokens, Rank::Below, Group::Shift)?;
             is_right = true;
-            trial = self.run(alloc, &right, meeting)?;
+            trial = self.with_line(alloc, tokens, Rank::Below, Group::Shift, meeting)?;
         }
-        let tokens = Vec::from_slice(alloc, tokens)?;
-        Ok(trial.with(NewLevels::One { tokens, is_right }))
+        Ok(trial.with(Way::One { is_right }))
     }
 
     /// That the token of the production gets a level, and the tokens of the conflict one below it.
@@ -229,52 +322,48 @@ impl<'a, T: IndexStorage> Trials<'_, 'a, T> {
         source: usize,
         meeting: &[Evidence],
     ) -> Result<Tried, AllocError> {
-        let (tokens, group) = (sides.without.as_slice(), self.plain_group());
-        let mut proposal = self.one_line(alloc, &[source], Rank::Below)?;
-        proposal.add(tokens, Rank::LastBelow, group)?;
-        let trial = self.run(alloc, &proposal, meeting)?;
-        let mut other = self.one_line(alloc, tokens, Rank::Below)?;
-        other.add(&[source], Rank::LastBelow, group)?;
-        let can_reduce = trial == Trial::Good && self.is_good(alloc, &other, meeting)?;
-        Ok(trial.with(NewLevels::Two {
-            source,
-            tokens: Vec::from_slice(alloc, tokens)?,
-            can_reduce,
-        }))
+        let tokens = sides.without.as_slice();
+        let trial = self.with_two_lines(alloc, &[source], tokens, meeting)?;
+        let can_reduce = trial == Trial::Good
+            && self.with_two_lines(alloc, tokens, &[source], meeting)? == Trial::Good;
+        Ok(trial.with(Way::Two { source, can_reduce }))
     }
 
-    /// That tokens without a level get one, in the place in which they keep the shift, and, where that changes nothing else, in the
-    /// other one.
+    /// What comes of it that tokens get a level in a new line, and whether they could reduce in one in the other place.
     fn line(
         &self,
         alloc: Global,
         tokens: &[usize],
         place: Place,
         meeting: &[Evidence],
-    ) -> Result<Tried, AllocError> {
-        let proposal = self.one_line(alloc, tokens, rank_of(place))?;
-        let trial = self.run(alloc, &proposal, meeting)?;
-        let other = self.one_line(alloc, tokens, rank_of(place.other()))?;
-        let can_reduce = trial == Trial::Good && self.is_good(alloc, &other, meeting)?;
-        Ok(trial.with(NewLevels::Line {
-            tokens: Vec::from_slice(alloc, tokens)?,
-            place,
-            can_reduce,
-        }))
+    ) -> Result<(Trial, bool), AllocError> {
+        let (rank, other, group) = (rank_of(place), rank_of(place.other()), self.plain_group());
+        let trial = self.with_line(alloc, tokens, rank, group, meeting)?;
+        let can_reduce = trial == Trial::Good
+            && self.with_line(alloc, tokens, other, group, meeting)? == Trial::Good;
+        Ok((trial, can_reduce))
     }
 
-    /// That a production gets a level by `%prec`, and tokens one in the last line.
-    fn named(
+    /// That the token of the production gets a level above all others.
+    fn above(
         &self,
         alloc: Global,
-        production: usize,
-        rank: Rank,
+        source: usize,
+        meeting: &[Evidence],
+    ) -> Result<Tried, AllocError> {
+        let (trial, can_reduce) = self.line(alloc, &[source], Place::Above, meeting)?;
+        Ok(trial.with(Way::Above { source, can_reduce }))
+    }
+
+    /// That the tokens of the conflict get a level below all others.
+    fn below(
+        &self,
+        alloc: Global,
         tokens: &[usize],
-    ) -> Result<Proposal, AllocError> {
-        let mut proposal = self.one_line(alloc, tokens, Rank::LastBelow)?;
-        let group = self.plain_group();
-        proposal.production = Some((production, Level { rank, group }));
-        Ok(proposal)
+        meeting: &[Evidence],
+    ) -> Result<Tried, AllocError> {
+        let (trial, can_reduce) = self.line(alloc, tokens, Place::Below, meeting)?;
+        Ok(trial.with(Way::Below { can_reduce }))
     }
 
     /// That the production gets a level by `%prec`, where all tokens have one.
@@ -284,11 +373,10 @@ impl<'a, T: IndexStorage> Trials<'_, 'a, T> {
         production: usize,
         meeting: &[Evidence],
     ) -> Result<Tried, AllocError> {
-        let proposal = self.named(alloc, production, Rank::Above, &[])?;
-        let trial = self.run(alloc, &proposal, meeting)?;
-        let other = self.named(alloc, production, Rank::Below, &[])?;
-        let can_reduce = trial == Trial::Good && self.is_good(alloc, &other, meeting)?;
-        Ok(trial.with(NewLevels::Prec { can_reduce }))
+        let trial = self.with_prec(alloc, production, Rank::Above, &[], meeting)?;
+        let can_reduce = trial == Trial::Good
+            && self.with_prec(alloc, production, Rank::Below, &[], meeting)? == Trial::Good;
+        Ok(trial.with(Way::Prec { can_reduce }))
     }
 
     /// That the production gets a level by `%prec`, and the tokens without a level one below it.
@@ -304,10 +392,8 @@ impl<'a, T: IndexStorage> Trials<'_, 'a, T> {
         } else {
             Place::Below
         };
-        let proposal = self.named(alloc, sides.production, rank_of(place), tokens)?;
-        let trial = self.run(alloc, &proposal, meeting)?;
-        let tokens = Vec::from_slice(alloc, tokens)?;
-        Ok(trial.with(NewLevels::PrecAndLine { tokens, place }))
+        let trial = self.with_prec(alloc, sides.production, rank_of(place), tokens, meeting)?;
+        Ok(trial.with(Way::PrecAndLine { place }))
     }
 
     /// Levels that resolve a conflict of a production with a shift, where some do.
@@ -320,14 +406,12 @@ impl<'a, T: IndexStorage> Trials<'_, 'a, T> {
         let tokens = sides.without.as_slice();
         match sides.source {
             Some(_) if sides.has_source && tokens.is_empty() => {
-                let is_of_operator = meeting.iter().all(|it| self.is_of_operator(&it.entry));
-                Ok(Tried::Good(NewLevels::Associativity { is_of_operator }))
+                let is_of_operator = self.are_of_operator(meeting);
+                Ok(Tried::Good(Way::Associativity { is_of_operator }))
             }
-            Some(_) if sides.has_source => self.line(alloc, tokens, Place::Below, meeting),
+            Some(_) if sides.has_source => self.below(alloc, tokens, meeting),
             Some(source) if tokens.contains(&source) => self.one_level(alloc, sides, meeting),
-            Some(source) if tokens.is_empty() => {
-                self.line(alloc, &[source], Place::Above, meeting)
-            }
+            Some(source) if tokens.is_empty() => self.above(alloc, source, meeting),
             Some(source) if !sides.has_other => self.two_levels(alloc, sides, source, meeting),
             _ if tokens.is_empty() => self.prec(alloc, sides.production, meeting),
             _ => self.prec_and_line(alloc, sides, meeting),
@@ -341,12 +425,12 @@ impl<'a, T: IndexStorage> Trials<'_, 'a, T> {
         production: usize,
         meeting: &[Evidence],
     ) -> Result<Option<Advice>, AllocError> {
-        let sides = self.sides(alloc, production, meeting)?;
-        Ok(match self.levels_for(alloc, &sides, meeting)? {
-            Tried::Good(levels) => Some(Advice::Levels(levels)),
-            Tried::Bad if meeting.iter().any(|it| self.is_crowded(&it.entry)) => {
-                Some(Advice::Rewrite(Hindrance::Crowded))
-            }
+        let sides = self.told().sides(alloc, production, meeting)?;
+        let tried = self.levels_for(alloc, &sides, meeting)?;
+        let tokens = sides.without;
+        Ok(match tried {
+            Tried::Good(way) => Some(Advice::Levels(NewLevels { tokens, way })),
+            Tried::Bad if self.has_crowded(meeting) => Some(Advice::Rewrite(Hindrance::Crowded)),
             Tried::Bad => Some(Advice::Rewrite(Hindrance::Others)),
             Tried::Untried => None,
         })
@@ -367,8 +451,8 @@ impl<'a, T: IndexStorage> Trials<'_, 'a, T> {
             Ok(Some(Advice::MoveAction))
         } else if let Some(tokens) = tokens_of_each(meeting) {
             Ok(Some(Advice::Decide(tokens)))
-        } else if meeting.iter().any(|it| it.loss.is_some()) {
-            let may_reduce = meeting.iter().any(|it| told.may_reduce(it));
+        } else if have_loss(meeting) {
+            let may_reduce = told.may_reduce(meeting);
             Ok(Some(Advice::Accept { may_reduce }))
         } else if own_sentences(meeting) == 0 {
             Ok(Some(Advice::Lookahead))

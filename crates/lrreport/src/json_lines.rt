@@ -26,9 +26,14 @@ use crate::trees::alternatives;
 use lrdiagnostics::Source;
 use lrevidence::{Ambiguity, Evidence, Exactness};
 use lrfindings::{Counts, Entry, Verdict, Winner};
-use lrgrammar::idx::IndexStorage;
 use lryacc::{Expected, Fault, FileGrammar};
 use std::alloc::{AllocError, Global};
+
+/// Entries of one state that an object tells together: by the tokens at which the same meets.
+#[derive(Drop)]
+struct Group {
+    entries: Vec<Entry>,
+}
 
 /// A verdict as one of few words, where the grammar is shown to be ambiguous or not.
 fn word_of(verdict: Verdict, is_ambiguous: bool) -> &'static str
@@ -49,10 +54,8 @@ fn add_verdict(json: &mut JsonText, name: &str, verdict: &str)
     ensures { AddsTokens json.old json.new (key (codes "file") ∷ string name.now
         ∷ key (codes "verdict") ∷ string verdict.now ∷ []) }
 {
-    json.key("file");
-    json.string(name);
-    json.key("verdict");
-    json.string(verdict);
+    json.string_at("file", name);
+    json.string_at("verdict", verdict);
 }
 
 /// Adds that nothing is proved of a file.
@@ -69,10 +72,8 @@ fn add_not_proved(json: &mut JsonText)
 fn add_counts(json: &mut JsonText, counts: Counts)
     ensures { AddsTokens json.old json.new (count_tokens counts) }
 {
-    json.key("shift_reduce");
-    json.number(counts.shift_reduce);
-    json.key("reduce_reduce");
-    json.number(counts.reduce_reduce);
+    json.number_at("shift_reduce", counts.shift_reduce);
+    json.number_at("reduce_reduce", counts.reduce_reduce);
 }
 
 /// Adds that it is not known how many there are.
@@ -203,9 +204,9 @@ pub(crate) fn json_of_refusal(
 }
 
 /// The line of a file in whose grammar this was found, with so many conflicts expected.
-pub(crate) fn json_of_findings<T: IndexStorage>(
+pub(crate) fn json_of_findings(
     alloc: Global,
-    checked: &Checked<'_, T>,
+    checked: &Checked<'_>,
     warnings: &[Fault],
     expected: Expected,
     verdict: Verdict,
@@ -233,18 +234,10 @@ pub(crate) fn json_of_findings<T: IndexStorage>(
         (list_any has_sentence checked.now.told.evidence.now) (is_some decided.entry)
         checked.now.told.exactness)) (string_bytes s)) }
 {
-    let told = checked.told;
     let mut json = JsonText::new(alloc);
     checked.add_head(&mut json, verdict, decided);
     add_expected(&mut json, expected);
-    add_sizes(&mut json, Some(told.file), Some(checked.found.states));
-    checked.add_findings(&mut json)?;
-    json.key("warnings");
-    add_faults(&mut json, told.source, warnings)?;
-    json.key("errors");
-    add_faults(&mut json, told.source, &[])?;
-    add_grammar_of(&mut json, Some(told.file), has_grammar);
-    checked.add_automaton(&mut json)?;
+    checked.add_rest(&mut json, warnings, has_grammar)?;
     let line = end_line(json)?;
     let head = checked.head(alloc, verdict, decided)?;
     begun_with(alloc, line, head.as_str())
@@ -260,7 +253,7 @@ fn begun_with(alloc: Global, line: String, head: &str) -> Result<String, AllocEr
     format!(in alloc; "{head}}}\n")
 }
 
-impl<'a, T: IndexStorage> Checked<'a, T> {
+impl<'a> Checked<'a> {
     /// Adds what the line begins with: the name of the file, its verdict, what is proved, and how many conflicts there are. That is a
     /// text which precedences decide.
     fn add_head(&self, json: &mut JsonText, verdict: Verdict, decided: Option<&Ambiguity>)
@@ -422,6 +415,35 @@ impl<'a, T: IndexStorage> Checked<'a, T> {
         Ok(())
     }
 
+    /// Adds what stands behind how many conflicts are expected.
+    fn add_rest(
+        &self,
+        json: &mut JsonText,
+        warnings: &[Fault],
+        has_grammar: bool,
+    ) -> Result<(), AllocError>
+        requires proved { All (IsProved self.now.found.now.grm) self.now.told.evidence.now }
+        requires lost { All (IsLostAtEntry self.now.found.now.grm self.now.found.now.table)
+            self.now.told.evidence.now }
+        requires entries { All (IsToldDecided self.now.found.now.grm self.now.found.now.graph)
+            self.now.told.evidence.now }
+        requires resolved { All (IsProved self.now.found.now.grm) self.now.told.resolved.now }
+        requires settled { All (IsLostAtEntry self.now.found.now.grm self.now.found.now.table)
+            self.now.told.resolved.now }
+        requires kept { AreToldKept self.now.found.now.grm self.now.found.now.graph
+            self.now.found.now.table self.now.told.kept.now }
+    {
+        let told = self.told;
+        add_sizes(json, Some(told.file), Some(self.found.states));
+        self.add_findings(json)?;
+        json.key("warnings");
+        add_faults(json, told.source, warnings)?;
+        json.key("errors");
+        add_faults(json, told.source, &[])?;
+        add_grammar_of(json, Some(told.file), has_grammar);
+        self.add_automaton(json)
+    }
+
     /// Adds the items of a state in which it goes on by the token of one of the entries.
     fn add_shifts(&self, json: &mut JsonText, entries: &[Entry]) -> Result<(), AllocError> {
         let items = self.shifting_items(json.allocator(), entries)?;
@@ -430,18 +452,20 @@ impl<'a, T: IndexStorage> Checked<'a, T> {
         Ok(())
     }
 
-    /// Adds what meets in entries: where, at which tokens, and the productions; either with `shift` or with `other`.
-    fn add_meeting(&self, json: &mut JsonText, entries: &[Entry]) -> Result<(), AllocError> {
+    /// Adds what meets in a group: where, at which tokens, and the productions; either with `shift` or with `other`.
+    fn add_meeting(&self, json: &mut JsonText, group: &Group) -> Result<(), AllocError> {
+        let entries = group.entries.as_slice();
         let Some(first) = entries.first() else {
             return Ok(());
         };
-        json.key("kind");
-        json.string(match first.other {
-            Some(_) => "reduce/reduce",
-            None => "shift/reduce",
-        });
-        json.key("state");
-        json.number(first.state);
+        json.string_at(
+            "kind",
+            match first.other {
+                Some(_) => "reduce/reduce",
+                None => "shift/reduce",
+            },
+        );
+        json.number_at("state", first.state);
         json.key("tokens");
         add_tokens_of(json, self.told.file, entries);
         json.key("reduce");
@@ -456,14 +480,22 @@ impl<'a, T: IndexStorage> Checked<'a, T> {
         }
     }
 
-    /// Adds that no sentence is lost at the entries, where that is shown.
-    fn add_kept(&self, json: &mut JsonText, entries: &[Entry])
+    /// Adds that no sentence is lost at any entry of a group.
+    fn add_kept(&self, json: &mut JsonText, _group: &Group)
         requires proved { AreToldKept self.now.found.now.grm self.now.found.now.graph
+            self.now.found.now.table _group.now.entries.items }
+    {
+        json.boolean(true);
+    }
+
+    /// Adds the same, where it is shown.
+    fn add_if_kept(&self, json: &mut JsonText, group: &Group)
+        requires { AreToldKept self.now.found.now.grm self.now.found.now.graph
             self.now.found.now.table self.now.told.kept.now }
     {
         json.key("kept");
-        if self.told.are_kept(entries) {
-            json.boolean(true);
+        if self.are_kept(group.entries.as_slice()) {
+            self.add_kept(json, group);
         } else {
             json.null();
         }
@@ -487,21 +519,24 @@ impl<'a, T: IndexStorage> Checked<'a, T> {
         let Some(first) = meeting.first() else {
             return Ok(());
         };
-        let entries = entries_of(json.allocator(), meeting)?;
+        let group = Group {
+            entries: entries_of(json.allocator(), meeting)?,
+        };
         json.begin_object();
-        self.add_meeting(json, entries.as_slice())?;
-        json.key("chosen");
-        json.string(self.choice(&first.entry).word());
+        self.add_meeting(json, &group)?;
+        json.string_at("chosen", self.choice(&first.entry).word());
         json.key("ambiguity");
         let ambiguity = self.sentence_with_trees(meeting);
         self.add_ambiguity(json, &first.entry, ambiguity, alternatives)?;
         json.key("after");
         self.told.add_example(json, first);
-        json.key("searched");
-        json.boolean(self.told.options.steps > 0 && cut_off(meeting) == 0);
+        json.boolean_at(
+            "searched",
+            self.told.options.steps > 0 && cut_off(meeting) == 0,
+        );
         json.key("lost");
         self.add_loss(json, self.loss_in(meeting));
-        self.add_kept(json, entries.as_slice());
+        self.add_if_kept(json, &group);
         self.add_decided(json, meeting);
         json.end_object();
         Ok(())
@@ -557,8 +592,10 @@ impl<'a, T: IndexStorage> Checked<'a, T> {
             .chunk_by(|one, other| one.entry.meets_like(&other.entry))
         {
             for winner in [Winner::Shift, Winner::Reduce, Winner::Neither] {
-                let entries = won_by(json.allocator(), meeting, winner)?;
-                self.add_resolution(json, entries.as_slice(), winner, alternatives)?;
+                let group = Group {
+                    entries: won_by(json.allocator(), meeting, winner)?,
+                };
+                self.add_resolution(json, &group, winner, alternatives)?;
             }
         }
         json.end_array();
@@ -569,7 +606,7 @@ impl<'a, T: IndexStorage> Checked<'a, T> {
     fn add_resolution(
         &self,
         json: &mut JsonText,
-        entries: &[Entry],
+        group: &Group,
         winner: Winner,
         alternatives: &[usize],
     ) -> Result<(), AllocError>
@@ -579,20 +616,22 @@ impl<'a, T: IndexStorage> Checked<'a, T> {
         requires kept { AreToldKept self.now.found.now.grm self.now.found.now.graph
             self.now.found.now.table self.now.told.kept.now }
     {
+        let entries = group.entries.as_slice();
         let Some(first) = entries.first() else {
             return Ok(());
         };
         json.begin_object();
-        self.add_meeting(json, entries)?;
-        json.key("winner");
-        json.string(winner.word());
+        self.add_meeting(json, group)?;
+        json.string_at("winner", winner.word());
         json.key("ambiguity");
         self.add_ambiguity(json, first, self.decided(entries), alternatives)?;
-        json.key("searched");
-        json.boolean(self.told.options.steps > 0 && self.are_searched(entries));
+        json.boolean_at(
+            "searched",
+            self.told.options.steps > 0 && self.are_searched(entries),
+        );
         json.key("lost");
         self.add_loss(json, self.lost(entries));
-        self.add_kept(json, entries);
+        self.add_if_kept(json, group);
         json.end_object();
         Ok(())
     }

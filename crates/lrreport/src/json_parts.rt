@@ -40,14 +40,10 @@ pub(crate) fn add_tokens_of(json: &mut JsonText, file: &FileGrammar, entries: &[
 pub(crate) fn add_place(json: &mut JsonText, source: &Source<'_>, place: Span) {
     let from = source.position(place.start);
     let to = source.position(place.end);
-    json.key("line");
-    json.number(from.line);
-    json.key("column");
-    json.number(from.column);
-    json.key("end_line");
-    json.number(to.line);
-    json.key("end_column");
-    json.number(to.column);
+    json.number_at("line", from.line);
+    json.number_at("column", from.column);
+    json.number_at("end_line", to.line);
+    json.number_at("end_column", to.column);
 }
 
 /// Adds that something has no place, as members of an object.
@@ -62,8 +58,7 @@ fn add_no_place(json: &mut JsonText) {
 pub(crate) fn add_unplaced(json: &mut JsonText, message: &str) {
     json.begin_object();
     add_no_place(json);
-    json.key("message");
-    json.string(message);
+    json.string_at("message", message);
     json.end_object();
 }
 
@@ -78,8 +73,7 @@ pub(crate) fn add_faults(
         let message = words_of(json.allocator(), source, fault)?;
         json.begin_object();
         add_place(json, source, fault.span);
-        json.key("message");
-        json.string(message.as_str());
+        json.string_at("message", message.as_str());
         json.end_object();
     }
     json.end_array();
@@ -89,8 +83,7 @@ pub(crate) fn add_faults(
 impl Told<'_> {
     /// Adds a production, and where its body stands, as members of an object.
     pub(crate) fn add_members(&self, json: &mut JsonText, production: usize) {
-        json.key("rule");
-        json.string(self.rule_name(production));
+        json.string_at("rule", self.rule_name(production));
         json.key("body");
         add_symbols(json, self.file, body_of(self.file, production));
         add_place(json, self.source, self.place(production));
@@ -109,8 +102,7 @@ impl Told<'_> {
         for (production, dot) in items {
             json.begin_object();
             self.add_members(json, *production);
-            json.key("dot");
-            json.number(*dot);
+            json.number_at("dot", *dot);
             json.end_object();
         }
         json.end_array();

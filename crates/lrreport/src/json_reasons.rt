@@ -13,7 +13,6 @@ use crate::told::Told;
 use crate::trees::add_tree;
 use lrevidence::{Ambiguity, Evidence, Loss, Outlook, Step, Tree, TwoTrees, list_of, text_of};
 use lrfindings::Entry;
-use lrgrammar::idx::IndexStorage;
 use std::alloc::AllocError;
 
 impl Told<'_> {
@@ -46,8 +45,7 @@ impl Told<'_> {
         json.begin_object();
         json.key("list");
         add_symbols(json, self.file, list_of(self.file, example.list.as_slice()));
-        json.key("token");
-        json.string(self.token_name(example.token));
+        json.string_at("token", self.token_name(example.token));
         json.key("input");
         self.add_text(json, example.input.as_ref());
         json.key("reduce");
@@ -59,11 +57,13 @@ impl Told<'_> {
 
     /// Adds the rule whose two ways the trees of a text are; empty where there is none.
     fn add_rule(&self, json: &mut JsonText, ambiguity: &Ambiguity) {
-        json.key("rule");
-        json.string(match ambiguity.form.one.last() {
-            Some(Step::Reduce(production)) => self.rule_name(*production),
-            _ => "",
-        });
+        json.string_at(
+            "rule",
+            match ambiguity.form.one.last() {
+                Some(Step::Reduce(production)) => self.rule_name(*production),
+                _ => "",
+            },
+        );
     }
 
     /// Adds both trees of a text or a form, that by the reduction first.
@@ -98,8 +98,7 @@ impl Told<'_> {
         let (one, other) = Tree::both(json.allocator(), self.file, &ambiguity.trees)?;
         json.key("text");
         self.add_text(json, Some(&ambiguity.tokens));
-        json.key("dot");
-        json.number(ambiguity.dot(self.file));
+        json.number_at("dot", ambiguity.dot(self.file));
         self.add_trees(json, (&one, &other), alternatives)
     }
 
@@ -118,15 +117,14 @@ impl Told<'_> {
             json.string(name);
         }
         json.end_array();
-        json.key("dot");
-        json.number(form.dot());
+        json.number_at("dot", form.dot());
         self.add_trees(json, (&one, &other), alternatives)?;
         json.end_object();
         Ok(())
     }
 }
 
-impl<T: IndexStorage> Checked<'_, T> {
+impl Checked<'_> {
     /// Adds a sentence that the parser rejects: its tokens, and how many of them stand before the conflict's, and before the one
     /// at which it stops. Null where there is none.
     pub(crate) fn add_loss(&self, json: &mut JsonText, loss: Option<&Loss>)
@@ -139,10 +137,8 @@ impl<T: IndexStorage> Checked<'_, T> {
         json.begin_object();
         json.key("text");
         self.told.add_text(json, Some(&loss.tokens));
-        json.key("dot");
-        json.number(loss.shown_dot(self.told.file));
-        json.key("stop");
-        json.number(loss.shown_stop(self.told.file));
+        json.number_at("dot", loss.shown_dot(self.told.file));
+        json.number_at("stop", loss.shown_stop(self.told.file));
         json.end_object();
     }
 
@@ -179,10 +175,11 @@ impl<T: IndexStorage> Checked<'_, T> {
         json.begin_object();
         told.add_rule(json, ambiguity);
         told.add_whole(json, ambiguity, alternatives)?;
-        json.key("own");
-        json.boolean(ambiguity.is_of(entry));
-        json.key("length");
-        json.number(text_of(told.file, ambiguity.tokens.as_slice()).len());
+        json.boolean_at("own", ambiguity.is_of(entry));
+        json.number_at(
+            "length",
+            text_of(told.file, ambiguity.tokens.as_slice()).len(),
+        );
         json.key("form");
         if ambiguity.is_long() {
             told.add_form(json, &ambiguity.form, alternatives)?;

@@ -4,7 +4,7 @@ use crate::actions::{Cell, Row, Target};
 use crate::conflicts::Checked;
 use crate::json_texts::JsonText;
 use crate::states::Listing;
-use lrgrammar::idx::{IndexStorage, StIdx};
+use lrgrammar::idx::StIdx;
 use std::alloc::{AllocError, Global};
 
 /// Adds symbols, each with the state that it leads to.
@@ -12,16 +12,14 @@ fn add_targets(json: &mut JsonText, targets: &[Target<'_>], kind: &str) {
     json.begin_array();
     for target in targets {
         json.begin_object();
-        json.key(kind);
-        json.string(target.name);
-        json.key("state");
-        json.number(target.state);
+        json.string_at(kind, target.name);
+        json.number_at("state", target.state);
         json.end_object();
     }
     json.end_array();
 }
 
-impl<'a, T: IndexStorage> Listing<'a, T> {
+impl<'a> Listing<'a> {
     /// Adds the items by which the rule that stands around the grammar begins: those of `$accept`.
     fn add_start_items(&self, items: &mut Vec<(usize, usize)>) -> Result<(), AllocError> {
         let checked = self.checked;
@@ -35,7 +33,7 @@ impl<'a, T: IndexStorage> Listing<'a, T> {
     }
 
     /// The items of the core of a state, as production and dot, with those of `$accept` for the rule that stands around it.
-    fn items(&self, alloc: Global, state: StIdx<T>) -> Result<Vec<(usize, usize)>, AllocError> {
+    fn items(&self, alloc: Global, state: StIdx<u32>) -> Result<Vec<(usize, usize)>, AllocError> {
         let mut items = Vec::new(alloc);
         let Some(graph) = &self.checked.found.graph else {
             return Ok(items);
@@ -73,7 +71,7 @@ impl<'a, T: IndexStorage> Listing<'a, T> {
     /// Adds reductions: productions, each with the tokens at which the state reduces by it.
     fn add_reductions(&self, json: &mut JsonText, cells: &[Cell]) {
         json.begin_array();
-        for alike in cells.chunk_by(|one, other| one.production == other.production) {
+        for alike in cells.chunk_by(Cell::is_like) {
             if let Some(first) = alike.first() {
                 json.begin_object();
                 self.checked.told.add_members(json, first.production);
@@ -86,7 +84,7 @@ impl<'a, T: IndexStorage> Listing<'a, T> {
     }
 
     /// Adds the names of the tokens that `%nonassoc` makes errors in a state.
-    fn add_errors(&self, json: &mut JsonText, state: StIdx<T>) {
+    fn add_errors(&self, json: &mut JsonText, state: StIdx<u32>) {
         json.begin_array();
         if let Some(entries) = self.errors.get(&usize::from(state)) {
             for entry in entries {
@@ -102,17 +100,15 @@ impl<'a, T: IndexStorage> Listing<'a, T> {
         add_targets(json, row.shifts.as_slice(), "token");
         json.key("reductions");
         self.add_reductions(json, row.reductions.as_slice());
-        json.key("accepts");
-        json.boolean(row.accepts);
+        json.boolean_at("accepts", row.accepts);
     }
 
     /// Adds a state.
-    fn add_state(&self, json: &mut JsonText, state: StIdx<T>) -> Result<(), AllocError> {
+    fn add_state(&self, json: &mut JsonText, state: StIdx<u32>) -> Result<(), AllocError> {
         let alloc = json.allocator();
         let items = self.items(alloc, state)?;
         json.begin_object();
-        json.key("state");
-        json.number(usize::from(state));
+        json.number_at("state", usize::from(state));
         json.key("items");
         self.checked.told.add_items(json, items.as_slice());
         self.add_row(json, &self.row(alloc, state)?);
@@ -125,7 +121,7 @@ impl<'a, T: IndexStorage> Listing<'a, T> {
     }
 }
 
-impl<T: IndexStorage> Checked<'_, T> {
+impl Checked<'_> {
     /// Adds the states of the graph, in their order.
     fn add_states(&self, json: &mut JsonText) -> Result<(), AllocError> {
         json.begin_array();

@@ -101,6 +101,29 @@ impl JsonText {
         self.is_whole = self.is_whole && self.writer.boolean(is_so).is_ok();
     }
 
+    /// Adds a text at a key.
+    pub(crate) fn string_at(&mut self, name: &str, text: &str)
+        ensures { AddsTokens self.old self.new ((key name.now) ∷ (string text.now) ∷ []) }
+    {
+        self.key(name);
+        self.string(text);
+    }
+
+    /// Adds a number at a key.
+    pub(crate) fn number_at(&mut self, name: &str, number: usize)
+        ensures { AddsTokens self.old self.new
+            ((key name.now) ∷ (token.number (decimal number)) ∷ []) }
+    {
+        self.key(name);
+        self.number(number);
+    }
+
+    /// Adds a truth value at a key.
+    pub(crate) fn boolean_at(&mut self, name: &str, is_so: bool) {
+        self.key(name);
+        self.boolean(is_so);
+    }
+
     /// Adds that there is nothing.
     pub(crate) fn null(&mut self) {
         self.is_whole = self.is_whole && self.writer.null().is_ok();

@@ -118,6 +118,52 @@ fn accepted_by(
     Ok(accepted)
 }
 
+/// A sentence with two trees at what precedences resolve, where they resolve all conflicts.
+fn decided_of(
+    alloc: Global,
+    found: &Findings<u32>,
+    options: Options,
+) -> Result<Option<Ambiguity>, AllocError>
+    requires { IfSome found.now.graph (IsGraphOf found.now.grm) }
+    ensures { IfOk result (λ decided. IfSome decided (HasTwoTrees found.now.grm)) }
+{
+    if !found.left.is_empty() || found.resolved.is_empty() {
+        return Ok(None);
+    }
+    let entries = resolved_entries(alloc, found.resolved.as_slice())?;
+    let (entries, steps) = (entries.as_slice(), options.steps);
+    let decided = find_ambiguity(alloc, found, entries, steps, work_of(options))?;
+    Ok(decided)
+}
+
+/// What is known of what precedences resolve, where that is asked for.
+fn known_resolved(
+    alloc: Global,
+    read: Read<'_>,
+    found: &Findings<u32>,
+    effort: Effort,
+    options: Options,
+) -> Result<Vec<Evidence>, AllocError>
+    requires graph { MatchOption found.now.graph (FindNothing found.now) (IsGraphOf found.now.grm) }
+    requires listed { IfSome found.now.graph (λ h.
+        AreListedIn found.now.grm h found.now.conflicts.items) }
+    requires contested { IfSome found.now.graph (AreReductionsContested found.now.grm) }
+    requires table { IfSome found.now.graph (λ h. IsTableOf found.now.grm h found.now.table) }
+    ensures proved { IfOk result (λ v. All (IsProved found.now.grm) v.items) }
+    ensures lost { IfOk result (λ v. All (IsLostAtEntry found.now.grm found.now.table) v.items) }
+{
+    if !options.detail.resolved {
+        return Ok(Vec::new(alloc));
+    }
+    let effort = Effort {
+        losses_in_any_case: losses_by(read.parser, usize::MAX),
+        ..effort
+    };
+    let entries = resolved_entries(alloc, found.resolved.as_slice())?;
+    let known = evidence_for(alloc, read.file, found, entries.as_slice(), effort)?;
+    Ok(known)
+}
+
 /// What is known of a grammar beside what was found in it.
 pub(crate) fn known_of(
     alloc: Global,
@@ -157,30 +203,13 @@ pub(crate) fn known_of(
     ensures unkept { splits read.entry.parser.now ≡ true → IfOk result (λ k.
         k.kept.items ≡ []) }
 {
-    let file = read.file;
-    let (entries, effort) = (
-        found.left.as_slice(),
-        effort_of(read.parser, found.states, options),
-    );
-    let all = evidence_for(alloc, file, found, entries, effort)?;
+    let effort = effort_of(read.parser, found.states, options);
+    let entries = found.left.as_slice();
+    let all = evidence_for(alloc, read.file, found, entries, effort)?;
     let evidence = evidence_by(alloc, read.parser, all)?;
     let is_unambiguous = shows_unambiguous(found, evidence.as_slice(), effort)?;
-    let resolved = resolved_entries(alloc, found.resolved.as_slice())?;
-    let decided = if entries.is_empty() && !resolved.is_empty() {
-        let (entries, steps) = (resolved.as_slice(), options.steps);
-        find_ambiguity(alloc, found, entries, steps, work_of(options))?
-    } else {
-        None
-    };
-    let resolved = if options.detail.resolved {
-        let effort = Effort {
-            losses_in_any_case: losses_by(read.parser, usize::MAX),
-            ..effort
-        };
-        evidence_for(alloc, file, found, resolved.as_slice(), effort)?
-    } else {
-        Vec::new(alloc)
-    };
+    let decided = decided_of(alloc, found, options)?;
+    let resolved = known_resolved(alloc, read, found, effort, options)?;
     let (known, settled) = (evidence.as_slice(), resolved.as_slice());
     let Accepted { exactness, kept } = accepted_by(read.parser, found, known, settled, effort)?;
     Ok(Known {

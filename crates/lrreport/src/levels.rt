@@ -3,12 +3,11 @@
 //! A level is harmless where it resolves open conflicts as the table decides them: by the shift. It may resolve one by the
 //! reduction where a rule and its operator meet: there the state that is come to by the reduction shifts the token too.
 
-use crate::conflicts::Checked;
+use crate::conflicts::{Checked, closed_state};
 use crate::told::Told;
 use lrevidence::Evidence;
 use lrfindings::Entry;
 use lrgrammar::grammar::{PartSymbol, Precedence};
-use lrgrammar::idx::{IndexStorage, StIdx};
 use std::alloc::{AllocError, Global};
 use std::cell::Cell;
 use std::cmp::Ordering;
@@ -31,7 +30,7 @@ pub(crate) enum Rank {
 }
 
 /// What is done at a token where a production has its level.
-#[derive(Clone, Copy, PartialEq, Eq)]
+#[derive(Clone, Copy)]
 pub(crate) enum Group {
     /// Either, by `%left` or `%right`.
     Either,
@@ -147,8 +146,8 @@ struct Levels<'p> {
 
 /// What is tried on a file.
 #[derive(Drop)]
-pub(crate) struct Trials<'c, 'a, T: IndexStorage> {
-    pub(crate) checked: &'c Checked<'a, T>,
+pub(crate) struct Trials<'c, 'a> {
+    pub(crate) checked: &'c Checked<'a>,
     /// State and token of each entry, left open or resolved, in order. What stands here twice has more than two candidates.
     cells: Vec<(usize, usize)>,
     /// Of each state of an entry the rule of which it has operators, if of one.
@@ -157,12 +156,12 @@ pub(crate) struct Trials<'c, 'a, T: IndexStorage> {
     left: Cell<usize>,
 }
 
-impl<'c, 'a, T: IndexStorage> Trials<'c, 'a, T> {
+impl<'c, 'a> Trials<'c, 'a> {
     /// Nothing is tried yet.
     pub(crate) fn new(
         alloc: Global,
-        checked: &'c Checked<'a, T>,
-    ) -> Result<Trials<'c, 'a, T>, AllocError> {
+        checked: &'c Checked<'a>,
+    ) -> Result<Trials<'c, 'a>, AllocError> {
         let mut trials = Trials {
             checked,
             cells: Vec::new(alloc),
@@ -223,10 +222,12 @@ impl<'c, 'a, T: IndexStorage> Trials<'c, 'a, T> {
 
     /// By token, the levels of the file.
     fn levels_of_file(&self, alloc: Global) -> Result<Vec<Option<Level>>, AllocError> {
-        let tokens = self.told().file.parts.tokens.iter();
-        tokens
-            .map(|token| token.precedence.map(Level::of_file))
-            .collect(alloc)
+        let file = self.told().file;
+        let mut levels = Vec::new(alloc);
+        for token in &file.parts.tokens {
+            levels.push(token.precedence.map(Level::of_file))?;
+        }
+        Ok(levels)
     }
 
     /// The levels with those of a proposal.
@@ -274,6 +275,27 @@ impl<'c, 'a, T: IndexStorage> Trials<'c, 'a, T> {
         }
     }
 
+    /// Whether levels resolve each of the entries.
+    fn resolves(&self, levels: &Levels<'_>, meeting: &[Evidence]) -> bool {
+        for evidence in meeting {
+            let entry = &evidence.entry;
+            if self.outcome(levels, entry.token, entry.production) == Outcome::Open {
+                return false;
+            }
+        }
+        true
+    }
+
+    /// Whether what levels make of each of the entries changes nothing.
+    fn are_harmless(&self, levels: &Levels<'_>, evidence: &[Evidence]) -> bool {
+        for one in evidence {
+            if !self.is_harmless(levels, &one.entry) {
+                return false;
+            }
+        }
+        true
+    }
+
     /// What comes of new levels for entries and for all others.
     pub(crate) fn run(
         &self,
@@ -288,44 +310,38 @@ impl<'c, 'a, T: IndexStorage> Trials<'c, 'a, T> {
         };
         self.left.set(left);
         let levels = self.levels(alloc, proposal)?;
-        let resolves = meeting.iter().all(|it| self.outcome(
-            &levels,
-            it.entry.token,
-            it.entry.production,
-        ) != Outcome::Open);
-        let is_harmless = evidence
-            .iter()
-            .all(|it| self.is_harmless(&levels, &it.entry));
-        Ok(if resolves && is_harmless {
-            Trial::Good
-        } else {
-            Trial::Bad
-        })
+        let is_good = self.resolves(&levels, meeting) && self.are_harmless(&levels, evidence);
+        Ok(if is_good { Trial::Good } else { Trial::Bad })
     }
 }
 
-impl<T: IndexStorage> Checked<'_, T> {
+impl Told<'_> {
+    /// The rule of an item with its dot behind that rule, in the first place, as one of an operator; None of another item.
+    fn rule_before(&self, production: usize, dot: usize) -> Option<usize> {
+        let prod = self.production(production)?;
+        match prod.symbols.first() {
+            Some(PartSymbol::Rule(first)) if dot == 1 && *first == prod.rule => Some(prod.rule),
+            _ => None,
+        }
+    }
+}
+
+impl Checked<'_> {
     /// The rule of which a state has operators: each of its items is complete, or one of the rule with its dot behind the rule, in
     /// the first place. None where there is no such rule.
     fn operator_rule(&self, state: usize) -> Option<usize> {
-        let (Some(graph), Some(number)) = (&self.found.graph, T::from_usize(state)) else {
-            return None;
-        };
-        if state >= usize::from(graph.all_states_len()) {
-            return None;
-        }
+        let closed = closed_state(self.found.graph.as_ref()?, state)?;
         let mut rule = None;
-        for key in graph.closed_state(StIdx(number)).items.keys() {
+        for key in closed.items.keys() {
             let (production, dot) = (usize::from(key.0), usize::from(key.1));
-            let prod = self.told.production(production)?;
-            let own = Some(&PartSymbol::Rule(prod.rule));
-            if dot == prod.symbols.len() {
+            if dot == self.told.production(production)?.symbols.len() {
                 continue;
             }
-            if dot != 1 || prod.symbols.first() != own || rule.is_some_and(|it| it != prod.rule) {
-                return None;
+            let own = self.told.rule_before(production, dot)?;
+            match rule {
+                Some(rule) if rule != own => return None,
+                _ => rule = Some(own),
             }
-            rule = Some(prod.rule);
         }
         rule
     }

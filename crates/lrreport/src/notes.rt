@@ -7,12 +7,16 @@ ghost use Rattle.lrevidence.specs.Losses.{IsLoss, IsLostAtEntry};
 ghost use Rattle.lrevidence.specs.DecidedEntries.{IsToldDecided};
 ghost use Rattle.lrevidence.specs.KeptEntries.{AreToldKept};
 ghost use Rattle.lrshown.specs.DecidedEntries.{is_decided, tokens_of};
+ghost use Rattle.lryacc.specs.Parsers.{splits};
 ghost use Rattle.lrreport.specs.Causes.{entries_in};
+ghost use Rattle.lrreport.specs.Wholes.{entries_of_whole};
+ghost use Rattle.lrreport.specs.Conflicts.{choice_of};
 
 use crate::alike::Alike;
 use crate::causes::Cause;
 use crate::conflicts::{Checked, Choice, are_decided, tokens_of_each};
 use crate::drawings::{cut_mark, push_drawing};
+use crate::resolved::Resolution;
 use crate::texts::{
     Label, add_list, add_loss, add_names, add_shortened, add_start, add_text, add_tree_words,
     add_two_trees, labels,
@@ -26,7 +30,6 @@ use lrevidence::{
     names_of_tokens, shown_trees, start_of, text_of,
 };
 use lrfindings::Entry;
-use lrgrammar::idx::IndexStorage;
 use lrwriter::Text;
 use std::alloc::{AllocError, Global};
 
@@ -72,8 +75,7 @@ impl Notes {
             return;
         }
         let mut words = Words::new(text.allocator());
-        words.begin();
-        write!(words, "{count}");
+        words.add_number(count);
         words.add_all(if count == 1 {
             "more conflict like this:"
         } else {
@@ -91,8 +93,7 @@ impl Notes {
         if more > 0 {
             let mut words = Words::new(text.allocator());
             words.add("and");
-            words.begin();
-            write!(words, "{more}");
+            words.add_number(more);
             words.add_all("more, which --all shows");
             self.push_shown(text, &words);
         }
@@ -118,12 +119,32 @@ pub(crate) struct KnownResolved<'a> {
     pub(crate) is_cut_off: bool,
 }
 
+/// What is told by itself, with all its entries.
+#[derive(Clone, Copy)]
+enum Whole<'w, 'e> {
+    /// A conflict, in all its states.
+    Conflict(&'w Cause<'e>),
+    /// What precedences resolve for one reason.
+    Resolved(&'w Resolution),
+}
+
+impl Whole<'_, '_> {
+    /// Its entries.
+    fn entries(self, alloc: Global) -> Result<Vec<Entry>, AllocError>
+        ensures { IfOk result (λ entries. entries.items ≡ entries_of_whole self.entry) }
+    {
+        match self {
+            Whole::Conflict(cause) => cause.entries(alloc),
+            Whole::Resolved(resolution) => Vec::from_slice(alloc, resolution.entries.as_slice()),
+        }
+    }
+}
+
 /// That a conflict is not known to be ambiguous in so many of its states.
 fn words_of_states(alloc: Global, count: usize) -> Words {
     let mut words = Words::new(alloc);
     words.add_all("not known to be ambiguous in");
-    words.begin();
-    write!(words, "{count}");
+    words.add_number(count);
     words.add_all("of these states");
     words
 }
@@ -131,10 +152,13 @@ fn words_of_states(alloc: Global, count: usize) -> Words {
 /// The tokens of the entries that are not decided, and for which there is no sentence with two trees that part by what meets in
 /// them.
 fn unknown(alloc: Global, meeting: &[Evidence]) -> Result<Vec<usize>, AllocError> {
-    let unknown = meeting
-        .iter()
-        .filter(|it| !it.has_own_sentence() && !it.is_decided());
-    unknown.map(|it| it.entry.token).collect(alloc)
+    let mut tokens = Vec::new(alloc);
+    for evidence in meeting {
+        if !evidence.has_own_sentence() && !evidence.is_decided() {
+            tokens.push(evidence.entry.token)?;
+        }
+    }
+    Ok(tokens)
 }
 
 /// The tokens of the entries that are decided.
@@ -155,7 +179,7 @@ fn decided(alloc: Global, meeting: &[Evidence]) -> Result<Vec<usize>, AllocError
 pub(crate) fn have_sentences(meeting: &[Evidence]) -> bool
     ensures { IsTrue result → All (λ evidence. IsSome evidence.ambiguity) meeting.now }
 {
-    meeting.iter().all(|it| it.has_own_sentence())
+    meeting.iter().all(Evidence::has_own_sentence)
 }
 
 impl Told<'_> {
@@ -264,7 +288,6 @@ impl Told<'_> {
         if evidence.is_cut_off {
             words.add_all("(not searched to the end: the allowance of this file was used up):");
         } else {
-            words.begin();
             write!(words, "({}", self.options.steps);
             words.add_all("steps):");
         }
@@ -314,7 +337,7 @@ impl Told<'_> {
     }
 }
 
-impl<T: IndexStorage> Checked<'_, T> {
+impl Checked<'_> {
     /// Adds a sentence with two trees, and both. Where these part by something else that meets in the cell of the entry, it is said so.
     fn push_ambiguity(
         &self,
@@ -367,10 +390,18 @@ impl<T: IndexStorage> Checked<'_, T> {
         Ok(())
     }
 
-    /// Adds that what the table does at the entries loses no sentence.
-    fn push_kept(&self, text: &mut Text, notes: Notes, _entries: &[Entry], choice: Option<Choice>)
+    /// Adds that no sentence is lost by what the table does at any entry of what is told.
+    fn push_kept(
+        &self,
+        text: &mut Text,
+        notes: Notes,
+        _whole: Whole<'_, '_>,
+        choice: Option<Choice>,
+    )
         requires proved { AreToldKept self.now.found.now.grm self.now.found.now.graph
-            self.now.found.now.table _entries.now }
+            self.now.found.now.table (entries_of_whole _whole) }
+        requires done { choice ≡ choice_of self.now.found.now.table
+            (splits self.now.told.parser.now) (entries_of_whole _whole) }
     {
         notes.push_text(
             text,
@@ -383,16 +414,21 @@ impl<T: IndexStorage> Checked<'_, T> {
     }
 
     /// Adds the same, where it is shown.
-    fn push_if_kept(&self, text: &mut Text, notes: Notes, entries: &[Entry])
+    fn push_if_kept(
+        &self,
+        text: &mut Text,
+        notes: Notes,
+        whole: Whole<'_, '_>,
+    ) -> Result<(), AllocError>
         requires { AreToldKept self.now.found.now.grm self.now.found.now.graph
             self.now.found.now.table self.now.told.kept.now }
     {
-        if entries.is_empty() {
-            return;
+        let entries = whole.entries(text.allocator())?;
+        let entries = entries.as_slice();
+        if self.are_kept(entries) {
+            self.push_kept(text, notes, whole, self.choice_of(entries));
         }
-        if self.told.are_kept(entries) {
-            self.push_kept(text, notes, entries, self.choice_of(entries));
-        }
+        Ok(())
     }
 
     /// Adds a sentence that the parser rejects, where one is known.
@@ -429,8 +465,7 @@ impl<T: IndexStorage> Checked<'_, T> {
         words.add_all("not ambiguous here (proved)");
         if let Some(tokens) = tokens {
             words.add_piece(":");
-            words.begin();
-            write!(words, "{tokens}");
+            words.add_number(tokens);
             words.add_all("tokens of lookahead would decide");
         }
         notes.push(text, &words);
@@ -591,7 +626,7 @@ impl<T: IndexStorage> Checked<'_, T> {
     {
         notes.push_text(
             text,
-            if cause.meetings.len() == 2 {
+            if cause.states() == 2 {
                 "so it is in the other state (proved; --all shows the sentences)"
             } else {
                 "so it is in each other state (proved; --all shows the sentences)"
@@ -625,7 +660,7 @@ impl<T: IndexStorage> Checked<'_, T> {
     )
         requires proved { All (IsProved self.now.found.now.grm) (entries_in cause.now) }
     {
-        if cause.meetings.len() < 2 || own_sentences(shown) == 0 {
+        if cause.states() < 2 || own_sentences(shown) == 0 {
             return;
         }
         if cause.has_sentences() {
@@ -666,8 +701,7 @@ impl<T: IndexStorage> Checked<'_, T> {
             self.push_known(&mut lines, notes, shown)?;
             self.push_other_states(&mut lines, notes, cause, shown);
             self.push_if_lost(&mut lines, notes, self.loss_of(cause, shown))?;
-            let entries = cause.entries(text.allocator())?;
-            self.push_if_kept(&mut lines, notes, entries.as_slice());
+            self.push_if_kept(&mut lines, notes, Whole::Conflict(cause))?;
         }
         if !help.is_empty() {
             notes.push(&mut lines, help);
@@ -697,16 +731,15 @@ impl<T: IndexStorage> Checked<'_, T> {
         self.push_sentence(text, notes, ambiguity)
     }
 
-    /// Adds notes on what precedences resolve at the entries: why, a sentence with two trees, of which one is kept, and one that is
-    /// rejected, or that none is.
+    /// Adds notes on what precedences resolve: why, a sentence with two trees, of which one is kept, and one that is rejected, or that
+    /// none is.
     pub(crate) fn push_decided(
         &self,
         text: &mut Text,
         marks: &[Mark],
         why: &str,
-        kept: &str,
+        resolution: &Resolution,
         known: KnownResolved<'_>,
-        entries: &[Entry],
     ) -> Result<(), AllocError>
         requires proved { IfSome known.ambiguity (λ a. HasTwoTrees self.now.found.now.grm a.now) }
         requires lost { IfSome known.loss (λ l.
@@ -724,10 +757,10 @@ impl<T: IndexStorage> Checked<'_, T> {
             );
         }
         if let Some(ambiguity) = known.ambiguity {
-            self.push_decided_sentence(&mut lines, notes, kept, ambiguity)?;
+            self.push_decided_sentence(&mut lines, notes, resolution.kept(), ambiguity)?;
         }
         self.push_if_lost(&mut lines, notes, known.loss)?;
-        self.push_if_kept(&mut lines, notes, entries);
+        self.push_if_kept(&mut lines, notes, Whole::Resolved(resolution))?;
         let lines = lines.finish()?;
         self.told.teller().add_notes(text, marks, lines.as_str());
         Ok(())

@@ -28,7 +28,6 @@ use crate::told::Told;
 use lrdiagnostics::{Layout, TOLD, add_shown};
 use lrevidence::Ambiguity;
 use lrfindings::{Findings, UselessPrecedences, Verdict};
-use lrgrammar::idx::IndexStorage;
 use lrwriter::Text;
 use lryacc::Fault;
 use std::alloc::{AllocError, Global};
@@ -95,7 +94,7 @@ fn add_last_line(text: &mut Text, line: &str, columns: Option<usize>)
     text.add_char('\n');
 }
 
-impl<T: IndexStorage> Checked<'_, T> {
+impl Checked<'_> {
     /// Adds all that stands before the last line.
     fn push_details(&self, text: &mut Text, warnings: &[Fault]) -> Result<(), AllocError>
         requires proved { All (IsProved self.now.found.now.grm) self.now.told.evidence.now }
@@ -161,9 +160,9 @@ fn summary(alloc: Global, line: &str) -> Result<String, AllocError>
 }
 
 /// The lines on what was found, of which that is the last one.
-fn lines<T: IndexStorage>(
+fn lines(
     alloc: Global,
-    checked: &Checked<'_, T>,
+    checked: &Checked<'_>,
     warnings: &[Fault],
     line: &str,
 ) -> Result<String, AllocError>
@@ -187,10 +186,10 @@ fn lines<T: IndexStorage>(
 }
 
 /// What is told of what was found in the grammar of a file, with that verdict.
-pub(crate) fn text_on_findings<T: IndexStorage>(
+pub(crate) fn text_on_findings(
     alloc: Global,
     read: Read<'_>,
-    found: &Findings<T>,
+    found: &Findings<u32>,
     known: &Known,
     verdict: Verdict,
     options: Options,
@@ -241,10 +240,10 @@ pub(crate) fn text_on_findings<T: IndexStorage>(
 }
 
 /// The page on what was found in the grammar of a file, with that verdict, where one is made.
-pub(crate) fn page_on_findings<T: IndexStorage>(
+pub(crate) fn page_on_findings(
     alloc: Global,
     read: Read<'_>,
-    found: &Findings<T>,
+    found: &Findings<u32>,
     known: &Known,
     verdict: Verdict,
     options: Options,

@@ -1,6 +1,7 @@
 //! The page that shows what was found in the grammar of a file.
 
 ghost use Rattle.std.specs.Prelude.{◌≡◌, All, IfOk};
+ghost use Rattle.std.specs.List.{flat_map};
 ghost use Rattle.lrevidence.specs.Ambiguities.{IsProved};
 ghost use Rattle.lrevidence.specs.Losses.{IsLostAtEntry};
 ghost use Rattle.lrevidence.specs.DecidedEntries.{IsToldDecided};
@@ -11,16 +12,15 @@ use crate::conflicts::{Checked, entries_of, meetings};
 use crate::levels::Trials;
 use lrevidence::Evidence;
 use lrfindings::Verdict;
-use lrgrammar::idx::IndexStorage;
 use lrpage::{Card, Page};
 use lrwriter::Text;
 use lryacc::Fault;
 use std::alloc::{AllocError, Global};
 
 /// How entries at which the same meets can be resolved, in one line.
-fn help_line<T: IndexStorage>(
+fn help_line(
     alloc: Global,
-    trials: &Trials<'_, '_, T>,
+    trials: &Trials<'_, '_>,
     meeting: &[Evidence],
 ) -> Result<String, AllocError> {
     let mut line = Text::new(alloc);
@@ -28,13 +28,13 @@ fn help_line<T: IndexStorage>(
     line.finish()
 }
 
-impl<T: IndexStorage> Checked<'_, T> {
+impl<'a> Checked<'a> {
     /// The card of entries at which the same meets.
-    fn card<'a>(
+    fn card(
         &self,
         alloc: Global,
         meeting: &'a [Evidence],
-        trials: &Trials<'_, '_, T>,
+        trials: &Trials<'_, '_>,
     ) -> Result<Card<'a>, AllocError>
         ensures { IfOk result (λ card. card.meeting.now ≡ meeting.now) }
     {
@@ -44,6 +44,19 @@ impl<T: IndexStorage> Checked<'_, T> {
             marks: self.marks(alloc, entries.as_slice())?,
             help: help_line(alloc, trials, meeting)?,
         })
+    }
+
+    /// The cards of the conflicts, in the order of the file.
+    fn cards(&self, alloc: Global) -> Result<Vec<Card<'a>>, AllocError>
+        ensures { IfOk result (λ cards.
+            flat_map (λ card. card.meeting.now) cards.items ≡ self.now.told.evidence.now) }
+    {
+        let trials = Trials::new(alloc, self)?;
+        let mut cards = Vec::new(alloc);
+        for meeting in &meetings(alloc, self.told.evidence, false)? {
+            cards.push(self.card(alloc, meeting, &trials)?)?;
+        }
+        Ok(cards)
     }
 
     /// The page, with that verdict in these words, and what reading the file warned of.
@@ -66,11 +79,7 @@ impl<T: IndexStorage> Checked<'_, T> {
             self.now.found.now.table self.now.told.kept.now }
         requires words { AreProvedWords self.now.found.now.grm self.now.found.now.table words.now }
     {
-        let trials = Trials::new(alloc, self)?;
-        let mut cards = Vec::new(alloc);
-        for meeting in &meetings(alloc, self.told.evidence, false)? {
-            cards.push(self.card(alloc, meeting, &trials)?)?;
-        }
+        let cards = self.cards(alloc)?;
         let notes = self.told.notes_on_all(alloc)?;
         let resolved = self.resolved_cards(alloc)?;
         let messages = self.told.warnings(alloc, warnings)?;

@@ -187,11 +187,11 @@ impl Outcome {
 fn outcome_on_findings(
     alloc: Global,
     read: Read<'_>,
-    found: Findings<u32>,
+    found: &Findings<u32>,
     options: Options,
 ) -> Result<Outcome, AllocError>
-    requires found { AreFindings (2 ^ 32 - 1) read.file.now found }
-    requires kept { (found.has_precedences ≡ not options.ignores_precedences)
+    requires found { AreFindings (2 ^ 32 - 1) read.file.now found.now }
+    requires kept { (found.now.has_precedences ≡ not options.ignores_precedences)
         ⊎ DecidesNothing (2 ^ 32 - 1) read.file.now }
     ensures proved { IfOk result (λ o.
         IsConcluded options.ignores_precedences (conclusion_of read.entry.file.now o)) }
@@ -205,11 +205,11 @@ fn outcome_on_findings(
     ensures unkept { splits read.entry.parser.now ≡ true → IfOk result (λ o.
         o.kept.items ≡ []) }
 {
-    let known = known_of(alloc, read, &found, options)?;
+    let known = known_of(alloc, read, found, options)?;
     let expected = options.beside(read.expected);
     let verdict = Verdict::of(found.is_unambiguous, known.left, expected);
-    let text = text_on_findings(alloc, read, &found, &known, verdict, options)?;
-    let page = page_on_findings(alloc, read, &found, &known, verdict, options)?;
+    let text = text_on_findings(alloc, read, found, &known, verdict, options)?;
+    let page = page_on_findings(alloc, read, found, &known, verdict, options)?;
     let Known {
         is_unambiguous,
         exactness,
@@ -251,7 +251,7 @@ fn outcome_of(alloc: Global, read: Read<'_>, options: Options) -> Result<Outcome
     let wants_graph = options.makes_page || has_states;
     let has_precedences = !options.ignores_precedences;
     let found = find::<u32>(alloc, read.file, has_precedences, wants_graph)?;
-    Ok(outcome_on_findings(alloc, read, found, options)?)
+    Ok(outcome_on_findings(alloc, read, &found, options)?)
 }
 
 /// The report that tells the grammar of a file alone.

@@ -1,6 +1,6 @@
 //! What precedences resolve, each with the places of the productions that meet, and why.
 
-ghost use Rattle.std.specs.Prelude.{All, IfOk, IfSome};
+ghost use Rattle.std.specs.Prelude.{All, Contains, IfOk, IfSome};
 ghost use Rattle.std.specs.Option.{ForSome};
 ghost use Rattle.lrevidence.specs.Ambiguities.{HasTwoTrees, IsProved};
 ghost use Rattle.lrevidence.specs.KeptEntries.{AreToldKept};
@@ -13,15 +13,14 @@ use crate::conflicts::{Checked, DONE, push_more};
 use crate::notes::KnownResolved;
 use crate::told::Told;
 use lrdiagnostics::{Mark, add_shown};
-use lrevidence::{Ambiguity, Loss};
+use lrevidence::{Ambiguity, Evidence, Loss};
 use lrfindings::{Entry, Resolved, Winner, source_of};
-use lrgrammar::idx::IndexStorage;
 use lrpage::ResolvedCard;
 use lrwriter::Text;
 use std::alloc::{AllocError, Global};
 
 /// Why a shift or a reduction wins, or neither.
-#[derive(Clone, Copy, Debug, PartialEq, Eq, PartialOrd, Ord)]
+#[derive(Clone, Copy, PartialEq, Eq, PartialOrd, Ord)]
 enum Reason {
     /// The token has the higher level.
     Token,
@@ -77,9 +76,9 @@ impl Reason {
 
 /// What is resolved in one state between one production and shifts, for one reason.
 #[derive(Drop)]
-struct Resolution {
+pub(crate) struct Resolution {
     reason: Reason,
-    entries: Vec<Entry>,
+    pub(crate) entries: Vec<Entry>,
 }
 
 impl Resolution {
@@ -91,6 +90,11 @@ impl Resolution {
         };
         is_meeting && self.reason == reason
     }
+
+    /// Which of two trees is kept.
+    pub(crate) fn kept(&self) -> &'static str {
+        self.reason.kept()
+    }
 }
 
 /// The entries of which one wins.
@@ -99,8 +103,13 @@ pub(crate) fn won_by(
     resolved: &[Resolved],
     winner: Winner,
 ) -> Result<Vec<Entry>, AllocError> {
-    let won = resolved.iter().filter(|one| one.winner == winner);
-    won.map(|one| one.entry).collect(alloc)
+    let mut won = Vec::new(alloc);
+    for one in resolved {
+        if one.winner == winner {
+            won.push(one.entry)?;
+        }
+    }
+    Ok(won)
 }
 
 impl Told<'_> {
@@ -175,17 +184,27 @@ impl Told<'_> {
     }
 }
 
-impl<'a, T: IndexStorage> Checked<'a, T> {
+impl<'a> Checked<'a> {
+    /// What is known of an entry that precedences resolve.
+    fn known_at(&self, entry: &Entry) -> Option<&'a Evidence>
+        ensures { IfSome result (λ known. Contains self.now.told.resolved.now known.now) }
+    {
+        let resolved = self.told.resolved;
+        match resolved.binary_search_by_key(entry, |it| it.entry) {
+            Ok(at) => Some(&resolved[at]),
+            Err(_) => None,
+        }
+    }
+
     /// A sentence with two trees that part by what meets in one of the entries, where one is found.
     pub(crate) fn decided(&self, entries: &[Entry]) -> Option<&'a Ambiguity>
         requires proved { All (IsProved self.now.found.now.grm) self.now.told.resolved.now }
         ensures trees { IfSome result (λ a. HasTwoTrees self.now.found.now.grm a.now) }
         ensures of { IfSome result (λ a. IsOfOne entries.now a.now) }
     {
-        let resolved = self.told.resolved;
         for entry in entries {
-            if let Ok(at) = resolved.binary_search_by_key(entry, |it| it.entry) {
-                if let Some(ambiguity) = &resolved[at].ambiguity {
+            if let Some(known) = self.known_at(entry) {
+                if let Some(ambiguity) = &known.ambiguity {
                     if ambiguity.is_of(entry) {
                         return Some(&**ambiguity);
                     }
@@ -204,10 +223,8 @@ impl<'a, T: IndexStorage> Checked<'a, T> {
         ensures at { IfSome result (λ l.
             IsLostAtOne self.now.found.now.grm self.now.found.now.table entries.now l.now) }
     {
-        let resolved = self.told.resolved;
         for entry in entries {
-            if let Ok(at) = resolved.binary_search_by_key(entry, |it| it.entry) {
-                let known = &resolved[at];
+            if let Some(known) = self.known_at(entry) {
                 match &known.loss {
                     Some(loss) if known.entry == *entry => return Some(&**loss),
                     _ => {}
@@ -219,10 +236,13 @@ impl<'a, T: IndexStorage> Checked<'a, T> {
 
     /// Whether a text was looked for at each of the entries.
     pub(crate) fn are_searched(&self, entries: &[Entry]) -> bool {
-        let resolved = self.told.resolved;
-        entries.iter().all(|entry| resolved
-            .binary_search_by_key(entry, |it| it.entry)
-            .is_ok_and(|at| resolved.get(at).is_some_and(|it| !it.is_cut_off)))
+        for entry in entries {
+            match self.known_at(entry) {
+                Some(known) if !known.is_cut_off => {}
+                _ => return false,
+            }
+        }
+        true
     }
 
     /// The places of what meets.
@@ -270,9 +290,8 @@ impl<'a, T: IndexStorage> Checked<'a, T> {
         self.told.push_heading(text, "resolved", entries, None);
         self.told.teller().add_placed(text, marks.as_slice())?;
         let why = self.told.reason(alloc, resolution)?;
-        let kept = resolution.reason.kept();
         let known = self.known_resolved(entries);
-        self.push_decided(text, marks.as_slice(), why.as_str(), kept, known, entries)?;
+        self.push_decided(text, marks.as_slice(), why.as_str(), resolution, known)?;
         text.add_char('\n');
         Ok(())
     }
@@ -313,7 +332,7 @@ impl<'a, T: IndexStorage> Checked<'a, T> {
             marks: self.resolution_marks(alloc, &resolution)?,
             why: self.told.reason(alloc, &resolution)?,
             wins: resolution.reason.wins(),
-            kept: resolution.reason.kept(),
+            kept: resolution.kept(),
             entries: resolution.entries,
             ambiguity: known.ambiguity,
             loss: known.loss,

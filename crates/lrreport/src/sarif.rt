@@ -3,6 +3,7 @@
 ghost use Rattle.std.specs.Prelude.{All};
 ghost use Rattle.lrevidence.specs.Ambiguities.{IsProved};
 
+use crate::causes::tokens_at;
 use crate::conflicts::{Checked, entries_of, meetings};
 use crate::json_texts::JsonText;
 use crate::sarif_logs::{Rule, add_message};
@@ -13,7 +14,6 @@ use crate::words::Words;
 use lrdiagnostics::{Mark, Message, Source, messages_of};
 use lrevidence::Evidence;
 use lrfindings::Verdict;
-use lrgrammar::idx::IndexStorage;
 use lrwriter::Text;
 use lryacc::{Fault, Span};
 use std::alloc::{AllocError, Global};
@@ -23,6 +23,11 @@ use std::alloc::{AllocError, Global};
 struct Results<'a> {
     source: &'a Source<'a>,
     json: JsonText,
+}
+
+/// What stands between the brackets of a list.
+fn within_brackets(list: &str) -> Option<&str> {
+    list.strip_prefix('[')?.strip_suffix(']')
 }
 
 impl<'a> Results<'a> {
@@ -48,10 +53,8 @@ impl<'a> Results<'a> {
     ) -> Result<(), AllocError> {
         let json = &mut self.json;
         json.begin_object();
-        json.key("ruleId");
-        json.string(rule.id());
-        json.key("level");
-        json.string(level);
+        json.string_at("ruleId", rule.id());
+        json.string_at("level", level);
         add_message(json, "message", words);
         json.key("locations");
         json.begin_array();
@@ -106,11 +109,7 @@ impl<'a> Results<'a> {
         let mut json = self.json;
         json.end_array();
         let text = json.finish()?;
-        let inner = text
-            .as_str()
-            .strip_prefix('[')
-            .and_then(|text| text.strip_suffix(']'));
-        String::from_str(alloc, inner.unwrap_or(""))
+        String::from_str(alloc, within_brackets(text.as_str()).unwrap_or(""))
     }
 }
 
@@ -145,22 +144,40 @@ pub(crate) fn sarif_of_refusal(
 }
 
 impl Told<'_> {
-    /// Adds what the file is warned of.
-    fn add_warnings(&self, results: &mut Results<'_>, faults: &[Fault]) -> Result<(), AllocError> {
-        let alloc = results.allocator();
-        let messages = messages_of(alloc, self.source, faults)?;
-        results.add_all(Rule::Warning, "warning", messages.as_slice())?;
-        let mut messages = Vec::new(alloc);
+    /// Adds what reading the file warned of.
+    fn add_read(&self, results: &mut Results<'_>, faults: &[Fault]) -> Result<(), AllocError> {
+        let messages = messages_of(results.allocator(), self.source, faults)?;
+        results.add_all(Rule::Warning, "warning", messages.as_slice())
+    }
+
+    /// Adds which tokens are in no rule, or in useless ones alone.
+    fn add_unused_results(&self, results: &mut Results<'_>) -> Result<(), AllocError> {
+        let mut messages = Vec::new(results.allocator());
         self.add_unused(&mut messages)?;
-        results.add_all(Rule::UnusedToken, "warning", messages.as_slice())?;
-        let mut messages = Vec::new(alloc);
+        results.add_all(Rule::UnusedToken, "warning", messages.as_slice())
+    }
+
+    /// Adds which precedences resolve nothing.
+    fn add_useless_results(
+        &self,
+        results: &mut Results<'_>,
+        faults: &[Fault],
+    ) -> Result<(), AllocError> {
+        let mut messages = Vec::new(results.allocator());
         self.add_useless_lines(&mut messages)?;
         self.add_useless_productions(&mut messages, faults)?;
         results.add_all(Rule::UselessPrecedence, "warning", messages.as_slice())
     }
+
+    /// Adds what the file is warned of.
+    fn add_warnings(&self, results: &mut Results<'_>, faults: &[Fault]) -> Result<(), AllocError> {
+        self.add_read(results, faults)?;
+        self.add_unused_results(results)?;
+        self.add_useless_results(results, faults)
+    }
 }
 
-impl<T: IndexStorage> Checked<'_, T> {
+impl Checked<'_> {
     /// Adds what is told of a conflict: what meets at which tokens, and a sentence with two trees, where there is one.
     fn conflict_words(
         &self,
@@ -170,7 +187,7 @@ impl<T: IndexStorage> Checked<'_, T> {
     ) -> Result<String, AllocError>
         requires proved { All (IsProved self.now.found.now.grm) meeting.now }
     {
-        let tokens: Vec<usize> = meeting.iter().map(|it| it.entry.token).collect(alloc)?;
+        let tokens = tokens_at(alloc, meeting)?;
         let mut words = Words::new(alloc);
         words.add_all(match rule {
             Rule::ReduceReduce => "conflict: reduce or reduce at",
@@ -204,7 +221,10 @@ impl<T: IndexStorage> Checked<'_, T> {
         };
         let words = self.conflict_words(alloc, rule, meeting)?;
         let marks = self.marks(alloc, entries.as_slice())?;
-        let place = marks.first().map(|mark| mark.span);
+        let place = match marks.first() {
+            Some(mark) => Some(mark.span),
+            None => None,
+        };
         results.begin(rule, level, words.as_str(), place)?;
         results.add_marks(marks.as_slice())?;
         results.json.end_object();

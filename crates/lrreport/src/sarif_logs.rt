@@ -59,8 +59,7 @@ const HELP: &str =
 pub(crate) fn add_message(json: &mut JsonText, key: &str, words: &str) {
     json.key(key);
     json.begin_object();
-    json.key("text");
-    json.string(words);
+    json.string_at("text", words);
     json.end_object();
 }
 
@@ -70,16 +69,13 @@ fn add_tool(json: &mut JsonText, version: &str) {
     json.begin_object();
     json.key("driver");
     json.begin_object();
-    json.key("name");
-    json.string("lrcheck");
-    json.key("version");
-    json.string(version);
+    json.string_at("name", "lrcheck");
+    json.string_at("version", version);
     json.key("rules");
     json.begin_array();
     for rule in RULES {
         json.begin_object();
-        json.key("id");
-        json.string(rule.id());
+        json.string_at("id", rule.id());
         add_message(json, "shortDescription", rule.words());
         add_message(json, "fullDescription", rule.words());
         add_message(json, "help", HELP);
@@ -94,16 +90,13 @@ fn add_tool(json: &mut JsonText, version: &str) {
 pub fn sarif_head(alloc: Global, version: &str) -> Result<String, AllocError> {
     let mut json = JsonText::new(alloc);
     json.begin_object();
-    json.key("$schema");
-    json.string("https://json.schemastore.org/sarif-2.1.0.json");
-    json.key("version");
-    json.string("2.1.0");
+    json.string_at("$schema", "https://json.schemastore.org/sarif-2.1.0.json");
+    json.string_at("version", "2.1.0");
     json.key("runs");
     json.begin_array();
     json.begin_object();
     add_tool(&mut json, version);
-    json.key("columnKind");
-    json.string("utf16CodeUnits");
+    json.string_at("columnKind", "utf16CodeUnits");
     json.key("results");
     json.begin_array();
     json.finish()

@@ -31,14 +31,10 @@ fn column(bytes: &[u8], at: usize) -> usize {
 fn add_region(json: &mut JsonText, source: &Source<'_>, place: Span) {
     json.key("region");
     json.begin_object();
-    json.key("startLine");
-    json.number(source.position(place.start).line);
-    json.key("startColumn");
-    json.number(column(source.bytes, place.start));
-    json.key("endLine");
-    json.number(source.position(place.end).line);
-    json.key("endColumn");
-    json.number(column(source.bytes, place.end));
+    json.number_at("startLine", source.position(place.start).line);
+    json.number_at("startColumn", column(source.bytes, place.start));
+    json.number_at("endLine", source.position(place.end).line);
+    json.number_at("endColumn", column(source.bytes, place.end));
     json.end_object();
 }
 
@@ -82,8 +78,7 @@ pub(crate) fn add_location(
     json.begin_object();
     json.key("artifactLocation");
     json.begin_object();
-    json.key("uri");
-    json.string(uri.as_str());
+    json.string_at("uri", uri.as_str());
     json.end_object();
     if let Some(place) = place {
         add_region(json, source, place);

@@ -1,12 +1,12 @@
 //! What a generalized parser does with two trees of one text: what `%dprec` and `%merge` say of the productions at their roots.
 
 use crate::advice::Advice;
+use crate::conflicts::are_decided;
 use crate::levels::Trials;
 use crate::notes::Notes;
 use crate::told::Told;
 use crate::words::Words;
 use lrevidence::{Ambiguity, Evidence, Node, Step, Tree};
-use lrgrammar::idx::IndexStorage;
 use lrwriter::Text;
 use lryacc::{Dynamic, DynamicKind, Parser, Span};
 use std::alloc::{AllocError, Global};
@@ -172,7 +172,6 @@ impl<'a> Told<'a> {
             } => {
                 words.add_all("and %dprec keeps");
                 self.add_which(words, candidates, is_first);
-                words.begin();
                 write!(words, "({greater} against {lesser})");
             }
             Fate::Merged(name) => {
@@ -192,12 +191,10 @@ impl<'a> Told<'a> {
         let against = self.source.line(self.place(other).start);
         if line == against {
             words.add_all("in line");
-            words.begin();
-            write!(words, "{line}");
+            words.add_number(line);
         } else {
             let (first, last) = (line.min(against), line.max(against));
             words.add_all("in lines");
-            words.begin();
             write!(words, "{first} and {last}");
         }
     }
@@ -234,7 +231,7 @@ impl<'a> Told<'a> {
     }
 }
 
-impl<'a, T: IndexStorage> Trials<'_, 'a, T> {
+impl<'a> Trials<'_, 'a> {
     /// Adds what there is to do about entries where the parser splits: nothing, unless neither `%dprec` nor `%merge` decides between
     /// the trees of a sentence. Then levels may resolve the conflict before that.
     pub(crate) fn add_split_help(
@@ -254,7 +251,7 @@ impl<'a, T: IndexStorage> Trials<'_, 'a, T> {
                 told.add_dynamics(words, one, other);
             }
             Some(_) => {}
-            None if meeting.iter().all(|it| it.is_decided()) => {
+            None if are_decided(meeting) => {
                 words.add_all("help: the parser splits here, so nothing needs to be done");
             }
             None => words.add_all(

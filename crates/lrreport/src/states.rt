@@ -17,10 +17,10 @@ use std::collections::BTreeMap;
 
 /// What is needed beside a table to show its states.
 #[derive(Drop)]
-pub(crate) struct Listing<'a, T: IndexStorage> {
-    pub(crate) checked: &'a Checked<'a, T>,
+pub(crate) struct Listing<'a> {
+    pub(crate) checked: &'a Checked<'a>,
     /// The numbers that the rules of the file have in the graph.
-    pub(crate) rules: BTreeMap<usize, RIdx<T>>,
+    pub(crate) rules: BTreeMap<usize, RIdx<u32>>,
     /// The conflicts, by their states.
     pub(crate) conflicts: BTreeMap<usize, Vec<Entry>>,
     /// What `%nonassoc` makes errors, by their states.
@@ -78,12 +78,9 @@ impl Told<'_> {
     }
 }
 
-impl<'a, T: IndexStorage> Listing<'a, T> {
+impl<'a> Listing<'a> {
     /// Shows the states of what was found.
-    pub(crate) fn new(
-        alloc: Global,
-        checked: &'a Checked<'a, T>,
-    ) -> Result<Listing<'a, T>, AllocError> {
+    pub(crate) fn new(alloc: Global, checked: &'a Checked<'a>) -> Result<Listing<'a>, AllocError> {
         let conflicts = entries_of(alloc, checked.told.evidence)?;
         let errors = won_by(alloc, checked.found.resolved.as_slice(), Winner::Neither)?;
         Ok(Listing {
@@ -106,7 +103,7 @@ impl<'a, T: IndexStorage> Listing<'a, T> {
     }
 
     /// Adds the items of the core of a state.
-    fn push_items(&self, text: &mut Text, state: StIdx<T>) {
+    fn push_items(&self, text: &mut Text, state: StIdx<u32>) {
         let Some(graph) = &self.checked.found.graph else {
             return;
         };
@@ -125,7 +122,7 @@ impl<'a, T: IndexStorage> Listing<'a, T> {
     }
 
     /// The lines of what the table does in a state, but for where rules lead.
-    fn actions(&self, alloc: Global, state: StIdx<T>) -> Result<String, AllocError> {
+    fn actions(&self, alloc: Global, state: StIdx<u32>) -> Result<String, AllocError> {
         let row = self.row(alloc, state)?;
         let mut text = Text::new(alloc);
         push_targets(&mut text, row.shifts.as_slice(), "shift, and go to");
@@ -136,7 +133,7 @@ impl<'a, T: IndexStorage> Listing<'a, T> {
     }
 
     /// Adds a state: its number, the items of its core, and what the table does in it.
-    fn push_state(&self, text: &mut Text, state: StIdx<T>) -> Result<(), AllocError> {
+    fn push_state(&self, text: &mut Text, state: StIdx<u32>) -> Result<(), AllocError> {
         let alloc = text.allocator();
         let mut items = Text::new(alloc);
         self.push_items(&mut items, state);
@@ -149,13 +146,13 @@ impl<'a, T: IndexStorage> Listing<'a, T> {
     }
 }
 
-impl<T: IndexStorage> Checked<'_, T> {
+impl Checked<'_> {
     /// The numbers that the rules of the file have in the graph. Productions have those of the file.
-    fn rules(&self, alloc: Global) -> Result<BTreeMap<usize, RIdx<T>>, AllocError> {
+    fn rules(&self, alloc: Global) -> Result<BTreeMap<usize, RIdx<u32>>, AllocError> {
         let grm = &self.found.grm;
         let mut rules = BTreeMap::new(alloc);
         for (production, prod) in self.told.file.parts.prods.iter().enumerate() {
-            if let Some(number) = T::from_usize(production) {
+            if let Some(number) = u32::from_usize(production) {
                 if production < usize::from(grm.prods_len()) {
                     rules.insert(prod.rule, grm.prod_to_rule(PIdx(number)))?;
                 }

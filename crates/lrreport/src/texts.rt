@@ -73,14 +73,15 @@ pub(crate) fn add_text(
     file: &FileGrammar,
     ambiguity: &Ambiguity,
 ) -> Result<(), AllocError> {
+    let alloc = words.allocator();
     if ambiguity.is_long() {
-        let (tree, _) = Tree::both(words.allocator(), file, &ambiguity.form)?;
-        let names = leaves(words.allocator(), file, &tree)?;
+        let (tree, _) = Tree::both(alloc, file, &ambiguity.form)?;
+        let names = leaves(alloc, file, &tree)?;
         add_with_dot(words, names.as_slice(), ambiguity.form.dot());
         return Ok(());
     }
     let tokens = text_of(file, ambiguity.tokens.as_slice());
-    let names = names_of_tokens(words.allocator(), file, tokens)?;
+    let names = names_of_tokens(alloc, file, tokens)?;
     add_with_dot(words, names.as_slice(), ambiguity.dot(file));
     Ok(())
 }
@@ -98,7 +99,6 @@ pub(crate) fn add_loss(
     match names.get(stop) {
         Some(name) => {
             at.add_all("at token");
-            at.begin();
             write!(at, "{},", stop.saturating_add(1));
             at.add(name);
         }
@@ -128,8 +128,7 @@ pub(crate) fn add_two_trees(words: &mut Words, file: &FileGrammar, ambiguity: &A
     if is_long {
         let count = text_of(file, ambiguity.tokens.as_slice()).len();
         words.add("of");
-        words.begin();
-        write!(words, "{count}");
+        words.add_number(count);
         words.add_all("tokens has two trees, as has this part of it");
     } else {
         words.add_all("has two trees");

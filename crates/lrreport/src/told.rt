@@ -1,6 +1,6 @@
 //! What is told of a file, whatever its graph and its table are stored in.
 
-ghost use Rattle.std.specs.Prelude.{◌≡◌, All, Contains, IfOk, IsTrue};
+ghost use Rattle.std.specs.Prelude.{◌≡◌, IfOk};
 ghost use Rattle.std.specs.BTreeSet.{contains};
 ghost use Rattle.std.specs.Ordering.{nat_cmp};
 ghost use Rattle.lritems.specs.ItemsOf.{set_of};
@@ -9,7 +9,7 @@ ghost use Rattle.lrreport.specs.Conflicts.{is_token, items_before, symbol_behind
 use crate::options::Options;
 use lrdiagnostics::{Layout, Source, Teller};
 use lrevidence::{Evidence, Exactness, body_of, name_of_rule, token_name};
-use lrfindings::{Entry, UselessPrecedences, is_among, precedence_token};
+use lrfindings::{Entry, UselessPrecedences, precedence_token};
 use lrgrammar::grammar::{PartProd, PartSymbol, Precedence};
 use lrgrammar::idx::IndexStorage;
 use lrtable::itemset::Itemset;
@@ -79,18 +79,6 @@ impl<'a> Told<'a> {
         precedence_token(self.production(production)?)
     }
 
-    /// Whether it is shown that no sentence is lost at each of the entries.
-    pub(crate) fn are_kept(&self, entries: &[Entry]) -> bool
-        ensures { IsTrue result → All (λ e. Contains self.now.kept.now e) entries.now }
-    {
-        for entry in entries {
-            if !is_among(self.kept, entry) {
-                return false;
-            }
-        }
-        true
-    }
-
     /// The symbol behind the dot of an item, if there is one.
     fn symbol_behind(&self, production: usize, dot: usize) -> Option<PartSymbol>
         ensures { result ≡ symbol_behind self.now.file.now (production, dot) }
@@ -131,10 +119,9 @@ impl<'a> Told<'a> {
 
     /// Where the symbol behind the dot of an item stands.
     pub(crate) fn symbol_place(&self, production: usize, dot: usize) -> Span {
-        let places = self.file.symbol_places.get(production);
-        match places.and_then(|places| places.get(dot).copied()) {
-            Some(place) => place,
-            None => self.place(production),
+        match self.file.symbol_places.get(production) {
+            Some(places) if dot < places.len() => places[dot],
+            _ => self.place(production),
         }
     }
 

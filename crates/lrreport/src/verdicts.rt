@@ -18,7 +18,6 @@ use crate::conflicts::Checked;
 use crate::told::Told;
 use lrevidence::{Ambiguity, Evidence, Exactness};
 use lrfindings::Verdict;
-use lrgrammar::idx::IndexStorage;
 use lrwriter::Text;
 use std::alloc::{AllocError, Global};
 
@@ -159,7 +158,7 @@ impl Told<'_> {
     }
 }
 
-impl<T: IndexStorage> Checked<'_, T> {
+impl Checked<'_> {
     /// Adds that no sentence has two trees.
     fn push_unambiguous(&self, line: &mut Text)
         requires proved { IsUnambiguous self.now.found.now.grm }

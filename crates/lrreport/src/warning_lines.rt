@@ -14,13 +14,25 @@ const LONGEST: usize = 30;
 
 /// Whether a text begins as a name does, or a quoted one.
 fn begins_as_name(text: &str) -> bool {
-    let first = text.chars().next();
-    first.is_some_and(|it| it.is_alphabetic() || it == '_' || it == '\'' || it == '"')
+    match text.chars().next() {
+        Some(first) => first.is_alphabetic() || matches!(first, '_' | '\'' | '"'),
+        None => false,
+    }
+}
+
+/// Whether a name is one of the parts of words between such marks.
+fn is_between(words: &str, mark: char, name: &str) -> bool {
+    for part in words.split(mark) {
+        if part == name {
+            return true;
+        }
+    }
+    false
 }
 
 /// Whether the words of a warning have a name already.
 fn have_name(words: &str, name: &str) -> bool {
-    words.split('`').any(|part| part == name) || words.split(' ').any(|part| part == name)
+    is_between(words, '`', name) || is_between(words, ' ', name)
 }
 
 /// Adds names behind a bracket.
@@ -48,9 +60,8 @@ impl Told<'_> {
         let mut names: Vec<&str> = Vec::new(alloc);
         for place in message.places.iter().take(NAMED) {
             match self.text_at(*place) {
-                Some(text)
-                    if !have_name(message.words.as_str(), text)
-                        && !names.iter().any(|name| *name == text) => names.push(text)?,
+                Some(text) if !have_name(message.words.as_str(), text) && !names.contains(&text) =>
+                    names.push(text)?,
                 _ => return Ok(None),
             }
         }

@@ -162,10 +162,8 @@ impl<'a> Told<'a> {
     /// Adds a precedence that resolves nothing: what it is one of, its token, and its place.
     fn add_useless(&self, json: &mut JsonText, kind: &str, token: usize, place: Span) {
         json.begin_object();
-        json.key("kind");
-        json.string(kind);
-        json.key("token");
-        json.string(self.token_name(token));
+        json.string_at("kind", kind);
+        json.string_at("token", self.token_name(token));
         add_place(json, self.source, place);
         json.end_object();
     }
@@ -192,11 +190,9 @@ impl<'a> Told<'a> {
         for token in &self.useless.tokens {
             if let Some(place) = self.file.declared_place(*token) {
                 json.begin_object();
-                json.key("name");
-                json.string(self.token_name(*token));
+                json.string_at("name", self.token_name(*token));
                 add_place(json, self.source, place);
-                json.key("in_useless_rule");
-                json.boolean(self.file.is_in_useless(*token));
+                json.boolean_at("in_useless_rule", self.file.is_in_useless(*token));
                 json.end_object();
             }
         }

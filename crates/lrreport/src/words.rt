@@ -61,11 +61,6 @@ impl Words {
         self.is_whole = self.is_whole && self.push(word).is_ok();
     }
 
-    /// Begins a word, to which pieces are added.
-    pub(crate) fn begin(&mut self) {
-        self.add("");
-    }
-
     /// Adds words that are parted by blanks.
     pub(crate) fn add_all(&mut self, words: &str) {
         for word in words.split(' ') {
@@ -88,11 +83,17 @@ impl Words {
         }
     }
 
-    /// Adds what is formatted to the last word.
+    /// Adds what is formatted, as a word.
     pub(crate) fn write_fmt<D: Display + Drop>(&mut self, value: D) {
+        self.add("");
         if let Some(last) = self.list.last_mut() {
             self.is_whole = self.is_whole && last.write_fmt(value).is_ok();
         }
+    }
+
+    /// Adds a number, as a word.
+    pub(crate) fn add_number(&mut self, number: usize) {
+        write!(self, "{number}");
     }
 
     /// Adds them to a line of a text that has so many columns already; further lines begin with so many blanks.

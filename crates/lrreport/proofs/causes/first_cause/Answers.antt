@@ -1,6 +1,4 @@
-use Rattle.std.proofs.Common.{◌+◌, ◌<◌, take, arith}
-use Rattle.std.specs.List.{All}
-use Rattle.lrreport.specs.Causes.{AreAlike}
+use Rattle.std.proofs.Common.{◌+◌, take}
 use Rattle.lrreport.proofs.OneConflict.{are_one_kind, next_unlike, of_first}
 use Rattle.lrreport.proofs.causes.first_cause.Goals as goal
 

@@ -3,7 +3,7 @@ use Rattle.lrreport.proofs.KeptGraph.{is_some_referred}
 use Rattle.lrreport.proofs.outputs.page_on_findings.Goals as goal
 
 pub page-requires-clause-words : goal.page-requires-clause-words
-page-requires-clause-words g c = ∣ record {
+page-requires-clause-words c = ∣ record {
   verdict = c.args.verdict;
   shown = c.args.known.now.is_unambiguous;
   evidence = c.args.known.now.evidence.items;
@@ -28,10 +28,10 @@ page-requires-clause-words g c = ∣ record {
 } ∣₁
 
 pub verdict_words-requires-clause-yet_unambiguous : goal.verdict_words-requires-clause-yet_unambiguous
-verdict_words-requires-clause-yet_unambiguous g c = rw c.told_of.ensures.shown c.requires.yet_unambiguous
+verdict_words-requires-clause-yet_unambiguous c = rw c.told_of.ensures.shown c.requires.yet_unambiguous
 
 pub verdict_words-requires-clause-exact : goal.verdict_words-requires-clause-exact
-verdict_words-requires-clause-exact g c = rw c.told_of.ensures.exact c.requires.exact
+verdict_words-requires-clause-exact c = rw c.told_of.ensures.exact c.requires.exact
 
 pub page-requires-clause-kept : goal.page-requires-clause-kept
-page-requires-clause-kept g c = rw c.told_of.ensures.kept c.requires.kept
+page-requires-clause-kept c = rw c.told_of.ensures.kept c.requires.kept

@@ -4,7 +4,7 @@ use Rattle.lrreport.proofs.ToldTexts.{lines_tell}
 use Rattle.lrreport.proofs.outputs.text_on_findings.Goals as goal
 
 pub returns-in-Json : goal.returns-in-Json
-returns-in-Json g c = record {
+returns-in-Json c = record {
   told =
       rw (
         c.in-Json.is,
@@ -17,7 +17,7 @@ returns-in-Json g c = record {
 }
 
 pub returns-in-Summary : goal.returns-in-Summary
-returns-in-Summary g c =
+returns-in-Summary c =
     let told = c.told_of.ensures in
     record {
       told =
@@ -36,7 +36,7 @@ returns-in-Summary g c =
     }
 
 pub returns : goal.returns
-returns g c =
+returns c =
     let told = c.told_of.ensures in
     record {
       told =
@@ -56,19 +56,19 @@ returns g c =
     }
 
 pub line-requires-clause-yet_unambiguous : goal.line-requires-clause-yet_unambiguous
-line-requires-clause-yet_unambiguous g c = rw c.told_of.ensures.shown c.requires.yet_unambiguous
+line-requires-clause-yet_unambiguous c = rw c.told_of.ensures.shown c.requires.yet_unambiguous
 
 pub line-requires-clause-exact : goal.line-requires-clause-exact
-line-requires-clause-exact g c = rw c.told_of.ensures.exact c.requires.exact
+line-requires-clause-exact c = rw c.told_of.ensures.exact c.requires.exact
 
 pub json_of_findings-requires-clause-yet_unambiguous : goal.json_of_findings-requires-clause-yet_unambiguous
-json_of_findings-requires-clause-yet_unambiguous g c = rw c.told_of.ensures.shown c.requires.yet_unambiguous
+json_of_findings-requires-clause-yet_unambiguous c = rw c.told_of.ensures.shown c.requires.yet_unambiguous
 
 pub json_of_findings-requires-clause-exact : goal.json_of_findings-requires-clause-exact
-json_of_findings-requires-clause-exact g c = rw c.told_of.ensures.exact c.requires.exact
+json_of_findings-requires-clause-exact c = rw c.told_of.ensures.exact c.requires.exact
 
 pub json_of_findings-requires-clause-kept : goal.json_of_findings-requires-clause-kept
-json_of_findings-requires-clause-kept g c = rw c.told_of.ensures.kept c.requires.kept
+json_of_findings-requires-clause-kept c = rw c.told_of.ensures.kept c.requires.kept
 
 pub lines-requires-clause-kept : goal.lines-requires-clause-kept
-lines-requires-clause-kept g c = rw c.told_of.ensures.kept c.requires.kept
+lines-requires-clause-kept c = rw c.told_of.ensures.kept c.requires.kept

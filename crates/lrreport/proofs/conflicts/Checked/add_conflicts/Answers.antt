@@ -5,7 +5,7 @@ use Rattle.lrreport.proofs.Groups.{in_group}
 use Rattle.lrreport.proofs.conflicts.Checked.add_conflicts.Goals as goal
 
 pub add_conflict-requires : goal.add_conflict-requires
-add_conflict-requires g c =
+add_conflict-requires c =
     let checked = c.args.self.now in
     record {
       kept = c.requires.kept;

@@ -2,7 +2,7 @@ use Rattle.lrreport.proofs.AddedTokens.{adds_both}
 use Rattle.lrreport.proofs.conflicts.Checked.add_head.Goals as goal
 
 pub returns : goal.returns
-returns g c =
+returns c =
     rw (← c.any_sentence-shown.ensures.known)
     (adds_both c.begin_object.ensures
     (adds_both (rw (c.word_of.ensures, c.is_some.ensures) at c.add_verdict.ensures)

@@ -5,4 +5,4 @@ use Rattle.lrshown.specs.Ambiguities.{has_sentence}
 use Rattle.lrreport.proofs.conflicts.Checked.any_sentence.Given as goal
 
 abbrev pub invariant-loop-evidence : goal.invariant-loop-evidence
-invariant-loop-evidence g l = list_any has_sentence (take l.evidence-index l.meeting) ≡ false
+invariant-loop-evidence l = list_any has_sentence (take l.evidence-index l.meeting) ≡ false

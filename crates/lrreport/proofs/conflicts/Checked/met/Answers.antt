@@ -6,12 +6,12 @@ use Rattle.lrreport.proofs.Runs.{run_more}
 use Rattle.lrreport.proofs.conflicts.Checked.met.Goals as goal
 
 pub loop-from-preserved : goal.loop-from-preserved
-loop-from-preserved g c =
+loop-from-preserved c =
     let meeting = c.in_ok-meeting.meeting in
     let evidence = c.args.self.now.told.evidence.now in
     let n = length meeting.evidence.now in
     let met = c.loop-from.met.items in
-    let kind = HasKind g.T.IndexStorage.MAX c.args.self.now in
+    let kind = HasKind c.args.self.now in
     let rest = c.split_at.ensures.back in
     record {
       inside = omega (arith, c.in_ok-meeting.ensures.inside, c.split_at.ensures.back_len);

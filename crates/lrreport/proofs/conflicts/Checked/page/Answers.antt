@@ -2,17 +2,15 @@ use Rattle.std.proofs.Common.{All}
 use Rattle.lrevidence.specs.Ambiguities.{IsProved}
 use Rattle.lrevidence.specs.Losses.{IsLostAtEntry}
 use Rattle.lrevidence.specs.DecidedEntries.{IsToldDecided}
-use Rattle.lrreport.proofs.Groups.{in_told, all_shown, all_shown_decided, all_shown_kept, all_shown_lost}
+use Rattle.lrreport.proofs.Groups.{in_groups, all_shown, all_shown_decided, all_shown_kept, all_shown_lost}
 use Rattle.lrreport.proofs.conflicts.Checked.page.Goals as goal
 
 pub invariant_of-page : goal.invariant_of-page
-invariant_of-page g c =
+invariant_of-page c =
     let checked = c.args.self.now in
-    let cards = c.loop-meeting.cards.items in
+    let cards = c.in_ok-cards.cards.items in
     let each_of = λ (P : _) (all : All P checked.told.evidence.now).
-    in_told P (λ meeting. meeting.now) c.deref-meeting-items.result.now
-    checked.told.evidence.now (rw c.deref-meeting-items.ensures.value c.in_ok-meetings.ensures) all
-    (λ card. card.meeting.now) cards c.loop-meeting.meeting-index c.loop-meeting-test.false c.loop-meeting.invariant in
+    in_groups P (λ card. card.meeting.now) cards checked.told.evidence.now c.in_ok-cards.ensures all in
     record {
       proved =
           rw c.as_slice.ensures.value

@@ -5,7 +5,7 @@ use Rattle.lrreport.proofs.OneCause.{among}
 use Rattle.lrreport.proofs.conflicts.Checked.push_cause.Goals as goal
 
 pub push_notes-requires : goal.push_notes-requires
-push_notes-requires g c =
+push_notes-requires c =
     let checked = c.args.self.now in
     let meetings = c.args.cause.now.meetings.items in
     let it = c.in-Some.ensures in

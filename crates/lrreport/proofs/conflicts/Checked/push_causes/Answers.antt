@@ -7,7 +7,7 @@ use Rattle.lrreport.proofs.Groups.{in_group}
 use Rattle.lrreport.proofs.conflicts.Checked.push_causes.Goals as goal
 
 pub push_cause-requires : goal.push_cause-requires
-push_cause-requires g c =
+push_cause-requires c =
     let checked = c.args.self.now in
     record {
       kept = c.requires.kept;

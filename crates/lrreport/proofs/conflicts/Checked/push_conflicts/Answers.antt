@@ -5,7 +5,7 @@ use Rattle.lrevidence.specs.DecidedEntries.{IsToldDecided}
 use Rattle.lrreport.proofs.conflicts.Checked.push_conflicts.Goals as goal
 
 pub push_causes-requires : goal.push_causes-requires
-push_causes-requires g c =
+push_causes-requires c =
     let checked = c.args.self.now in
     let order = c.in_ok-causes.ensures.each in
     record {

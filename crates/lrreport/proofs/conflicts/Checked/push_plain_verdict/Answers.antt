@@ -1,4 +1,4 @@
 use Rattle.lrreport.proofs.conflicts.Checked.push_plain_verdict.Goals as goal
 
 pub push_unambiguous-requires : goal.push_unambiguous-requires
-push_unambiguous-requires g c = record { proved = c.requires.unambiguous c.in-Unambiguous.is }
+push_unambiguous-requires c = record { proved = c.requires.unambiguous c.in-Unambiguous.is }

@@ -3,7 +3,7 @@ use Rattle.lrreport.proofs.Groups.{in_group}
 use Rattle.lrreport.proofs.conflicts.Checked.sarif.Goals as goal
 
 pub add_conflict_result-requires : goal.add_conflict_result-requires
-add_conflict_result-requires g c =
+add_conflict_result-requires c =
     let checked = c.args.self.now in
     record {
       proved = in_group (IsProved checked.found.now.grm) (λ meeting. meeting.now) c.deref-meeting-items.result.now checked.told.evidence.now

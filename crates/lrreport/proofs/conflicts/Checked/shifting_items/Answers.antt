@@ -5,7 +5,7 @@ use Rattle.lrreport.proofs.ItemsBefore.{by_first, same_before, token_met}
 use Rattle.lrreport.proofs.conflicts.Checked.shifting_items.Goals as goal
 
 pub returns : goal.returns
-returns g c =
+returns c =
     let file = c.args.self.now.told.file.now in
     let es = c.args.entries.now in
     let first = c.in-Some-first.first.now in

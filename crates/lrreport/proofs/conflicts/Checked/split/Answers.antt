@@ -1,18 +1,14 @@
-use Rattle.std.proofs.Common.{◌≡◌, ◌<◌, ◌+◌, false, length, map, take, drop, get_or, sym, subst, ◌∙◌, arith}
-use Rattle.std.proofs.lemmas.List.{drop-drop, take_all, length-map}
+use Rattle.std.proofs.Common.{◌≡◌, ◌+◌, map, take, drop, get_or, arith}
+use Rattle.std.proofs.lemmas.List.{drop-drop}
 use Rattle.std.proofs.lemmas.List.Elements.{All-push, All-weaker}
 use Rattle.std.proofs.lemmas.List.Quantifiers.{all_pairs_push}
-use Rattle.std.specs.List.{All, HoldsAt}
-use Rattle.lrreport.specs.declared.causes.Cause.{Cause}
-use Rattle.lrreport.specs.declared.causes.Meeting.{Meeting}
-use Rattle.lrreport.specs.Causes.{states_of, AreAlike, AreApart, AreOneKind, IsOneCause, IsOneConflict}
+use Rattle.lrreport.specs.Causes.{states_of, AreApart, AreOneKind, IsOneCause, IsOneConflict}
 use Rattle.lrreport.proofs.OneCause.{one_more}
 use Rattle.lrreport.proofs.OneConflict.{AreOthers, apart_from, are_others, is_one_conflict, others_behind, states_are}
 use Rattle.lrreport.proofs.conflicts.Checked.split.Goals as goal
 
 pub loop-from-preserved : goal.loop-from-preserved
-loop-from-preserved g c =
-    let most = g.T.IndexStorage.MAX in
+loop-from-preserved c =
     let checked = c.args.self.now in
     let ms = c.args.meetings.now in
     let i = c.loop-from.from in
@@ -31,16 +27,16 @@ loop-from-preserved g c =
       alike = rw c.in_ok-push.ensures.items (All-push IsOneCause causes cause c.loop-from.invariant.alike c.in_ok-cause.ensures.alike);
       kind = λ grouped.
           rw c.in_ok-push.ensures.items
-          (All-push (IsOneConflict most checked) causes cause (c.loop-from.invariant.kind grouped)
-          (is_one_conflict most checked grouped ms i n c.requires.met c.requires.kinds one cause are));
+          (All-push (IsOneConflict checked) causes cause (c.loop-from.invariant.kind grouped)
+          (is_one_conflict checked grouped ms i n c.requires.met c.requires.kinds one cause are));
       apart = λ grouped.
           rw c.in_ok-push.ensures.items
-          (all_pairs_push (AreApart most checked) causes cause (c.loop-from.invariant.apart grouped)
-          (λ k d inside. apart_from most checked (get_or causes k d) cause n (drop i ms) are (c.loop-from.invariant.others grouped k d inside)));
+          (all_pairs_push (AreApart checked) causes cause (c.loop-from.invariant.apart grouped)
+          (λ k d inside. apart_from checked (get_or causes k d) cause n (drop i ms) are (c.loop-from.invariant.others grouped k d inside)));
       others = λ grouped.
           rw (c.in_ok-push.ensures.items, ← further)
-          (All-push (AreOthers most checked (drop n (drop i ms))) causes cause
-          (All-weaker _ _ (λ old. others_behind most checked n (drop i ms) old) causes (c.loop-from.invariant.others grouped))
-          (are_others most checked grouped ms i n c.requires.met c.requires.kinds one cause are (c.requires.together grouped)
+          (All-push (AreOthers checked (drop n (drop i ms))) causes cause
+          (All-weaker _ _ (λ old. others_behind checked n (drop i ms) old) causes (c.loop-from.invariant.others grouped))
+          (are_others checked grouped ms i n c.requires.met c.requires.kinds one cause are (c.requires.together grouped)
           (rw rest at (c.in_ok-cause.ensures.last grouped))));
     }

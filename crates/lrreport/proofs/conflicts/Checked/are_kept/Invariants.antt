@@ -1,0 +1,8 @@
+-- those so far are kept
+use Rattle.std.proofs.Common.{take}
+use Rattle.std.specs.List.{All}
+use Rattle.lrevidence.specs.KeptEntries.{IsToldKept}
+use Rattle.lrreport.proofs.conflicts.Checked.are_kept.Given as goal
+
+abbrev pub invariant-loop-entry : goal.invariant-loop-entry
+invariant-loop-entry l = All (IsToldKept l.self.found.now.grm l.self.found.now.graph l.self.found.now.table) (take l.entry-index l.entries)

@@ -1,0 +1,5 @@
+use Rattle.lrreport.proofs.AddedTokens.{adds_both}
+use Rattle.lrreport.proofs.json_texts.JsonText.string_at.Goals as goal
+
+pub returns : goal.returns
+returns c = adds_both c.key.ensures c.string.ensures
