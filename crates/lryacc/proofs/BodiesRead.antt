@@ -1,5 +1,5 @@
 -- a body goes on
-use Rattle.std.proofs.Common.{◌≡◌, ℕ, ◌+◌, ◌-◌, ◌≤◌, arith, Bool, true, false, List, [], ◌∷◌, ◌++◌, Option, None, Some, Result, Ok, Err, IfOk, refl, ap, sym, ◌∙◌, subst}
+use Rattle.std.proofs.Common.{◌≡◌, ℕ, ◌+◌, ◌-◌, ◌≤◌, arith, Bool, true, false, List, [], ◌∷◌, ◌++◌, Option, None, Some, Result, Ok, Err, IfOk, OnOk, refl, ap, sym, ◌∙◌, subst}
 use Rattle.std.specs.Prelude.{MatchBool, MatchOption, slice_get}
 use Rattle.std.specs.Option.{option_map}
 use Rattle.lryacc.specs.declared.contents.BodyPart.{BodyPart}
@@ -73,7 +73,7 @@ ReadsOn-aside {old} {now} {new} {before} {after} k found read passes here is no_
       (sym (reach-skips old.lexemes.now now.at new.at after.span k found passes.at there is no_part));
 }
 
-ReadsOn-stays : {old now new : Reader} {before after : Body} → ReadsOn old now before after → Stays now new → ReadsOn old new before after
+pub ReadsOn-stays : {old now new : Reader} {before after : Body} → ReadsOn old now before after → Stays now new → ReadsOn old new before after
 ReadsOn-stays {old} {now} {new} {before} {after} read stays = record {
   file = IsSameFile-again read.file stays.file;
   on = omega (arith, read.on, stays.at);
@@ -162,6 +162,12 @@ ReadsOn-directive {old} {now} {new} before after directive passes behind file he
       (reached ∙ sym (reach-one old.lexemes.now old.at now.at before.span directive passes.at here (ap is_aside is)))
       (sym (ap (λ (xs : List Lexeme). reach_over xs now.at after.span (new.at - now.at)) (sym passes.file.lexemes) ∙ behind.asides after.span));
 }
+
+-- the same, if what stands behind it is read
+pub ReadsOn-behind : {T E : Type 0} {old now new : Reader} (before reached after : Body) (directive : Lexeme) (r : Result T E) → Passes old now → OnOk r (ReadsBehind now new) → IsSameFile now new → slice_get old.lexemes.now old.at ≡ Some directive → directive.kind ≡ kind.Directive → is_in_bodies Bison (text_at old.text.now directive.span) ≡ true → is_prec now.text.now directive ≡ false → OnOk r (after.parts.items ≡ reached.parts.items) → OnOk r (after.precedence ≡ reached.precedence) → OnOk r (after.span ≡ reached.span) → reached.parts.items ≡ before.parts.items → reached.precedence ≡ before.precedence → reached.span ≡ Some (reach before.span directive.span) → OnOk r (ReadsOn old new before after)
+ReadsOn-behind before reached after directive (Ok read) passes behind file here is stands other parts precedence span same same_precedence reaches =
+    ReadsOn-directive before after directive passes behind file here is stands other (parts ∙ same) (precedence ∙ same_precedence) (span ∙ reaches)
+ReadsOn-behind before reached after directive (Err halt) passes behind file here is stands other parts precedence span same same_precedence reaches = tt
 
 -- `%prec` stands in the body, and a symbol behind it
 pub ReadsOn-precedence : {old now new : Reader} (before reached after : Body) (directive : Lexeme) → Passes old now → TakesPrecedence now new reached after → IsSameFile now new → slice_get old.lexemes.now old.at ≡ Some directive → directive.kind ≡ kind.Directive → is_prec now.text.now directive ≡ true → after.parts.items ≡ before.parts.items → reached.precedence ≡ before.precedence → reached.span ≡ Some (reach before.span directive.span) → ReadsOn old new before after

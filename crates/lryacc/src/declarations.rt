@@ -180,7 +180,11 @@ impl<'a> Reader<'a> {
             }
             Form::Code => self.codes(1),
             Form::Codes => self.codes(self.lexemes.len()),
-            Form::Definition => self.defined(),
+            Form::Definition => {
+                self.pass_wanted(LexemeKind::Name, Wanted::Name)?;
+                let _ = self.skip_value();
+                Ok(())
+            }
             Form::OptionalText => {
                 let _ = self.skip(LexemeKind::Text);
                 Ok(())
@@ -426,18 +430,6 @@ impl<'a> Reader<'a> {
                 break;
             }
         }
-        Ok(())
-    }
-
-    /// Reads the name behind `%define`, and its value.
-    fn defined(&mut self) -> Result<(), Halt>
-        requires { form_here self.old ≡ Form.Nothing }
-        ensures over { PassesNoDelimiter self.old self.new }
-        ensures told { IfErr result (λ halt. IsTold halt self.new) }
-        ensures said { OnOk result (StatesDeclared self.old self.new) }
-    {
-        self.pass_wanted(LexemeKind::Name, Wanted::Name)?;
-        let _ = self.skip_value();
         Ok(())
     }
 

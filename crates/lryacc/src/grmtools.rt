@@ -192,12 +192,12 @@ impl<'a> Reader<'a> {
     {
         match lexeme.kind {
             LexemeKind::Name => {
-                self.grmtools_symbol(body, lexeme)?;
+                self.symbol_part(body, lexeme)?;
                 Ok(true)
             }
             LexemeKind::QuotedName => {
                 self.state(Statement::Token(lexeme))?;
-                self.grmtools_symbol(body, lexeme)?;
+                self.symbol_part(body, lexeme)?;
                 Ok(true)
             }
             LexemeKind::Action => {
@@ -206,21 +206,6 @@ impl<'a> Reader<'a> {
             }
             _ => Ok(false),
         }
-    }
-
-    /// Reads a symbol of a body.
-    fn grmtools_symbol(&mut self, body: &mut Body, lexeme: Lexeme) -> Result<(), Halt>
-        requires here { slice_get self.old.lexemes.now self.old.at ≡ Some lexeme }
-        requires small { self.old.at < usize.MAX }
-        requires is { is_symbol lexeme.kind ≡ true }
-        ensures file { IsSameFile self.old self.new }
-        ensures told { IfErr result (λ halt. IsTold halt self.new) }
-        ensures read { OnOk result (ReadsOn self.old self.new body.old body.new) }
-        ensures kept { OnOk result (stated self.new ≡ stated self.old) }
-    {
-        body.add(BodyPart::Symbol(lexeme), lexeme)?;
-        self.pass();
-        Ok(())
     }
 
     /// Reads an action of a body, which is to be its last part.
@@ -233,8 +218,7 @@ impl<'a> Reader<'a> {
         ensures read { OnOk result (ReadsOn self.old self.new body.old body.new) }
         ensures kept { OnOk result (stated self.new ≡ stated self.old) }
     {
-        body.add(BodyPart::Action(lexeme, None), lexeme)?;
-        self.pass();
+        self.action_part(body, lexeme)?;
         if self.is_in_body() {
             self.tell(FaultKind::ActionNotLast, lexeme.span)?;
         }

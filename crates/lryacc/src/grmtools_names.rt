@@ -80,15 +80,9 @@ impl<'a> Meaning<'a> {
         Ok(())
     }
 
-    /// The symbol that a name is.
-    fn symbol_of(&self, name: Lexeme) -> Option<Symbol> {
-        let number = self.symbols.find(name)?;
-        self.symbols.list.get(number).copied()
-    }
-
     /// Whether a name is that of a rule, or of a token that is one before a place.
     fn is_known_before(&self, name: Lexeme, end: usize) -> bool {
-        let Some(symbol) = self.symbol_of(name) else {
+        let Some(symbol) = self.symbols.named(name) else {
             return false;
         };
         match symbol.declared {

@@ -201,14 +201,6 @@ impl<'a> Meaning<'a> {
         Ok(value)
     }
 
-    /// The class of a symbol.
-    fn class(&self, number: usize) -> Class {
-        match self.symbols.list.get(number) {
-            Some(symbol) => symbol.class,
-            None => Class::Unknown,
-        }
-    }
-
     /// Takes in all that the file says of its symbols.
     pub(crate) fn take(&mut self, contents: &Contents) -> Result<(), AllocError>
         requires { self.old.end ≡ None }
@@ -222,7 +214,7 @@ impl<'a> Meaning<'a> {
     {
         self.take_statements(contents.statements.as_slice())?;
         self.leave_out_reductions()?;
-        self.take_bodies(contents.alternatives.as_slice());
+        self.symbols.take_bodies(contents.alternatives.as_slice());
         self.warn_of_bodies(contents.alternatives.as_slice())?;
         self.find_end();
         self.tell_symbols()?;

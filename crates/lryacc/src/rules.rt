@@ -270,7 +270,10 @@ impl<'a> Reader<'a> {
         ensures statements { self.new.contents.statements ≡ self.old.contents.statements }
     {
         match self.here() {
-            Some(lexeme) if !self.ends_bodies(lexeme) => self.no_end(),
+            Some(lexeme) if !self.ends_bodies(lexeme) => match self.dialect {
+                Dialect::Bison => self.no_rule(),
+                Dialect::Grmtools => Err(self.wants(Wanted::Semicolon)),
+            },
             _ => Ok(()),
         }
     }
@@ -290,19 +293,6 @@ impl<'a> Reader<'a> {
         }
     }
 
-    /// Stops at a lexeme that ends no body.
-    fn no_end(&mut self) -> Result<(), Halt>
-        ensures file { IsSameFile self.old self.new }
-        ensures told { IfErr result (λ halt. IsTold halt self.new) }
-        ensures stops { OnOk result ⊥ }
-        ensures statements { self.new.contents.statements ≡ self.old.contents.statements }
-    {
-        match self.dialect {
-            Dialect::Bison => self.no_rule(),
-            Dialect::Grmtools => Err(self.wants(Wanted::Semicolon)),
-        }
-    }
-
     /// Adds the body to the contents.
     fn end_body(&mut self, rule: Lexeme, mark: Lexeme, body: Body) -> Result<(), AllocError>
         ensures faults { vec_len self.old.contents.faults ≤ vec_len self.new.contents.faults }
@@ -310,25 +300,12 @@ impl<'a> Reader<'a> {
         ensures statements { self.new.contents.statements ≡ self.old.contents.statements }
     {
         let misplaced = body.misplaced_empty();
-        self.add_alternative(body.alternative(rule, mark))?;
+        self.contents
+            .alternatives
+            .push(body.alternative(rule, mark))?;
         if let Some(empty) = misplaced {
             self.tell(FaultKind::NotEmpty, empty)?;
         }
-        Ok(())
-    }
-
-    /// Adds a body.
-    fn add_alternative(&mut self, alternative: Alternative) -> Result<(), AllocError>
-        ensures added { OnOk result (self.new.contents.alternatives.items
-            ≡ self.old.contents.alternatives.items ++ alternative ∷ []) }
-        ensures faults { self.new.contents.faults ≡ self.old.contents.faults }
-        ensures text { self.new.text.now ≡ self.old.text.now }
-        ensures lexemes { self.new.lexemes.now ≡ self.old.lexemes.now }
-        ensures dialect { self.new.dialect ≡ self.old.dialect }
-        ensures at { self.new.at ≡ self.old.at }
-        ensures statements { self.new.contents.statements ≡ self.old.contents.statements }
-    {
-        self.contents.alternatives.push(alternative)?;
         Ok(())
     }
 }

@@ -1,9 +1,8 @@
 //! Names that are spelt nearly as another one, which they may be meant by.
 
-ghost use Rattle.std.specs.Prelude.{◌≡◌, ◌⊎◌, Some, IfOk, IfSome, slice_get};
+ghost use Rattle.std.specs.Prelude.{◌≡◌, ◌⊎◌, IfOk, IfSome};
 ghost use Rattle.lryacc.specs.NamedSymbols.{name_of};
 ghost use Rattle.lryacc.specs.Spellings.{IsNear, IsNearSymbol, IsNearer, IsProposed, IsProposedAt};
-ghost use Rattle.lryacc.specs.declared.symbols.Symbol.{Symbol};
 
 use crate::lexemes::{Lexeme, LexemeKind};
 use crate::meaning::Meaning;
@@ -128,18 +127,12 @@ impl<'a> Meaning<'a> {
         for number in 0..self.symbols.list.len() {
             best = self.nearer_symbol(lexeme, meant, number, best)?;
         }
-        match best {
-            Some(near) => Ok(self.first_place(near)),
+        let Some(near) = best else {
+            return Ok(None);
+        };
+        match self.symbols.list.get(near.at) {
+            Some(symbol) => Ok(Some(symbol.mention.span)),
             None => Ok(None),
         }
-    }
-
-    /// Where a symbol is named first.
-    fn first_place(&self, near: Near) -> Option<Span>
-        ensures { IfSome result (λ place. (symbol : Symbol)
-            → slice_get self.now.symbols.list.items near.at ≡ Some symbol
-            → symbol.mention.span ≡ place) }
-    {
-        Some(self.symbols.list.get(near.at)?.mention.span)
     }
 }

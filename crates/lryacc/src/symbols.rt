@@ -176,6 +176,14 @@ impl<'a> Symbols<'a> {
         }
     }
 
+    /// The symbol that a lexeme names.
+    pub(crate) fn named(&self, lexeme: Lexeme) -> Option<Symbol> {
+        match self.find(lexeme) {
+            Some(number) => self.list.get(number).copied(),
+            None => None,
+        }
+    }
+
     /// Takes a symbol for a token, if nothing says what it is.
     pub(crate) fn take_for_token(&mut self, number: usize)
         ensures { KeepsSymbols self.old self.new }
@@ -183,6 +191,54 @@ impl<'a> Symbols<'a> {
         if let Some(symbol) = self.list.get_mut(number) {
             if symbol.class == Class::Unknown {
                 symbol.class = Class::Token;
+            }
+        }
+    }
+
+    /// The class of a symbol.
+    pub(crate) fn class(&self, number: usize) -> Class {
+        match self.list.get(number) {
+            Some(symbol) => symbol.class,
+            None => Class::Unknown,
+        }
+    }
+
+    /// Gives a symbol a class.
+    pub(crate) fn set_class(&mut self, number: usize, class: Class)
+        ensures { KeepsSymbols self.old self.new }
+    {
+        if let Some(symbol) = self.list.get_mut(number) {
+            symbol.class = class;
+        }
+    }
+
+    /// Takes in the symbols of all bodies.
+    pub(crate) fn take_bodies(&mut self, alternatives: &[Alternative])
+        ensures { KeepsSymbols self.old self.new }
+    {
+        for alternative in alternatives {
+            self.take_body(alternative);
+        }
+    }
+
+    /// Takes in the symbols of a body.
+    fn take_body(&mut self, alternative: &Alternative)
+        ensures { KeepsSymbols self.old self.new }
+    {
+        for part in &alternative.parts {
+            if let BodyPart::Symbol(lexeme) = part {
+                self.take_use(*lexeme);
+            }
+        }
+    }
+
+    /// Takes in that a body has a symbol.
+    fn take_use(&mut self, lexeme: Lexeme)
+        ensures { KeepsSymbols self.old self.new }
+    {
+        if let Some(number) = self.find(lexeme) {
+            if let Some(symbol) = self.list.get_mut(number) {
+                symbol.is_used = true;
             }
         }
     }

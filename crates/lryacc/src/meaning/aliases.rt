@@ -2,7 +2,7 @@
 
 ghost use Rattle.std.specs.Prelude.{◌≡◌, ◌≤◌, [], ◌∷◌, OnOk, true, false, None, vec_len};
 ghost use Rattle.lryacc.specs.Aliases.{AreFree, HasText, IsSettled, TakesAliases};
-ghost use Rattle.lryacc.specs.EndTokens.{KeepsLines, KeepsMeaning, KeepsSaid};
+ghost use Rattle.lryacc.specs.EndTokens.{KeepsLines, KeepsSaid};
 ghost use Rattle.lryacc.specs.NamedSymbols.{BecomeOne, TakesOne, partner_in};
 ghost use Rattle.lryacc.specs.Spellings.{proposal};
 ghost use Rattle.lryacc.specs.declared.contents.Statement.{Statement};
@@ -29,7 +29,7 @@ impl<'a> Meaning<'a> {
         let (Some(one), Some(other)) = (self.symbols.find(symbol), self.symbols.find(text)) else {
             return Ok(());
         };
-        if self.class(one) == Class::Rule {
+        if self.symbols.class(one) == Class::Rule {
             return self.tell(FaultKind::NameOfRule, text.span);
         }
         if self.can_pair(one, other) {
@@ -82,7 +82,8 @@ impl<'a> Meaning<'a> {
         ensures said { OnOk result (KeepsSaid self.old self.new) }
     {
         self.symbols.pair(one, other)?;
-        self.set_class(other, self.class(one));
+        let class = self.symbols.class(one);
+        self.symbols.set_class(other, class);
         self.tell_tags(one, other)
     }
 
@@ -94,14 +95,5 @@ impl<'a> Meaning<'a> {
         let is_error = self.symbols.find_name(b"error") == Some(number);
         let is_undefined = self.symbols.find_name(b"YYUNDEF") == Some(number);
         is_error || is_undefined || self.symbols.partner(number).is_some()
-    }
-
-    /// Gives a name the class of the symbol.
-    fn set_class(&mut self, number: usize, class: Class)
-        ensures { KeepsMeaning self.old self.new }
-    {
-        if let Some(symbol) = self.symbols.list.get_mut(number) {
-            symbol.class = class;
-        }
     }
 }

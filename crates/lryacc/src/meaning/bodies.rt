@@ -1,9 +1,9 @@
-//! What bodies say of symbols, and what is warned of in bodies.
+//! What is warned of in bodies.
 
 ghost use Rattle.std.specs.Prelude.{OnOk};
 ghost use Rattle.lryacc.specs.EndTokens.{KeepsMeaning};
 
-use crate::contents::{Alternative, BodyPart};
+use crate::contents::Alternative;
 use crate::dialects::Dialect;
 use crate::faults::FaultKind;
 use crate::lexemes::Lexeme;
@@ -23,53 +23,15 @@ fn has_empty(alternatives: &[Alternative]) -> bool {
 }
 
 impl<'a> Meaning<'a> {
-    /// Takes in the symbols of a body.
-    fn take_body(&mut self, alternative: &Alternative)
-        ensures { KeepsMeaning self.old self.new }
-    {
-        for part in &alternative.parts {
-            if let BodyPart::Symbol(lexeme) = part {
-                self.take_use(*lexeme);
-            }
-        }
-    }
-
-    /// Takes in that a body has a symbol.
-    fn take_use(&mut self, lexeme: Lexeme)
-        ensures { KeepsMeaning self.old self.new }
-    {
-        if let Some(number) = self.symbols.find(lexeme) {
-            if let Some(symbol) = self.symbols.list.get_mut(number) {
-                symbol.is_used = true;
-            }
-        }
-    }
-
-    /// Takes in the symbols of all bodies.
-    pub(super) fn take_bodies(&mut self, alternatives: &[Alternative])
-        ensures { KeepsMeaning self.old self.new }
-    {
-        for alternative in alternatives {
-            self.take_body(alternative);
-        }
-    }
-
     /// Warns of what bodies have: tokens behind `%prec`, for Bison also references of actions, and none where `%empty` should
     /// stand.
     pub(super) fn warn_of_bodies(&mut self, alternatives: &[Alternative]) -> Result<(), AllocError>
         ensures { OnOk result (KeepsMeaning self.old self.new) }
     {
         self.warn_of_precedences(alternatives)?;
-        match self.symbols.dialect {
-            Dialect::Bison => self.warn_of_parts(alternatives),
-            Dialect::Grmtools => Ok(()),
+        if self.symbols.dialect == Dialect::Grmtools {
+            return Ok(());
         }
-    }
-
-    /// Warns of references of actions, and of empty bodies without `%empty`.
-    fn warn_of_parts(&mut self, alternatives: &[Alternative]) -> Result<(), AllocError>
-        ensures { OnOk result (KeepsMeaning self.old self.new) }
-    {
         self.warn_of_references(alternatives)?;
         if has_empty(alternatives) {
             self.warn_of_empty(alternatives)?;
@@ -96,19 +58,12 @@ impl<'a> Meaning<'a> {
         for alternative in alternatives {
             if let Some(token) = alternative.precedence {
                 if !self.is_known(token) {
-                    self.warn_of_precedence(token)?;
+                    let near = self.near(token, Meant::Level)?;
+                    self.warn(FaultKind::UnknownPrecedence(near), token.span)?;
                 }
             }
         }
         Ok(())
-    }
-
-    /// Warns of a token behind `%prec` that nothing else names.
-    fn warn_of_precedence(&mut self, token: Lexeme) -> Result<(), AllocError>
-        ensures { OnOk result (KeepsMeaning self.old self.new) }
-    {
-        let near = self.near(token, Meant::Level)?;
-        self.warn(FaultKind::UnknownPrecedence(near), token.span)
     }
 
     /// Whether a declaration or a body names a token.

@@ -96,10 +96,7 @@ impl<'a> Meaning<'a> {
     fn tell_start(&mut self, start: Lexeme) -> Result<(), AllocError>
         ensures { OnOk result (KeepsMeaning self.old self.new) }
     {
-        let Some(number) = self.symbols.find(start) else {
-            return Ok(());
-        };
-        let Some(symbol) = self.symbols.list.get(number).copied() else {
+        let Some(symbol) = self.symbols.named(start) else {
             return Ok(());
         };
         match symbol.class {

@@ -118,7 +118,7 @@ impl<'a> Meaning<'a> {
         let Some(code) = self.number(number)? else {
             return Ok(());
         };
-        if self.class(symbol) == Class::Rule {
+        if self.symbols.class(symbol) == Class::Rule {
             return self.tell(FaultKind::CodeOfRule, number.span);
         }
         if code == GREATEST {

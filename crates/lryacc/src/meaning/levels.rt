@@ -1,11 +1,10 @@
 //! The precedence lines in which symbols stand.
 
-ghost use Rattle.std.specs.Prelude.{◌≡◌, OnOk, None};
+ghost use Rattle.std.specs.Prelude.{◌≡◌, OnOk};
 ghost use Rattle.std.specs.BTreeMap.{get};
 ghost use Rattle.std.specs.Ordering.{nat_cmp};
 ghost use Rattle.lryacc.specs.EndTokens.{KeepsEnd, KeepsSaid};
 ghost use Rattle.lryacc.specs.LinesTaken.{BeginsLine, PutsInLine};
-ghost use Rattle.lryacc.specs.Spellings.{proposal};
 
 use crate::contents::LevelKind;
 use crate::faults::{FaultKind, OtherClass};
@@ -37,8 +36,8 @@ impl<'a> Meaning<'a> {
         let Some(number) = self.symbols.find(lexeme) else {
             return Ok(());
         };
-        if self.line(number).is_some() {
-            return self.tell(self.level_twice(number, lexeme), lexeme.span);
+        if let Some((_, first)) = self.line(number) {
+            return self.tell(FaultKind::LevelTwice(first), lexeme.span);
         }
         self.lines.insert(number, (level, lexeme.span))?;
         Ok(())
@@ -49,16 +48,6 @@ impl<'a> Meaning<'a> {
         ensures { result ≡ get nat_cmp self.now.lines number }
     {
         self.lines.get(&number).copied()
-    }
-
-    /// What is wrong where a symbol is named in a second precedence line.
-    fn level_twice(&self, number: usize, lexeme: Lexeme) -> FaultKind
-        ensures { proposal result ≡ None }
-    {
-        match self.line(number) {
-            Some((_, first)) => FaultKind::LevelTwice(first),
-            None => FaultKind::LevelTwice(lexeme.span),
-        }
     }
 
     /// Where the other name of a symbol stands in a precedence line, and behind that this name does.

@@ -67,8 +67,8 @@ impl<'a> Meaning<'a> {
     {
         let kind = LexemeKind::RuleName;
         let name = Lexeme { kind, span };
-        match self.symbols.find(name) {
-            Some(number) if self.class(number) == Class::Unknown => {
+        match self.symbols.named(name) {
+            Some(symbol) if symbol.class == Class::Unknown => {
                 Ok(FaultKind::StartHasNoRule(self.near(name, Meant::Rule)?))
             }
             _ => Ok(FaultKind::StartIsUnproductive),
@@ -98,19 +98,12 @@ impl<'a> Meaning<'a> {
     fn tell_token_starts(&mut self) -> Result<(), AllocError> {
         for at in 0..self.starts.len() {
             if let Some(start) = self.starts.get(at).copied() {
-                if self.is_token(start) {
+                let symbol = self.symbols.named(start);
+                if matches!(symbol, Some(symbol) if symbol.class == Class::Token) {
                     self.tell(FaultKind::StartIsToken, start.span)?;
                 }
             }
         }
         Ok(())
-    }
-
-    /// Whether a lexeme names a token.
-    fn is_token(&self, lexeme: Lexeme) -> bool {
-        match self.symbols.find(lexeme) {
-            Some(number) => self.class(number) == Class::Token,
-            None => false,
-        }
     }
 }

@@ -148,7 +148,7 @@ impl<'m, 'a> Numbering<'m, 'a> {
         ensures added { OnOk result (AddsNumbers self.old self.new) }
         ensures has { OnOk result (HasRule self.new name) }
     {
-        let place = match self.symbol_named(name) {
+        let place = match self.meaning.symbols.named(name) {
             Some(symbol) => symbol.mention.span,
             None => name.span,
         };
@@ -161,16 +161,11 @@ impl<'m, 'a> Numbering<'m, 'a> {
         requires { NamesRule (names_of self.old) name }
         ensures { OnOk result (AddsNumbers self.old self.new) }
     {
-        match self.symbol_named(name) {
+        match self.meaning.symbols.named(name) {
             Some(symbol) if is_bare_rule(&symbol, self.meaning.is_start(name)) => {
                 self.add_rule_of(name, symbol.mention.span)
             }
             _ => Ok(()),
         }
-    }
-
-    /// The symbol of that name.
-    fn symbol_named(&self, name: Lexeme) -> Option<Symbol> {
-        self.known(self.meaning.symbols.find(name)?)
     }
 }

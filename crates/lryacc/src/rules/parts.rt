@@ -39,12 +39,13 @@ impl<'a> Reader<'a> {
         ensures read { IfOk result (GoesOn self.old self.new body.old body.new) }
         ensures kept { OnOk result (stated self.new ≡ stated self.old) }
     {
-        match self.form_in_body(lexeme) {
-            Some(form) => {
+        match (self.form_in_body(lexeme), self.dialect) {
+            (Some(form), _) => {
                 self.directive_in_body(body, form, lexeme)?;
                 Ok(true)
             }
-            None => self.part(body, lexeme),
+            (None, Dialect::Bison) => self.bison_part(body, lexeme),
+            (None, Dialect::Grmtools) => self.grmtools_part(body, lexeme),
         }
     }
 
@@ -67,19 +68,11 @@ impl<'a> Reader<'a> {
     {
         self.pass();
         body.reach(directive);
-        if self.is_precedence(directive) {
-            self.body_precedence(body)?;
-            return Ok(());
+        if self.bytes(directive) == b"%prec".as_slice() {
+            self.body_precedence(body)
+        } else {
+            self.body_directive(body, form, directive)
         }
-        self.body_directive(body, form, directive)?;
-        Ok(())
-    }
-
-    /// Whether a directive is `%prec`.
-    fn is_precedence(&self, directive: Lexeme) -> bool
-        ensures { result ≡ is_prec self.now.text.now directive }
-    {
-        self.bytes(directive) == b"%prec".as_slice()
     }
 
     /// What stands behind a directive that may stand in a body; None for any other lexeme.
@@ -92,21 +85,6 @@ impl<'a> Reader<'a> {
             self.form(lexeme)
         } else {
             None
-        }
-    }
-
-    /// Reads a part of a body; false where the body ends before the lexeme.
-    fn part(&mut self, body: &mut Body, lexeme: Lexeme) -> Result<bool, Halt>
-        requires here { slice_get self.old.lexemes.now self.old.at ≡ Some lexeme }
-        requires small { self.old.at < usize.MAX }
-        ensures file { IsSameFile self.old self.new }
-        ensures told { IfErr result (λ halt. IsTold halt self.new) }
-        ensures read { IfOk result (GoesOn self.old self.new body.old body.new) }
-        ensures kept { OnOk result (stated self.new ≡ stated self.old) }
-    {
-        match self.dialect {
-            Dialect::Bison => self.bison_part(body, lexeme),
-            Dialect::Grmtools => self.grmtools_part(body, lexeme),
         }
     }
 
@@ -137,8 +115,8 @@ impl<'a> Reader<'a> {
         }
     }
 
-    /// Reads a symbol of a body, and the name in brackets behind it.
-    fn symbol_part(&mut self, body: &mut Body, lexeme: Lexeme) -> Result<(), Halt>
+    /// Reads a symbol of a body, and the name in brackets that may stand behind it for Bison.
+    pub(crate) fn symbol_part(&mut self, body: &mut Body, lexeme: Lexeme) -> Result<(), Halt>
         requires here { slice_get self.old.lexemes.now self.old.at ≡ Some lexeme }
         requires small { self.old.at < usize.MAX }
         requires is { is_symbol lexeme.kind ≡ true }
@@ -153,8 +131,8 @@ impl<'a> Reader<'a> {
         Ok(())
     }
 
-    /// Reads an action of a body, and the name in brackets behind it.
-    fn action_part(&mut self, body: &mut Body, lexeme: Lexeme) -> Result<(), Halt>
+    /// Reads an action of a body, and the name in brackets that may stand behind it for Bison.
+    pub(crate) fn action_part(&mut self, body: &mut Body, lexeme: Lexeme) -> Result<(), Halt>
         requires here { slice_get self.old.lexemes.now self.old.at ≡ Some lexeme }
         requires small { self.old.at < usize.MAX }
         requires is { is_action lexeme.kind ≡ true }
@@ -230,10 +208,7 @@ impl<'a> Reader<'a> {
                 body.has_number = true;
                 Ok(())
             }
-            _ => {
-                self.pass_wanted(LexemeKind::Number, Wanted::Number)?;
-                Ok(())
-            }
+            _ => self.pass_wanted(LexemeKind::Number, Wanted::Number),
         }
     }
 

@@ -7,6 +7,6 @@ returns-clause-one c =
     (λ told. record {
       now = c.pair.new.self;
       pairs = c.in_ok-pair.ensures;
-      keeps = kept-again c.set_class.ensures.symbols told.symbols;
+      keeps = kept-again c.set_class.ensures told.symbols;
     })
     c.tell_tags.ensures

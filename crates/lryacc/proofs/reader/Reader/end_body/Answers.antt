@@ -5,14 +5,14 @@ pub returns-in_ok-tell-clause-ended : goal.returns-in_ok-tell-clause-ended
 returns-in_ok-tell-clause-ended c =
     let told = c.tell.ensures.stays in
     record {
-      text = told.file.text ∙ c.add_alternative.ensures.text;
-      lexemes = told.file.lexemes ∙ c.add_alternative.ensures.lexemes;
-      dialect = told.file.dialect ∙ c.add_alternative.ensures.dialect;
-      at = told.at ∙ c.add_alternative.ensures.at;
+      text = told.file.text;
+      lexemes = told.file.lexemes;
+      dialect = told.file.dialect;
+      at = told.at;
       body = c.alternative.result;
       rule_is = c.alternative.ensures.rule;
       parts_are = c.alternative.ensures.parts;
       precedence_is = c.alternative.ensures.precedence;
       place = c.alternative.ensures.span;
-      bodies = told.file.bodies ∙ c.in_ok-add_alternative.ensures.added;
+      bodies = told.file.bodies ∙ c.in_ok-push.ensures.items;
     }

@@ -1,5 +1,0 @@
-use Rattle.lryacc.specs.EndTokens.{KeepsMeaning}
-use Rattle.lryacc.proofs.meaning.Meaning.take_bodies.Given as goal
-
-abbrev pub invariant-loop-alternative : goal.invariant-loop-alternative
-invariant-loop-alternative l = KeepsMeaning l.initial.self l.self

@@ -1,5 +1,0 @@
-use Rattle.lryacc.specs.EndTokens.{KeepsMeaning}
-use Rattle.lryacc.proofs.meaning.Meaning.take_body.Given as goal
-
-abbrev pub invariant-loop-part : goal.invariant-loop-part
-invariant-loop-part l = KeepsMeaning l.initial.self l.self
