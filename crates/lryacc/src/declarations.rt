@@ -128,7 +128,10 @@ impl<'a> Reader<'a> {
         match form {
             Form::Tokens => self.listing(Said::DeclaredToken),
             Form::Rules => self.listing(Said::DeclaredRule),
-            Form::Level(kind) => self.level(kind),
+            Form::Level(kind) => {
+                self.state(Statement::Level(kind))?;
+                self.listing(Said::Operator)
+            }
             Form::Types => self.listing(Said::Mention),
             Form::Starts => self.said(Said::Start),
             Form::DefaultPrecedence(is_on) => Ok(self.state(Statement::DefaultPrecedence(is_on))?),
@@ -356,18 +359,6 @@ impl<'a> Reader<'a> {
             Some(text) => Some(text),
             None => self.take(LexemeKind::TranslatedText),
         }
-    }
-
-    /// Reads the tokens of a precedence line.
-    fn level(&mut self, kind: LevelKind) -> Result<(), Halt>
-        requires { form_here self.old ≡ Form.Level kind }
-        ensures over { PassesNoDelimiter self.old self.new }
-        ensures told { IfErr result (λ halt. IsTold halt self.new) }
-        ensures said { OnOk result (all_stated self.new []
-            ≡ all_stated self.old (Statement.Level kind ∷ [])) }
-    {
-        self.state(Statement::Level(kind))?;
-        self.listing(Said::Operator)
     }
 
     /// Reads the code behind `%printer` or `%destructor`, and the symbols and tags behind that.

@@ -198,16 +198,6 @@ pub(crate) fn is_name_in_any_case(name: &[u8]) -> bool {
     false
 }
 
-/// What stands behind the directive of that name, which is written without its `%`; None where Bison has no such one.
-fn bison_form_of(name: &[u8]) -> Option<Form>
-    ensures { IfSome result (λ form. counted form ≡ form_of Dialect.Bison (37 ∷ name.now)) }
-{
-    match form_in(&NAMES, name) {
-        Some(form) => Some(form),
-        None => form_in(&UNDERSCORED, name),
-    }
-}
-
 /// The name in a list that is the nearest one.
 fn near_in(
     alloc: Global,
@@ -220,19 +210,12 @@ fn near_in(
     for at in 0..names.len() {
         best = nearer(alloc, name, names[at].0.as_bytes(), at, best)?;
     }
-    match best {
-        Some(near) => Ok(listed(names, near)),
-        None => Ok(None),
-    }
-}
-
-/// The name of that number in a list.
-fn listed(names: &[(&'static str, Form)], near: Near) -> Option<&'static str>
-    ensures { result ≡ option_map (λ pair. pair.0) (slice_get names.now near.at) }
-{
+    let Some(near) = best else {
+        return Ok(None);
+    };
     match names.get(near.at) {
-        Some((name, _)) => Some(*name),
-        None => None,
+        Some((name, _)) => Ok(Some(*name)),
+        None => Ok(None),
     }
 }
 
@@ -250,12 +233,16 @@ pub fn near_directive(
     }
 }
 
-/// What stands behind the directive of that name in a file of a dialect; None where there is no such one.
+/// What stands behind the directive of that name, which is written without its `%`, in a file of a dialect; None where there is no
+/// such one.
 pub(crate) fn form_of(name: &[u8], dialect: Dialect) -> Option<Form>
     ensures { IfSome result (λ form. counted form ≡ form_of dialect (37 ∷ name.now)) }
 {
     match dialect {
-        Dialect::Bison => bison_form_of(name),
+        Dialect::Bison => match form_in(&NAMES, name) {
+            Some(form) => Some(form),
+            None => form_in(&UNDERSCORED, name),
+        },
         Dialect::Grmtools => form_in(&GRMTOOLS, name),
     }
 }

@@ -139,37 +139,8 @@ fn contents_read(
     if !meaning.faults.is_empty() {
         return faults_read(alloc, text, meaning.faults.as_slice());
     }
-    grammar_read(alloc, text, dialect, lexemes, &mut meaning, contents)
-}
-
-/// What a file without faults comes to, once its names have their meaning.
-fn grammar_read(
-    alloc: Global,
-    text: &[u8],
-    dialect: Dialect,
-    lexemes: &[Lexeme],
-    meaning: &mut Meaning<'_>,
-    contents: &Contents,
-) -> Result<FileRead, AllocError>
-    requires some { 0 < vec_len contents.now.alternatives }
-    requires all { AreAllLexemesOf text.now dialect lexemes.now }
-    requires text { meaning.old.symbols.text.now ≡ text.now }
-    requires dialect { meaning.old.symbols.dialect ≡ dialect }
-    requires apart { AreApart meaning.old.symbols }
-    requires partnered { ArePartnered contents.now.statements.items meaning.old.symbols }
-    requires faults { vec_len meaning.old.faults ≡ 0 }
-    requires end { HasEndBy contents.now.statements.items meaning.old }
-    requires lines { HasLines contents.now.statements.items meaning.old }
-    requires said { AreSaid contents.now.statements.items meaning.old }
-    requires aliases { AreSettled contents.now.statements.items meaning.old }
-    ensures inside { IfOk result (λ read. All (λ fault. IsInside fault.span text.now) (told read)) }
-    ensures faults { IfOk result HasFaults }
-    ensures placed { IfOk result HasPlaces }
-    ensures bodies { IfOk result (HasBodies text.now dialect contents.now.statements.items
-        contents.now.alternatives.items) }
-{
-    match file_grammar(alloc, meaning, contents) {
-        Ok(whole) => useful_read(alloc, text, dialect, lexemes, meaning, contents, whole),
+    match file_grammar(alloc, &meaning, contents) {
+        Ok(whole) => useful_read(alloc, text, dialect, lexemes, &mut meaning, contents, whole),
         Err(NoProductions::Undefined(span)) => {
             let kind = FaultKind::Undefined(None);
             faults_read(alloc, text, &[Fault { kind, span }])

@@ -68,7 +68,10 @@ impl<'a> Reader<'a> {
         match self.form(directive) {
             Some(Form::Tokens) => self.said(Said::Token),
             Some(Form::PassedOver) => self.said(Said::PassedOver),
-            Some(Form::Level(kind)) => self.grmtools_level(kind),
+            Some(Form::Level(kind)) => {
+                self.state(Statement::Level(kind))?;
+                self.said(Said::InLevel)
+            }
             Some(Form::NotInRules) => self.said(Said::NotInRules),
             Some(Form::ShownText) => self.shown_text(),
             Some(Form::Starts) => {
@@ -88,18 +91,6 @@ impl<'a> Reader<'a> {
                 Err(self.fault(kind, directive.span))
             }
         }
-    }
-
-    /// Reads the tokens of a precedence line.
-    fn grmtools_level(&mut self, kind: LevelKind) -> Result<(), Halt>
-        requires { form_here self.old ≡ Form.Level kind }
-        ensures over { PassesNoDelimiter self.old self.new }
-        ensures told { IfErr result (λ halt. IsTold halt self.new) }
-        ensures said { OnOk result (all_stated self.new []
-            ≡ all_stated self.old (Statement.Level kind ∷ [])) }
-    {
-        self.state(Statement::Level(kind))?;
-        self.said(Said::InLevel)
     }
 
     /// Reads the token behind `%epp`, and the text by which messages tell it.

@@ -80,23 +80,21 @@ impl<'a> Meaning<'a> {
         Ok(())
     }
 
-    /// Whether a name is that of a rule, or of a token that is one before a place.
-    fn is_known_before(&self, name: Lexeme, end: usize) -> bool {
-        let Some(symbol) = self.symbols.named(name) else {
-            return false;
-        };
-        match symbol.declared {
-            _ if symbol.class == Class::Rule => true,
-            Some(first) => first.start < end,
-            None => false,
-        }
-    }
-
     /// Tells of a name that is neither that of a rule nor of a token before a place.
     fn tell_unless_known(&mut self, name: Lexeme, end: usize) -> Result<(), AllocError>
         ensures { OnOk result (KeepsMeaning self.old self.new) }
     {
-        if self.is_known_before(name, end) {
+        let is_known = match self.symbols.named(name) {
+            Some(symbol) if symbol.class == Class::Rule => true,
+            Some(
+                Symbol {
+                    declared: Some(first),
+                    ..
+                },
+            ) => first.start < end,
+            _ => false,
+        };
+        if is_known {
             return Ok(());
         }
         let near = self.near(name, Meant::Symbol)?;

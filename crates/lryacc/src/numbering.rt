@@ -194,21 +194,12 @@ impl<'m, 'a> Numbering<'m, 'a> {
             starts.now marks.items) }
     {
         self.add_first_tokens()?;
-        self.add_others()?;
-        Ok(self.add_marks(starts)?)
-    }
-
-    /// Adds the other tokens, and the rules.
-    #[tactic(auto, using(crate::proofs::Numbered::adds_again, crate::proofs::Numbered::adds_none))]
-    fn add_others(&mut self) -> Result<(), AllocError>
-        ensures added { OnOk result (AddsNumbers self.old self.new) }
-        ensures have { OnOk result (HaveRules self.old.contents.now.statements.items self.new) }
-    {
         self.add_tokens()?;
         self.add_tokens_below()?;
         self.add_without_level()?;
         self.add_rules()?;
-        self.add_bare_rules()
+        self.add_bare_rules()?;
+        Ok(self.add_marks(starts)?)
     }
 
     /// A symbol of the file.
@@ -223,10 +214,11 @@ impl<'m, 'a> Numbering<'m, 'a> {
         ensures { IsNumbered self.now → IfSome result (IsNamed (names_of self.now) lexeme) }
     {
         let number = self.meaning.find(lexeme)?;
-        if let Some(rule) = self.rules.get(&number) {
-            return Some(PartSymbol::Rule(*rule));
+        match (self.rules.get(&number), self.tokens.get(&number)) {
+            (Some(rule), _) => Some(PartSymbol::Rule(*rule)),
+            (None, Some(token)) => Some(PartSymbol::Token(*token)),
+            (None, None) => None,
         }
-        Some(PartSymbol::Token(*self.tokens.get(&number)?))
     }
 
     /// The token that a lexeme names.

@@ -51,32 +51,27 @@ struct Reference<'a> {
 
 /// What is called at a place behind `$` or `@` and perhaps a tag, and the place behind that.
 pub(crate) fn call_at(code: &[u8], start: usize) -> Option<(Call<'_>, usize)> {
-    let first = *code.get(start)?;
-    if first.is_ascii_digit() {
-        let end = Run::Digits.end(code, start);
-        return Some((Call::Number(value_of(&code[start..end])?), end));
-    }
-    if is_name_start(first) {
-        let end = Run::Name.end(code, start);
-        return Some((Call::Name(&code[start..end]), end));
-    }
-    if first != b'[' || !is_name_start(*code.get(start + 1)?) {
-        return None;
-    }
-    let end = Run::Name.end(code, start + 1);
-    if *code.get(end)? != b']' {
-        return None;
-    }
-    Some((Call::Bracket(&code[start + 1..end]), end + 1))
-}
-
-/// Where what is called by a mark at a place begins; None where nothing is.
-fn start_of_call(code: &[u8], at: usize) -> Option<usize>
-    requires { at < length code.now }
-{
-    match code[at] {
-        b'$' => behind_tag(code, at + 1),
-        b'@' => Some(at + 1),
+    let behind = code.get(start..)?;
+    match behind {
+        [b'0'..=b'9', ..] => {
+            let many = Run::Digits.end(behind, 0);
+            let number = value_of(&behind[..many])?;
+            Some((Call::Number(number), start + many))
+        }
+        [first, ..] if is_name_start(*first) => {
+            let many = Run::Name.end(behind, 0);
+            Some((Call::Name(&behind[..many]), start + many))
+        }
+        [b'[', inner @ ..] => match inner {
+            [first, ..] if is_name_start(*first) => {
+                let many = Run::Name.end(inner, 0);
+                match inner.get(many) {
+                    Some(b']') => Some((Call::Bracket(&inner[..many]), start + many + 2)),
+                    _ => None,
+                }
+            }
+            _ => None,
+        },
         _ => None,
     }
 }
@@ -85,7 +80,12 @@ fn start_of_call(code: &[u8], at: usize) -> Option<usize>
 fn call_of_mark(code: &[u8], at: usize) -> (Option<Call<'_>>, usize)
     requires { at < length code.now }
 {
-    let Some(start) = start_of_call(code, at) else {
+    let begins = match code[at] {
+        b'$' => behind_tag(code, at + 1),
+        b'@' => Some(at + 1),
+        _ => None,
+    };
+    let Some(start) = begins else {
         return (None, at + 1);
     };
     if code.get(start) == Some(&b'$') {

@@ -87,14 +87,6 @@ impl Body {
         Ok(())
     }
 
-    /// The `%empty`, if the body is not empty. It may have an action.
-    fn misplaced_empty(&self) -> Option<Span> {
-        match self.parts.as_slice() {
-            [] | [BodyPart::Action(..)] => None,
-            _ => self.empty,
-        }
-    }
-
     /// The body of a rule, which begins behind a mark.
     fn alternative(self, rule: Lexeme, mark: Lexeme) -> Alternative
         ensures rule { result.rule ≡ rule }
@@ -121,7 +113,7 @@ impl Body {
 }
 
 impl<'a> Reader<'a> {
-    /// Reads the rule that begins here, or what else may stand among rules.
+    /// Reads the rule that begins here, or what else may stand among rules: declarations, each with a `;` behind it.
     pub(crate) fn rule_here(&mut self) -> Result<(), Halt>
         ensures faults { vec_len self.old.contents.faults ≤ vec_len self.new.contents.faults }
         ensures told { IfErr result (λ halt. IsTold halt self.new) }
@@ -130,7 +122,10 @@ impl<'a> Reader<'a> {
     {
         match (self.dialect, self.kind()) {
             (Dialect::Bison, Some(LexemeKind::RuleName)) => self.rule(),
-            (Dialect::Bison, Some(LexemeKind::Directive)) => self.declaration_among_rules(),
+            (Dialect::Bison, Some(LexemeKind::Directive)) => {
+                self.bison_declaration(true)?;
+                self.pass_wanted(LexemeKind::Semicolon, Wanted::Semicolon)
+            }
             (Dialect::Bison, Some(LexemeKind::Semicolon)) if !self.is_whole() => {
                 self.pass_wanted(LexemeKind::Semicolon, Wanted::Rule)
             }
@@ -149,20 +144,6 @@ impl<'a> Reader<'a> {
         }
     }
 
-    /// Stops at a lexeme with which no rule begins.
-    fn no_rule_here(&mut self) -> Halt
-        ensures told { IsTold result self.new }
-        ensures stays { Stays self.old self.new }
-        ensures statements { self.new.contents.statements ≡ self.old.contents.statements }
-    {
-        match self.here() {
-            Some(name) if name.kind == LexemeKind::Name => {
-                self.fault(self.without_colon(name), name.span)
-            }
-            _ => self.wants(Wanted::Rule),
-        }
-    }
-
     /// Stops behind a lexeme with which no rule begins.
     fn no_rule(&mut self) -> Result<(), Halt>
         ensures file { IsSameFile self.old self.new }
@@ -170,21 +151,14 @@ impl<'a> Reader<'a> {
         ensures stops { OnOk result ⊥ }
         ensures statements { self.new.contents.statements ≡ self.old.contents.statements }
     {
-        let halt = self.no_rule_here();
+        let halt = match self.here() {
+            Some(name) if name.kind == LexemeKind::Name => {
+                self.fault(self.without_colon(name), name.span)
+            }
+            _ => self.wants(Wanted::Rule),
+        };
         self.pass();
         Err(halt)
-    }
-
-    /// Reads a declaration, and the `;` that ends it among rules.
-    fn declaration_among_rules(&mut self) -> Result<(), Halt>
-        ensures file { IsSameFile self.old self.new }
-        ensures told { IfErr result (λ halt. IsTold halt self.new) }
-        ensures over { OnOk result (PassesNoDelimiter self.old self.new) }
-        ensures on { OnOk result (self.old.at < self.new.at) }
-        ensures said { OnOk result (StatesDeclared self.old self.new) }
-    {
-        self.bison_declaration(true)?;
-        self.pass_wanted(LexemeKind::Semicolon, Wanted::Semicolon)
     }
 
     /// Reads a rule.
@@ -293,17 +267,17 @@ impl<'a> Reader<'a> {
         }
     }
 
-    /// Adds the body to the contents.
+    /// Adds the body to the contents. Where it has `%empty`, it is to be empty, but for an action.
     fn end_body(&mut self, rule: Lexeme, mark: Lexeme, body: Body) -> Result<(), AllocError>
         ensures faults { vec_len self.old.contents.faults ≤ vec_len self.new.contents.faults }
         ensures ended { OnOk result (EndsBody self.old self.new rule mark body) }
         ensures statements { self.new.contents.statements ≡ self.old.contents.statements }
     {
-        let misplaced = body.misplaced_empty();
-        self.contents
-            .alternatives
-            .push(body.alternative(rule, mark))?;
-        if let Some(empty) = misplaced {
+        let empty = body.empty;
+        let alternative = body.alternative(rule, mark);
+        let is_empty = alternative.is_empty();
+        self.contents.alternatives.push(alternative)?;
+        if let (Some(empty), false) = (empty, is_empty) {
             self.tell(FaultKind::NotEmpty, empty)?;
         }
         Ok(())

@@ -103,7 +103,10 @@ impl<'a> Reader<'a> {
         if self.pass_between() {
             return Ok(());
         }
-        let read = self.declaration();
+        let read = match self.dialect {
+            Dialect::Bison => self.bison_declaration(false),
+            Dialect::Grmtools => self.grmtools_declaration(),
+        };
         self.settle(read)
     }
 
@@ -140,20 +143,6 @@ impl<'a> Reader<'a> {
             return true;
         }
         self.dialect == Dialect::Bison && self.skip(LexemeKind::Semicolon)
-    }
-
-    /// Reads a declaration.
-    fn declaration(&mut self) -> Result<(), Halt>
-        ensures file { IsSameFile self.old self.new }
-        ensures told { IfErr result (λ halt. IsTold halt self.new) }
-        ensures over { OnOk result (PassesNoDelimiter self.old self.new) }
-        ensures said { OnOk result (delimiters_read self.old ≡ 0
-            → StatesDeclared self.old self.new) }
-    {
-        match self.dialect {
-            Dialect::Bison => self.bison_declaration(false),
-            Dialect::Grmtools => self.grmtools_declaration(),
-        }
     }
 
     /// Takes `%%`, and tells of the old form of it; false where it doesn't stand here.

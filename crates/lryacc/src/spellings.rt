@@ -79,16 +79,6 @@ fn is_name(lexeme: Lexeme) -> bool {
 }
 
 impl<'a> Meaning<'a> {
-    /// Whether a name may be meant for a symbol.
-    fn is_meant(&self, meant: Meant, number: usize, symbol: Symbol) -> bool {
-        let is_known = match meant {
-            Meant::Symbol => symbol.class != Class::Unknown,
-            Meant::Rule => symbol.class == Class::Rule,
-            Meant::Level => self.line(number).is_some(),
-        };
-        is_known && is_name(symbol.mention)
-    }
-
     /// The symbol of a number, if its name is nearer to that of a lexeme than the best so far, and else that.
     fn nearer_symbol(
         &self,
@@ -105,7 +95,12 @@ impl<'a> Meaning<'a> {
         let Some(symbol) = self.symbols.list.get(number).copied() else {
             return Ok(best);
         };
-        if !self.is_meant(meant, number, symbol) {
+        let is_meant = match meant {
+            Meant::Symbol => symbol.class != Class::Unknown,
+            Meant::Rule => symbol.class == Class::Rule,
+            Meant::Level => self.line(number).is_some(),
+        };
+        if !is_meant || !is_name(symbol.mention) {
             return Ok(best);
         }
         let name = self.symbols.name(lexeme);

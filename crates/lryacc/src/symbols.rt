@@ -288,7 +288,10 @@ impl<'a> Symbols<'a> {
     {
         match statement {
             Statement::Rule(symbol) if symbol.kind != LexemeKind::Name => Ok(()),
-            Statement::Alias(symbol, text) => self.add_both(symbol, text),
+            Statement::Alias(symbol, text) => {
+                self.add(symbol)?;
+                self.add(text)
+            }
             Statement::Token(symbol)
             | Statement::Rule(symbol)
             | Statement::Code(symbol, _)
@@ -305,14 +308,6 @@ impl<'a> Symbols<'a> {
             | Statement::Glr
             | Statement::DefaultPrecedence(_) => Ok(()),
         }
-    }
-
-    /// Adds a symbol, and what is to be its other name.
-    fn add_both(&mut self, symbol: Lexeme, text: Lexeme) -> Result<(), AllocError>
-        ensures { OnOk result (AddsNames self.old self.new) }
-    {
-        self.add(symbol)?;
-        self.add(text)
     }
 
     /// Adds the symbols of bodies.

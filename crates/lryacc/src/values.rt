@@ -104,18 +104,14 @@ struct Uses<'a> {
 }
 
 impl<'a> Uses<'a> {
-    /// The part whose value the action at a place of the body uses.
-    fn part(&self, at: usize, value: Value<'a>) -> Option<usize> {
-        match value {
+    /// Takes in that the action at a place of the body uses a value.
+    fn take(&mut self, at: usize, value: Value<'a>) {
+        let part = match value {
             Value::Own => Some(at),
             Value::Numbered(number) => (number as usize).checked_sub(1),
             Value::Named(name) => self.names.get(&name).copied(),
-        }
-    }
-
-    /// Takes in that the action at a place of the body uses a value.
-    fn take(&mut self, at: usize, value: Value<'a>) {
-        if let Some(part) = self.part(at, value) {
+        };
+        if let Some(part) = part {
             if let Some(used) = self.used.get_mut(part) {
                 *used = true;
             }

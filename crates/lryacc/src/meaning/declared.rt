@@ -86,14 +86,6 @@ impl<'a> Meaning<'a> {
         Ok(())
     }
 
-    /// Whether a lexeme names a start symbol.
-    pub(crate) fn is_start(&self, lexeme: Lexeme) -> bool {
-        match self.symbols.find(lexeme) {
-            Some(number) => self.started.contains(&number),
-            None => false,
-        }
-    }
-
     /// Takes in that a symbol is declared a rule.
     pub(super) fn take_rule_name(&mut self, lexeme: Lexeme) -> Result<(), AllocError>
         ensures { OnOk result (KeepsMeaning self.old self.new) }

@@ -10,16 +10,6 @@ use crate::lexemes::Lexeme;
 use crate::numbering::{NoProductions, Numbering};
 use lrgrammar::grammar::PartSymbol;
 
-/// Whether a line is one of `%precedence`.
-fn is_of_precedence(kind: LevelKind) -> bool
-    ensures { result ≡ is_precedence kind }
-{
-    match kind {
-        LevelKind::Precedence => true,
-        LevelKind::Left | LevelKind::Right | LevelKind::Nonassoc => false,
-    }
-}
-
 impl<'m, 'a> Numbering<'m, 'a> {
     /// The lexeme of the last token of a body.
     fn last_token(&self, alternative: &Alternative) -> Result<Option<Lexeme>, NoProductions>
@@ -58,13 +48,10 @@ impl<'m, 'a> Numbering<'m, 'a> {
             (IsInPrecedenceLine (names_of self.now) symbol) }
     {
         let number = self.meaning.find(symbol)?;
-        let line = self.level(number)?;
-        let before = line.checked_sub(1)?;
-        let kind = self.meaning.levels.get(before).copied()?;
-        if is_of_precedence(kind) {
-            Some(before)
-        } else {
-            None
+        let before = self.level(number)?.checked_sub(1)?;
+        match self.meaning.levels.get(before) {
+            Some(LevelKind::Precedence) => Some(before),
+            _ => None,
         }
     }
 

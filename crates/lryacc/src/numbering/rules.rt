@@ -17,15 +17,6 @@ use crate::symbols::{Class, Symbol};
 use crate::values::used_values;
 use std::alloc::AllocError;
 
-/// Whether a symbol is a rule even where no colon stands behind it.
-fn is_bare_rule(symbol: &Symbol, is_start: bool) -> bool {
-    match symbol.class {
-        Class::Rule => true,
-        Class::Unknown => is_start,
-        Class::Token => false,
-    }
-}
-
 /// The parts of a body before its last one.
 pub(super) fn before_last(alternative: &Alternative) -> &[BodyPart]
     ensures { result.now ≡ parts_before_last alternative.now }
@@ -37,13 +28,6 @@ pub(super) fn before_last(alternative: &Alternative) -> &[BodyPart]
 }
 
 impl<'m, 'a> Numbering<'m, 'a> {
-    /// The rule that a symbol was given.
-    fn rule_given(&self, number: usize) -> Option<usize>
-        ensures { result ≡ get nat_cmp self.now.rules number }
-    {
-        self.rules.get(&number).copied()
-    }
-
     /// Adds the rule of the symbol that a lexeme names, unless it is there.
     fn add_rule_of(&mut self, name: Lexeme, place: Span) -> Result<(), AllocError>
         requires { NamesRule (names_of self.old) name }
@@ -53,7 +37,7 @@ impl<'m, 'a> Numbering<'m, 'a> {
         let Some(symbol) = self.meaning.find(name) else {
             return Ok(());
         };
-        if self.rule_given(symbol).is_some() {
+        if self.rules.contains_key(&symbol) {
             return Ok(());
         }
         let text = name_text(self.allocator(), self.meaning.symbols.name(name))?;
@@ -128,7 +112,8 @@ impl<'m, 'a> Numbering<'m, 'a> {
         Ok(())
     }
 
-    /// Adds the rule that a declaration names, if it is one even where no colon stands behind it.
+    /// Adds the rule that a declaration names, if it is one even where no colon stands behind it: one that is declared so, or a start
+    /// symbol that is no token.
     #[tactic(auto, using(crate::proofs::Numbered::adds_none))]
     fn add_bare(&mut self, statement: Statement) -> Result<(), AllocError>
         requires { Contains self.old.contents.now.statements.items statement }
@@ -136,35 +121,19 @@ impl<'m, 'a> Numbering<'m, 'a> {
         ensures has { OnOk result (HasItsRule self.new statement) }
     {
         match statement {
-            Statement::Rule(name) => self.add_declared_rule(name),
-            Statement::Start(name) => self.add_bare_rule(name),
-            _ => Ok(()),
-        }
-    }
-
-    /// Adds the rule of the symbol that a lexeme names, which is declared one.
-    fn add_declared_rule(&mut self, name: Lexeme) -> Result<(), AllocError>
-        requires { NamesRule (names_of self.old) name }
-        ensures added { OnOk result (AddsNumbers self.old self.new) }
-        ensures has { OnOk result (HasRule self.new name) }
-    {
-        let place = match self.meaning.symbols.named(name) {
-            Some(symbol) => symbol.mention.span,
-            None => name.span,
-        };
-        self.add_rule_of(name, place)
-    }
-
-    /// Adds the rule of the symbol that a lexeme names, if it is one even where no colon stands behind it.
-    #[tactic(auto, using(crate::proofs::Numbered::adds_again, crate::proofs::Numbered::adds_none))]
-    fn add_bare_rule(&mut self, name: Lexeme) -> Result<(), AllocError>
-        requires { NamesRule (names_of self.old) name }
-        ensures { OnOk result (AddsNumbers self.old self.new) }
-    {
-        match self.meaning.symbols.named(name) {
-            Some(symbol) if is_bare_rule(&symbol, self.meaning.is_start(name)) => {
-                self.add_rule_of(name, symbol.mention.span)
+            Statement::Rule(name) => {
+                let place = match self.meaning.symbols.named(name) {
+                    Some(symbol) => symbol.mention.span,
+                    None => name.span,
+                };
+                self.add_rule_of(name, place)
             }
+            Statement::Start(name) => match self.meaning.symbols.named(name) {
+                Some(symbol) if symbol.class != Class::Token => {
+                    self.add_rule_of(name, symbol.mention.span)
+                }
+                _ => Ok(()),
+            },
             _ => Ok(()),
         }
     }

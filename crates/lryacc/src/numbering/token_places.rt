@@ -95,7 +95,7 @@ fn add_first(
     place: Span,
 ) -> Result<(), AllocError> {
     if let Some(token) = token {
-        if places.get(&token).is_none() {
+        if !places.contains_key(&token) {
             places.insert(token, place)?;
         }
     }
@@ -120,10 +120,12 @@ impl<'m, 'a> Numbering<'m, 'a> {
     ) -> Result<(), AllocError> {
         for statement in statements {
             match *statement {
-                Statement::Token(name) => self.add_token_place(places, name)?,
+                Statement::Token(name) => {
+                    add_first(&mut places.tokens, self.token(name), name.span)?;
+                }
                 Statement::InLevel(name) => {
-                    self.add_token_place(places, name)?;
-                    self.add_level_place(places, name)?;
+                    add_first(&mut places.tokens, self.token(name), name.span)?;
+                    add_first(&mut places.levels, self.token(name), name.span)?;
                 }
                 Statement::LeftSide(_) if self.meaning.symbols.dialect == Dialect::Grmtools =>
                     break,
@@ -131,16 +133,6 @@ impl<'m, 'a> Numbering<'m, 'a> {
             }
         }
         Ok(())
-    }
-
-    /// Adds where a declaration has a token.
-    fn add_token_place(&self, places: &mut TokenPlaces, name: Lexeme) -> Result<(), AllocError> {
-        add_first(&mut places.tokens, self.token(name), name.span)
-    }
-
-    /// Adds where a precedence line has a token.
-    fn add_level_place(&self, places: &mut TokenPlaces, name: Lexeme) -> Result<(), AllocError> {
-        add_first(&mut places.levels, self.token(name), name.span)
     }
 
     /// Leaves out the tokens that need not be in a rule.
@@ -162,23 +154,12 @@ impl<'m, 'a> Numbering<'m, 'a> {
     ) -> Result<(), AllocError> {
         for alternative in alternatives {
             if let Some(name) = alternative.precedence {
-                self.add_named_precedence(places, name, alternative.span.end)?;
+                if let Some(token) = self.token(name) {
+                    let place = name.span;
+                    let named = NamedPrecedence { token, place };
+                    places.precedences.insert(alternative.span.end, named)?;
+                }
             }
-        }
-        Ok(())
-    }
-
-    /// Adds the token behind the `%prec` of a body that ends at a place.
-    fn add_named_precedence(
-        &self,
-        places: &mut TokenPlaces,
-        name: Lexeme,
-        end: usize,
-    ) -> Result<(), AllocError> {
-        if let Some(token) = self.token(name) {
-            let place = name.span;
-            let named = NamedPrecedence { token, place };
-            places.precedences.insert(end, named)?;
         }
         Ok(())
     }

@@ -54,21 +54,13 @@ impl<'m, 'a> Numbering<'m, 'a> {
         Some(line.0)
     }
 
-    /// How the tokens of a level group.
-    fn level_kind(&self, level: usize) -> Option<LevelKind>
-        ensures is { result ≡ kind_of_line self.now.meaning.now.levels.items level }
-        ensures small { IfSome result (λ kind. level < 2 ^ 63) }
-    {
-        self.meaning.levels.get(level.checked_sub(1)?).copied()
-    }
-
     /// The precedence of a token: levels are twice as many as in the file, so that there is one below each.
     fn precedence(&self, number: usize) -> Option<Precedence>
         ensures { result ≡ precedence_of (names_of self.now).lines
             ((names_of self.now).line number) }
     {
         let level = self.level(number)?;
-        let kind = self.level_kind(level)?;
+        let kind = *self.meaning.levels.get(level.checked_sub(1)?)?;
         Some(Precedence {
             level: level as u64 * 2,
             kind: kind_of(kind),
@@ -145,33 +137,18 @@ impl<'m, 'a> Numbering<'m, 'a> {
             return Ok(());
         };
         if self.is_end_by_name(number, symbol) {
-            return self.add_end(number);
+            let name = String::from_str(self.allocator(), END)?;
+            let token = self.add_token(name, self.precedence(number))?;
+            return self.give_token(number, token);
         }
         self.add_told(self.told_name(number, symbol))
-    }
-
-    /// Adds the end token where the file gives it no name.
-    fn add_end(&mut self, number: usize) -> Result<(), AllocError>
-        requires { (names_of self.old).end ≡ Some number }
-        ensures { OnOk result (AddsNumbers self.old self.new) }
-    {
-        let name = String::from_str(self.allocator(), END)?;
-        let token = self.add_token(name, self.precedence(number))?;
-        self.give_token(number, token)
-    }
-
-    /// The token that a symbol was given.
-    fn token_given(&self, number: usize) -> Option<usize>
-        ensures { result ≡ get nat_cmp self.now.tokens number }
-    {
-        self.tokens.get(&number).copied()
     }
 
     /// Gives a symbol a token, unless it has one.
     fn give_token(&mut self, number: usize, token: usize) -> Result<(), AllocError>
         ensures { OnOk result (GivesToken self.old self.new number token) }
     {
-        if self.token_given(number).is_some() {
+        if self.tokens.contains_key(&number) {
             return Ok(());
         }
         self.tokens.insert(number, token)?;
@@ -204,10 +181,9 @@ impl<'m, 'a> Numbering<'m, 'a> {
         };
         let number = self.meaning.canonical(end);
         self.add_token_of(number)?;
-        if self.token_given(number) == Some(0) {
-            Ok(())
-        } else {
-            Err(NoProductions::Undefined(nowhere()))
+        match self.tokens.get(&number) {
+            Some(0) => Ok(()),
+            _ => Err(NoProductions::Undefined(nowhere())),
         }
     }
 
@@ -242,7 +218,7 @@ impl<'m, 'a> Numbering<'m, 'a> {
         let mut ordered = BTreeMap::new(self.allocator());
         for number in 0..self.meaning.symbols.list.len() {
             if let Some(symbol) = self.known(number) {
-                let is_there = self.tokens.get(&number).is_some();
+                let is_there = self.tokens.contains_key(&number);
                 let is_told = self.meaning.canonical(number) == number;
                 if symbol.class == Class::Token && is_told && !is_there {
                     ordered.insert(self.meaning.place(number), number)?;
@@ -293,7 +269,8 @@ impl<'m, 'a> Numbering<'m, 'a> {
         Ok(())
     }
 
-    /// Finds a token without a level, where productions without `%prec` have no precedence.
+    /// Finds a token without a level, where productions without `%prec` have no precedence: the unknown one, or one that is added
+    /// where that has a level.
     #[tactic(auto, using(crate::proofs::Numbered::adds_again, crate::proofs::Numbered::adds_none))]
     pub(super) fn add_without_level(&mut self) -> Result<(), AllocError>
         ensures { OnOk result (AddsNumbers self.old self.new) }
@@ -301,22 +278,13 @@ impl<'m, 'a> Numbering<'m, 'a> {
         if self.meaning.has_default_precedence {
             return Ok(());
         }
-        self.without_level = Some(self.token_without_level()?);
-        Ok(())
-    }
-
-    /// A token without a level: the unknown one, or one that is added where that has a level.
-    #[tactic(auto, using(crate::proofs::Numbered::adds_again, crate::proofs::Numbered::adds_none))]
-    fn token_without_level(&mut self) -> Result<usize, AllocError>
-        ensures added { OnOk result (AddsNumbers self.old self.new) }
-        ensures without { IfOk result (λ token.
-            slice_get (names_of self.new).precedences token ≡ Some None) }
-    {
         if self.is_without_level(UNDEFINED) {
-            return Ok(UNDEFINED);
+            self.without_level = Some(UNDEFINED);
+            return Ok(());
         }
         let name = String::from_str(self.allocator(), "%no-default-prec")?;
-        self.add_token(name, None)
+        self.without_level = Some(self.add_token(name, None)?);
+        Ok(())
     }
 
     /// Whether a token has no level.

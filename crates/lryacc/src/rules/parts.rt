@@ -88,7 +88,7 @@ impl<'a> Reader<'a> {
         }
     }
 
-    /// Reads a part of a body of a file for Bison; false where the body ends before the lexeme.
+    /// Reads a part of a body of a file for Bison; false where the body ends before the lexeme. An action is to stand behind a tag.
     fn bison_part(&mut self, body: &mut Body, lexeme: Lexeme) -> Result<bool, Halt>
         requires here { slice_get self.old.lexemes.now self.old.at ≡ Some lexeme }
         requires small { self.old.at < usize.MAX }
@@ -107,7 +107,10 @@ impl<'a> Reader<'a> {
                 Ok(true)
             }
             LexemeKind::Tag => {
-                self.tag_of_action()?;
+                self.pass();
+                if !matches!(self.kind(), Some(LexemeKind::Action)) {
+                    return Err(self.wants(Wanted::Code));
+                }
                 Ok(true)
             }
             LexemeKind::Equals => self.old_equals(lexeme),
@@ -144,21 +147,6 @@ impl<'a> Reader<'a> {
         self.pass();
         let name = self.take(LexemeKind::BracketName);
         body.add(BodyPart::Action(lexeme, name), lexeme)?;
-        Ok(())
-    }
-
-    /// Passes over the tag of an action, which is to stand behind it.
-    fn tag_of_action(&mut self) -> Result<(), Halt>
-        requires { self.old.at < usize.MAX }
-        ensures file { IsSameFile self.old self.new }
-        ensures told { IfErr result (λ halt. IsTold halt self.new) }
-        ensures passes { OnOk result (Passes self.old self.new) }
-        ensures statements { self.new.contents.statements ≡ self.old.contents.statements }
-    {
-        self.pass();
-        if !matches!(self.kind(), Some(LexemeKind::Action)) {
-            return Err(self.wants(Wanted::Code));
-        }
         Ok(())
     }
 

@@ -32,7 +32,7 @@ returns-clause-added c =
       contents = refl;
       rules = λ n r e.
           let none : get nat_cmp c.args.self.now.rules c.in-Some.symbol ≡ None =
-          none-some _ (ap is_some (sym c.rule_given.ensures) ∙ sym c.is_some.ensures ∙ c.if-is_some.false) in
+          none-some _ (sym c.contains_key.ensures ∙ c.if-contains_key.false) in
           stays (get nat_cmp c.args.self.now.rules) (get nat_cmp c.insert.new.self) c.in-Some.symbol c.in_ok-rule.rule n r (is_at (nat_cmp c.in-Some.symbol) n) none refl (c.in_ok-insert.ensures.updates.0 n) e;
       numbered = λ h.
           numbered-rule (with_more names rules tokens levels starts symbol) _ _ _ _ c.in-Some.symbol c.in_ok-rule.rule (λ q. c.in_ok-insert.ensures.updates.0 q)
@@ -67,10 +67,10 @@ returns-clause-has c = λ number e.
     let same : c.in-Some.symbol ≡ number = same_Some c.in-Some.symbol number (sym c.in-Some.is ∙ c.find.ensures ∙ e) in
     (c.in_ok-rule.rule, ap (get nat_cmp c.insert.new.self) (sym same) ∙ c.in_ok-insert.ensures.updates.1)
 
-pub returns-then-is_some-clause-has : goal.returns-then-is_some-clause-has
-returns-then-is_some-clause-has c = λ number e.
+pub returns-then-contains_key-clause-has : goal.returns-then-contains_key-clause-has
+returns-then-contains_key-clause-has c = λ number e.
     let same : c.in-Some.symbol ≡ number = same_Some c.in-Some.symbol number (sym c.in-Some.is ∙ c.find.ensures ∙ e) in
-    let rule = given-some _ (ap is_some (sym c.rule_given.ensures) ∙ sym c.is_some.ensures ∙ c.if-is_some.true) in
+    let rule = given-some _ (sym c.contains_key.ensures ∙ c.if-contains_key.true) in
     (rule.0, ap (get nat_cmp c.args.self.now.rules) (sym same) ∙ rule.1)
 
 pub returns-in_default-clause-has : goal.returns-in_default-clause-has

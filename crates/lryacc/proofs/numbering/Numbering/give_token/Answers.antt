@@ -15,6 +15,6 @@ returns c = record {
   levelled = λ h. h;
   end = λ behind h.
       let none : get nat_cmp c.args.self.now.tokens c.args.number ≡ None =
-      none-some _ (ap is_some (sym c.token_given.ensures) ∙ sym c.is_some.ensures ∙ c.if-is_some.false) in
+      none-some _ (sym c.contains_key.ensures ∙ c.if-contains_key.false) in
       end-put (names_of c.args.self.now) (symbol_in (record c.args.self.now { tokens = c.insert.new.self })) (get nat_cmp c.args.self.now.tokens) _ c.args.number c.args.token (λ q. c.in_ok-insert.ensures.updates.0 q) none behind h;
 }

@@ -4,7 +4,7 @@ use Rattle.lryacc.specs.declared.directives.Form.TheVariants as form
 use Rattle.lryacc.specs.Bodies.{delimiters_read}
 use Rattle.lryacc.specs.DeclarationsRead.{StatesDeclared, is_of_numbers}
 use Rattle.lryacc.proofs.BodiesRead.{over_again}
-use Rattle.lryacc.proofs.DeclarationsRead.{count-directive, directive-form, directive-taken, on-ok-always, over-directive, states, tail-declared, tail-directive, tail-silent, tail-when}
+use Rattle.lryacc.proofs.DeclarationsRead.{count-directive, directive-form, directive-taken, form-stays, on-ok-always, over-directive, states, tail-declared, tail-directive, tail-silent, tail-stated, tail-when}
 use Rattle.lryacc.proofs.reader.Reader.bison_declaration.Goals as goal
 
 pub listing-requires : goal.listing-requires
@@ -39,13 +39,16 @@ returns-in-Starts-clause-said c =
     on-ok-always c.said.result (StatesDeclared c.args.self.now c.said.new.self) (c.args.is_among_rules ≡ false → delimiters_read c.args.self.now ≡ 0)
     (tail-declared c.args.self.now c.take.new.self c.said.new.self c.said.result (directive-form c.in-Some-form.form form.Starts c.in-Starts.is c.in-Some-form.ensures c.in-Some.ensures.taken c.take.ensures.statements).0 c.said.ensures.said)
 
-pub level-requires : goal.level-requires
-level-requires c = (directive-form c.in-Some-form.form (form.Level c.in-Level.kind) c.in-Level.is c.in-Some-form.ensures c.in-Some.ensures.taken c.take.ensures.statements).1
+pub listing-requires-in-Level : goal.listing-requires-in-Level
+listing-requires-in-Level c = (c.in-Level.kind, form-stays c.state.ensures.stays ∙ (directive-form c.in-Some-form.form (form.Level c.in-Level.kind) c.in-Level.is c.in-Some-form.ensures c.in-Some.ensures.taken c.take.ensures.statements).1)
 
-pub returns-in-Level-clause-said : goal.returns-in-Level-clause-said
-returns-in-Level-clause-said c =
-    on-ok-always c.level.result (StatesDeclared c.args.self.now c.level.new.self) (c.args.is_among_rules ≡ false → delimiters_read c.args.self.now ≡ 0)
-    (tail-directive c.args.self.now c.take.new.self c.level.new.self c.level.result (says.Level c.in-Level.kind ∷ []) (directive-form c.in-Some-form.form (form.Level c.in-Level.kind) c.in-Level.is c.in-Some-form.ensures c.in-Some.ensures.taken c.take.ensures.statements).0 c.level.ensures.said)
+pub returns-in_ok-state-in-Level-clause-said : goal.returns-in_ok-state-in-Level-clause-said
+returns-in_ok-state-in-Level-clause-said c =
+    let level = says.Level c.in-Level.kind in
+    let new = c.listing-in-Level.new.self in
+    on-ok-always c.listing-in-Level.result (StatesDeclared c.args.self.now new) (c.args.is_among_rules ≡ false → delimiters_read c.args.self.now ≡ 0)
+    (tail-directive c.args.self.now c.take.new.self new c.listing-in-Level.result (level ∷ []) (directive-form c.in-Some-form.form (form.Level c.in-Level.kind) c.in-Level.is c.in-Some-form.ensures c.in-Some.ensures.taken c.take.ensures.statements).0
+    (tail-stated c.take.new.self c.state.new.self new c.listing-in-Level.result (level ∷ []) (states level c.state.ensures.stays c.in_ok-state-in-Level.ensures.stated) c.listing-in-Level.ensures.said))
 
 pub returns-in-Nothing-clause-said : goal.returns-in-Nothing-clause-said
 returns-in-Nothing-clause-said c = λ _. (directive-form c.in-Some-form.form form.Nothing c.in-Nothing.is c.in-Some-form.ensures c.in-Some.ensures.taken c.take.ensures.statements).0
@@ -77,7 +80,7 @@ returns-in_ok-state-in-Glr-clause-said c = λ first.
 
 pub returns-in_ok-state-in-DefaultPrecedence-clause-said : goal.returns-in_ok-state-in-DefaultPrecedence-clause-said
 returns-in_ok-state-in-DefaultPrecedence-clause-said c = λ first.
-    states (says.DefaultPrecedence c.in-DefaultPrecedence.is_on) c.state.ensures.stays c.in_ok-state-in-DefaultPrecedence.ensures.stated
+    states (says.DefaultPrecedence c.in-DefaultPrecedence.is_on) c.state-in-DefaultPrecedence.ensures.stays c.in_ok-state-in-DefaultPrecedence.ensures.stated
     ∙ (directive-form c.in-Some-form.form (form.DefaultPrecedence c.in-DefaultPrecedence.is_on) c.in-DefaultPrecedence.is c.in-Some-form.ensures c.in-Some.ensures.taken c.take.ensures.statements).0
 
 pub passed_over-requires : goal.passed_over-requires

@@ -7,16 +7,16 @@ use Rattle.lryacc.proofs.AllBodiesRead.{on_ok}
 use Rattle.lryacc.proofs.DeclarationsRead.{stated-same}
 use Rattle.lryacc.proofs.reader.Reader.bison_part.Goals as goal
 
-pub returns-in_ok-tag_of_action-in-Tag-clause-read : goal.returns-in_ok-tag_of_action-in-Tag-clause-read
-returns-in_ok-tag_of_action-in-Tag-clause-read c =
-    ReadsOn-passes c.args.body.now c.args.lexeme c.in_ok-tag_of_action-in-Tag.ensures.passes c.requires.here (ap is_aside c.in-Tag.is)
+pub returns-else-not-matches-clause-read : goal.returns-else-not-matches-clause-read
+returns-else-not-matches-clause-read c =
+    ReadsOn-passes c.args.body.now c.args.lexeme (c.pass.ensures.passes c.requires.small) c.requires.here (ap is_aside c.in-Tag.is)
 
 pub returns-in-Equals-clause-read : goal.returns-in-Equals-clause-read
 returns-in-Equals-clause-read c =
     GoesOn-equals _ _ c.args.body.now c.args.lexeme c.old_equals.result c.requires.here c.in-Equals.is c.old_equals.ensures.passes
 
-pub returns-in_ok-tag_of_action-in-Tag-clause-kept : goal.returns-in_ok-tag_of_action-in-Tag-clause-kept
-returns-in_ok-tag_of_action-in-Tag-clause-kept c = stated-same c.args.self.now c.tag_of_action.new.self c.tag_of_action.ensures.statements
+pub returns-else-not-matches-clause-kept : goal.returns-else-not-matches-clause-kept
+returns-else-not-matches-clause-kept c = stated-same c.args.self.now c.pass.new.self c.pass.ensures.statements
 
 pub returns-in-Equals-clause-kept : goal.returns-in-Equals-clause-kept
 returns-in-Equals-clause-kept c = on_ok c.old_equals.result (stated c.old_equals.new.self ≡ stated c.args.self.now) (stated-same c.args.self.now c.old_equals.new.self c.old_equals.ensures.statements)

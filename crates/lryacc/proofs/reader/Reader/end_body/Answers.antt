@@ -9,10 +9,10 @@ returns-in_ok-tell-clause-ended c =
       lexemes = told.file.lexemes;
       dialect = told.file.dialect;
       at = told.at;
-      body = c.alternative.result;
-      rule_is = c.alternative.ensures.rule;
-      parts_are = c.alternative.ensures.parts;
-      precedence_is = c.alternative.ensures.precedence;
-      place = c.alternative.ensures.span;
+      body = c.alternative-alternative.result;
+      rule_is = c.alternative-alternative.ensures.rule;
+      parts_are = c.alternative-alternative.ensures.parts;
+      precedence_is = c.alternative-alternative.ensures.precedence;
+      place = c.alternative-alternative.ensures.span;
       bodies = told.file.bodies ∙ c.in_ok-push.ensures.items;
     }

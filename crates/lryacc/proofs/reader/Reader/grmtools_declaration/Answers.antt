@@ -4,7 +4,7 @@ use Rattle.lryacc.specs.declared.directives.Form.{Form}
 use Rattle.lryacc.specs.declared.directives.Form.TheVariants as form
 use Rattle.lryacc.specs.Bodies.{delimiters_read}
 use Rattle.lryacc.specs.DeclarationsRead.{StatesDeclared}
-use Rattle.lryacc.proofs.DeclarationsRead.{count-directive, directive-some, form-stays, on-ok-always, stays-stated, tail-declared, tail-directive, tail-when}
+use Rattle.lryacc.proofs.DeclarationsRead.{count-directive, directive-some, form-stays, on-ok-always, states, stays-stated, tail-declared, tail-directive, tail-stated, tail-when}
 use Rattle.lryacc.proofs.reader.Reader.grmtools_declaration.Goals as goal
 
 pub said-requires : goal.said-requires
@@ -39,13 +39,16 @@ returns-in-Some-ShownText-clause-said c =
     on-ok-always c.shown_text.result (StatesDeclared c.args.self.now c.shown_text.new.self) (delimiters_read c.args.self.now ≡ 0)
     (tail-declared c.args.self.now c.take.new.self c.shown_text.new.self c.shown_text.result (directive-some c.form.result form.ShownText (c.in-Some-ShownText.is ∙ ap (λ (f : Form). Some f) c.in-Some-ShownText.field-0-is) c.form.ensures c.in-Some.ensures.taken c.take.ensures.statements).0 c.shown_text.ensures.said)
 
-pub grmtools_level-requires : goal.grmtools_level-requires
-grmtools_level-requires c = (directive-some c.form.result (form.Level c.in-Some-Level.kind) (c.in-Some-Level.is ∙ ap (λ (f : Form). Some f) c.in-Some-Level.field-0-is) c.form.ensures c.in-Some.ensures.taken c.take.ensures.statements).1
+pub said-requires-in-Some-Level : goal.said-requires-in-Some-Level
+said-requires-in-Some-Level c = (c.in-Some-Level.kind, form-stays c.state.ensures.stays ∙ (directive-some c.form.result (form.Level c.in-Some-Level.kind) (c.in-Some-Level.is ∙ ap (λ (f : Form). Some f) c.in-Some-Level.field-0-is) c.form.ensures c.in-Some.ensures.taken c.take.ensures.statements).1)
 
-pub returns-in-Some-Level-clause-said : goal.returns-in-Some-Level-clause-said
-returns-in-Some-Level-clause-said c =
-    on-ok-always c.grmtools_level.result (StatesDeclared c.args.self.now c.grmtools_level.new.self) (delimiters_read c.args.self.now ≡ 0)
-    (tail-directive c.args.self.now c.take.new.self c.grmtools_level.new.self c.grmtools_level.result (says.Level c.in-Some-Level.kind ∷ []) (directive-some c.form.result (form.Level c.in-Some-Level.kind) (c.in-Some-Level.is ∙ ap (λ (f : Form). Some f) c.in-Some-Level.field-0-is) c.form.ensures c.in-Some.ensures.taken c.take.ensures.statements).0 c.grmtools_level.ensures.said)
+pub returns-in_ok-state-in-Some-Level-clause-said : goal.returns-in_ok-state-in-Some-Level-clause-said
+returns-in_ok-state-in-Some-Level-clause-said c =
+    let level = says.Level c.in-Some-Level.kind in
+    let new = c.said-in-Some-Level.new.self in
+    on-ok-always c.said-in-Some-Level.result (StatesDeclared c.args.self.now new) (delimiters_read c.args.self.now ≡ 0)
+    (tail-directive c.args.self.now c.take.new.self new c.said-in-Some-Level.result (level ∷ []) (directive-some c.form.result (form.Level c.in-Some-Level.kind) (c.in-Some-Level.is ∙ ap (λ (f : Form). Some f) c.in-Some-Level.field-0-is) c.form.ensures c.in-Some.ensures.taken c.take.ensures.statements).0
+    (tail-stated c.take.new.self c.state.new.self new c.said-in-Some-Level.result (level ∷ []) (states level c.state.ensures.stays c.in_ok-state-in-Some-Level.ensures.stated) c.said-in-Some-Level.ensures.said))
 
 pub start-requires : goal.start-requires
 start-requires c = form-stays c.once.ensures.stays ∙ (directive-some c.form.result form.Starts (c.in-Some-Starts.is ∙ ap (λ (f : Form). Some f) c.in-Some-Starts.field-0-is) c.form.ensures c.in-Some.ensures.taken c.take.ensures.statements).1

@@ -6,17 +6,18 @@ use Rattle.lryacc.specs.NamedSymbols.{IsTokenOf, first_name}
 use Rattle.lryacc.specs.Numbered.{names_of}
 use Rattle.lryacc.proofs.NamesOfOne.{ok-then}
 use Rattle.lryacc.proofs.Numbered.{gives-next}
-use Rattle.lryacc.proofs.numbering.Numbering.add_end.Goals as goal
+use Rattle.lryacc.proofs.numbering.Numbering.add_token_of.Goals as goal
 
-pub returns : goal.returns
-returns c =
+pub returns-then-is_end_by_name : goal.returns-then-is_end_by_name
+returns-then-is_end_by_name c =
     let added = c.in_ok-token.ensures.added in
     let old = c.args.self.now in
     let now = c.add_token.new.self in
     let token = c.in_ok-token.token in
+    let end = c.is_end_by_name.ensures c.if-is_end_by_name.true (sym c.known.ensures ∙ c.in-Some.is) in
     let is : IsTokenOf (names_of now) c.args.number token =
     inr record {
-      end = ap (λ (m : Meaning). option_map (first_name m.symbols) m.end) added.meaning ∙ c.requires;
+      end = ap (λ (m : Meaning). option_map (first_name m.symbols) m.end) added.meaning ∙ end;
       is = c.in_ok-token.ensures.number ∙ ap Some c.in_ok-name.ensures.ok;
       precedence =
           c.in_ok-token.ensures.precedence ∙ ap Some c.precedence.ensures
