@@ -236,7 +236,10 @@ impl<'a> Reader<'a> {
             return Ok(false);
         };
         self.say(said, symbol)?;
-        self.listed(symbol, listing)?;
+        listing.wants_symbol = false;
+        if let Some(tag) = listing.tag {
+            self.state(Statement::Tagged(symbol, tag))?;
+        }
         Ok(true)
     }
 
@@ -268,18 +271,6 @@ impl<'a> Reader<'a> {
         true
     }
 
-    /// Takes in that a symbol stands in a listing.
-    fn listed(&mut self, symbol: Lexeme, listing: &mut Listing) -> Result<(), AllocError>
-        ensures over { PassesNoDelimiter self.old self.new }
-        ensures listed { OnOk result (StatesListed self.old self.new) }
-    {
-        listing.wants_symbol = false;
-        match listing.tag {
-            Some(tag) => self.state(Statement::Tagged(symbol, tag)),
-            None => Ok(()),
-        }
-    }
-
     /// Reads symbols, at least one.
     pub(crate) fn said(&mut self, said: Said) -> Result<(), Halt>
         requires { IsSaidBy said (form_here self.old) }
@@ -307,15 +298,6 @@ impl<'a> Reader<'a> {
         ensures form { OnOk result (form_here self.new ≡ form_here self.old) }
     {
         self.state(said.of(symbol))?;
-        self.say_behind(said, symbol)
-    }
-
-    /// Adds what stands behind a symbol of which that is said.
-    fn say_behind(&mut self, said: Said, symbol: Lexeme) -> Result<(), AllocError>
-        requires { IsSaidBy said (form_here self.old) }
-        ensures over { PassesNoDelimiter self.old self.new }
-        ensures listed { OnOk result (StatesListed self.old self.new) }
-    {
         match said {
             Said::DeclaredToken | Said::DeclaredRule => self.code_and_alias(symbol),
             Said::Operator if symbol.kind != LexemeKind::Text => self.code(symbol),

@@ -153,11 +153,14 @@ impl<'a> Meaning<'a> {
         ensures aliases { OnOk result (TakesAliases (statement ∷ []) self.old self.new) }
     {
         match statement {
-            Statement::Token(symbol) => self.take_token(symbol),
+            Statement::Token(symbol) => self.declare(symbol, Class::Token),
             Statement::Rule(symbol) => self.take_rule_name(symbol),
             Statement::Code(symbol, number) => self.take_code(symbol, number),
             Statement::Alias(symbol, text) => self.take_alias(symbol, text),
-            Statement::Level(kind) => self.begin_level(kind),
+            Statement::Level(kind) => {
+                self.levels.push(kind)?;
+                Ok(())
+            }
             Statement::InLevel(symbol) => self.take_in_level(symbol),
             Statement::Mention(_) | Statement::NotInRules(_) => Ok(()),
             Statement::Tagged(symbol, tag) => self.take_tag(symbol, tag),

@@ -25,6 +25,7 @@ use crate::symbols::Symbol;
 use lrgrammar::grammar::{GrammarParts, PartSymbol};
 use std::alloc::{AllocError, Global};
 use std::collections::BTreeMap;
+use std::slice;
 
 /// The grammar of a file, and where its parts stand.
 #[derive(Debug, Drop)]
@@ -164,8 +165,9 @@ impl<'m, 'a> Numbering<'m, 'a> {
         ensures levelled { IfOk result IsLevelled }
         ensures tokens { IfOk result (λ numbering. numbering.grammar.parts.tokens.items ≡ []) }
     {
+        let accept = String::from_str(alloc, "$accept")?;
         let mut grammar = FileGrammar::empty(alloc);
-        let _ = grammar.add_rule(String::from_str(alloc, "$accept")?, nowhere())?;
+        let _ = grammar.add_rule(accept, nowhere())?;
         Ok(Numbering {
             meaning,
             contents,
@@ -256,17 +258,12 @@ impl<'m, 'a> Numbering<'m, 'a> {
 }
 
 /// The start rules: those behind `%start`, or else that of the first body.
-fn start_rules(
-    alloc: Global,
-    meaning: &Meaning<'_>,
-    alternatives: &[Alternative],
-) -> Result<Vec<Lexeme>, AllocError>
-    ensures { IfOk result (λ rules.
-        rules.items ≡ start_rules_of meaning.now.starts.items alternatives.now) }
+fn start_rules<'s>(meaning: &'s Meaning<'_>, alternatives: &'s [Alternative]) -> &'s [Lexeme]
+    ensures { result.now ≡ start_rules_of meaning.now.starts.items alternatives.now }
 {
     match alternatives {
-        [first, ..] if meaning.starts.is_empty() => Ok(vec![in alloc; first.rule]?),
-        _ => Ok(Vec::from_slice(alloc, meaning.starts.as_slice())?),
+        [first, ..] if meaning.starts.is_empty() => slice::from_ref(&first.rule),
+        _ => meaning.starts.as_slice(),
     }
 }
 
@@ -282,11 +279,11 @@ pub(crate) fn file_grammar(
     ensures productions { IfOk result (HasProductions meaning.now contents.now) }
 {
     let alternatives = contents.alternatives.as_slice();
-    let starts = start_rules(alloc, meaning, alternatives)?;
+    let starts = start_rules(meaning, alternatives);
     let mut numbering = Numbering::new(alloc, meaning, contents)?;
-    let marks = numbering.add_symbols(starts.as_slice())?;
+    let marks = numbering.add_symbols(starts)?;
     let token_places = numbering.token_places(contents)?;
-    let productions = numbering.productions(starts.as_slice(), marks.as_slice(), alternatives)?;
+    let productions = numbering.productions(starts, marks.as_slice(), alternatives)?;
     Ok(
         numbering
             .grammar

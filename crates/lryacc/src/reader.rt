@@ -59,11 +59,6 @@ impl<'a> Reader<'a> {
         self.contents.faults.is_empty()
     }
 
-    /// The memory that is used.
-    pub(crate) fn allocator(&self) -> Global {
-        *self.contents.faults.allocator()
-    }
-
     /// The next lexeme.
     pub(crate) fn here(&self) -> Option<Lexeme>
         ensures is { result ≡ slice_get self.now.lexemes.now self.now.at }

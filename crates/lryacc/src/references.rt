@@ -17,9 +17,11 @@ use crate::runs::Run;
 use crate::values::{behind_tag, name_between};
 use std::alloc::{AllocError, Global};
 
-/// How an action calls a part.
+/// How an action calls a part, or the rule that it is of.
 #[derive(Clone, Copy)]
 pub(crate) enum Call<'a> {
+    /// The rule: `$$`, `@$`.
+    Own,
     /// By its number, counted from 1: `$2`, `@2`.
     Number(u64),
     /// By its name, behind which something of the host language may follow a `.` or `-`: `$left`, `@left`.
@@ -32,7 +34,7 @@ impl<'a> Call<'a> {
     /// Whether what has this name is called so.
     fn is_of(self, name: &[u8]) -> bool {
         match self {
-            Call::Number(_) => false,
+            Call::Own | Call::Number(_) => false,
             Call::Bracket(called) => called == name,
             Call::Name(called) => match called.strip_prefix(name) {
                 Some(rest) => matches!(rest, [] | [b'.' | b'-', ..]),
@@ -42,15 +44,8 @@ impl<'a> Call<'a> {
     }
 }
 
-/// What an action refers to, and where.
-#[derive(Clone, Copy)]
-struct Reference<'a> {
-    call: Call<'a>,
-    span: Span,
-}
-
 /// What is called at a place behind `$` or `@` and perhaps a tag, and the place behind that.
-pub(crate) fn call_at(code: &[u8], start: usize) -> Option<(Call<'_>, usize)> {
+fn call_at(code: &[u8], start: usize) -> Option<(Call<'_>, usize)> {
     let behind = code.get(start..)?;
     match behind {
         [b'0'..=b'9', ..] => {
@@ -76,8 +71,8 @@ pub(crate) fn call_at(code: &[u8], start: usize) -> Option<(Call<'_>, usize)> {
     }
 }
 
-/// What the mark at a place calls, if it calls a part, and the place behind what belongs to the mark.
-fn call_of_mark(code: &[u8], at: usize) -> (Option<Call<'_>>, usize)
+/// What the mark at a place calls, if it calls something, and the place behind what belongs to the mark.
+pub(crate) fn call_of_mark(code: &[u8], at: usize) -> (Option<Call<'_>>, usize)
     requires { at < length code.now }
 {
     let begins = match code[at] {
@@ -89,35 +84,12 @@ fn call_of_mark(code: &[u8], at: usize) -> (Option<Call<'_>>, usize)
         return (None, at + 1);
     };
     if code.get(start) == Some(&b'$') {
-        return (None, start.saturating_add(1));
+        return (Some(Call::Own), start.saturating_add(1));
     }
     match call_at(code, start) {
         Some((call, end)) => (Some(call), end),
         None => (None, at + 1),
     }
-}
-
-/// What the code of an action that begins at a place of the file refers to. What stands in its quotes and comments refers to
-/// nothing.
-fn references(alloc: Global, code: &[u8], begin: usize) -> Result<Vec<Reference<'_>>, AllocError> {
-    let mut all = Vec::new(alloc);
-    let mut reader = CodeReader::new();
-    // The place behind the last mark.
-    let mut behind: usize = 0;
-    for at in 0..code.len() {
-        if behind <= at && reader.is_in_code() {
-            let (call, end) = call_of_mark(code, at);
-            behind = end;
-            if let Some(call) = call {
-                let span = Span::new(begin.saturating_add(at), begin.saturating_add(end));
-                all.push(Reference { call, span })?;
-            }
-        }
-        if let Ok(Some(next)) = reader.step(code, at, Ending::File) {
-            reader = next;
-        }
-    }
-    Ok(all)
 }
 
 impl<'a> Meaning<'a> {
@@ -151,13 +123,11 @@ impl<'a> Meaning<'a> {
     ) -> Option<FaultKind>
         ensures { IfSome result (λ kind. proposal kind ≡ None) }
     {
-        if let Call::Number(number) = call {
-            let is_there = number as usize <= before;
-            return if is_there {
-                None
-            } else {
-                Some(FaultKind::NumberOutOfRange(before))
-            };
+        match call {
+            Call::Own => return None,
+            Call::Number(number) if number as usize <= before => return None,
+            Call::Number(_) => return Some(FaultKind::NumberOutOfRange(before)),
+            Call::Name(_) | Call::Bracket(_) => {}
         }
         if call.is_of(self.called(alternative.rule)) {
             return None;
@@ -195,7 +165,8 @@ impl<'a> Meaning<'a> {
         Ok(())
     }
 
-    /// Warns of references of an action, before which so many parts of a body stand.
+    /// Warns of references of an action, before which so many parts of a body stand. What stands in its quotes and comments refers
+    /// to nothing.
     fn warn_of_action(
         &mut self,
         alternative: &Alternative,
@@ -205,10 +176,26 @@ impl<'a> Meaning<'a> {
         ensures { OnOk result (KeepsMeaning self.old self.new) }
     {
         let code = self.symbols.bytes(action.span);
-        let all = references(*self.faults.allocator(), code, action.span.start)?;
-        for reference in &all {
-            if let Some(kind) = self.wrong_call(alternative, before, reference.call) {
-                self.warn(kind, reference.span)?;
+        let begin = action.span.start;
+        let mut reader = CodeReader::new();
+        // The place behind the last mark.
+        let mut behind: usize = 0;
+        for at in 0..code.len() {
+            let is_in_code = reader.is_in_code();
+            if let Ok(Some(next)) = reader.step(code, at, Ending::File) {
+                reader = next;
+            }
+            if !is_in_code || at < behind {
+                continue;
+            }
+            let (call, end) = call_of_mark(code, at);
+            behind = end;
+            let Some(call) = call else {
+                continue;
+            };
+            if let Some(kind) = self.wrong_call(alternative, before, call) {
+                let span = Span::new(begin.saturating_add(at), begin.saturating_add(end));
+                self.warn(kind, span)?;
             }
         }
         Ok(())

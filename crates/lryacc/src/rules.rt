@@ -227,7 +227,7 @@ impl<'a> Reader<'a> {
         ensures added { OnOk result (AddsBody self.old self.new rule mark) }
         ensures said { OnOk result (StatesDeclared self.old self.new) }
     {
-        let mut body = Body::new(self.allocator());
+        let mut body = Body::new(*self.contents.faults.allocator());
         self.parts(&mut body)?;
         self.end_body(rule, mark, body)?;
         self.want_end()?;

@@ -667,13 +667,6 @@ pub(crate) struct Useless {
     pub(crate) starts: Vec<Span>,
 }
 
-impl Useless {
-    /// Whether nothing was taken out.
-    pub(crate) fn is_empty(&self) -> bool {
-        self.rules.is_empty() && self.productions.is_empty()
-    }
-}
-
 /// The grammar without the rules and productions that are not reached or derive no text, and what was taken out.
 pub(crate) fn without_useless(
     alloc: Global,

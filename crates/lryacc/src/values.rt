@@ -6,33 +6,11 @@ use crate::code::{CodeReader, Ending};
 use crate::contents::BodyPart;
 use crate::dialects::Dialect;
 use crate::gaps::gap_end;
-use crate::references::{Call, call_at};
+use crate::references::{Call, call_of_mark};
 use crate::runs::Run;
 use crate::symbols::Symbols;
 use std::alloc::{AllocError, Global};
 use std::collections::BTreeMap;
-
-/// A value that an action uses.
-#[derive(Clone, Copy)]
-enum Value<'a> {
-    /// That of the action: `$$`.
-    Own,
-    /// That of the part with this number, counted from 1: `$2`.
-    Numbered(u64),
-    /// That of the part with this name: `$left`, `$[left]`.
-    Named(&'a [u8]),
-}
-
-impl<'a> Value<'a> {
-    /// That of the part that is called so. What stands behind a `.` or `-` is of the host language where the name has no brackets.
-    fn of(call: Call<'a>) -> Value<'a> {
-        match call {
-            Call::Number(number) => Value::Numbered(number),
-            Call::Name(name) => Value::Named(&name[..Run::Word.end(name, 0)]),
-            Call::Bracket(name) => Value::Named(name),
-        }
-    }
-}
 
 /// The place behind the tag that begins at a place, or the place itself where none does; None where it isn't closed on its
 /// line, or is empty. `->` closes none.
@@ -53,33 +31,6 @@ pub(crate) fn behind_tag(code: &[u8], from: usize) -> Option<usize>
         }
     }
     None
-}
-
-/// The value that is called so behind the `$` before a place, and the place behind what calls it.
-fn value_at(code: &[u8], from: usize) -> Option<(Value<'_>, usize)>
-    requires { from ≤ length code.now }
-{
-    let start = behind_tag(code, from)?;
-    if code.get(start) == Some(&b'$') {
-        return Some((Value::Own, start + 1));
-    }
-    let (call, end) = call_at(code, start)?;
-    Some((Value::of(call), end))
-}
-
-/// The value that the mark at a place calls, if it calls one, and the place behind what belongs to the mark. `@$` is the place of
-/// a value.
-fn value_of_mark(code: &[u8], at: usize) -> (Option<Value<'_>>, usize)
-    requires { at < length code.now }
-{
-    match (code[at], code.get(at + 1)) {
-        (b'$', _) => match value_at(code, at + 1) {
-            Some((value, end)) => (Some(value), end),
-            None => (None, at + 1),
-        },
-        (b'@', Some(b'$')) => (None, at + 2),
-        _ => (None, at + 1),
-    }
 }
 
 /// The name between brackets.
@@ -104,12 +55,17 @@ struct Uses<'a> {
 }
 
 impl<'a> Uses<'a> {
-    /// Takes in that the action at a place of the body uses a value.
-    fn take(&mut self, at: usize, value: Value<'a>) {
-        let part = match value {
-            Value::Own => Some(at),
-            Value::Numbered(number) => (number as usize).checked_sub(1),
-            Value::Named(name) => self.names.get(&name).copied(),
+    /// Takes in that the action at a place of the body uses the value that is called so. What stands behind a `.` or `-` is of the
+    /// host language where the name has no brackets.
+    fn take(&mut self, at: usize, call: Call<'a>) {
+        let part = match call {
+            Call::Own => Some(at),
+            Call::Number(number) => (number as usize).checked_sub(1),
+            Call::Name(name) => {
+                let name = &name[..Run::Word.end(name, 0)];
+                self.names.get(&name).copied()
+            }
+            Call::Bracket(name) => self.names.get(&name).copied(),
         };
         if let Some(part) = part {
             if let Some(used) = self.used.get_mut(part) {
@@ -125,34 +81,16 @@ impl<'a> Uses<'a> {
         let mut behind: usize = 0;
         for place in 0..code.len() {
             if behind <= place && reader.is_in_code() {
-                let (value, end) = value_of_mark(code, place);
+                let (call, end) = call_of_mark(code, place);
                 behind = end;
-                if let Some(value) = value {
-                    self.take(at, value);
+                if let (b'$', Some(call)) = (code[place], call) {
+                    self.take(at, call);
                 }
             }
             if let Ok(Some(next)) = reader.step(code, place, Ending::File) {
                 reader = next;
             }
         }
-    }
-
-    /// Takes in a part of a body, which is the last one or is not.
-    fn take_part(
-        &mut self,
-        symbols: &Symbols<'a>,
-        at: usize,
-        part: BodyPart,
-        is_last: bool,
-    ) -> Result<(), AllocError> {
-        if let BodyPart::Action(action, name) = part {
-            if let (Some(name), false) = (name, is_last) {
-                self.names
-                    .insert(name_between(symbols.bytes(name.span)), at)?;
-            }
-            self.take_code(at, symbols.bytes(action.span));
-        }
-        Ok(())
     }
 }
 
@@ -168,8 +106,14 @@ pub(crate) fn used_values(
         used: vec![in alloc; false; parts.len()]?,
     };
     for at in 0..parts.len() {
-        let is_last = at.saturating_add(1) == parts.len();
-        uses.take_part(symbols, at, parts[at], is_last)?;
+        if let BodyPart::Action(action, name) = parts[at] {
+            let is_last = at.saturating_add(1) == parts.len();
+            if let (Some(name), false) = (name, is_last) {
+                let name = name_between(symbols.bytes(name.span));
+                uses.names.insert(name, at)?;
+            }
+            uses.take_code(at, symbols.bytes(action.span));
+        }
     }
     Ok(uses.used)
 }

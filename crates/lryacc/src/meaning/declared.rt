@@ -43,19 +43,12 @@ impl<'a> Meaning<'a> {
         Ok(())
     }
 
-    /// Takes in that a symbol is declared a token.
-    pub(super) fn take_token(&mut self, lexeme: Lexeme) -> Result<(), AllocError>
+    /// Takes in that a symbol is declared here, one of that class, and warns where it was declared before. For grmtools each use
+    /// between quotes declares a token.
+    pub(super) fn declare(&mut self, lexeme: Lexeme, class: Class) -> Result<(), AllocError>
         ensures { OnOk result (KeepsMeaning self.old self.new) }
     {
-        self.take_class(lexeme, Class::Token, OtherClass::Both)?;
-        self.declare(lexeme)
-    }
-
-    /// Takes in that a symbol is declared here, and warns where it was declared before. For grmtools each use between quotes
-    /// declares a token.
-    fn declare(&mut self, lexeme: Lexeme) -> Result<(), AllocError>
-        ensures { OnOk result (KeepsMeaning self.old self.new) }
-    {
+        self.take_class(lexeme, class, OtherClass::Both)?;
         let Some(number) = self.symbols.find(lexeme) else {
             return Ok(());
         };
@@ -93,8 +86,7 @@ impl<'a> Meaning<'a> {
         if lexeme.kind != LexemeKind::Name {
             return self.tell(FaultKind::CharacterAsRule, lexeme.span);
         }
-        self.take_class(lexeme, Class::Rule, OtherClass::Both)?;
-        self.declare(lexeme)
+        self.declare(lexeme, Class::Rule)
     }
 
     /// Takes in the number of a token. It is less than the greatest one that is read.

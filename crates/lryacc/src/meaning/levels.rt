@@ -15,16 +15,6 @@ use crate::symbols::Class;
 use std::alloc::AllocError;
 
 impl<'a> Meaning<'a> {
-    /// Takes in that a precedence line begins.
-    pub(super) fn begin_level(&mut self, kind: LevelKind) -> Result<(), AllocError>
-        ensures keeps { OnOk result (KeepsEnd self.old self.new) }
-        ensures begins { OnOk result (BeginsLine kind self.old self.new) }
-        ensures said { OnOk result (KeepsSaid self.old self.new) }
-    {
-        self.levels.push(kind)?;
-        Ok(())
-    }
-
     /// Puts a symbol into the precedence line in hand.
     pub(super) fn take_in_level(&mut self, lexeme: Lexeme) -> Result<(), AllocError>
         ensures keeps { OnOk result (KeepsEnd self.old self.new) }

@@ -38,7 +38,7 @@ impl<'a> Meaning<'a> {
         ensures productions { OnOk result (vec_len self.new.warnings ≡ 0
             → vec_len useless.now.productions ≡ 0) }
     {
-        if !useless.is_empty() {
+        if !useless.rules.is_empty() || !useless.productions.is_empty() {
             self.tell_token_starts()?;
         }
         self.tell_unproductive(useless.starts.as_slice())?;

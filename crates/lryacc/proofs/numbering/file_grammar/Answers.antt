@@ -23,12 +23,12 @@ returns-clause-productions c =
     let names = names_of now in
     let file = c.with_productions.result in
     let bodies = c.as_slice-alternatives.ensures.value in
-    let starts = c.as_slice-2.ensures.value ∙ c.in_ok-starts.ensures in
+    let starts = c.start_rules-starts.ensures in
     let kept = c.with_productions.ensures in
     let same : names ≡ names_in c.args.meaning.now c.args.contents.now (symbol_in now) file =
     names-same now.meaning.now c.args.meaning.now now.contents.now c.args.contents.now (symbol_in now) now.grammar file (sym (c.in_ok-marks.ensures.added.meaning ∙ c.in_ok-numbering.ensures.meaning)) (sym (c.in_ok-marks.ensures.added.contents ∙ c.in_ok-numbering.ensures.contents)) kept.rules kept.tokens kept.rule_places in
-    let all : AreOfFile names c.as_slice-2.result.now c.as_slice-alternatives.result.now file.parts.prods.items =
-    subst (λ (ps : List PartProd). AreOfFile names c.as_slice-2.result.now c.as_slice-alternatives.result.now ps) (sym kept.prods) c.in_ok-productions.ensures.productions in
+    let all : AreOfFile names c.start_rules-starts.result.now c.as_slice-alternatives.result.now file.parts.prods.items =
+    subst (λ (ps : List PartProd). AreOfFile names c.start_rules-starts.result.now c.as_slice-alternatives.result.now ps) (sym kept.prods) c.in_ok-productions.ensures.productions in
     let prods = file.parts.prods.items in
     let named = c.args.meaning.now.starts.items in
     let of_starts = subst (λ (ls : List Lexeme). AreOfFile names ls c.as_slice-alternatives.result.now prods) starts all in

@@ -12,10 +12,10 @@ use Rattle.lryacc.proofs.SaidHeld.{ok-three, speaks, takes_glr, takes_reduce_by,
 use Rattle.lryacc.proofs.meaning.Meaning.take_statement.Goals as goal
 
 pub returns-in-Token-clause-taken : goal.returns-in-Token-clause-taken
-returns-in-Token-clause-taken c = ok-then c.take_token.result (λ keeps. takes_other _ keeps.symbols) c.take_token.ensures
+returns-in-Token-clause-taken c = ok-then c.declare.result (λ keeps. takes_other _ keeps.symbols) c.declare.ensures
 
 pub returns-in-Token-clause-end : goal.returns-in-Token-clause-end
-returns-in-Token-clause-end c = ok-then c.take_token.result (λ keeps. takes_no_end _ (ap is_code c.in-Token.is) keeps.end keeps.faults) c.take_token.ensures
+returns-in-Token-clause-end c = ok-then c.declare.result (λ keeps. takes_no_end _ (ap is_code c.in-Token.is) keeps.end keeps.faults) c.declare.ensures
 
 pub returns-in-Rule-clause-taken : goal.returns-in-Rule-clause-taken
 returns-in-Rule-clause-taken c = ok-then c.take_rule_name.result (λ keeps. takes_other _ keeps.symbols) c.take_rule_name.ensures
@@ -23,11 +23,11 @@ returns-in-Rule-clause-taken c = ok-then c.take_rule_name.result (λ keeps. take
 pub returns-in-Rule-clause-end : goal.returns-in-Rule-clause-end
 returns-in-Rule-clause-end c = ok-then c.take_rule_name.result (λ keeps. takes_no_end _ (ap is_code c.in-Rule.is) keeps.end keeps.faults) c.take_rule_name.ensures
 
-pub returns-in-Level-clause-taken : goal.returns-in-Level-clause-taken
-returns-in-Level-clause-taken c = ok-then c.begin_level.result (λ keeps. takes_other _ keeps.symbols) c.begin_level.ensures.keeps
+pub returns-in_ok-push-in-Level-clause-taken : goal.returns-in_ok-push-in-Level-clause-taken
+returns-in_ok-push-in-Level-clause-taken c = takes_other _ record { names = record { text = refl; dialect = refl; words = refl; characters = refl }; partners = refl }
 
-pub returns-in-Level-clause-end : goal.returns-in-Level-clause-end
-returns-in-Level-clause-end c = ok-then c.begin_level.result (λ keeps. takes_no_end _ (ap is_code c.in-Level.is) keeps.end keeps.faults) c.begin_level.ensures.keeps
+pub returns-in_ok-push-in-Level-clause-end : goal.returns-in_ok-push-in-Level-clause-end
+returns-in_ok-push-in-Level-clause-end c = takes_no_end _ (ap is_code c.in-Level.is) refl (omega arith)
 
 pub returns-in-InLevel-clause-taken : goal.returns-in-InLevel-clause-taken
 returns-in-InLevel-clause-taken c = ok-then c.take_in_level.result (λ keeps. takes_other _ keeps.symbols) c.take_in_level.ensures.keeps
@@ -79,7 +79,7 @@ returns-in_ok-self-in-ExpectReduceReduce-clause-end c =
     takes_no_end _ (ap is_code c.in-ExpectReduceReduce.is) keeps.end keeps.faults
 
 pub returns-in-Token-clause-lines : goal.returns-in-Token-clause-lines
-returns-in-Token-clause-lines c = ok-then c.take_token.result (λ keeps. takes_no_line _ (ap begins c.in-Token.is) (ap puts c.in-Token.is) (ap decides c.in-Token.is) keeps.symbols.names keeps.lines) c.take_token.ensures
+returns-in-Token-clause-lines c = ok-then c.declare.result (λ keeps. takes_no_line _ (ap begins c.in-Token.is) (ap puts c.in-Token.is) (ap decides c.in-Token.is) keeps.symbols.names keeps.lines) c.declare.ensures
 
 pub returns-in-Rule-clause-lines : goal.returns-in-Rule-clause-lines
 returns-in-Rule-clause-lines c = ok-then c.take_rule_name.result (λ keeps. takes_no_line _ (ap begins c.in-Rule.is) (ap puts c.in-Rule.is) (ap decides c.in-Rule.is) keeps.symbols.names keeps.lines) c.take_rule_name.ensures
@@ -114,13 +114,12 @@ returns-in_ok-self-in-ExpectReduceReduce-clause-lines c =
     let keeps = c.in_ok-self-in-ExpectReduceReduce.ensures.keeps in
     takes_no_line _ (ap begins c.in-ExpectReduceReduce.is) (ap puts c.in-ExpectReduceReduce.is) (ap decides c.in-ExpectReduceReduce.is) keeps.symbols.names record { has_default = keeps.lines.has_default; levels = keeps.lines.levels; lines = keeps.lines.lines }
 
-pub returns-in-Level-clause-lines : goal.returns-in-Level-clause-lines
-returns-in-Level-clause-lines c =
+pub returns-in_ok-push-in-Level-clause-lines : goal.returns-in_ok-push-in-Level-clause-lines
+returns-in_ok-push-in-Level-clause-lines c =
     let old = c.args.self.now in
-    let new = c.begin_level.new.self in
-    ok-both c.begin_level.result
-    (λ keeps begun. subst (λ (s : Statement). TakesLines (s ∷ []) old new) (sym c.in-Level.is) (takes_level c.in-Level.kind keeps.symbols.names begun))
-    c.begin_level.ensures.keeps c.begin_level.ensures.begins
+    let new : Meaning = record old { levels = c.push.new.self } in
+    subst (λ (s : Statement). TakesLines (s ∷ []) old new) (sym c.in-Level.is)
+    (takes_level c.in-Level.kind record { text = refl; dialect = refl; words = refl; characters = refl } record { levels = c.in_ok-push-in-Level.ensures.items; lines = refl; has_default = refl })
 
 pub returns-in-InLevel-clause-lines : goal.returns-in-InLevel-clause-lines
 returns-in-InLevel-clause-lines c =
@@ -153,7 +152,7 @@ returns-in-Mention-clause-lines c =
     record { has_default = refl; levels = refl; lines = refl }
 
 pub returns-in-Token-clause-said : goal.returns-in-Token-clause-said
-returns-in-Token-clause-said c = ok-then c.take_token.result (λ keeps. takes_unsaid _ (ap speaks c.in-Token.is) keeps.symbols.names keeps.said keeps.faults) c.take_token.ensures
+returns-in-Token-clause-said c = ok-then c.declare.result (λ keeps. takes_unsaid _ (ap speaks c.in-Token.is) keeps.symbols.names keeps.said keeps.faults) c.declare.ensures
 
 pub returns-in-Rule-clause-said : goal.returns-in-Rule-clause-said
 returns-in-Rule-clause-said c = ok-then c.take_rule_name.result (λ keeps. takes_unsaid _ (ap speaks c.in-Rule.is) keeps.symbols.names keeps.said keeps.faults) c.take_rule_name.ensures
@@ -167,9 +166,11 @@ returns-in-LeftSide-clause-said c = ok-then c.take_class.result (λ keeps. takes
 pub returns-in-NamedPrecedence-clause-said : goal.returns-in-NamedPrecedence-clause-said
 returns-in-NamedPrecedence-clause-said c = ok-then c.take_class-in-NamedPrecedence.result (λ keeps. takes_unsaid _ (ap speaks c.in-NamedPrecedence.is) keeps.symbols.names keeps.said keeps.faults) c.take_class-in-NamedPrecedence.ensures
 
-pub returns-in-Level-clause-said : goal.returns-in-Level-clause-said
-returns-in-Level-clause-said c =
-    ok-both c.begin_level.result (λ keeps said. takes_unsaid _ (ap speaks c.in-Level.is) keeps.symbols.names said keeps.faults) c.begin_level.ensures.keeps c.begin_level.ensures.said
+pub returns-in_ok-push-in-Level-clause-said : goal.returns-in_ok-push-in-Level-clause-said
+returns-in_ok-push-in-Level-clause-said c =
+    takes_unsaid _ (ap speaks c.in-Level.is) record { text = refl; dialect = refl; words = refl; characters = refl }
+    record { expected = record { expected = refl; reductions = refl; generalized = refl }; starts = refl; started = refl }
+    (omega arith)
 
 pub returns-in-InLevel-clause-said : goal.returns-in-InLevel-clause-said
 returns-in-InLevel-clause-said c =
@@ -224,7 +225,7 @@ returns-in-Mention-clause-said c =
     (omega arith)
 
 pub returns-in-Token-clause-aliases : goal.returns-in-Token-clause-aliases
-returns-in-Token-clause-aliases c = ok-then c.take_token.result (λ keeps. takes_no_alias _ (ap is_alias c.in-Token.is) keeps.symbols keeps.faults) c.take_token.ensures
+returns-in-Token-clause-aliases c = ok-then c.declare.result (λ keeps. takes_no_alias _ (ap is_alias c.in-Token.is) keeps.symbols keeps.faults) c.declare.ensures
 
 pub returns-in-Rule-clause-aliases : goal.returns-in-Rule-clause-aliases
 returns-in-Rule-clause-aliases c = ok-then c.take_rule_name.result (λ keeps. takes_no_alias _ (ap is_alias c.in-Rule.is) keeps.symbols keeps.faults) c.take_rule_name.ensures
@@ -241,8 +242,8 @@ returns-in-NamedPrecedence-clause-aliases c = ok-then c.take_class-in-NamedPrece
 pub returns-in-Start-clause-aliases : goal.returns-in-Start-clause-aliases
 returns-in-Start-clause-aliases c = ok-then c.take_start.result (λ keeps. takes_no_alias _ (ap is_alias c.in-Start.is) keeps.symbols keeps.faults) c.take_start.ensures.keeps
 
-pub returns-in-Level-clause-aliases : goal.returns-in-Level-clause-aliases
-returns-in-Level-clause-aliases c = ok-then c.begin_level.result (λ keeps. takes_no_alias _ (ap is_alias c.in-Level.is) keeps.symbols keeps.faults) c.begin_level.ensures.keeps
+pub returns-in_ok-push-in-Level-clause-aliases : goal.returns-in_ok-push-in-Level-clause-aliases
+returns-in_ok-push-in-Level-clause-aliases c = takes_no_alias _ (ap is_alias c.in-Level.is) record { names = record { text = refl; dialect = refl; words = refl; characters = refl }; partners = refl } (omega arith)
 
 pub returns-in-InLevel-clause-aliases : goal.returns-in-InLevel-clause-aliases
 returns-in-InLevel-clause-aliases c = ok-then c.take_in_level.result (λ keeps. takes_no_alias _ (ap is_alias c.in-InLevel.is) keeps.symbols keeps.faults) c.take_in_level.ensures.keeps

@@ -9,13 +9,13 @@ pub returns-clause-numbered : goal.returns-clause-numbered
 returns-clause-numbered c =
     let name = λ (text : String Global). string_bytes text in
     let start = λ (span : Span). span.start in
-    let accept = c.in_ok-from_str.field-0 in
+    let accept = c.in_ok-accept.accept in
     let rules : c.add_rule.new.self.parts.rules.items ≡ accept ∷ [] =
     c.in_ok-add_rule.ensures.rules ∙ ap (λ (names : List (String Global)). names ++ accept ∷ []) c.empty-grammar.ensures.rules in
     let places : c.add_rule.new.self.rule_places.items ≡ c.nowhere.result ∷ [] =
     c.in_ok-add_rule.ensures.places ∙ ap (λ (spans : List Span). spans ++ c.nowhere.result ∷ []) c.empty-grammar.ensures.places in
     let many = ap (λ (spans : List Span). length (map start spans)) places ∙ sym (ap (λ (names : List (String Global)). length (map name names)) rules) in
-    let first = ap (λ (names : List (String Global)). slice_get (map name names) 0) rules ∙ ap Some c.in_ok-from_str.ensures.ok in
+    let first = ap (λ (names : List (String Global)). slice_get (map name names) 0) rules ∙ ap Some c.in_ok-accept.ensures.ok in
     numbered-none _ c.new.result c.new-2.result c.new-4.result c.new.ensures.empty c.new-2.ensures.empty c.new-4.ensures.empty many first
 
 pub returns-clause-levelled : goal.returns-clause-levelled

@@ -1,5 +1,6 @@
-use Rattle.std.proofs.Common.{◌∙◌}
-use Rattle.lryacc.proofs.DeclarationsRead.{listed-again, said-still, stays-listed, symbol-form, symbol-said}
+use Rattle.std.proofs.Common.{◌∙◌, refl}
+use Rattle.lryacc.specs.declared.contents.Statement.TheVariants as says
+use Rattle.lryacc.proofs.DeclarationsRead.{listed-again, said-still, states-other, stays-listed, symbol-form, symbol-said}
 use Rattle.lryacc.proofs.reader.Reader.listed_part.Goals as goal
 
 pub say-requires : goal.say-requires
@@ -12,8 +13,18 @@ pub returns-in_default-clause-listed : goal.returns-in_default-clause-listed
 returns-in_default-clause-listed c =
     listed-again c.take_tag.ensures.listed (stays-listed c.in_default.ensures.taken c.in_default.ensures.statements)
 
-pub returns-clause-listed : goal.returns-clause-listed
-returns-clause-listed c =
+pub returns-in_default-tag-clause-listed : goal.returns-in_default-tag-clause-listed
+returns-in_default-tag-clause-listed c =
+    let tag = c.take_tag.ensures.listed in
+    let is = said-still c.args.said tag.form c.requires in
+    let taken = c.in-Some.ensures.taken in
+    listed-again tag record {
+      declared = symbol-said c.say.new.self c.args.said is taken c.take_listed.ensures.statements c.in_ok-say.ensures.said;
+      form = c.in_ok-say.ensures.form ∙ symbol-form taken;
+    }
+
+pub returns-in_ok-state-clause-listed : goal.returns-in_ok-state-clause-listed
+returns-in_ok-state-clause-listed c =
     let tag = c.take_tag.ensures.listed in
     let is = said-still c.args.said tag.form c.requires in
     let taken = c.in-Some.ensures.taken in
@@ -22,4 +33,4 @@ returns-clause-listed c =
       declared = symbol-said c.say.new.self c.args.said is taken c.take_listed.ensures.statements c.in_ok-say.ensures.said;
       form = c.in_ok-say.ensures.form ∙ symbol-form taken;
     })
-    c.in_ok-listed.ensures.listed
+    (states-other (says.Tagged c.in-Some.symbol c.in-Some-tag.tag) refl c.state.ensures.stays c.in_ok-state.ensures.stated)

@@ -1,25 +1,60 @@
-use Rattle.std.proofs.Common.{◌≡◌, ◌∙◌, [], ap}
-use Rattle.lryacc.specs.DeclarationsRead.{StatesListed, all_stated, form_here, said_of}
-use Rattle.lryacc.proofs.AllBodiesRead.{on_ok_map}
-use Rattle.lryacc.proofs.DeclarationsRead.{form-stays, said-still, states}
+use Rattle.std.proofs.Common.{◌∙◌, ap, inl, inr, refl}
+use Rattle.lryacc.specs.declared.contents.Statement.TheVariants as says
+use Rattle.lryacc.specs.declared.declarations.Said.TheVariants as said
+use Rattle.lryacc.specs.DeclarationsRead.{all_stated, form_here, is_of_numbers, said_of}
+use Rattle.lryacc.proofs.DeclarationsRead.{form-stays, listed-none, said-as, said-still, states, tail-other}
+use Rattle.lryacc.proofs.NamesOfOne.{ok-then}
 use Rattle.lryacc.proofs.reader.Reader.say.Goals as goal
 
-pub say_behind-requires : goal.say_behind-requires
-say_behind-requires c = said-still c.args.said (form-stays c.state.ensures.stays) c.requires
+pub code_and_alias-requires : goal.code_and_alias-requires
+code_and_alias-requires c =
+    let is = said-still c.args.said (form-stays c.state.ensures.stays) c.requires in
+    elim c.in-DeclaredToken.is [
+      | inl e ↦ said-as said.DeclaredToken (form_here c.state.new.self) e is
+      | inr e ↦ said-as said.DeclaredRule (form_here c.state.new.self) e is
+    ]
 
-pub returns-clause-said : goal.returns-clause-said
-returns-clause-said c =
-    let old = c.args.self.now in
-    let new = c.say_behind.new.self in
-    let owed = said_of c.args.said c.args.symbol in
-    on_ok_map c.say_behind.result (StatesListed c.state.new.self new) (all_stated new [] ≡ all_stated old owed)
-    (λ listed. listed.declared ∙ (states c.of.result c.state.ensures.stays c.in_ok-state.ensures.stated ∙ ap (all_stated old) c.of.ensures))
-    c.say_behind.ensures.listed
+pub code-requires : goal.code-requires
+code-requires c =
+    let is = said-still c.args.said (form-stays c.state.ensures.stays) c.requires in
+    ap is_of_numbers (said-as said.Operator (form_here c.state.new.self) c.in-Operator.is is).1
 
-pub returns-clause-form : goal.returns-clause-form
-returns-clause-form c =
-    let old = c.args.self.now in
-    let new = c.say_behind.new.self in
-    on_ok_map c.say_behind.result (StatesListed c.state.new.self new) (form_here new ≡ form_here old)
-    (λ listed. listed.form ∙ form-stays c.state.ensures.stays)
-    c.say_behind.ensures.listed
+pub returns-in-DeclaredToken-clause-said : goal.returns-in-DeclaredToken-clause-said
+returns-in-DeclaredToken-clause-said c =
+    let first = states c.of.result c.state.ensures.stays c.in_ok-state.ensures.stated ∙ ap (all_stated c.args.self.now) c.of.ensures in
+    ok-then c.code_and_alias.result (λ listed. listed.declared ∙ first) c.code_and_alias.ensures.listed
+
+pub returns-in-DeclaredToken-clause-form : goal.returns-in-DeclaredToken-clause-form
+returns-in-DeclaredToken-clause-form c = ok-then c.code_and_alias.result (λ listed. listed.form ∙ form-stays c.state.ensures.stays) c.code_and_alias.ensures.listed
+
+pub returns-in-Operator-clause-said : goal.returns-in-Operator-clause-said
+returns-in-Operator-clause-said c =
+    let first = states c.of.result c.state.ensures.stays c.in_ok-state.ensures.stated ∙ ap (all_stated c.args.self.now) c.of.ensures in
+    ok-then c.code.result (λ listed. listed.declared ∙ first) c.code.ensures.listed
+
+pub returns-in-Operator-clause-form : goal.returns-in-Operator-clause-form
+returns-in-Operator-clause-form c = ok-then c.code.result (λ listed. listed.form ∙ form-stays c.state.ensures.stays) c.code.ensures.listed
+
+pub returns-in-PassedOver-clause-said : goal.returns-in-PassedOver-clause-said
+returns-in-PassedOver-clause-said c =
+    let first = states c.of.result c.state.ensures.stays c.in_ok-state.ensures.stated ∙ ap (all_stated c.args.self.now) c.of.ensures in
+    let last = c.state-in-PassedOver in
+    ok-then last.result (λ listed. listed.declared ∙ first)
+    (tail-other last.result (says.NotInRules c.args.symbol) refl last.ensures.stays last.ensures.stated (listed-none c.state.new.self))
+
+pub returns-in-PassedOver-clause-form : goal.returns-in-PassedOver-clause-form
+returns-in-PassedOver-clause-form c =
+    let last = c.state-in-PassedOver in
+    ok-then last.result (λ listed. listed.form ∙ form-stays c.state.ensures.stays)
+    (tail-other last.result (says.NotInRules c.args.symbol) refl last.ensures.stays last.ensures.stated (listed-none c.state.new.self))
+
+pub returns-in_default-clause-said : goal.returns-in_default-clause-said
+returns-in_default-clause-said c =
+    states c.of.result c.state.ensures.stays c.in_ok-state.ensures.stated ∙ ap (all_stated c.args.self.now) c.of.ensures
+
+pub returns-in_default-clause-form : goal.returns-in_default-clause-form
+returns-in_default-clause-form c = form-stays c.state.ensures.stays
+
+pub returns-in_default-2-clause-said : goal.returns-in_default-2-clause-said
+returns-in_default-2-clause-said c =
+    states c.of.result c.state.ensures.stays c.in_ok-state.ensures.stated ∙ ap (all_stated c.args.self.now) c.of.ensures
