@@ -57,6 +57,14 @@ IsSameFile-again one other = record {
   faults = omega (arith, one.faults, other.faults);
 }
 
+-- the reader stays where it is
+pub stays-none : (reader : Reader) → Stays reader reader
+stays-none reader = record {
+  file = record { text = refl; lexemes = refl; dialect = refl; bodies = refl; faults = omega arith };
+  at = refl;
+  count = refl;
+}
+
 -- the body goes on, and the reader goes over one more lexeme, which is none of its parts
 ReadsOn-aside : {old now new : Reader} {before after : Body} (k : LexemeKind) (found : Option Lexeme) → ReadsOn old now before after → Passes now new → slice_get now.lexemes.now now.at ≡ found → option_map (λ (lexeme : Lexeme). lexeme.kind) found ≡ Some k → is_aside k ≡ true → ReadsOn old new before after
 ReadsOn-aside {old} {now} {new} {before} {after} k found read passes here is no_part = record {

@@ -13,6 +13,7 @@ use crate::dialects::Dialect;
 use crate::directives::{Form, form_of, is_name_in_any_case};
 use crate::faults::{FaultKind, Halt, OldForm, Wanted};
 use crate::lexemes::{Lexeme, LexemeKind};
+use crate::places::bytes;
 use crate::reader::Reader;
 use std::alloc::AllocError;
 
@@ -96,16 +97,6 @@ struct Listing {
     wants_symbol: bool,
 }
 
-impl Listing {
-    /// Nothing was read.
-    fn new() -> Listing {
-        Listing {
-            tag: None,
-            wants_symbol: true,
-        }
-    }
-}
-
 impl<'a> Reader<'a> {
     /// Reads a declaration of a file for Bison, which stands before the rules or among them.
     pub(crate) fn bison_declaration(&mut self, is_among_rules: bool) -> Result<(), Halt>
@@ -118,7 +109,7 @@ impl<'a> Reader<'a> {
             return Err(self.wants(Wanted::Declaration));
         };
         let Some(form) = self.form(directive) else {
-            let kind = unknown(self.bytes(directive));
+            let kind = unknown(bytes(self.text, directive.span));
             return Err(self.fault(kind, directive.span));
         };
         if form.is_misplaced(is_among_rules) {
@@ -148,7 +139,7 @@ impl<'a> Reader<'a> {
         ensures { IfSome result (λ form. counted form
             ≡ form_of self.now.dialect (text_at self.now.text.now directive.span)) }
     {
-        match self.bytes(directive).strip_prefix(b"%".as_slice()) {
+        match bytes(self.text, directive.span).strip_prefix(b"%".as_slice()) {
             Some(name) => form_of(name, self.dialect),
             None => None,
         }
@@ -211,7 +202,10 @@ impl<'a> Reader<'a> {
         ensures told { IfErr result (λ halt. IsTold halt self.new) }
         ensures said { OnOk result (StatesDeclared self.old self.new) }
     {
-        let mut listing = Listing::new();
+        let mut listing = Listing {
+            tag: None,
+            wants_symbol: true,
+        };
         for _ in 0..self.lexemes.len() {
             if !self.listed_part(said, &mut listing)? {
                 break;
@@ -363,13 +357,13 @@ impl<'a> Reader<'a> {
         Ok(())
     }
 
-    /// Reads a symbol or a tag; false where neither stands here.
+    /// Reads a symbol or a tag, which may stand for each one or for none; false where neither stands here.
     fn mentioned(&mut self) -> Result<bool, AllocError>
         requires { form_here self.old ≡ Form.Nothing }
         ensures over { PassesNoDelimiter self.old self.new }
         ensures listed { OnOk result (StatesListed self.old self.new) }
     {
-        if self.skip_tag() {
+        if self.skip(LexemeKind::Tag) || self.skip(LexemeKind::AnyTag) {
             return Ok(true);
         }
         let Some(symbol) = self.take_symbol() else {
@@ -377,18 +371,6 @@ impl<'a> Reader<'a> {
         };
         self.state(Statement::Mention(symbol))?;
         Ok(true)
-    }
-
-    /// Passes over a tag, which may stand for each one or for none; false where none stands here.
-    fn skip_tag(&mut self) -> bool
-        requires { form_here self.old ≡ Form.Nothing }
-        ensures over { PassesNoDelimiter self.old self.new }
-        ensures listed { StatesListed self.old self.new }
-    {
-        if self.skip(LexemeKind::Tag) {
-            return true;
-        }
-        self.skip(LexemeKind::AnyTag)
     }
 
     /// Reads one piece of code, and so many at the most.

@@ -13,6 +13,7 @@ use crate::dialects::Dialect;
 use crate::directives::Form;
 use crate::faults::{FaultKind, Halt, Wanted};
 use crate::lexemes::{Lexeme, LexemeKind};
+use crate::places::bytes;
 use crate::reader::Reader;
 use crate::rules::Body;
 
@@ -26,7 +27,7 @@ impl<'a> Reader<'a> {
         let Some(first) = self.here() else {
             return Ok(());
         };
-        let is_header = self.bytes(first) == b"%grmtools".as_slice();
+        let is_header = bytes(self.text, first.span) == b"%grmtools".as_slice();
         if !is_header {
             return Ok(());
         }
@@ -76,7 +77,9 @@ impl<'a> Reader<'a> {
             Some(Form::ShownText) => self.shown_text(),
             Some(Form::Starts) => {
                 self.once(directive)?;
-                self.start()
+                let name = self.want(LexemeKind::Name, Wanted::Name)?;
+                self.state(Statement::Start(name))?;
+                Ok(())
             }
             Some(Form::ShiftReduce) => {
                 self.once(directive)?;
@@ -115,7 +118,7 @@ impl<'a> Reader<'a> {
                 break;
             }
             let is_directive = lexeme.kind == LexemeKind::Directive;
-            if is_directive && self.bytes(*lexeme) == self.bytes(directive) {
+            if is_directive && bytes(self.text, lexeme.span) == bytes(self.text, directive.span) {
                 return true;
             }
         }
@@ -131,18 +134,6 @@ impl<'a> Reader<'a> {
         if self.is_second(directive) {
             return Err(self.fault(FaultKind::SecondDirective, directive.span));
         }
-        Ok(())
-    }
-
-    /// Reads the start rule.
-    fn start(&mut self) -> Result<(), Halt>
-        requires { form_here self.old ≡ Form.Starts }
-        ensures over { PassesNoDelimiter self.old self.new }
-        ensures told { IfErr result (λ halt. IsTold halt self.new) }
-        ensures said { OnOk result (StatesDeclared self.old self.new) }
-    {
-        let name = self.want(LexemeKind::Name, Wanted::Name)?;
-        self.state(Statement::Start(name))?;
         Ok(())
     }
 

@@ -163,11 +163,6 @@ fn has_line(name: &[u8]) -> bool
         || name == b"%parse-generics".as_slice()
 }
 
-/// Whether a directive that names a parameter lacks the colon before its type.
-fn lacks_colon(name: &[u8], line: &[u8]) -> bool {
-    name == b"%parse-param".as_slice() && !line.contains(&b':')
-}
-
 /// The directive whose `%` stands at a place, with the rest of its line where that is Rust.
 fn directive(text: &[u8], from: usize) -> Result<(LexemeKind, usize), Fault>
     requires from { from < length text.now }
@@ -186,7 +181,8 @@ fn directive(text: &[u8], from: usize) -> Result<(LexemeKind, usize), Fault>
     if line.trim_ascii().is_empty() {
         return Err(wants(Wanted::Type, end, end));
     }
-    if lacks_colon(name, line) {
+    // A parameter has a colon before its type.
+    if name == b"%parse-param".as_slice() && !line.contains(&b':') {
         return Err(wants(Wanted::Colon, behind, behind));
     }
     Ok((LexemeKind::DirectiveLine, behind))
@@ -207,18 +203,6 @@ fn behind_percent(text: &[u8], from: usize) -> Result<(LexemeKind, usize), Fault
     }
 }
 
-/// The action whose brace stands at a place.
-fn action(text: &[u8], from: usize) -> Result<(LexemeKind, usize), Fault>
-    requires from { from < length text.now }
-    requires first { Begins 123 text.now from }
-    ensures from { IfOk result (λ found. from < found.1) }
-    ensures inside { IfOk result (λ found. found.1 ≤ length text.now) }
-    ensures is { IfOk result (λ found. IsGrmtoolsLexeme found.0 text.now from found.1) }
-{
-    let opening = Span::new(from, from + 1);
-    Ok((LexemeKind::Action, rust_code_end(text, opening, from + 1)?))
-}
-
 /// The lexeme of a file of grmtools that begins at a place.
 pub(crate) fn grmtools_lexeme_at(text: &[u8], from: usize) -> Result<(LexemeKind, usize), Fault>
     requires { from < length text.now }
@@ -229,7 +213,10 @@ pub(crate) fn grmtools_lexeme_at(text: &[u8], from: usize) -> Result<(LexemeKind
     let first = text[from];
     match first {
         b'%' => behind_percent(text, from),
-        b'{' => action(text, from),
+        b'{' => {
+            let opening = Span::new(from, from + 1);
+            Ok((LexemeKind::Action, rust_code_end(text, opening, from + 1)?))
+        }
         b'-' if text.get(from + 1) == Some(&b'>') => rule_type(text, from),
         b'\'' | b'"' => quoted(text, from),
         b':' => Ok((LexemeKind::Colon, from + 1)),

@@ -93,15 +93,7 @@ pub(crate) fn is_name_start(byte: u8) -> bool
     byte.is_ascii_alphabetic() || matches!(byte, b'.' | b'_')
 }
 
-/// Whether a word that begins with a digit is a number, perhaps a hexadecimal one.
-fn is_number(word: &[u8]) -> bool {
-    match word {
-        [b'0', b'x' | b'X', digits @ ..] => { !digits.is_empty() && Run::HexDigits.is_all(digits) }
-        _ => Run::Digits.is_all(word),
-    }
-}
-
-/// The number that begins at a place. A name that stands right behind it is a fault.
+/// The number that begins at a place, perhaps a hexadecimal one. A name that stands right behind it is a fault.
 fn number(text: &[u8], from: usize) -> Result<(LexemeKind, usize), Fault>
     requires from { from < length text.now }
     requires first { is_ascii_digit (slice_index text.now from) ≡ true }
@@ -110,7 +102,11 @@ fn number(text: &[u8], from: usize) -> Result<(LexemeKind, usize), Fault>
     ensures is { IfOk result (λ found. IsBisonLexeme found.0 text.now from found.1) }
 {
     let end = Run::Name.end(text, from + 1);
-    if is_number(&text[from..end]) {
+    let is_number = match &text[from..end] {
+        [b'0', b'x' | b'X', digits @ ..] => { !digits.is_empty() && Run::HexDigits.is_all(digits) }
+        word => Run::Digits.is_all(word),
+    };
+    if is_number {
         return Ok((LexemeKind::Number, end));
     }
     let span = Span::new(from, end);
@@ -281,20 +277,6 @@ fn may_follow_colon(byte: u8) -> bool {
         || matches!(byte, b' ' | b'\t' | b'\n' | 0x0b | 0x0c | b'\r')
 }
 
-/// The colon at a place.
-fn colon(text: &[u8], from: usize) -> Result<(LexemeKind, usize), Fault>
-    requires from { from < length text.now }
-    requires first { Begins 58 text.now from }
-    ensures from { IfOk result (λ found. from < found.1) }
-    ensures inside { IfOk result (λ found. found.1 ≤ length text.now) }
-    ensures is { IfOk result (λ found. IsBisonLexeme found.0 text.now from found.1) }
-{
-    match text.get(from + 1) {
-        Some(byte) if !may_follow_colon(*byte) => Err(invalid(from)),
-        _ => Ok((LexemeKind::Colon, from + 1)),
-    }
-}
-
 /// The character whose quote stands at a place.
 fn character(text: &[u8], from: usize) -> Result<(LexemeKind, usize), Fault>
     requires from { from < length text.now }
@@ -311,17 +293,6 @@ fn character(text: &[u8], from: usize) -> Result<(LexemeKind, usize), Fault>
     };
     let span = Span::new(from, end);
     Err(Fault { kind, span })
-}
-
-/// The text whose quote stands at a place.
-fn quoted_text(text: &[u8], from: usize) -> Result<(LexemeKind, usize), Fault>
-    requires from { from < length text.now }
-    requires first { Begins 34 text.now from }
-    ensures from { IfOk result (λ found. from < found.1) }
-    ensures inside { IfOk result (λ found. found.1 ≤ length text.now) }
-    ensures is { IfOk result (λ found. IsBisonLexeme found.0 text.now from found.1) }
-{
-    Ok((LexemeKind::Text, between_quotes(text, from, b'"')?.end))
 }
 
 /// The text to be translated that begins at a place with `_(`.
@@ -373,8 +344,11 @@ pub(crate) fn lexeme_at(text: &[u8], from: usize) -> Result<(LexemeKind, usize),
         b'<' => tag(text, from),
         b'[' => bracket(text, from),
         b'\'' => character(text, from),
-        b'"' => quoted_text(text, from),
-        b':' => colon(text, from),
+        b'"' => Ok((LexemeKind::Text, between_quotes(text, from, b'"')?.end)),
+        b':' => match text.get(from + 1) {
+            Some(byte) if !may_follow_colon(*byte) => Err(invalid(from)),
+            _ => Ok((LexemeKind::Colon, from + 1)),
+        },
         b'|' => Ok((LexemeKind::Bar, from + 1)),
         b';' => Ok((LexemeKind::Semicolon, from + 1)),
         b'=' => Ok((LexemeKind::Equals, from + 1)),

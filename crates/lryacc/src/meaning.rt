@@ -23,7 +23,7 @@ use crate::dialects::Dialect;
 use crate::faults::{Fault, FaultKind, OtherClass};
 use crate::lexemes::Lexeme;
 use crate::numbers::value_of;
-use crate::places::Span;
+use crate::places::{Span, bytes};
 use crate::symbols::{Class, Symbols};
 use std::alloc::{AllocError, Global};
 use std::collections::{BTreeMap, BTreeSet};
@@ -154,7 +154,7 @@ impl<'a> Meaning<'a> {
     {
         match statement {
             Statement::Token(symbol) => self.declare(symbol, Class::Token),
-            Statement::Rule(symbol) => self.take_rule_name(symbol),
+            Statement::Rule(symbol) => self.declare(symbol, Class::Rule),
             Statement::Code(symbol, number) => self.take_code(symbol, number),
             Statement::Alias(symbol, text) => self.take_alias(symbol, text),
             Statement::Level(kind) => {
@@ -197,7 +197,7 @@ impl<'a> Meaning<'a> {
         ensures value { IfOk result (λ value. MatchOption value (0 < vec_len self.new.faults)
             (λ value. value ≡ written_number (text_at self.old.symbols.text.now number.span))) }
     {
-        let value = value_of(self.symbols.bytes(number.span));
+        let value = value_of(bytes(self.symbols.text, number.span));
         if value.is_none() {
             self.tell(FaultKind::LargeNumber, number.span)?;
         }
@@ -277,7 +277,7 @@ impl<'a> Meaning<'a> {
     /// The place by which a name is ordered.
     fn place_of_name(&self, number: usize) -> usize {
         match self.symbols.list.get(number) {
-            Some(symbol) => symbol.place(),
+            Some(symbol) => symbol.span().start,
             None => 0,
         }
     }

@@ -7,7 +7,7 @@ ghost use Rattle.lryacc.specs.declared.parsers.Dynamic.{Dynamic};
 
 use crate::lexemes::{Lexeme, LexemeKind};
 use crate::numbers::value_of;
-use crate::places::Span;
+use crate::places::{Span, bytes};
 use std::alloc::{AllocError, Global};
 
 /// What a body says of two trees of one text that end with its production and another one.
@@ -43,13 +43,6 @@ impl Parser {
     {
         matches!(self, Parser::Generalized(_))
     }
-}
-
-/// The bytes at a place.
-fn bytes(text: &[u8], place: Span) -> &[u8]
-    ensures { result.now ≡ text_at text.now place }
-{
-    text.get(place.start..place.end).unwrap_or(b"")
 }
 
 /// What a directive and the lexeme behind it say to a generalized parser.

@@ -1,6 +1,7 @@
 //! Places in a file.
 
 ghost use Rattle.std.specs.Prelude.{◌≡◌};
+ghost use Rattle.lryacc.specs.NamedSymbols.{text_at};
 
 /// The bytes of a file from `start` up to `end`, counted from 0.
 #[derive(Clone, Copy, Debug, PartialEq, Eq)]
@@ -30,4 +31,11 @@ impl Span {
         let end = self.end.min(text.len());
         Span::new(self.start.min(end), end)
     }
+}
+
+/// The bytes at a place.
+pub(crate) fn bytes(text: &[u8], place: Span) -> &[u8]
+    ensures { result.now ≡ text_at text.now place }
+{
+    text.get(place.start..place.end).unwrap_or(b"")
 }

@@ -176,14 +176,6 @@ impl<'a> Reader<'a> {
         Halt::behind(self.tell(kind, span))
     }
 
-    /// The bytes of a lexeme.
-    pub(crate) fn bytes(&self, lexeme: Lexeme) -> &'a [u8]
-        ensures { result.now ≡ text_at self.now.text.now lexeme.span }
-    {
-        let text = self.text;
-        text.get(lexeme.span.start..lexeme.span.end).unwrap_or(b"")
-    }
-
     /// Takes a symbol.
     pub(crate) fn take_symbol(&mut self) -> Option<Lexeme>
         ensures taken { MatchOption result (Stays self.old self.new) (λ lexeme.

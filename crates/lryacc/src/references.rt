@@ -12,7 +12,7 @@ use crate::gaps::gap_end;
 use crate::lexemes::{Lexeme, is_name_start};
 use crate::meaning::Meaning;
 use crate::numbers::value_of;
-use crate::places::Span;
+use crate::places::{Span, bytes};
 use crate::runs::Run;
 use crate::values::{behind_tag, name_between};
 use std::alloc::{AllocError, Global};
@@ -108,7 +108,7 @@ impl<'a> Meaning<'a> {
         match part {
             BodyPart::Symbol(symbol) => call.is_of(self.called(symbol)),
             BodyPart::Action(_, Some(name)) => {
-                call.is_of(name_between(self.symbols.bytes(name.span)))
+                call.is_of(name_between(bytes(self.symbols.text, name.span)))
             }
             BodyPart::Action(_, None) => false,
         }
@@ -175,7 +175,7 @@ impl<'a> Meaning<'a> {
     ) -> Result<(), AllocError>
         ensures { OnOk result (KeepsMeaning self.old self.new) }
     {
-        let code = self.symbols.bytes(action.span);
+        let code = bytes(self.symbols.text, action.span);
         let begin = action.span.start;
         let mut reader = CodeReader::new();
         // The place behind the last mark.

@@ -13,7 +13,7 @@ use crate::contents::{Alternative, BodyPart, Statement};
 use crate::dialects::Dialect;
 use crate::faults::{FaultKind, Halt, Wanted};
 use crate::lexemes::{Lexeme, LexemeKind};
-use crate::places::Span;
+use crate::places::{Span, bytes};
 use crate::reader::Reader;
 use crate::runs::Run;
 use std::alloc::{AllocError, Global};
@@ -261,7 +261,7 @@ impl<'a> Reader<'a> {
             (_, LexemeKind::Bar | LexemeKind::Semicolon) => true,
             (Dialect::Bison, LexemeKind::RuleName | LexemeKind::Separator) => true,
             (Dialect::Bison, LexemeKind::Directive) => {
-                !is_in_bodies(self.bytes(lexeme), Dialect::Bison)
+                !is_in_bodies(bytes(self.text, lexeme.span), Dialect::Bison)
             }
             _ => false,
         }

@@ -10,7 +10,7 @@ ghost use Rattle.lryacc.specs.DeclarationsRead.{StatesAll, StatesDeclared};
 use crate::dialects::Dialect;
 use crate::faults::{FaultKind, Halt, OldForm, Wanted};
 use crate::lexemes::LexemeKind;
-use crate::places::Span;
+use crate::places::{Span, bytes};
 use crate::reader::Reader;
 use std::alloc::AllocError;
 
@@ -155,7 +155,7 @@ impl<'a> Reader<'a> {
         let Some(mark) = self.take(LexemeKind::Separator) else {
             return Ok(false);
         };
-        if self.bytes(mark) != b"%%".as_slice() {
+        if bytes(self.text, mark.span) != b"%%".as_slice() {
             self.tell(FaultKind::Old(OldForm::Backslashes), mark.span)?;
         }
         Ok(true)
@@ -195,26 +195,18 @@ impl<'a> Reader<'a> {
         }
     }
 
-    /// Reads rules up to behind the second `%%`, or up to the end.
+    /// Reads rules up to behind the second `%%`, or up to the end. A file for Bison without one is told, unless something is wrong
+    /// already.
     fn rules(&mut self) -> Result<(), AllocError>
         ensures faults { vec_len self.old.contents.faults ≤ vec_len self.new.contents.faults }
         ensures read { OnOk result (IsWhole self.new → ReadsAll self.old self.new) }
         ensures said { OnOk result (IsWhole self.new → StatesAll self.old self.new) }
     {
-        self.tell_missing_rule()?;
+        if self.is_at_end() && self.dialect == Dialect::Bison {
+            self.tell_unless_broken(Wanted::Rule)?;
+        }
         self.each_rule()?;
         let _ = self.separator()?;
-        Ok(())
-    }
-
-    /// Tells that a file for Bison has no rule, unless something is wrong already.
-    fn tell_missing_rule(&mut self) -> Result<(), AllocError>
-        ensures stays { Stays self.old self.new }
-        ensures statements { self.new.contents.statements ≡ self.old.contents.statements }
-    {
-        if self.is_at_end() && self.dialect == Dialect::Bison {
-            return self.tell_unless_broken(Wanted::Rule);
-        }
         Ok(())
     }
 

@@ -10,7 +10,7 @@ ghost use Rattle.lryacc.specs.NamedSymbols.{AddsName, AddsNames, AreApart, HaveN
 use crate::contents::{Alternative, BodyPart, Contents, Statement};
 use crate::dialects::Dialect;
 use crate::lexemes::{Lexeme, LexemeKind};
-use crate::places::Span;
+use crate::places::{Span, bytes};
 use std::alloc::{AllocError, Global};
 use std::collections::BTreeMap;
 
@@ -61,17 +61,12 @@ impl Symbol {
     pub(crate) fn span(&self) -> Span {
         self.declared.unwrap_or(self.mention.span)
     }
-
-    /// The place by which it is ordered among the others of its class.
-    pub(crate) fn place(&self) -> usize {
-        self.span().start
-    }
 }
 
 /// The symbols of a file, in the order in which they are named first.
 #[derive(Drop)]
 pub(crate) struct Symbols<'a> {
-    text: &'a [u8],
+    pub(crate) text: &'a [u8],
     pub(crate) dialect: Dialect,
     names: BTreeMap<&'a [u8], usize>,
     characters: BTreeMap<u8, usize>,
@@ -96,14 +91,6 @@ impl<'a> Symbols<'a> {
             partners: BTreeMap::new(alloc),
             list: Vec::new(alloc),
         }
-    }
-
-    /// The bytes at a place.
-    pub(crate) fn bytes(&self, place: Span) -> &'a [u8]
-        ensures { result.now ≡ text_at self.now.text.now place }
-    {
-        let text = self.text;
-        text.get(place.start..place.end).unwrap_or(b"")
     }
 
     /// The text behind a place.
@@ -134,7 +121,7 @@ impl<'a> Symbols<'a> {
     pub(crate) fn name(&self, lexeme: Lexeme) -> &'a [u8]
         ensures { result.now ≡ name_of self.now.text.now self.now.dialect lexeme }
     {
-        let bytes = self.bytes(lexeme.span);
+        let bytes = bytes(self.text, lexeme.span);
         match lexeme.kind {
             LexemeKind::TranslatedText => match bytes {
                 [b'_', b'(', quoted @ .., b')'] => quoted,

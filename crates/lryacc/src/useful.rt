@@ -158,24 +158,15 @@ impl Search {
         Ok(())
     }
 
-    /// Finds a symbol, if it is a rule.
-    fn find_symbol(&mut self, symbol: PartSymbol) -> Result<(), AllocError>
-        ensures { OnOk result (FindsAmong (part_symbol_of symbol ∷ []) self.old.found.items
-            self.new.found.items) }
-    {
-        match symbol {
-            PartSymbol::Rule(rule) => self.find(rule),
-            PartSymbol::Token(_) => Ok(()),
-        }
-    }
-
     /// Finds the rules among the symbols.
     fn find_rules(&mut self, symbols: &[PartSymbol]) -> Result<(), AllocError>
         ensures { OnOk result (FindsAmong (map part_symbol_of symbols.now) self.old.found.items
             self.new.found.items) }
     {
         for symbol in symbols {
-            self.find_symbol(*symbol)?;
+            if let PartSymbol::Rule(rule) = symbol {
+                self.find(*rule)?;
+            }
         }
         Ok(())
     }
@@ -265,17 +256,6 @@ fn add_uses(
     Ok(count)
 }
 
-/// Searches for the rules that derive a text.
-fn search_productive(alloc: Global, parts: &GrammarParts) -> Result<Search, AllocError>
-    ensures { IfOk result (λ search. AreProductive (vec_len parts.now.rules)
-        (productions_in parts.now) search.found.items) }
-{
-    let mut search = Search::new(alloc, parts.rules.len())?;
-    let mut uses = uses_of(alloc, parts, &mut search)?;
-    find_productive(&mut search, &mut uses, parts)?;
-    Ok(search)
-}
-
 /// Finds the rules that derive a text by those that are found.
 #[tactic(auto, using(crate::proofs::LeastSets::finds_again, crate::proofs::LeastSets::finds_nothing))]
 fn find_productive(
@@ -328,7 +308,9 @@ fn productive(alloc: Global, parts: &GrammarParts) -> Result<Search, AllocError>
     ensures least { IfOk result (λ search. AreProductive (vec_len parts.now.rules)
         (productions_in parts.now) search.found.items) }
 {
-    let mut search = search_productive(alloc, parts)?;
+    let mut search = Search::new(alloc, parts.rules.len())?;
+    let mut uses = uses_of(alloc, parts, &mut search)?;
+    find_productive(&mut search, &mut uses, parts)?;
     while let Some(rule) = search.lacking(parts) {
         search.find(rule)?;
     }
@@ -342,21 +324,6 @@ fn prods_of_rules(alloc: Global, parts: &GrammarParts) -> Result<Vec<Vec<usize>>
         add_to(&mut by_rule, parts.prods[prod].rule, prod)?;
     }
     Ok(by_rule)
-}
-
-/// Searches for the rules that are reached from rule 0 over productions that derive a text.
-fn search_reached(
-    alloc: Global,
-    parts: &GrammarParts,
-    productive: &Search,
-) -> Result<Search, AllocError>
-    ensures { IfOk result (λ search. AreReached productive.now.found.items
-        (vec_len parts.now.rules) (productions_in parts.now) search.found.items) }
-{
-    let by_rule = prods_of_rules(alloc, parts)?;
-    let mut search = Search::new(alloc, parts.rules.len())?;
-    find_reached(&mut search, by_rule.as_slice(), parts, productive)?;
-    Ok(search)
 }
 
 /// Finds the rules that are reached from rule 0 over productions that derive a text.
@@ -407,7 +374,9 @@ fn reached(alloc: Global, parts: &GrammarParts, productive: &Search) -> Result<S
     ensures least { IfOk result (λ search. AreReached productive.now.found.items
         (vec_len parts.now.rules) (productions_in parts.now) search.found.items) }
 {
-    let mut search = search_reached(alloc, parts, productive)?;
+    let by_rule = prods_of_rules(alloc, parts)?;
+    let mut search = Search::new(alloc, parts.rules.len())?;
+    find_reached(&mut search, by_rule.as_slice(), parts, productive)?;
     while let Some(rule) = search.lacking_reached(parts, productive) {
         search.find(rule)?;
     }

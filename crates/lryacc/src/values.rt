@@ -6,6 +6,7 @@ use crate::code::{CodeReader, Ending};
 use crate::contents::BodyPart;
 use crate::dialects::Dialect;
 use crate::gaps::gap_end;
+use crate::places::bytes;
 use crate::references::{Call, call_of_mark};
 use crate::runs::Run;
 use crate::symbols::Symbols;
@@ -109,10 +110,10 @@ pub(crate) fn used_values(
         if let BodyPart::Action(action, name) = parts[at] {
             let is_last = at.saturating_add(1) == parts.len();
             if let (Some(name), false) = (name, is_last) {
-                let name = name_between(symbols.bytes(name.span));
+                let name = name_between(bytes(symbols.text, name.span));
                 uses.names.insert(name, at)?;
             }
-            uses.take_code(at, symbols.bytes(action.span));
+            uses.take_code(at, bytes(symbols.text, action.span));
         }
     }
     Ok(uses.used)

@@ -41,26 +41,21 @@ impl<'a> Meaning<'a> {
         self.warn(self.second_name(one, other), text.span)
     }
 
-    /// Where a symbol is declared, or else is named first.
-    fn span(&self, number: usize) -> Option<Span> {
-        Some(self.symbols.list.get(number)?.span())
-    }
-
     /// Why a text can't become another name of a symbol.
     fn second_name(&self, symbol: usize, text: usize) -> FaultKind
         ensures { proposal result ≡ None }
     {
         if let Some(holder) = self.symbols.partner(text) {
-            return match self.span(holder) {
-                Some(span) => FaultKind::TextOfOther(span),
+            return match self.symbols.list.get(holder) {
+                Some(symbol) => FaultKind::TextOfOther(symbol.span()),
                 None => FaultKind::SecondName,
             };
         }
         let Some(first) = self.symbols.partner(symbol) else {
             return FaultKind::SecondName;
         };
-        match self.span(first) {
-            Some(span) => FaultKind::SecondText(span),
+        match self.symbols.list.get(first) {
+            Some(symbol) => FaultKind::SecondText(symbol.span()),
             None => FaultKind::SecondName,
         }
     }

@@ -43,11 +43,14 @@ impl<'a> Meaning<'a> {
         Ok(())
     }
 
-    /// Takes in that a symbol is declared here, one of that class, and warns where it was declared before. For grmtools each use
-    /// between quotes declares a token.
+    /// Takes in that a symbol is declared here, one of that class, and warns where it was declared before. A rule is to have a name.
+    /// For grmtools each use between quotes declares a token.
     pub(super) fn declare(&mut self, lexeme: Lexeme, class: Class) -> Result<(), AllocError>
         ensures { OnOk result (KeepsMeaning self.old self.new) }
     {
+        if class == Class::Rule && lexeme.kind != LexemeKind::Name {
+            return self.tell(FaultKind::CharacterAsRule, lexeme.span);
+        }
         self.take_class(lexeme, class, OtherClass::Both)?;
         let Some(number) = self.symbols.find(lexeme) else {
             return Ok(());
@@ -77,16 +80,6 @@ impl<'a> Meaning<'a> {
         }
         self.starts.push(lexeme)?;
         Ok(())
-    }
-
-    /// Takes in that a symbol is declared a rule.
-    pub(super) fn take_rule_name(&mut self, lexeme: Lexeme) -> Result<(), AllocError>
-        ensures { OnOk result (KeepsMeaning self.old self.new) }
-    {
-        if lexeme.kind != LexemeKind::Name {
-            return self.tell(FaultKind::CharacterAsRule, lexeme.span);
-        }
-        self.declare(lexeme, Class::Rule)
     }
 
     /// Takes in the number of a token. It is less than the greatest one that is read.

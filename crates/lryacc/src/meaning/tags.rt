@@ -6,7 +6,7 @@ ghost use Rattle.lryacc.specs.EndTokens.{KeepsMeaning};
 use crate::faults::FaultKind;
 use crate::lexemes::Lexeme;
 use crate::meaning::Meaning;
-use crate::places::Span;
+use crate::places::{Span, bytes};
 use std::alloc::AllocError;
 
 impl<'a> Meaning<'a> {
@@ -46,7 +46,7 @@ impl<'a> Meaning<'a> {
         let (Some((tag, here)), Some((other_tag, there))) = (self.tag(one), self.tag(other)) else {
             return Ok(());
         };
-        if self.symbols.bytes(tag) == self.symbols.bytes(other_tag) {
+        if bytes(self.symbols.text, tag) == bytes(self.symbols.text, other_tag) {
             return Ok(());
         }
         let (first, later) = if here.start < there.start {

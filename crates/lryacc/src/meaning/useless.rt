@@ -42,7 +42,11 @@ impl<'a> Meaning<'a> {
             self.tell_token_starts()?;
         }
         self.tell_unproductive(useless.starts.as_slice())?;
-        self.warn_of_rules(dialect, contents, useless.rules.as_slice())?;
+        let rules = useless.rules.as_slice();
+        match dialect {
+            Dialect::Bison => self.warnings.extend_from_slice(rules)?,
+            Dialect::Grmtools => self.warn_unless_expected(contents, rules)?,
+        }
         let productions = useless.productions.as_slice();
         add_at(
             &mut self.warnings,
@@ -72,25 +76,6 @@ impl<'a> Meaning<'a> {
                 Ok(FaultKind::StartHasNoRule(self.near(name, Meant::Rule)?))
             }
             _ => Ok(FaultKind::StartIsUnproductive),
-        }
-    }
-
-    /// Warns of useless rules.
-    fn warn_of_rules(
-        &mut self,
-        dialect: Dialect,
-        contents: &Contents,
-        rules: &[Fault],
-    ) -> Result<(), AllocError>
-        ensures { OnOk result (dialect ≡ Dialect.Bison → vec_len self.new.warnings
-            ≡ vec_len self.old.warnings + length rules.now) }
-    {
-        match dialect {
-            Dialect::Bison => Ok(self.warnings.extend_from_slice(rules)?),
-            Dialect::Grmtools => {
-                self.warn_unless_expected(contents, rules)?;
-                Ok(())
-            }
         }
     }
 

@@ -69,19 +69,6 @@ impl<'m, 'a> Numbering<'m, 'a> {
         }
     }
 
-    /// The token that a body names by `%prec`. Where that is of a `%precedence` line, it is the one below.
-    fn precedence_by(&self, name: Lexeme) -> Result<usize, NoProductions>
-        requires numbered { IsNumbered self.now }
-        requires levelled { IsLevelled self.now }
-        ensures { IfOk result (IsPrecedenceBy (names_of self.now) name) }
-    {
-        match (self.below_of(name)?, self.token(name)) {
-            (Some(below), _) => Ok(below),
-            (None, Some(token)) => Ok(token),
-            (None, None) => Err(NoProductions::Undefined(name.span)),
-        }
-    }
-
     /// The token that a body without `%prec` names for its precedence, where that is not simply its last one.
     fn precedence_without(&self, alternative: &Alternative) -> Result<Option<usize>, NoProductions>
         requires numbered { IsNumbered self.now }
@@ -101,7 +88,8 @@ impl<'m, 'a> Numbering<'m, 'a> {
         }
     }
 
-    /// The token that the production of a body names for its precedence, where that is not simply its last one.
+    /// The token that the production of a body names for its precedence, where that is not simply its last one. Where the one behind
+    /// `%prec` is of a `%precedence` line, it is the one below.
     pub(super) fn named_precedence(
         &self,
         alternative: &Alternative,
@@ -111,9 +99,13 @@ impl<'m, 'a> Numbering<'m, 'a> {
         ensures { IfOk result (IsPrecedence (names_of self.now) alternative.now.precedence
             alternative.now.parts.items) }
     {
-        match alternative.precedence {
-            Some(name) => Ok(Some(self.precedence_by(name)?)),
-            None => self.precedence_without(alternative),
+        let Some(name) = alternative.precedence else {
+            return self.precedence_without(alternative);
+        };
+        match (self.below_of(name)?, self.token(name)) {
+            (Some(below), _) => Ok(Some(below)),
+            (None, Some(token)) => Ok(Some(token)),
+            (None, None) => Err(NoProductions::Undefined(name.span)),
         }
     }
 }

@@ -11,6 +11,7 @@ use crate::dialects::Dialect;
 use crate::directives::Form;
 use crate::faults::{FaultKind, Halt, OldForm, Wanted};
 use crate::lexemes::{Lexeme, LexemeKind};
+use crate::places::bytes;
 use crate::reader::Reader;
 use crate::rules::{Body, is_in_bodies};
 
@@ -68,7 +69,7 @@ impl<'a> Reader<'a> {
     {
         self.pass();
         body.reach(directive);
-        if self.bytes(directive) == b"%prec".as_slice() {
+        if bytes(self.text, directive.span) == b"%prec".as_slice() {
             self.body_precedence(body)
         } else {
             self.body_directive(body, form, directive)
@@ -81,7 +82,8 @@ impl<'a> Reader<'a> {
         ensures stands { IsSome result
             → is_in_bodies Dialect.Bison (text_at self.now.text.now lexeme.span) ≡ true }
     {
-        if lexeme.kind == LexemeKind::Directive && is_in_bodies(self.bytes(lexeme), self.dialect) {
+        let word = bytes(self.text, lexeme.span);
+        if lexeme.kind == LexemeKind::Directive && is_in_bodies(word, self.dialect) {
             self.form(lexeme)
         } else {
             None

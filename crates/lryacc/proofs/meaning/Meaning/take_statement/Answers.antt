@@ -18,10 +18,10 @@ pub returns-in-Token-clause-end : goal.returns-in-Token-clause-end
 returns-in-Token-clause-end c = ok-then c.declare.result (λ keeps. takes_no_end _ (ap is_code c.in-Token.is) keeps.end keeps.faults) c.declare.ensures
 
 pub returns-in-Rule-clause-taken : goal.returns-in-Rule-clause-taken
-returns-in-Rule-clause-taken c = ok-then c.take_rule_name.result (λ keeps. takes_other _ keeps.symbols) c.take_rule_name.ensures
+returns-in-Rule-clause-taken c = ok-then c.declare-in-Rule.result (λ keeps. takes_other _ keeps.symbols) c.declare-in-Rule.ensures
 
 pub returns-in-Rule-clause-end : goal.returns-in-Rule-clause-end
-returns-in-Rule-clause-end c = ok-then c.take_rule_name.result (λ keeps. takes_no_end _ (ap is_code c.in-Rule.is) keeps.end keeps.faults) c.take_rule_name.ensures
+returns-in-Rule-clause-end c = ok-then c.declare-in-Rule.result (λ keeps. takes_no_end _ (ap is_code c.in-Rule.is) keeps.end keeps.faults) c.declare-in-Rule.ensures
 
 pub returns-in_ok-push-in-Level-clause-taken : goal.returns-in_ok-push-in-Level-clause-taken
 returns-in_ok-push-in-Level-clause-taken c = takes_other _ record { names = record { text = refl; dialect = refl; words = refl; characters = refl }; partners = refl }
@@ -82,7 +82,7 @@ pub returns-in-Token-clause-lines : goal.returns-in-Token-clause-lines
 returns-in-Token-clause-lines c = ok-then c.declare.result (λ keeps. takes_no_line _ (ap begins c.in-Token.is) (ap puts c.in-Token.is) (ap decides c.in-Token.is) keeps.symbols.names keeps.lines) c.declare.ensures
 
 pub returns-in-Rule-clause-lines : goal.returns-in-Rule-clause-lines
-returns-in-Rule-clause-lines c = ok-then c.take_rule_name.result (λ keeps. takes_no_line _ (ap begins c.in-Rule.is) (ap puts c.in-Rule.is) (ap decides c.in-Rule.is) keeps.symbols.names keeps.lines) c.take_rule_name.ensures
+returns-in-Rule-clause-lines c = ok-then c.declare-in-Rule.result (λ keeps. takes_no_line _ (ap begins c.in-Rule.is) (ap puts c.in-Rule.is) (ap decides c.in-Rule.is) keeps.symbols.names keeps.lines) c.declare-in-Rule.ensures
 
 pub returns-in-Tagged-clause-lines : goal.returns-in-Tagged-clause-lines
 returns-in-Tagged-clause-lines c = ok-then c.take_tag.result (λ keeps. takes_no_line _ (ap begins c.in-Tagged.is) (ap puts c.in-Tagged.is) (ap decides c.in-Tagged.is) keeps.symbols.names keeps.lines) c.take_tag.ensures
@@ -155,7 +155,7 @@ pub returns-in-Token-clause-said : goal.returns-in-Token-clause-said
 returns-in-Token-clause-said c = ok-then c.declare.result (λ keeps. takes_unsaid _ (ap speaks c.in-Token.is) keeps.symbols.names keeps.said keeps.faults) c.declare.ensures
 
 pub returns-in-Rule-clause-said : goal.returns-in-Rule-clause-said
-returns-in-Rule-clause-said c = ok-then c.take_rule_name.result (λ keeps. takes_unsaid _ (ap speaks c.in-Rule.is) keeps.symbols.names keeps.said keeps.faults) c.take_rule_name.ensures
+returns-in-Rule-clause-said c = ok-then c.declare-in-Rule.result (λ keeps. takes_unsaid _ (ap speaks c.in-Rule.is) keeps.symbols.names keeps.said keeps.faults) c.declare-in-Rule.ensures
 
 pub returns-in-Tagged-clause-said : goal.returns-in-Tagged-clause-said
 returns-in-Tagged-clause-said c = ok-then c.take_tag.result (λ keeps. takes_unsaid _ (ap speaks c.in-Tagged.is) keeps.symbols.names keeps.said keeps.faults) c.take_tag.ensures
@@ -228,7 +228,7 @@ pub returns-in-Token-clause-aliases : goal.returns-in-Token-clause-aliases
 returns-in-Token-clause-aliases c = ok-then c.declare.result (λ keeps. takes_no_alias _ (ap is_alias c.in-Token.is) keeps.symbols keeps.faults) c.declare.ensures
 
 pub returns-in-Rule-clause-aliases : goal.returns-in-Rule-clause-aliases
-returns-in-Rule-clause-aliases c = ok-then c.take_rule_name.result (λ keeps. takes_no_alias _ (ap is_alias c.in-Rule.is) keeps.symbols keeps.faults) c.take_rule_name.ensures
+returns-in-Rule-clause-aliases c = ok-then c.declare-in-Rule.result (λ keeps. takes_no_alias _ (ap is_alias c.in-Rule.is) keeps.symbols keeps.faults) c.declare-in-Rule.ensures
 
 pub returns-in-Tagged-clause-aliases : goal.returns-in-Tagged-clause-aliases
 returns-in-Tagged-clause-aliases c = ok-then c.take_tag.result (λ keeps. takes_no_alias _ (ap is_alias c.in-Tagged.is) keeps.symbols keeps.faults) c.take_tag.ensures

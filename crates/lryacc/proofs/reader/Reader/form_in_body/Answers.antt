@@ -7,4 +7,4 @@ use Rattle.lryacc.proofs.reader.Reader.form_in_body.Goals as goal
 pub returns-then-is_in_bodies-clause-stands : goal.returns-then-is_in_bodies-clause-stands
 returns-then-is_in_bodies-clause-stands c = λ some.
     stands-for_bison c.args.self.now.dialect (text_at c.args.self.now.text.now c.args.lexeme.span)
-    (ap (is_in_bodies c.args.self.now.dialect) (sym c.bytes.ensures) ∙ (sym c.is_in_bodies.ensures ∙ c.if-is_in_bodies.true))
+    (ap (is_in_bodies c.args.self.now.dialect) (sym c.bytes-word.ensures) ∙ (sym c.is_in_bodies.ensures ∙ c.if-is_in_bodies.true))

@@ -1,10 +1,13 @@
-use Rattle.std.proofs.Common.{◌≡◌, ◌∙◌, [], ◌∷◌, Some, ap}
+use Rattle.std.proofs.Common.{◌≡◌, ◌∙◌, [], ◌∷◌, Some, ap, sym}
 use Rattle.lryacc.specs.declared.contents.Statement.TheVariants as says
 use Rattle.lryacc.specs.declared.directives.Form.{Form}
 use Rattle.lryacc.specs.declared.directives.Form.TheVariants as form
 use Rattle.lryacc.specs.Bodies.{delimiters_read}
 use Rattle.lryacc.specs.DeclarationsRead.{StatesDeclared}
-use Rattle.lryacc.proofs.DeclarationsRead.{count-directive, directive-some, form-stays, on-ok-always, states, stays-stated, tail-declared, tail-directive, tail-stated, tail-when}
+use Rattle.lryacc.proofs.DeclarationsRead.{count-directive, directive-some, form-stays, on-ok-always, states, stays-stated, tail-declared, tail-directive, tail-stated, tail-when, takes-kind}
+use Rattle.lryacc.specs.Declarations.{symbol_declares}
+use Rattle.lryacc.specs.DeclarationsRead.{all_stated}
+use Rattle.lryacc.specs.declared.lexemes.LexemeKind.TheVariants as kind
 use Rattle.lryacc.proofs.reader.Reader.grmtools_declaration.Goals as goal
 
 pub said-requires : goal.said-requires
@@ -50,13 +53,14 @@ returns-in_ok-state-in-Some-Level-clause-said c =
     (tail-directive c.args.self.now c.take.new.self new c.said-in-Some-Level.result (level ∷ []) (directive-some c.form.result (form.Level c.in-Some-Level.kind) (c.in-Some-Level.is ∙ ap (λ (f : Form). Some f) c.in-Some-Level.field-0-is) c.form.ensures c.in-Some.ensures.taken c.take.ensures.statements).0
     (tail-stated c.take.new.self c.state.new.self new c.said-in-Some-Level.result (level ∷ []) (states level c.state.ensures.stays c.in_ok-state-in-Some-Level.ensures.stated) c.said-in-Some-Level.ensures.said))
 
-pub start-requires : goal.start-requires
-start-requires c = form-stays c.once.ensures.stays ∙ (directive-some c.form.result form.Starts (c.in-Some-Starts.is ∙ ap (λ (f : Form). Some f) c.in-Some-Starts.field-0-is) c.form.ensures c.in-Some.ensures.taken c.take.ensures.statements).1
-
-pub returns-in_ok-once-in-Some-Starts-clause-said : goal.returns-in_ok-once-in-Some-Starts-clause-said
-returns-in_ok-once-in-Some-Starts-clause-said c =
-    on-ok-always c.start.result (StatesDeclared c.args.self.now c.start.new.self) (delimiters_read c.args.self.now ≡ 0)
-    (tail-declared c.args.self.now c.once.new.self c.start.new.self c.start.result (stays-stated [] c.once.ensures.stays c.once.ensures.statements ∙ (directive-some c.form.result form.Starts (c.in-Some-Starts.is ∙ ap (λ (f : Form). Some f) c.in-Some-Starts.field-0-is) c.form.ensures c.in-Some.ensures.taken c.take.ensures.statements).0) c.start.ensures.said)
+pub returns-in_ok-state-in-Some-Starts-clause-said : goal.returns-in_ok-state-in-Some-Starts-clause-said
+returns-in_ok-state-in-Some-Starts-clause-said c = λ none.
+    let name = c.in_ok-name-in-Some-Starts.name in
+    let directive = (directive-some c.form.result form.Starts (c.in-Some-Starts.is ∙ ap (λ (f : Form). Some f) c.in-Some-Starts.field-0-is) c.form.ensures c.in-Some.ensures.taken c.take.ensures.statements) in
+    let form = form-stays c.once.ensures.stays ∙ directive.1 in
+    let taken = takes-kind kind.Name c.in_ok-name-in-Some-Starts.ensures.taken c.want.ensures.statements ∙ ap (λ (f : Form). all_stated c.want.new.self (symbol_declares f name)) form in
+    states (says.Start name) c.state-in-Some-Starts.ensures.stays c.in_ok-state-in-Some-Starts.ensures.stated
+    ∙ (sym taken ∙ (stays-stated [] c.once.ensures.stays c.once.ensures.statements ∙ directive.0))
 
 pub expected-requires : goal.expected-requires
 expected-requires c = form-stays c.once-in-Some-ShiftReduce.ensures.stays ∙ (directive-some c.form.result form.ShiftReduce (c.in-Some-ShiftReduce.is ∙ ap (λ (f : Form). Some f) c.in-Some-ShiftReduce.field-0-is) c.form.ensures c.in-Some.ensures.taken c.take.ensures.statements).1
