@@ -263,11 +263,6 @@ pub on_ok_map : {T E : Type 0} (r : Result T E) (P Q : Type 0) → (P → Q) →
 on_ok_map (Ok value) P Q f p = f p
 on_ok_map (Err error) P Q f p = tt
 
--- a declaration among rules
-pub among_rules : {T E : Type 0} (r : Result T E) (old new : Reader) → OnOk r (PassesNoDelimiter old new) → OnOk r (old.at < new.at) → OnOk r (ReadsBodies 1 old new)
-among_rules (Ok value) old new over on = bodies_none 1 old new over (omega (arith, on))
-among_rules (Err error) old new over on = tt
-
 -- a `;` among them
 pub semicolon_among : {T E : Type 0} (r : Result T E) (old new : Reader) → OnOk r (SkipsKind old new kind.Semicolon) → OnOk r (ReadsBodies 1 old new)
 semicolon_among (Ok value) old new skips =

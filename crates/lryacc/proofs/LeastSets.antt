@@ -1,5 +1,5 @@
 -- the least sets of rules
-use Rattle.std.proofs.Common.{◌≡◌, ◌≢◌, ◌&&◌, ◌<◌, ◌+◌, ℕ, suc, zero, List, [], ◌∷◌, Bool, true, false, Some, All, IsTrue, length, length-set, map, replicate, refl, ap, sym, ◌∙◌, subst, inl, inr, arith}
+use Rattle.std.proofs.Common.{◌≡◌, ◌≢◌, ◌&&◌, ◌<◌, ◌+◌, ℕ, suc, zero, List, [], ◌∷◌, Bool, true, false, Option, None, Some, All, IfSome, IsTrue, length, length-set, is_some, map, not, replicate, refl, ap, sym, ◌∙◌, subst, inl, inr, arith}
 use Rattle.std.specs.List.{slice_get, slice_set}
 use Rattle.std.proofs.lemmas.Bool.{cases_eq, false≢true}
 use Rattle.std.proofs.lemmas.List.Elements.{All-head, All-tail}
@@ -209,15 +209,12 @@ rule-among symbols i rule is = record {
   within = λ other all. symbol-at other symbols i (part.Rule rule) is all;
 }
 
--- one symbol is that rule
-pub among_symbol : (rule : ℕ) (found new : List Bool) → new ≡ slice_set found rule true → FindsAmong (Rule rule ∷ []) found new
-among_symbol rule found new is =
-    among_rule (Rule rule ∷ []) rule found new is record { within = λ other all. first-of (has other rule) true all }
+-- a set has all symbols where none is lacking
+no-all : (all own : Bool) → own ≡ false → (all ≡ true → own ≡ true) → false ≡ all
+no-all true own gone within = absurd (false≢true (sym gone ∙ within refl))
+no-all false own gone within = refl
 
--- one symbol of several
-pub among_one : (symbols : List PartSymbol) (i : ℕ) (symbol : PartSymbol) (old new : List Bool) → slice_get symbols i ≡ Some symbol → FindsAmong (part_symbol_of symbol ∷ []) old new → FindsAmong (map part_symbol_of symbols) old new
-among_one symbols i symbol old new is one = record {
-  many = one.many;
-  within = λ other all within.
-      one.within other (both-of (has_symbol other (part_symbol_of symbol)) true (symbol-at other symbols i symbol is all) refl) within;
-}
+pub has_all-by : (found : List Bool) (symbols : List Symbol) (lacking : Option ℕ) → (lacking ≡ None → has_all found symbols ≡ true) → IfSome lacking (λ rule. has found rule ≡ false) → IfSome lacking (IsRuleAmong symbols) → not (is_some lacking) ≡ has_all found symbols
+has_all-by found symbols None none gone among = sym (none refl)
+has_all-by found symbols (Some rule) none gone among =
+    no-all (has_all found symbols) (has found rule) gone (λ all. among.within found all)

@@ -3,11 +3,8 @@ use Rattle.std.proofs.Common.{◌≡◌, ◌&&◌, ◌<◌, ◌≤◌, ◌+◌, 
 use Rattle.std.specs.List.{filter}
 use Rattle.std.proofs.lemmas.List.{append-nil, map-append, take_all, take_more}
 use Rattle.std.proofs.lemmas.List.Elements.{All-push, filter-append}
-use Rattle.std.proofs.lemmas.List.Folds.{list_all-map, list_all_at}
-use Rattle.lrgrammar.specs.declared.grammar.PartSymbol.{PartSymbol}
-use Rattle.lrgrammar.specs.StoredParts.{part_symbol_of}
 use Rattle.lrspec.specs.grammars.Grammar.{Production}
-use Rattle.lryacc.specs.UsefulRules.{has, has_all, has_symbol, is_useful}
+use Rattle.lryacc.specs.UsefulRules.{has, has_all, is_useful}
 
 -- a production of a rule that is not reached is not useful
 pub is_useful-unreached : (productive reached : List Bool) (production : Production) → has reached production.rule ≡ false → is_useful productive reached production ≡ false
@@ -21,12 +18,6 @@ is_useful-unproductive productive reached production none =
 -- all others are
 pub is_useful-both : (productive reached : List Bool) (production : Production) → has reached production.rule ≡ true → has_all productive production.body ≡ true → is_useful productive reached production ≡ true
 is_useful-both productive reached production is_reached all = rw (is_reached, all) refl
-
--- a symbol among others is a rule that is not in a set
-pub has_all-lacks : (rules : List Bool) (symbols : List PartSymbol) (i : ℕ) (d : PartSymbol) → i < length symbols → has_symbol rules (part_symbol_of (get_or symbols i d)) ≡ false → has_all rules (map part_symbol_of symbols) ≡ false
-has_all-lacks rules symbols i d below lacks =
-    list_all-map (has_symbol rules) part_symbol_of symbols
-    ∙ list_all_at (λ (symbol : PartSymbol). has_symbol rules (part_symbol_of symbol)) symbols i d below lacks
 
 -- a rule more has a number, or none, as it is in a set
 pub is_some-more : (numbers more : List (Option ℕ)) (number : Option ℕ) (rules : List Bool) (i : ℕ) (d : Bool) → i < length rules → more ≡ numbers ++ number ∷ [] → map is_some numbers ≡ take i rules → get_or rules i d ≡ is_some number → map is_some more ≡ take (i + 1) rules

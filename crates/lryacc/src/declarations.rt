@@ -1,14 +1,14 @@
 //! Declarations.
 
-ghost use Rattle.std.specs.Prelude.{◌≡◌, ◌∷◌, [], true, false, IfErr, IfSome, MatchOption, OnOk};
-ghost use Rattle.lryacc.specs.Bodies.{IsTold, PassesNoDelimiter, Stays, TakesSymbol, delimiters_read};
+ghost use Rattle.std.specs.Prelude.{◌≡◌, ◌∷◌, [], true, false, IfErr, IfSome, OnOk};
+ghost use Rattle.lryacc.specs.Bodies.{IsTold, PassesNoDelimiter, delimiters_read};
 ghost use Rattle.lryacc.specs.Declarations.{counted_of, directive_declares, number_declares};
 ghost use Rattle.lryacc.specs.DeclarationsRead.{IsSaidBy, StatesDeclared, StatesListed, all_stated};
 ghost use Rattle.lryacc.specs.DeclarationsRead.{form_expected, form_here, is_of_numbers, said_of};
 ghost use Rattle.lryacc.specs.Directives.{counted, form_of};
 ghost use Rattle.lryacc.specs.NamedSymbols.{text_at};
 
-use crate::contents::{LevelKind, Statement};
+use crate::contents::Statement;
 use crate::dialects::Dialect;
 use crate::directives::{Form, form_of, is_name_in_any_case};
 use crate::faults::{FaultKind, Halt, OldForm, Wanted};
@@ -217,7 +217,7 @@ impl<'a> Reader<'a> {
         Ok(())
     }
 
-    /// Reads a tag, or a symbol and what stands behind it; false where neither stands here.
+    /// Reads a tag, or a symbol and what stands behind it; false where neither stands here. A text is not declared by itself.
     fn listed_part(&mut self, said: Said, listing: &mut Listing) -> Result<bool, AllocError>
         requires { IsSaidBy said (form_here self.old) }
         ensures over { PassesNoDelimiter self.old self.new }
@@ -226,7 +226,11 @@ impl<'a> Reader<'a> {
         if self.take_tag(listing) {
             return Ok(true);
         }
-        let Some(symbol) = self.take_listed(said) else {
+        let is_text = matches!(self.kind(), Some(LexemeKind::Text));
+        if is_text && matches!(said, Said::DeclaredToken | Said::DeclaredRule) {
+            return Ok(false);
+        }
+        let Some(symbol) = self.take_symbol() else {
             return Ok(false);
         };
         self.say(said, symbol)?;
@@ -235,18 +239,6 @@ impl<'a> Reader<'a> {
             self.state(Statement::Tagged(symbol, tag))?;
         }
         Ok(true)
-    }
-
-    /// Takes a symbol of which that may be said: a text is not declared by itself.
-    fn take_listed(&mut self, said: Said) -> Option<Lexeme>
-        ensures taken { MatchOption result (Stays self.old self.new) (λ lexeme.
-            TakesSymbol self.old self.new lexeme) }
-        ensures statements { self.new.contents.statements ≡ self.old.contents.statements }
-    {
-        match (said, self.kind()) {
-            (Said::DeclaredToken | Said::DeclaredRule, Some(LexemeKind::Text)) => None,
-            _ => self.take_symbol(),
-        }
     }
 
     /// Takes a tag, which is for the symbols behind it; false where none stands here, or another one stands right before it.

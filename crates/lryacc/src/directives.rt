@@ -9,7 +9,7 @@ ghost use Rattle.lryacc.specs.Spellings.{IsNear};
 
 use crate::contents::LevelKind;
 use crate::dialects::Dialect;
-use crate::spellings::{Near, nearer};
+use crate::spellings::nearer;
 use std::alloc::{AllocError, Global};
 
 /// What stands behind a directive.

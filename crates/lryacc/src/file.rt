@@ -22,7 +22,6 @@ use crate::lexemes::Lexeme;
 use crate::meaning::{Expected, Meaning};
 use crate::numbering::{FileGrammar, NoProductions, file_grammar};
 use crate::parsers::{Parser, parser_of};
-use crate::places::Span;
 use crate::reader::Reader;
 use crate::scanner::{Scanned, scan};
 use crate::useful::without_useless;

@@ -1,13 +1,13 @@
 //! Declarations and rules of a file of grmtools.
 
-ghost use Rattle.std.specs.Prelude.{◌≡◌, ◌<◌, ◌≤◌, ◌∷◌, [], true, IfErr, IfOk, OnOk, slice_get, vec_len};
+ghost use Rattle.std.specs.Prelude.{◌≡◌, ◌<◌, ◌≤◌, true, IfErr, IfOk, OnOk, slice_get, vec_len};
 ghost use Rattle.lryacc.specs.AllBodies.{ReadsBodies};
 ghost use Rattle.lryacc.specs.Bodies.{GoesOn, IsSameFile, IsTold, PassesNoDelimiter, ReadsOn, Stays};
-ghost use Rattle.lryacc.specs.Bodies.{delimiters_read, is_action, is_symbol};
-ghost use Rattle.lryacc.specs.DeclarationsRead.{StatesDeclared, all_stated, form_here, is_silent, stated};
+ghost use Rattle.lryacc.specs.Bodies.{delimiters_read, is_action};
+ghost use Rattle.lryacc.specs.DeclarationsRead.{StatesDeclared, form_here, is_silent, stated};
 ghost use Rattle.lryacc.specs.Delimiters.{delimiter_of};
 
-use crate::contents::{BodyPart, LevelKind, Statement};
+use crate::contents::Statement;
 use crate::declarations::Said;
 use crate::dialects::Dialect;
 use crate::directives::Form;
@@ -201,20 +201,18 @@ impl<'a> Reader<'a> {
         ensures kept { OnOk result (stated self.new ≡ stated self.old) }
     {
         self.action_part(body, lexeme)?;
-        if self.is_in_body() {
+        let goes_on = match self.here() {
+            Some(behind) => {
+                matches!(
+                    behind.kind,
+                    LexemeKind::Name | LexemeKind::QuotedName | LexemeKind::Action
+                ) || self.form_in_body(behind).is_some()
+            }
+            None => false,
+        };
+        if goes_on {
             self.tell(FaultKind::ActionNotLast, lexeme.span)?;
         }
         Ok(())
-    }
-
-    /// Whether a part of a body stands here.
-    fn is_in_body(&self) -> bool {
-        match self.here() {
-            Some(lexeme) => match lexeme.kind {
-                LexemeKind::Name | LexemeKind::QuotedName | LexemeKind::Action => true,
-                _ => self.form_in_body(lexeme).is_some(),
-            },
-            None => false,
-        }
     }
 }

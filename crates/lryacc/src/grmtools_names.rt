@@ -8,7 +8,6 @@ use crate::contents::{Alternative, BodyPart, Contents, Statement};
 use crate::faults::{Fault, FaultKind};
 use crate::lexemes::{Lexeme, LexemeKind};
 use crate::meaning::Meaning;
-use crate::places::Span;
 use crate::spellings::Meant;
 use crate::symbols::{Class, Symbol};
 use std::alloc::AllocError;
@@ -27,14 +26,19 @@ impl<'a> Meaning<'a> {
         self.tell_unknown_in_bodies(contents.alternatives.as_slice())
     }
 
-    /// Tells of such names in bodies.
+    /// Tells of such names in bodies, and of what stands behind `%prec` and is no token, or has no precedence.
     fn tell_unknown_in_bodies(&mut self, alternatives: &[Alternative]) -> Result<(), AllocError>
         ensures { OnOk result (KeepsMeaning self.old self.new) }
     {
         for alternative in alternatives {
             self.tell_unknown_parts(alternative.parts.as_slice())?;
-            if let Some(token) = alternative.precedence {
-                self.tell_unless_leveled(token)?;
+            let Some(token) = alternative.precedence else {
+                continue;
+            };
+            self.tell_unless_known(token, usize::MAX)?;
+            match self.symbols.find(token) {
+                Some(number) if self.line(number).is_some() => {}
+                _ => self.tell(FaultKind::NoPrecedence, token.span)?,
             }
         }
         Ok(())
@@ -99,16 +103,5 @@ impl<'a> Meaning<'a> {
         }
         let near = self.near(name, Meant::Symbol)?;
         self.tell(FaultKind::Undefined(near), name.span)
-    }
-
-    /// Tells of what stands behind `%prec` and is no token, or has no precedence.
-    fn tell_unless_leveled(&mut self, name: Lexeme) -> Result<(), AllocError>
-        ensures { OnOk result (KeepsMeaning self.old self.new) }
-    {
-        self.tell_unless_known(name, usize::MAX)?;
-        match self.symbols.find(name) {
-            Some(number) if self.line(number).is_some() => Ok(()),
-            _ => self.tell(FaultKind::NoPrecedence, name.span),
-        }
     }
 }

@@ -241,7 +241,9 @@ impl<'a> Meaning<'a> {
         }
         self.end = self.symbols.find_name(b"YYEOF");
         if let Some(end) = self.end {
-            self.symbols.take_for_token(end);
+            if self.symbols.class(end) == Class::Unknown {
+                self.symbols.set_class(end, Class::Token);
+            }
         }
     }
 

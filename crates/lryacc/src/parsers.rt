@@ -1,7 +1,6 @@
 //! Which parser a file asks for, and what its bodies say to a generalized one.
 
 ghost use Rattle.std.specs.Prelude.{◌≡◌, IfOk, IfSome};
-ghost use Rattle.lryacc.specs.NamedSymbols.{text_at};
 ghost use Rattle.lryacc.specs.Parsers.{AreDynamicsOf, IsDynamic, IsParserBy, IsRead, splits};
 ghost use Rattle.lryacc.specs.declared.parsers.Dynamic.{Dynamic};
 

@@ -3,7 +3,6 @@
 ghost use Rattle.std.specs.Prelude.{◌≡◌, ◌<◌, ◌==◌, ◌++◌, ◌∷◌, [], IfErr, IfOk, IfSome, MatchOption, MatchBool, OnErr, OnOk, slice_get, vec_len};
 ghost use Rattle.std.specs.Option.{option_map};
 ghost use Rattle.lryacc.specs.Bodies.{IsSameFile, IsTold, Passes, SkipsKind, Stays, TakesKind, TakesSymbol};
-ghost use Rattle.lryacc.specs.NamedSymbols.{text_at};
 
 use crate::contents::{Contents, Statement};
 use crate::dialects::Dialect;

@@ -15,7 +15,7 @@ use crate::numbers::value_of;
 use crate::places::{Span, bytes};
 use crate::runs::Run;
 use crate::values::{behind_tag, name_between};
-use std::alloc::{AllocError, Global};
+use std::alloc::AllocError;
 
 /// How an action calls a part, or the rule that it is of.
 #[derive(Clone, Copy)]
@@ -103,17 +103,6 @@ impl<'a> Meaning<'a> {
         }
     }
 
-    /// Whether a part of a body is called so.
-    fn is_part(&self, call: Call<'a>, part: BodyPart) -> bool {
-        match part {
-            BodyPart::Symbol(symbol) => call.is_of(self.called(symbol)),
-            BodyPart::Action(_, Some(name)) => {
-                call.is_of(name_between(bytes(self.symbols.text, name.span)))
-            }
-            BodyPart::Action(_, None) => false,
-        }
-    }
-
     /// What is wrong with how an action calls something, before which so many parts of a body stand.
     fn wrong_call(
         &self,
@@ -133,7 +122,14 @@ impl<'a> Meaning<'a> {
             return None;
         }
         for part in alternative.parts.iter().take(before) {
-            if self.is_part(call, *part) {
+            let is_called = match *part {
+                BodyPart::Symbol(symbol) => call.is_of(self.called(symbol)),
+                BodyPart::Action(_, Some(name)) => {
+                    call.is_of(name_between(bytes(self.symbols.text, name.span)))
+                }
+                BodyPart::Action(_, None) => false,
+            };
+            if is_called {
                 return None;
             }
         }

@@ -1,9 +1,9 @@
 //! The sections of a file: its declarations up to the first `%%`, and its rules up to the second one or the end.
 
-ghost use Rattle.std.specs.Prelude.{◌≡◌, ◌<◌, ◌≤◌, true, [], IfErr, IfOk, IfSome, MatchBool, OnOk, slice_get, vec_len};
+ghost use Rattle.std.specs.Prelude.{◌≡◌, ◌<◌, ◌≤◌, true, [], IfOk, IfSome, MatchBool, OnOk, slice_get, vec_len};
 ghost use Rattle.lryacc.specs.AllBodies.{AreAllBodies, ReachesRules, ReadsAll, Settles, TakesSeparator};
 ghost use Rattle.lryacc.specs.AllLexemes.{is_separator};
-ghost use Rattle.lryacc.specs.Bodies.{IsSameFile, IsTold, IsWhole, PassesNoDelimiter, Stays, delimiters_read};
+ghost use Rattle.lryacc.specs.Bodies.{IsSameFile, IsWhole, PassesNoDelimiter, Stays, delimiters_read};
 ghost use Rattle.lryacc.specs.Declarations.{AreAllDeclared};
 ghost use Rattle.lryacc.specs.DeclarationsRead.{StatesAll, StatesDeclared};
 

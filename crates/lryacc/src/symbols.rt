@@ -4,7 +4,7 @@ ghost use Rattle.std.specs.Prelude.{◌≡◌, ◌&&◌, IfOk, OnOk};
 ghost use Rattle.std.specs.BTreeMap.{IsEmpty};
 ghost use Rattle.std.specs.Str.{bytes_eq};
 ghost use Rattle.lryacc.specs.EndTokens.{for_bison};
-ghost use Rattle.lryacc.specs.NamedSymbols.{Name, is_bison, name_of, number_in, number_of, partner_in, text_at};
+ghost use Rattle.lryacc.specs.NamedSymbols.{Name, is_bison, name_of, number_in, number_of, partner_in};
 ghost use Rattle.lryacc.specs.NamedSymbols.{AddsName, AddsNames, AreApart, HaveNumbers, KeepsSymbols, Pairs};
 
 use crate::contents::{Alternative, BodyPart, Contents, Statement};
@@ -171,17 +171,6 @@ impl<'a> Symbols<'a> {
         }
     }
 
-    /// Takes a symbol for a token, if nothing says what it is.
-    pub(crate) fn take_for_token(&mut self, number: usize)
-        ensures { KeepsSymbols self.old self.new }
-    {
-        if let Some(symbol) = self.list.get_mut(number) {
-            if symbol.class == Class::Unknown {
-                symbol.class = Class::Token;
-            }
-        }
-    }
-
     /// The class of a symbol.
     pub(crate) fn class(&self, number: usize) -> Class {
         match self.list.get(number) {
@@ -213,17 +202,12 @@ impl<'a> Symbols<'a> {
         ensures { KeepsSymbols self.old self.new }
     {
         for part in &alternative.parts {
-            if let BodyPart::Symbol(lexeme) = part {
-                self.take_use(*lexeme);
-            }
-        }
-    }
-
-    /// Takes in that a body has a symbol.
-    fn take_use(&mut self, lexeme: Lexeme)
-        ensures { KeepsSymbols self.old self.new }
-    {
-        if let Some(number) = self.find(lexeme) {
+            let BodyPart::Symbol(lexeme) = part else {
+                continue;
+            };
+            let Some(number) = self.find(*lexeme) else {
+                continue;
+            };
             if let Some(symbol) = self.list.get_mut(number) {
                 symbol.is_used = true;
             }

@@ -8,7 +8,7 @@ ghost use Rattle.lrgrammar.specs.StoredParts.{part_production_of, part_symbol_of
 ghost use Rattle.lryacc.specs.KeptProductions.{AreInOrder, IsWithout, new_number, new_placed, new_symbol, with_numbers};
 ghost use Rattle.lryacc.specs.PlacedProductions.{placed, placed_at, placed_in};
 ghost use Rattle.lryacc.specs.ProductionPlaces.{Adds, ArePlaced, IsPlaced};
-ghost use Rattle.lryacc.specs.UsefulRules.{AreProductive, AreReached, HasProductive, HasReached, has, has_all, has_symbol, is_useful, productions_in};
+ghost use Rattle.lryacc.specs.UsefulRules.{AreProductive, AreReached, HasProductive, HasReached, has, has_all, is_useful, productions_in};
 ghost use Rattle.lryacc.specs.UsefulRules.{FindsAmong, FindsProductive, FindsReached, IsRuleAmong};
 
 use crate::faults::{Fault, FaultKind};
@@ -60,26 +60,11 @@ impl Search {
         self.found.get(rule).copied().unwrap_or(true)
     }
 
-    /// Whether a symbol is a token, or a rule that is found.
-    fn has_symbol(&self, symbol: PartSymbol) -> bool
-        ensures { result ≡ has_symbol self.now.found.items (part_symbol_of symbol) }
-    {
-        match symbol {
-            PartSymbol::Rule(rule) => self.has(rule),
-            PartSymbol::Token(_) => true,
-        }
-    }
-
     /// Whether all rules among the symbols are found.
     fn has_all(&self, symbols: &[PartSymbol]) -> bool
         ensures { result ≡ has_all self.now.found.items (map part_symbol_of symbols.now) }
     {
-        for symbol in symbols {
-            if !self.has_symbol(*symbol) {
-                return false;
-            }
-        }
-        true
+        self.lacking_among(symbols).is_none()
     }
 
     /// Whether a production is useful where the rules that are found are those that are reached: it is of one of them, and all
@@ -566,15 +551,6 @@ impl Selection {
         Ok(starts)
     }
 
-    /// Why a rule does not stay.
-    fn why_useless(&self, rule: usize) -> FaultKind {
-        if self.productive.has(rule) {
-            FaultKind::UnreachedRule
-        } else {
-            FaultKind::UnproductiveRule
-        }
-    }
-
     /// Why the other rules do not stay, and where they stand.
     fn useless_rules(&self, places: &[Span]) -> Result<Vec<Fault>, AllocError>
         ensures { IfOk result (λ useless. useless.items ≡ []
@@ -585,11 +561,13 @@ impl Selection {
             if number.is_some() {
                 continue;
             }
-            let place = places.get(rule).copied();
-            useless.push(Fault {
-                kind: self.why_useless(rule),
-                span: place.unwrap_or(Span::new(0, 0)),
-            })?;
+            let kind = if self.productive.has(rule) {
+                FaultKind::UnreachedRule
+            } else {
+                FaultKind::UnproductiveRule
+            };
+            let span = places.get(rule).copied().unwrap_or(Span::new(0, 0));
+            useless.push(Fault { kind, span })?;
         }
         Ok(useless)
     }

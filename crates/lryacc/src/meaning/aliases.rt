@@ -10,7 +10,6 @@ ghost use Rattle.lryacc.specs.declared.contents.Statement.{Statement};
 use crate::faults::FaultKind;
 use crate::lexemes::Lexeme;
 use crate::meaning::Meaning;
-use crate::places::Span;
 use crate::symbols::Class;
 use std::alloc::AllocError;
 

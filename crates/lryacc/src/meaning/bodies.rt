@@ -9,7 +9,6 @@ use crate::faults::FaultKind;
 use crate::lexemes::Lexeme;
 use crate::meaning::Meaning;
 use crate::spellings::Meant;
-use crate::symbols::Symbol;
 use std::alloc::AllocError;
 
 /// Whether `%empty` stands in one of the bodies.

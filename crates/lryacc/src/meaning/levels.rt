@@ -4,9 +4,8 @@ ghost use Rattle.std.specs.Prelude.{◌≡◌, OnOk};
 ghost use Rattle.std.specs.BTreeMap.{get};
 ghost use Rattle.std.specs.Ordering.{nat_cmp};
 ghost use Rattle.lryacc.specs.EndTokens.{KeepsEnd, KeepsSaid};
-ghost use Rattle.lryacc.specs.LinesTaken.{BeginsLine, PutsInLine};
+ghost use Rattle.lryacc.specs.LinesTaken.{PutsInLine};
 
-use crate::contents::LevelKind;
 use crate::faults::{FaultKind, OtherClass};
 use crate::lexemes::Lexeme;
 use crate::meaning::Meaning;

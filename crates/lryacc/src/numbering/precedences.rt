@@ -1,8 +1,8 @@
 //! Which token the production of a body names for its precedence.
 
-ghost use Rattle.std.specs.Prelude.{◌≡◌, true, Some, IfOk, MatchOption, None};
+ghost use Rattle.std.specs.Prelude.{Some, IfOk, MatchOption, None};
 ghost use Rattle.lryacc.specs.BodyPrecedences.{IsBelowOf, IsInNoPrecedenceLine, IsInPrecedenceLine, IsLastToken, IsLastWith};
-ghost use Rattle.lryacc.specs.BodyPrecedences.{IsPrecedence, IsPrecedenceBy, IsPrecedenceWithout, is_precedence};
+ghost use Rattle.lryacc.specs.BodyPrecedences.{IsPrecedence, IsPrecedenceWithout};
 ghost use Rattle.lryacc.specs.Numbered.{IsLevelled, IsNumbered, names_of};
 
 use crate::contents::{Alternative, BodyPart, LevelKind};

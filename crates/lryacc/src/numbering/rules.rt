@@ -2,7 +2,6 @@
 
 ghost use Rattle.std.specs.Prelude.{◌≡◌, true, [], Some, Contains, string_bytes, IfOk, OnOk, None};
 ghost use Rattle.std.specs.BTreeMap.{get};
-ghost use Rattle.std.specs.Ordering.{nat_cmp};
 ghost use Rattle.lryacc.specs.ProductionPlaces.{parts_before_last};
 ghost use Rattle.lryacc.specs.BodyProductions.{IsActionName};
 ghost use Rattle.lryacc.specs.NamedSymbols.{NamesRule};
@@ -13,7 +12,7 @@ use crate::lexemes::Lexeme;
 use crate::names::name_text;
 use crate::numbering::Numbering;
 use crate::places::Span;
-use crate::symbols::{Class, Symbol};
+use crate::symbols::Class;
 use crate::values::used_values;
 use std::alloc::AllocError;
 

@@ -2,7 +2,6 @@
 
 use crate::contents::{Alternative, Contents, Statement};
 use crate::dialects::Dialect;
-use crate::lexemes::Lexeme;
 use crate::numbering::{FileGrammar, Numbering};
 use crate::places::Span;
 use lrgrammar::grammar::PartSymbol;

@@ -1,10 +1,9 @@
 //! The tokens of the grammar of a file, and their precedences.
 
-ghost use Rattle.std.specs.Prelude.{◌≡◌, ◌<◌, ◌+◌, ◌*◌, ◌^◌, true, [], ◌∷◌, ◌++◌, Some, length, slice_get, string_bytes};
+ghost use Rattle.std.specs.Prelude.{◌≡◌, ◌<◌, ◌+◌, ◌*◌, true, [], ◌∷◌, ◌++◌, Some, length, slice_get, string_bytes};
 ghost use Rattle.std.specs.Prelude.{IfOk, OnOk, IfSome, None};
 ghost use Rattle.std.specs.BTreeMap.{get};
-ghost use Rattle.std.specs.Ordering.{nat_cmp};
-ghost use Rattle.lryacc.specs.Levels.{group_of, kind_of_line, line_of, precedence_of};
+ghost use Rattle.lryacc.specs.Levels.{group_of, line_of, precedence_of};
 ghost use Rattle.lryacc.specs.NamedSymbols.{IsTokenText, name_of};
 ghost use Rattle.lryacc.specs.Numbered.{AddsNumbers, BeginsWithEnd, GivesToken, IsNumbered, names_of};
 

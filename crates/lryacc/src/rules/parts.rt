@@ -2,7 +2,7 @@
 
 ghost use Rattle.std.specs.Prelude.{◌≡◌, ◌<◌, true, IfErr, IfOk, IsSome, MatchBool, OnOk, slice_get};
 ghost use Rattle.lryacc.specs.Bodies.{GoesOn, IsSameFile, IsTold, Passes, ReadsBehind, ReadsBody, ReadsOn, Stays, TakesPrecedence};
-ghost use Rattle.lryacc.specs.Bodies.{is_action, is_in_bodies, is_prec, is_symbol};
+ghost use Rattle.lryacc.specs.Bodies.{is_action, is_in_bodies, is_symbol};
 ghost use Rattle.lryacc.specs.DeclarationsRead.{stated};
 ghost use Rattle.lryacc.specs.NamedSymbols.{text_at};
 

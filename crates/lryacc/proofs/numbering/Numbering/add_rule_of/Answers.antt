@@ -1,4 +1,4 @@
-use Rattle.std.proofs.Common.{◌≡◌, None, Some, is_some, ◌∙◌, ◌<◌, arith, ap, sym, refl, subst, map, List, ℕ, slice_get, string_bytes}
+use Rattle.std.proofs.Common.{◌≡◌, None, Some, ◌∙◌, ◌<◌, arith, ap, sym, refl, subst, map, List, ℕ, slice_get, string_bytes}
 use Rattle.std.proofs.lemmas.Option.{same_Some}
 use Rattle.std.specs.BTreeMap.{get, is_at}
 use Rattle.std.specs.Ordering.{nat_cmp}

@@ -1,4 +1,4 @@
-use Rattle.std.proofs.Common.{◌≡◌, ◌∙◌, [], OnOk, IfErr, false, refl}
+use Rattle.std.proofs.Common.{◌≡◌, ◌∙◌, [], OnOk, IfErr}
 use Rattle.lryacc.specs.AllBodies.{Settles}
 use Rattle.lryacc.specs.Bodies.{IsTold, IsWhole, delimiters_read}
 use Rattle.lryacc.specs.DeclarationsRead.{StatesDeclared}

@@ -9,9 +9,9 @@ say-requires c = said-still c.args.said (symbol-form c.in-Some.ensures.taken) (s
 pub returns-then-take_tag-clause-listed : goal.returns-then-take_tag-clause-listed
 returns-then-take_tag-clause-listed c = c.take_tag.ensures.listed
 
-pub returns-in_default-clause-listed : goal.returns-in_default-clause-listed
-returns-in_default-clause-listed c =
-    listed-again c.take_tag.ensures.listed (stays-listed c.in_default.ensures.taken c.in_default.ensures.statements)
+pub returns-in_default-take_symbol-clause-listed : goal.returns-in_default-take_symbol-clause-listed
+returns-in_default-take_symbol-clause-listed c =
+    listed-again c.take_tag.ensures.listed (stays-listed c.in_default-take_symbol.ensures.taken c.in_default-take_symbol.ensures.statements)
 
 pub returns-in_default-tag-clause-listed : goal.returns-in_default-tag-clause-listed
 returns-in_default-tag-clause-listed c =
@@ -19,7 +19,7 @@ returns-in_default-tag-clause-listed c =
     let is = said-still c.args.said tag.form c.requires in
     let taken = c.in-Some.ensures.taken in
     listed-again tag record {
-      declared = symbol-said c.say.new.self c.args.said is taken c.take_listed.ensures.statements c.in_ok-say.ensures.said;
+      declared = symbol-said c.say.new.self c.args.said is taken c.take_symbol.ensures.statements c.in_ok-say.ensures.said;
       form = c.in_ok-say.ensures.form ∙ symbol-form taken;
     }
 
@@ -30,7 +30,7 @@ returns-in_ok-state-clause-listed c =
     let taken = c.in-Some.ensures.taken in
     listed-again
     (listed-again tag record {
-      declared = symbol-said c.say.new.self c.args.said is taken c.take_listed.ensures.statements c.in_ok-say.ensures.said;
+      declared = symbol-said c.say.new.self c.args.said is taken c.take_symbol.ensures.statements c.in_ok-say.ensures.said;
       form = c.in_ok-say.ensures.form ∙ symbol-form taken;
     })
     (states-other (says.Tagged c.in-Some.symbol c.in-Some-tag.tag) refl c.state.ensures.stays c.in_ok-state.ensures.stated)

@@ -1,7 +1,7 @@
 use Rattle.std.proofs.Common.{◌∙◌, ap, inl, inr, refl}
 use Rattle.lryacc.specs.declared.contents.Statement.TheVariants as says
 use Rattle.lryacc.specs.declared.declarations.Said.TheVariants as said
-use Rattle.lryacc.specs.DeclarationsRead.{all_stated, form_here, is_of_numbers, said_of}
+use Rattle.lryacc.specs.DeclarationsRead.{all_stated, form_here, is_of_numbers}
 use Rattle.lryacc.proofs.DeclarationsRead.{form-stays, listed-none, said-as, said-still, states, tail-other}
 use Rattle.lryacc.proofs.NamesOfOne.{ok-then}
 use Rattle.lryacc.proofs.reader.Reader.say.Goals as goal
