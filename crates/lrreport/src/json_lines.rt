@@ -166,9 +166,9 @@ pub(crate) fn json_of_faults(
     add_sizes(&mut json, None, None);
     add_nothing_found(&mut json);
     json.key("warnings");
-    add_faults(&mut json, source, &[])?;
+    add_faults(&mut json, source, &[]);
     json.key("errors");
-    add_faults(&mut json, source, faults)?;
+    add_faults(&mut json, source, faults);
     add_grammar_of(&mut json, None, has_grammar);
     add_no_states(&mut json, has_states);
     end_line(json)
@@ -193,7 +193,7 @@ pub(crate) fn json_of_refusal(
     add_sizes(&mut json, Some(file), None);
     add_nothing_found(&mut json);
     json.key("warnings");
-    add_faults(&mut json, source, warnings)?;
+    add_faults(&mut json, source, warnings);
     json.key("errors");
     json.begin_array();
     add_unplaced(&mut json, message);
@@ -437,9 +437,9 @@ impl<'a> Checked<'a> {
         add_sizes(json, Some(told.file), Some(self.found.states));
         self.add_findings(json)?;
         json.key("warnings");
-        add_faults(json, told.source, warnings)?;
+        add_faults(json, told.source, warnings);
         json.key("errors");
-        add_faults(json, told.source, &[])?;
+        add_faults(json, told.source, &[]);
         add_grammar_of(json, Some(told.file), has_grammar);
         self.add_automaton(json)
     }

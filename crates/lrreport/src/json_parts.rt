@@ -7,7 +7,6 @@ use lrevidence::{body_of, symbol_name, token_name};
 use lrfindings::Entry;
 use lrgrammar::grammar::PartSymbol;
 use lryacc::{Fault, FileGrammar, Span};
-use std::alloc::AllocError;
 
 /// Adds the names of symbols.
 pub(crate) fn add_symbols(json: &mut JsonText, file: &FileGrammar, symbols: &[PartSymbol]) {
@@ -63,21 +62,18 @@ pub(crate) fn add_unplaced(json: &mut JsonText, message: &str) {
 }
 
 /// Adds faults, or warnings.
-pub(crate) fn add_faults(
-    json: &mut JsonText,
-    source: &Source<'_>,
-    faults: &[Fault],
-) -> Result<(), AllocError> {
+pub(crate) fn add_faults(json: &mut JsonText, source: &Source<'_>, faults: &[Fault]) {
     json.begin_array();
     for fault in faults {
-        let message = words_of(json.allocator(), source, fault)?;
+        let Ok(message) = words_of(json.allocator(), source, fault) else {
+            return json.give_up();
+        };
         json.begin_object();
         add_place(json, source, fault.span);
         json.string_at("message", message.as_str());
         json.end_object();
     }
     json.end_array();
-    Ok(())
 }
 
 impl Told<'_> {

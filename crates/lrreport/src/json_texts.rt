@@ -145,6 +145,11 @@ impl JsonText {
         }
     }
 
+    /// Leaves the text unfinished, since memory was refused for a part of it.
+    pub(crate) fn give_up(&mut self) {
+        self.is_whole = false;
+    }
+
     /// The text, with no blank between its parts. The error says that memory was refused.
     pub(crate) fn finish(self) -> Result<String, AllocError>
         ensures whole { IfOk result (λ _. IsTrue self.is_whole) }
