@@ -7,7 +7,7 @@ use crate::causes::tokens_at;
 use crate::conflicts::{Checked, entries_of, meetings};
 use crate::json_texts::JsonText;
 use crate::sarif_logs::{Rule, add_message};
-use crate::sarif_places::add_location;
+use crate::sarif_places::{add_location, uri_of};
 use crate::texts::{add_names, add_text};
 use crate::told::Told;
 use crate::words::Words;
@@ -22,6 +22,8 @@ use std::alloc::{AllocError, Global};
 #[derive(Drop)]
 struct Results<'a> {
     source: &'a Source<'a>,
+    /// The reference to its file.
+    uri: &'a str,
     json: JsonText,
 }
 
@@ -32,10 +34,10 @@ fn within_brackets(list: &str) -> Option<&str> {
 
 impl<'a> Results<'a> {
     /// No results yet.
-    fn new(alloc: Global, source: &'a Source<'a>) -> Results<'a> {
+    fn new(alloc: Global, source: &'a Source<'a>, uri: &'a str) -> Results<'a> {
         let mut json = JsonText::new(alloc);
         json.begin_array();
-        Results { source, json }
+        Results { source, uri, json }
     }
 
     /// The allocator by which they grow.
@@ -44,13 +46,7 @@ impl<'a> Results<'a> {
     }
 
     /// Begins a result at a place, or of the file as such, with what it tells.
-    fn begin(
-        &mut self,
-        rule: Rule,
-        level: &str,
-        words: &str,
-        place: Option<Span>,
-    ) -> Result<(), AllocError> {
+    fn begin(&mut self, rule: Rule, level: &str, words: &str, place: Option<Span>) {
         let json = &mut self.json;
         json.begin_object();
         json.string_at("ruleId", rule.id());
@@ -59,48 +55,44 @@ impl<'a> Results<'a> {
         json.key("locations");
         json.begin_array();
         json.begin_object();
-        add_location(json, self.source, place)?;
+        add_location(json, self.source, self.uri, place);
         json.end_object();
         json.end_array();
-        Ok(())
     }
 
     /// Adds what is told of places, in one result at the first of them, to which the others belong.
-    fn add(&mut self, rule: Rule, level: &str, message: &Message) -> Result<(), AllocError> {
-        let places = message.places.as_slice();
-        self.begin(rule, level, message.words.as_str(), places.first().copied())?;
+    fn add(&mut self, rule: Rule, level: &str, words: &str, places: &[Span]) {
+        self.begin(rule, level, words, places.first().copied());
         self.json.key("relatedLocations");
         self.json.begin_array();
         for place in places.iter().skip(1) {
             self.json.begin_object();
-            add_location(&mut self.json, self.source, Some(*place))?;
+            add_location(&mut self.json, self.source, self.uri, Some(*place));
             self.json.end_object();
         }
         self.json.end_array();
         self.json.end_object();
-        Ok(())
     }
 
     /// Adds messages, a result each.
-    fn add_all(&mut self, rule: Rule, level: &str, messages: &[Message]) -> Result<(), AllocError> {
+    fn add_all(&mut self, rule: Rule, level: &str, messages: &[Message]) {
         for message in messages {
-            self.add(rule, level, message)?;
+            let places = message.places.as_slice();
+            self.add(rule, level, message.words.as_str(), places);
         }
-        Ok(())
     }
 
     /// Adds places with what is said of each, as those that belong to the result in hand.
-    fn add_marks(&mut self, marks: &[Mark]) -> Result<(), AllocError> {
+    fn add_marks(&mut self, marks: &[Mark]) {
         self.json.key("relatedLocations");
         self.json.begin_array();
         for mark in marks {
             self.json.begin_object();
-            add_location(&mut self.json, self.source, Some(mark.span))?;
+            add_location(&mut self.json, self.source, self.uri, Some(mark.span));
             add_message(&mut self.json, "message", mark.label.as_str());
             self.json.end_object();
         }
         self.json.end_array();
-        Ok(())
     }
 
     /// The text of the results, with commas between them.
@@ -119,9 +111,10 @@ pub(crate) fn sarif_of_faults(
     source: &Source<'_>,
     faults: &[Fault],
 ) -> Result<String, AllocError> {
-    let mut results = Results::new(alloc, source);
+    let uri = uri_of(alloc, source.name)?;
     let messages = messages_of(alloc, source, faults)?;
-    results.add_all(Rule::Error, "error", messages.as_slice())?;
+    let mut results = Results::new(alloc, source, uri.as_str());
+    results.add_all(Rule::Error, "error", messages.as_slice());
     results.finish()
 }
 
@@ -132,14 +125,11 @@ pub(crate) fn sarif_of_refusal(
     warnings: &[Fault],
     why: &str,
 ) -> Result<String, AllocError> {
-    let mut results = Results::new(alloc, source);
-    let why = Message {
-        words: String::from_str(alloc, why)?,
-        places: Vec::new(alloc),
-    };
-    results.add(Rule::Error, "error", &why)?;
+    let uri = uri_of(alloc, source.name)?;
     let messages = messages_of(alloc, source, warnings)?;
-    results.add_all(Rule::Warning, "warning", messages.as_slice())?;
+    let mut results = Results::new(alloc, source, uri.as_str());
+    results.add(Rule::Error, "error", why, &[]);
+    results.add_all(Rule::Warning, "warning", messages.as_slice());
     results.finish()
 }
 
@@ -147,14 +137,16 @@ impl Told<'_> {
     /// Adds what reading the file warned of.
     fn add_read(&self, results: &mut Results<'_>, faults: &[Fault]) -> Result<(), AllocError> {
         let messages = messages_of(results.allocator(), self.source, faults)?;
-        results.add_all(Rule::Warning, "warning", messages.as_slice())
+        results.add_all(Rule::Warning, "warning", messages.as_slice());
+        Ok(())
     }
 
     /// Adds which tokens are in no rule, or in useless ones alone.
     fn add_unused_results(&self, results: &mut Results<'_>) -> Result<(), AllocError> {
         let mut messages = Vec::new(results.allocator());
         self.add_unused(&mut messages)?;
-        results.add_all(Rule::UnusedToken, "warning", messages.as_slice())
+        results.add_all(Rule::UnusedToken, "warning", messages.as_slice());
+        Ok(())
     }
 
     /// Adds which precedences resolve nothing.
@@ -166,7 +158,8 @@ impl Told<'_> {
         let mut messages = Vec::new(results.allocator());
         self.add_useless_lines(&mut messages)?;
         self.add_useless_productions(&mut messages, faults)?;
-        results.add_all(Rule::UselessPrecedence, "warning", messages.as_slice())
+        results.add_all(Rule::UselessPrecedence, "warning", messages.as_slice());
+        Ok(())
     }
 
     /// Adds what the file is warned of.
@@ -225,8 +218,8 @@ impl Checked<'_> {
             Some(mark) => Some(mark.span),
             None => None,
         };
-        results.begin(rule, level, words.as_str(), place)?;
-        results.add_marks(marks.as_slice())?;
+        results.begin(rule, level, words.as_str(), place);
+        results.add_marks(marks.as_slice());
         results.json.end_object();
         Ok(())
     }
@@ -240,7 +233,9 @@ impl Checked<'_> {
     ) -> Result<String, AllocError>
         requires proved { All (IsProved self.now.found.now.grm) self.now.told.evidence.now }
     {
-        let mut results = Results::new(alloc, self.told.source);
+        let source = self.told.source;
+        let uri = uri_of(alloc, source.name)?;
+        let mut results = Results::new(alloc, source, uri.as_str());
         let level = if verdict.status() == 0 {
             "note"
         } else {

@@ -2,6 +2,7 @@
 
 use crate::json_texts::JsonText;
 use lrdiagnostics::Source;
+use lrwriter::Text;
 use lryacc::Span;
 use std::alloc::{AllocError, Global};
 
@@ -39,50 +40,45 @@ fn add_region(json: &mut JsonText, source: &Source<'_>, place: Span) {
 }
 
 /// Adds a byte of a path to a reference: by its number where it may not stand there.
-fn push_byte(uri: &mut String, byte: u8) -> Result<(), AllocError> {
+fn push_byte(uri: &mut Text, byte: u8) {
     let stays = byte.is_ascii_alphanumeric() || matches!(byte, b'-' | b'.' | b'_' | b'~' | b'/');
     if stays {
-        return uri.push(char::from(byte));
+        return uri.add_char(char::from(byte));
     }
-    uri.push('%')?;
+    uri.add_char('%');
     for digit in [byte / 16, byte % 16] {
-        uri.push(
-            char::from_digit(u32::from(digit), 16)
-                .unwrap_or('0')
-                .to_ascii_uppercase(),
-        )?;
+        let digit = char::from_digit(u32::from(digit), 16).unwrap_or('0');
+        uri.add_char(digit.to_ascii_uppercase());
     }
-    Ok(())
 }
 
 /// A path as a reference: a relative one stays so.
-fn uri_of(alloc: Global, name: &str) -> Result<String, AllocError> {
-    let mut uri = String::new(alloc);
+pub(crate) fn uri_of(alloc: Global, name: &str) -> Result<String, AllocError> {
+    let mut uri = Text::new(alloc);
     if name.starts_with('/') {
-        uri.push_str("file://")?;
+        uri.add("file://");
     }
     for byte in name.as_bytes() {
-        push_byte(&mut uri, *byte)?;
+        push_byte(&mut uri, *byte);
     }
-    Ok(uri)
+    uri.finish()
 }
 
-/// Adds a file, or a place in it, as a member of an object.
+/// Adds a file by its reference, or a place in it, as a member of an object.
 pub(crate) fn add_location(
     json: &mut JsonText,
     source: &Source<'_>,
+    uri: &str,
     place: Option<Span>,
-) -> Result<(), AllocError> {
-    let uri = uri_of(json.allocator(), source.name)?;
+) {
     json.key("physicalLocation");
     json.begin_object();
     json.key("artifactLocation");
     json.begin_object();
-    json.string_at("uri", uri.as_str());
+    json.string_at("uri", uri);
     json.end_object();
     if let Some(place) = place {
         add_region(json, source, place);
     }
     json.end_object();
-    Ok(())
 }
