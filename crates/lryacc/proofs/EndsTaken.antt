@@ -60,16 +60,6 @@ meaning-again one other = record {
   said = said-again one.said other.said;
 }
 
--- all is kept where the names of symbols are
-pub meaning-with : {old : Meaning} {symbols : Symbols} → KeepsSymbols old.symbols symbols → KeepsMeaning old (record old { symbols = symbols })
-meaning-with keeps = record {
-  symbols = keeps;
-  end = refl;
-  faults = omega arith;
-  lines = record { has_default = refl; levels = refl; lines = refl };
-  said = record { expected = record { expected = refl; reductions = refl; generalized = refl }; starts = refl; started = refl };
-}
-
 -- a symbol that has the value 0 has it where names stay the same
 given-kept : (statements : List Statement) (old new : Meaning) → KeepsNames old.symbols new.symbols → (n : ℕ) → IsGivenZeroBy statements old n → IsGivenZeroBy statements new n
 given-kept statements old new keeps n h = record {

@@ -217,7 +217,6 @@ impl<'a> Meaning<'a> {
     {
         self.take_statements(contents.statements.as_slice())?;
         self.leave_out_reductions()?;
-        self.symbols.take_bodies(contents.alternatives.as_slice());
         self.warn_of_bodies(contents.alternatives.as_slice())?;
         self.find_end();
         self.tell_symbols()?;

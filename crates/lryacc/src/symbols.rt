@@ -42,8 +42,8 @@ pub(crate) struct Symbol {
 }
 
 impl Symbol {
-    /// A symbol of that class, named here.
-    fn new(mention: Lexeme, class: Class) -> Symbol {
+    /// A symbol of that class, named here, in a body or not.
+    fn new(mention: Lexeme, class: Class, is_used: bool) -> Symbol {
         Symbol {
             mention,
             class,
@@ -53,7 +53,7 @@ impl Symbol {
                 LexemeKind::Character(byte) => Some(u64::from(byte)),
                 _ => None,
             },
-            is_used: false,
+            is_used,
         }
     }
 
@@ -188,43 +188,6 @@ impl<'a> Symbols<'a> {
         }
     }
 
-    /// Takes in the symbols of all bodies.
-    pub(crate) fn take_bodies(&mut self, alternatives: &[Alternative])
-        ensures { KeepsSymbols self.old self.new }
-    {
-        for alternative in alternatives {
-            self.take_body(alternative);
-        }
-    }
-
-    /// Takes in the symbols of a body.
-    fn take_body(&mut self, alternative: &Alternative)
-        ensures { KeepsSymbols self.old self.new }
-    {
-        for part in &alternative.parts {
-            let BodyPart::Symbol(lexeme) = part else {
-                continue;
-            };
-            let Some(number) = self.find(*lexeme) else {
-                continue;
-            };
-            if let Some(symbol) = self.list.get_mut(number) {
-                symbol.is_used = true;
-            }
-        }
-    }
-
-    /// What the symbol that a lexeme names is before anything is said of it.
-    fn first_class(&self, lexeme: Lexeme) -> Class {
-        let is_name = matches!(lexeme.kind, LexemeKind::Name | LexemeKind::RuleName);
-        let name = self.name(lexeme);
-        if !is_name || self.is_of_bison(name, b"error") || self.is_of_bison(name, b"YYUNDEF") {
-            Class::Token
-        } else {
-            Class::Unknown
-        }
-    }
-
     /// All symbols that a file names.
     pub(crate) fn of(
         alloc: Global,
@@ -260,8 +223,8 @@ impl<'a> Symbols<'a> {
         match statement {
             Statement::Rule(symbol) if symbol.kind != LexemeKind::Name => Ok(()),
             Statement::Alias(symbol, text) => {
-                self.add(symbol)?;
-                self.add(text)
+                self.add(symbol, false)?;
+                self.add(text, false)
             }
             Statement::Token(symbol)
             | Statement::Rule(symbol)
@@ -271,7 +234,7 @@ impl<'a> Symbols<'a> {
             | Statement::Tagged(symbol, _)
             | Statement::LeftSide(symbol)
             | Statement::NamedPrecedence(symbol)
-            | Statement::Start(symbol) => self.add(symbol),
+            | Statement::Start(symbol) => self.add(symbol, false),
             Statement::Level(_)
             | Statement::NotInRules(_)
             | Statement::ExpectShiftReduce(_)
@@ -297,31 +260,40 @@ impl<'a> Symbols<'a> {
     {
         for part in &alternative.parts {
             if let BodyPart::Symbol(symbol) = part {
-                self.add(*symbol)?;
+                self.add(*symbol, true)?;
             }
         }
         Ok(())
     }
 
-    /// Adds the symbol that a lexeme names, or notes that it is named there too.
-    fn add(&mut self, lexeme: Lexeme) -> Result<(), AllocError>
+    /// Adds the symbol that a lexeme names, in a body or not, or notes that it is named there too. Characters, texts and the names of
+    /// Bison's own tokens are tokens before anything is said of them.
+    fn add(&mut self, lexeme: Lexeme, is_used: bool) -> Result<(), AllocError>
         ensures { OnOk result (AddsNames self.old self.new) }
     {
         if let Some(number) = self.find(lexeme) {
-            self.mention(number, lexeme);
+            self.mention(number, lexeme, is_used);
             return Ok(());
         }
         let number = self.list.len();
-        let class = self.first_class(lexeme);
-        self.list.push(Symbol::new(lexeme, class))?;
+        let name = self.name(lexeme);
+        let is_name = matches!(lexeme.kind, LexemeKind::Name | LexemeKind::RuleName);
+        let is_of_bison = self.is_of_bison(name, b"error") || self.is_of_bison(name, b"YYUNDEF");
+        let class = if is_name && !is_of_bison {
+            Class::Unknown
+        } else {
+            Class::Token
+        };
+        self.list.push(Symbol::new(lexeme, class, is_used))?;
         self.add_name(lexeme, number)
     }
 
-    /// Notes that the symbol is named here, which may be before where it was come by until now.
-    fn mention(&mut self, number: usize, lexeme: Lexeme)
+    /// Notes that the symbol is named here, in a body or not, which may be before where it was come by until now.
+    fn mention(&mut self, number: usize, lexeme: Lexeme, is_used: bool)
         ensures { AddsNames self.old self.new }
     {
         if let Some(symbol) = self.list.get_mut(number) {
+            symbol.is_used |= is_used;
             if lexeme.span.start < symbol.mention.span.start {
                 symbol.mention = lexeme;
             }

@@ -66,18 +66,6 @@ impl<'m, 'a> Numbering<'m, 'a> {
         })
     }
 
-    /// The name of a symbol by which it is told: of a token with two names it is the text.
-    fn told_name(&self, number: usize, symbol: Symbol) -> Lexeme {
-        let partner = match self.meaning.symbols.partner(number) {
-            Some(partner) => self.known(partner),
-            None => None,
-        };
-        match partner {
-            Some(partner) if partner.mention.kind != LexemeKind::Name => partner.mention,
-            _ => symbol.mention,
-        }
-    }
-
     /// Whether a symbol is the end token because of its name alone.
     fn is_end_by_name(&self, number: usize, symbol: Symbol) -> bool
         ensures { result ≡ true → slice_get self.now.meaning.now.symbols.list.items number
@@ -128,7 +116,7 @@ impl<'m, 'a> Numbering<'m, 'a> {
         Ok(number)
     }
 
-    /// Adds the token of a symbol.
+    /// Adds the token of a symbol. One with two names is told by the text.
     fn add_token_of(&mut self, number: usize) -> Result<(), AllocError>
         ensures { OnOk result (AddsNumbers self.old self.new) }
     {
@@ -140,7 +128,16 @@ impl<'m, 'a> Numbering<'m, 'a> {
             let token = self.add_token(name, self.precedence(number))?;
             return self.give_token(number, token);
         }
-        self.add_told(self.told_name(number, symbol))
+        let partner = match self.meaning.symbols.partner(number) {
+            Some(partner) => self.known(partner),
+            None => None,
+        };
+        match partner {
+            Some(partner) if partner.mention.kind != LexemeKind::Name => {
+                self.add_told(partner.mention)
+            }
+            _ => self.add_told(symbol.mention),
+        }
     }
 
     /// Gives a symbol a token, unless it has one.
