@@ -24,10 +24,12 @@ class CheckCase(namedtuple("CheckCase", FIELDS, defaults=(b"%% other: 'other';",
         return [[*options, name] for name in self.names]
 
 
-# Grammars: no conflict; three of them, of both kinds; one, which a precedence settles; one, without a text that has two trees;
-# none, and precedences and tokens without use; a file that is none.
+# Grammars: no conflict; three of them, of both kinds, for which there are some 12,000 requests for memory; one, for which there are
+# some 900; one, which a precedence settles; one, without a text that has two trees; none, and precedences and tokens without use; a
+# file that is none.
 UNAMBIGUOUS = b"%% s: 'a' | ;"
 AMBIGUOUS = b"%% s: 'a' | s s | t; t: 'a';"
+ALIKE = b"%% s: 'a' | t; t: 'a';"
 SETTLED = b"%left 'a' %% s: s 'a' s | 'b';"
 NOT_AMBIGUOUS = b"%% s: x 'c' | y 'c' 'd'; x: 'a'; y: 'a';"
 IDLE = b"%token t u\n%left 'a' t\n%% s: 'b' %prec u | 'a';"
@@ -78,6 +80,7 @@ NO_RESULTS = json.dumps(LOG, separators=(",", ":")).encode() + b"\n"
 FILES = {
     "none.y": None,
     "a.y": AMBIGUOUS,
+    "b.y": ALIKE,
     "f.y": FAULTY,
     "i.y": IDLE,
     "n.y": NOT_AMBIGUOUS,
@@ -96,20 +99,20 @@ def cases():
     yield case("all-settled", ["--all", "--settled"], ["p.y"])
     yield case("no-text", [], ["n.y"], status=1)
     yield case("no-text-json", ["--json"], ["n.y"], status=1)
-    yield case("trees", ["--trees"], ["a.y"], status=1)
+    yield case("trees", ["--trees"], ["b.y"], status=1)
     yield case("without-precedences", ["--without-precedences", "--expect", "1"], ["p.y"])
     yield case("warnings", [], ["i.y"])
     yield case("faults", [], ["f.y"], status=2)
-    yield case("two-files", ["--summary"], ["a.y", "u.y"], status=1)
+    yield case("two-files", ["--summary"], ["b.y", "u.y"], status=1)
     yield case("standard-input", [], ["-"], given=UNAMBIGUOUS)
-    yield case("standard-input-between", ["--summary"], ["u.y", "-", "a.y"], given=SETTLED, status=1)
-    yield case("no-file-between", ["--summary"], ["u.y", "none.y", "a.y"], status=2, told=b"lrcheck: cannot read none.y: ")
+    yield case("standard-input-between", ["--summary"], ["u.y", "-", "b.y"], given=SETTLED, status=1)
+    yield case("no-file-between", ["--summary"], ["u.y", "none.y", "b.y"], status=2, told=b"lrcheck: cannot read none.y: ")
     yield case("json", ["--json"], ["a.y"], status=1)
     yield case("json-warnings", ["--json"], ["i.y"])
     yield case("grammar", ["--grammar"], ["a.y"])
     yield case("page", ["--page", "out.html"], ["u.y"], pages=("out.html",))
-    yield case("states", ["--states"], ["a.y"], status=1)
-    yield case("json-states", ["--json", "--states"], ["a.y"], status=1)
+    yield case("states", ["--states"], ["b.y"], status=1)
+    yield case("json-states", ["--json", "--states"], ["b.y"], status=1)
     yield case("sarif", ["--sarif"], ["a.y"], status=1, unread=NO_RESULTS)
     yield case("sarif-warnings", ["--sarif"], ["i.y"], unread=NO_RESULTS)
     yield case("sarif-faults", ["--sarif"], ["f.y"], status=2, unread=NO_RESULTS)
