@@ -1,5 +1,5 @@
 -- pieces that are added, of which is said only that there are some, and what stands behind the line of a place
-use Rattle.std.proofs.Common.{◌≡◌, ℕ, List, [], ◌++◌, append-nil, append_assoc, subst, sym}
+use Rattle.std.proofs.Common.{◌≡◌, ℕ, List, [], ◌++◌, append-nil, subst, sym}
 use Rattle.lrwriter.specs.Texts.{Adds, Held}
 use Rattle.lrwriter.proofs.Pieces.{adds_none, adds_both}
 use Rattle.lrdiagnostics.specs.Positions.{line_of, front_of, EndsBefore}
@@ -29,18 +29,4 @@ place_alone {old} {new} {name} {text} {at} {line} {column} blanks is counted add
   behind = [];
   adds = subst (λ n. Adds old new (place_line blanks name n column ++ [])) is
       (subst (Adds old new) (sym (append-nil (place_line blanks name line column))) adds);
-}
-
--- more behind the line of a place
-pub place_and_more :
-    {old middle new : Held} {name text : List ℕ} {at : ℕ}
-    → AddsPlace old middle name text at → AddsMore middle new → AddsPlace old new name text at
-place_and_more {old} {middle} {new} {name} {text} {at} place more = record {
-  blanks = place.blanks;
-  column = place.column;
-  counted = place.counted;
-  behind = place.behind ++ more.piece;
-  adds = subst (Adds old new)
-      (append_assoc (place_line place.blanks name (line_of text at) place.column) place.behind more.piece)
-      (adds_both place.adds more.adds);
 }

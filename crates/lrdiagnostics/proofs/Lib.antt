@@ -1,4 +1,4 @@
--- line feeds, what is counted for a column, text as it is shown and escaped, and pieces that are added
+-- line feeds, what is counted for a column, text as it is shown and escaped, pieces that are added, and places that are told
 mod LineFeeds
 mod FeedPlaces
 mod CountedTexts
@@ -7,3 +7,4 @@ mod KnownColumns
 pub mod EscapedTexts
 mod ShownTexts
 mod AddedPieces
+pub mod ToldPlaces

@@ -1,7 +1,7 @@
 //! Faults of a file, and other places in it, each with the line and marks under the place.
 
-ghost use Rattle.std.specs.Prelude.{IfOk, IfSome, slice_get};
-ghost use Rattle.lrdiagnostics.specs.Places.{AddsMore, AddsPlace};
+ghost use Rattle.std.specs.Prelude.{◌≡◌, [], ◌∷◌, take, IfOk, IfSome, slice_get};
+ghost use Rattle.lrdiagnostics.specs.Places.{AddsMore, AddsPlace, AddsPlaces, AreOf, first_place, first_places};
 
 use crate::faults::words_of;
 use crate::lines::ShownLine;
@@ -40,7 +40,9 @@ pub struct Message {
 
 impl Message {
     /// What is told of a fault.
-    pub fn of(alloc: Global, source: &Source<'_>, fault: &Fault) -> Result<Message, AllocError> {
+    pub fn of(alloc: Global, source: &Source<'_>, fault: &Fault) -> Result<Message, AllocError>
+        ensures { IfOk result (λ message. message.places.items ≡ fault.now.span ∷ []) }
+    {
         Ok(Message {
             words: words_of(alloc, source, fault)?,
             places: vec![in alloc; fault.span]?,
@@ -67,11 +69,14 @@ pub fn messages_of(
     alloc: Global,
     source: &Source<'_>,
     faults: &[Fault],
-) -> Result<Vec<Message>, AllocError> {
-    faults
-        .iter()
-        .map(|fault| Message::of(alloc, source, fault))
-        .try_collect(alloc)
+) -> Result<Vec<Message>, AllocError>
+    ensures { IfOk result (λ messages. AreOf messages.items faults.now) }
+{
+    let mut messages = Vec::new(alloc);
+    for fault in faults {
+        messages.push(Message::of(alloc, source, fault)?)?;
+    }
+    Ok(messages)
 }
 
 /// A line that was added, with marks under it.
@@ -255,7 +260,9 @@ impl Teller<'_> {
     }
 
     /// Adds under places of such marks how many there are besides.
-    fn add_more(self, text: &mut Text, marks: &[Mark], more: usize) {
+    fn add_more(self, text: &mut Text, marks: &[Mark], more: usize)
+        ensures { AddsMore text.old text.new }
+    {
         let indent = self.indent(marks);
         text.add_times(' ', indent);
         text.add("|\n");
@@ -270,7 +277,10 @@ impl Teller<'_> {
         message: &Message,
         weight: Weight,
         most: usize,
-    ) -> Result<(), AllocError> {
+    ) -> Result<(), AllocError>
+        ensures { IfOk result (λ _. AddsPlaces text.old text.new self.entry.source.now.name.now
+            self.entry.source.now.bytes.now (first_place message.now)) }
+    {
         let Some(first) = message.places.first() else {
             return Ok(());
         };
@@ -296,11 +306,15 @@ impl Teller<'_> {
         messages: &[Message],
         weight: Weight,
         most: usize,
-    ) -> Result<(), AllocError> {
-        for message in messages.iter().take(most) {
+    ) -> Result<(), AllocError>
+        ensures { IfOk result (λ _. AddsPlaces text.old text.new self.entry.source.now.name.now
+            self.entry.source.now.bytes.now (first_places (take most messages.now))) }
+    {
+        let (told, others) = messages.split_at(most.min(messages.len()));
+        for message in told {
             self.add_message(text, message, weight, most)?;
         }
-        let more = messages.len().saturating_sub(most);
+        let more = others.len();
         if more > 0 {
             let (file, (name, _)) = (self.source.name, weight.name());
             let ending = if more == 1 { "" } else { "s" };

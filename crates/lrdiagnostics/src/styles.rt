@@ -47,7 +47,9 @@ impl Style {
     }
 
     /// Adds words that stand out, where colours are used.
-    pub fn add(self, text: &mut Text, words: &str, has_colours: bool) {
+    pub fn add(self, text: &mut Text, words: &str, has_colours: bool)
+        ensures { AddsMore text.old text.new }
+    {
         self.begin(text, has_colours);
         text.add(words);
         Style::end(text, has_colours);
