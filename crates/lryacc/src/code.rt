@@ -160,21 +160,6 @@ fn open_quotes(quote: u8, opened: usize, end: usize) -> Fault {
     Fault { kind, span }
 }
 
-/// The fault that the file ends within code that begins with the mark at `opening`.
-fn open_code(opening: Span, ending: Ending) -> Option<Fault>
-    ensures { IfNone result (ending ≡ Ending.File) }
-{
-    let kind = match ending {
-        Ending::Brace => FaultKind::OpenBrace,
-        Ending::PrologueMark => FaultKind::OpenPrologue,
-        Ending::File => return None,
-    };
-    Some(Fault {
-        kind,
-        span: opening,
-    })
-}
-
 impl CodeReader {
     /// Nothing was read.
     pub(crate) fn new() -> CodeReader
@@ -315,14 +300,16 @@ impl CodeReader {
             → IsCodeUpTo ending text from (length text) self
             → EndsCode ending text from (length text)) }
     {
-        match self.within {
-            Within::Quotes(quote, opened, _) => Some(open_quotes(quote, opened, end)),
-            Within::Block(opened, _) => Some(Fault {
-                kind: FaultKind::OpenComment,
-                span: Span::new(opened, end),
-            }),
-            Within::Code(_) | Within::Line(_) => open_code(opening, ending),
-        }
+        let (kind, span) = match self.within {
+            Within::Quotes(quote, opened, _) => return Some(open_quotes(quote, opened, end)),
+            Within::Block(opened, _) => (FaultKind::OpenComment, Span::new(opened, end)),
+            Within::Code(_) | Within::Line(_) => match ending {
+                Ending::Brace => (FaultKind::OpenBrace, opening),
+                Ending::PrologueMark => (FaultKind::OpenPrologue, opening),
+                Ending::File => return None,
+            },
+        };
+        Some(Fault { kind, span })
     }
 }
 

@@ -2,9 +2,7 @@
 
 ghost use Rattle.std.specs.Prelude.{◌≡◌, ◌<◌, All, IfOk, length, vec_len};
 ghost use Rattle.lryacc.specs.Aliases.{AreSettled};
-ghost use Rattle.lryacc.specs.AllBodies.{AreAllBodies};
 ghost use Rattle.lryacc.specs.AllLexemes.{AreAllLexemesOf};
-ghost use Rattle.lryacc.specs.Declarations.{AreAllDeclared};
 ghost use Rattle.lryacc.specs.EndTokens.{HasEndBy};
 ghost use Rattle.lryacc.specs.FileProductions.{HasProductions};
 ghost use Rattle.lryacc.specs.FilesRead.{ComesTo, HasBodies, HasNoGrammar};
@@ -36,28 +34,6 @@ pub enum FileRead {
     Grammar(FileGrammar, Expected, Parser, Vec<Fault>),
     /// What is wrong with it: at least one fault.
     Faults(Vec<Fault>),
-}
-
-/// What the file says that has these lexemes and faults.
-fn contents(
-    alloc: Global,
-    text: &[u8],
-    dialect: Dialect,
-    lexemes: &[Lexeme],
-    faults: Vec<Fault>,
-) -> Result<Contents, AllocError>
-    ensures some { IfOk result (λ contents. vec_len contents.faults ≡ 0
-        → 0 < vec_len contents.alternatives) }
-    ensures faults { IfOk result (λ contents. vec_len contents.faults ≡ 0 → vec_len faults ≡ 0) }
-    ensures read { IfOk result (λ contents. vec_len contents.faults ≡ 0
-        → AreAllBodies text.now lexemes.now dialect contents.alternatives.items) }
-    ensures declared { IfOk result (λ contents. vec_len contents.faults ≡ 0
-        → AreAllDeclared text.now lexemes.now dialect contents.statements.items) }
-{
-    let mut reader = Reader::new(alloc, text, dialect, lexemes, faults);
-    reader.file()?;
-    let Reader { contents, .. } = reader;
-    Ok(contents)
 }
 
 /// The faults in the order of their places, one at each, with places in the text.
@@ -110,7 +86,9 @@ pub fn read_file(alloc: Global, text: &[u8], dialect: Dialect) -> Result<FileRea
     let dialect = dialect_of(text, dialect);
     let Scanned { lexemes, faults } = scan(alloc, text, dialect)?;
     let lexemes = lexemes.as_slice();
-    let contents = contents(alloc, text, dialect, lexemes, faults)?;
+    let mut reader = Reader::new(alloc, text, dialect, lexemes, faults);
+    reader.file()?;
+    let Reader { contents, .. } = reader;
     if !contents.faults.is_empty() {
         return faults_read(alloc, text, to_tell(contents.faults.as_slice()));
     }

@@ -321,11 +321,11 @@ fn tag(text: &[u8], from: usize) -> Result<(LexemeKind, usize), Fault>
     ensures is { IfOk result (λ found. IsBisonLexeme found.0 text.now from found.1) }
 {
     let end = tag_end(text, from)?;
-    let kind = match &text[from..end] {
-        b"<>" | b"<*>" => LexemeKind::AnyTag,
-        _ => LexemeKind::Tag,
-    };
-    Ok((kind, end))
+    let tag = &text[from..end];
+    if tag == b"<>".as_slice() || tag == b"<*>".as_slice() {
+        return Ok((LexemeKind::AnyTag, end));
+    }
+    Ok((LexemeKind::Tag, end))
 }
 
 /// The lexeme that begins at a place.

@@ -266,13 +266,18 @@ impl<'a> Symbols<'a> {
         Ok(())
     }
 
-    /// Adds the symbol that a lexeme names, in a body or not, or notes that it is named there too. Characters, texts and the names of
-    /// Bison's own tokens are tokens before anything is said of them.
+    /// Adds the symbol that a lexeme names, in a body or not, or notes that it is named there too, which may be before where it was
+    /// come by until now. Characters, texts and the names of Bison's own tokens are tokens before anything is said of them.
     fn add(&mut self, lexeme: Lexeme, is_used: bool) -> Result<(), AllocError>
         ensures { OnOk result (AddsNames self.old self.new) }
     {
         if let Some(number) = self.find(lexeme) {
-            self.mention(number, lexeme, is_used);
+            if let Some(symbol) = self.list.get_mut(number) {
+                symbol.is_used |= is_used;
+                if lexeme.span.start < symbol.mention.span.start {
+                    symbol.mention = lexeme;
+                }
+            }
             return Ok(());
         }
         let number = self.list.len();
@@ -286,18 +291,6 @@ impl<'a> Symbols<'a> {
         };
         self.list.push(Symbol::new(lexeme, class, is_used))?;
         self.add_name(lexeme, number)
-    }
-
-    /// Notes that the symbol is named here, in a body or not, which may be before where it was come by until now.
-    fn mention(&mut self, number: usize, lexeme: Lexeme, is_used: bool)
-        ensures { AddsNames self.old self.new }
-    {
-        if let Some(symbol) = self.list.get_mut(number) {
-            symbol.is_used |= is_used;
-            if lexeme.span.start < symbol.mention.span.start {
-                symbol.mention = lexeme;
-            }
-        }
     }
 
     /// Gives the name that a lexeme is a number.

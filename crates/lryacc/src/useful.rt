@@ -143,19 +143,6 @@ impl Search {
         Ok(())
     }
 
-    /// Finds the rules among the symbols.
-    fn find_rules(&mut self, symbols: &[PartSymbol]) -> Result<(), AllocError>
-        ensures { OnOk result (FindsAmong (map part_symbol_of symbols.now) self.old.found.items
-            self.new.found.items) }
-    {
-        for symbol in symbols {
-            if let PartSymbol::Rule(rule) = symbol {
-                self.find(*rule)?;
-            }
-        }
-        Ok(())
-    }
-
     /// Finds the rules in the body of a production if it is useful.
     fn find_behind(
         &mut self,
@@ -166,9 +153,15 @@ impl Search {
         ensures { OnOk result (FindsReached productive.now.found.items (productions_in parts.now)
             self.old.found.items self.new.found.items) }
     {
-        if let Some(prod) = parts.prods.get(prod) {
-            if self.is_useful(productive, prod) {
-                self.find_rules(prod.symbols.as_slice())?;
+        let Some(production) = parts.prods.get(prod) else {
+            return Ok(());
+        };
+        if !self.is_useful(productive, production) {
+            return Ok(());
+        }
+        for symbol in &production.symbols {
+            if let PartSymbol::Rule(rule) = symbol {
+                self.find(*rule)?;
             }
         }
         Ok(())
@@ -595,11 +588,48 @@ impl Selection {
         ensures tokens { IfOk result (λ kept. kept.parts.tokens.items ≡ parts.tokens.items) }
         ensures start { IfOk result (λ kept. kept.parts.start ≡ 0) }
     {
-        let mut kept = FileGrammar::empty(self.allocator());
-        kept.parts.rules = self.with_numbers(parts.rules)?;
-        kept.parts.tokens = parts.tokens;
-        kept.rule_places = self.with_numbers(places)?;
-        Ok(kept)
+        let GrammarParts { rules, tokens, .. } = parts;
+        let rules = self.with_numbers(rules)?;
+        let rule_places = self.with_numbers(places)?;
+        let alloc = self.allocator();
+        Ok(FileGrammar {
+            parts: GrammarParts {
+                rules,
+                tokens,
+                prods: Vec::new(alloc),
+                start: 0,
+            },
+            rule_places,
+            ..FileGrammar::empty(alloc)
+        })
+    }
+
+    /// The productions that stay, and what is taken out.
+    fn parted(&self, whole: &FileGrammar) -> Result<Parted, AllocError>
+        requires { IsPlaced whole.now }
+        ensures stay { IfOk result (λ parted.
+            let stays = is_useful self.now.productive.found.items
+            (map is_some self.now.numbers.items) in
+            placed parted.productions ≡ map (new_placed self.now.numbers.items)
+            (filter (λ at. stays at.production) (placed_in whole.now))) }
+        ensures placed { IfOk result (λ parted. ArePlaced parted.productions) }
+        ensures all { IfOk result (λ parted.
+            parted.useless.rules.items ≡ [] → parted.useless.productions.items ≡ []
+            → placed parted.productions
+            ≡ map (new_placed self.now.numbers.items) (placed_in whole.now)) }
+    {
+        let mut useless = Useless {
+            rules: self.useless_rules(whole.rule_places.as_slice())?,
+            productions: Vec::new(self.allocator()),
+            starts: self.unproductive_starts(whole)?,
+        };
+        let productions = self.productions(whole, &mut useless.productions)?;
+        let useless_tokens = self.useless_tokens(whole)?;
+        Ok(Parted {
+            productions,
+            useless,
+            useless_tokens,
+        })
     }
 }
 
@@ -614,6 +644,16 @@ pub(crate) struct Useless {
     pub(crate) starts: Vec<Span>,
 }
 
+/// The productions of a grammar, parted by whether they are useful.
+#[derive(Drop)]
+struct Parted {
+    /// Those that stay.
+    productions: Productions,
+    useless: Useless,
+    /// By token, whether a production that does not stay has it, or names it by `%prec`.
+    useless_tokens: Vec<bool>,
+}
+
 /// The grammar without the rules and productions that are not reached or derive no text, and what was taken out.
 pub(crate) fn without_useless(
     alloc: Global,
@@ -624,13 +664,11 @@ pub(crate) fn without_useless(
     ensures placed { IfOk result (λ r. IsPlaced r.0) }
 {
     let selection = Selection::new(alloc, &whole.parts)?;
-    let mut useless = Useless {
-        rules: selection.useless_rules(whole.rule_places.as_slice())?,
-        productions: Vec::new(alloc),
-        starts: selection.unproductive_starts(&whole)?,
-    };
-    let productions = selection.productions(&whole, &mut useless.productions)?;
-    let useless_tokens = selection.useless_tokens(&whole)?;
+    let Parted {
+        productions,
+        useless,
+        useless_tokens,
+    } = selection.parted(&whole)?;
     let FileGrammar {
         parts,
         rule_places,

@@ -18,31 +18,21 @@ impl<'a> Meaning<'a> {
     pub(super) fn tell_symbols(&mut self) -> Result<(), AllocError>
         ensures { OnOk result (KeepsMeaning self.old self.new) }
     {
+        // The first symbols by their codes, of those that were looked at.
         let mut first = BTreeMap::new(*self.faults.allocator());
         for number in 0..self.symbols.list.len() {
-            if let Some(symbol) = self.symbols.list.get(number).copied() {
-                self.tell_symbol(&mut first, number, symbol)?;
+            let Some(symbol) = self.symbols.list.get(number).copied() else {
+                break;
+            };
+            if let Some((there, here)) = self.two_levels(number) {
+                self.tell(FaultKind::LevelTwice(there), here)?;
             }
+            if let Some(code) = symbol.code {
+                self.tell_code(&mut first, code, symbol.span())?;
+            }
+            self.tell_undefined(symbol)?;
         }
         Ok(())
-    }
-
-    /// Tells what is wrong with a symbol. Of those before it, the first ones by their codes are known.
-    fn tell_symbol(
-        &mut self,
-        first: &mut BTreeMap<u64, Span>,
-        number: usize,
-        symbol: Symbol,
-    ) -> Result<(), AllocError>
-        ensures { OnOk result (KeepsMeaning self.old self.new) }
-    {
-        if let Some((first, second)) = self.two_levels(number) {
-            self.tell(FaultKind::LevelTwice(first), second)?;
-        }
-        if let Some(code) = symbol.code {
-            self.tell_code(first, code, symbol.span())?;
-        }
-        self.tell_undefined(symbol)
     }
 
     /// Tells of the later one of a symbol with a code and the first other one that has it. Takes in which is the first one then.
@@ -79,35 +69,29 @@ impl<'a> Meaning<'a> {
         }
     }
 
-    /// Tells of start symbols that are no rules.
+    /// Tells of start symbols that are no rules. One may be a token where it isn't the only one, and for Bison one that nothing
+    /// else names is a rule without bodies.
     pub(super) fn tell_starts(&mut self) -> Result<(), AllocError>
         ensures { OnOk result (KeepsMeaning self.old self.new) }
     {
         for at in 0..self.starts.len() {
-            if let Some(start) = self.starts.get(at).copied() {
-                self.tell_start(start)?;
+            let Some(start) = self.starts.get(at).copied() else {
+                break;
+            };
+            let Some(symbol) = self.symbols.named(start) else {
+                continue;
+            };
+            match symbol.class {
+                Class::Token if self.starts.len() == 1 => {
+                    self.tell(FaultKind::StartIsToken, symbol.span())?;
+                }
+                Class::Unknown if self.symbols.dialect == Dialect::Grmtools => {
+                    let near = self.near(start, Meant::Rule)?;
+                    self.tell(FaultKind::StartHasNoRule(near), start.span)?;
+                }
+                _ => {}
             }
         }
         Ok(())
-    }
-
-    /// Tells of a start symbol that is no rule. It may be a token where it isn't the only one, and for Bison one that nothing
-    /// else names is a rule without bodies.
-    fn tell_start(&mut self, start: Lexeme) -> Result<(), AllocError>
-        ensures { OnOk result (KeepsMeaning self.old self.new) }
-    {
-        let Some(symbol) = self.symbols.named(start) else {
-            return Ok(());
-        };
-        match symbol.class {
-            Class::Token if self.starts.len() == 1 => {
-                self.tell(FaultKind::StartIsToken, symbol.span())
-            }
-            Class::Unknown if self.symbols.dialect == Dialect::Grmtools => {
-                let near = self.near(start, Meant::Rule)?;
-                self.tell(FaultKind::StartHasNoRule(near), start.span)
-            }
-            _ => Ok(()),
-        }
     }
 }

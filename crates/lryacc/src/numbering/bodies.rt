@@ -95,7 +95,7 @@ impl<'m, 'a> Numbering<'m, 'a> {
         Ok(())
     }
 
-    /// Adds the empty production of a part before the end of a body, if that is an action.
+    /// Adds the empty production of the rule that a part before the end of a body is, if that is an action.
     #[tactic(auto, using(crate::proofs::ProductionsAdded::none_added, crate::proofs::ProductionsAdded::one_added))]
     fn add_part(&self, productions: &mut Productions, part: BodyPart) -> Result<(), NoProductions>
         requires { IsNumbered self.now }
@@ -103,23 +103,9 @@ impl<'m, 'a> Numbering<'m, 'a> {
         ensures added { OnOk result (AddsProductions productions.old productions.new
             (IsOfPartBefore (names_of self.now) part)) }
     {
-        match part {
-            BodyPart::Action(action, _) => self.add_empty_production(productions, action),
-            BodyPart::Symbol(_) => Ok(()),
-        }
-    }
-
-    /// Adds the empty production of the rule that an action before the end of a body is.
-    fn add_empty_production(
-        &self,
-        productions: &mut Productions,
-        action: Lexeme,
-    ) -> Result<(), NoProductions>
-        requires { IsNumbered self.now }
-        ensures places { OnOk result (Adds productions.old productions.new (action.span ∷ [])) }
-        ensures added { OnOk result (AddsProduction productions.old productions.new
-            (IsEmptyProduction (names_of self.now) action)) }
-    {
+        let BodyPart::Action(action, _) = part else {
+            return Ok(());
+        };
         let alloc = self.allocator();
         let prod = PartProd {
             rule: self.rule_of_action(action)?,

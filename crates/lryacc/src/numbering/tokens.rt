@@ -34,13 +34,6 @@ fn kind_of(kind: LevelKind) -> AssocKind
     }
 }
 
-/// The level below that of the tokens of a line, before which so many lines begin.
-fn level_below(before: usize) -> Option<u64>
-    ensures { IfSome result (λ level. level ≡ before * 2 + 1) }
-{
-    (before as u64).checked_mul(2)?.checked_add(1)
-}
-
 impl<'m, 'a> Numbering<'m, 'a> {
     /// The level of a token, by either of its names.
     pub(super) fn level(&self, number: usize) -> Option<usize>
@@ -241,27 +234,17 @@ impl<'m, 'a> Numbering<'m, 'a> {
     pub(super) fn add_tokens_below(&mut self) -> Result<(), AllocError>
         ensures { OnOk result (AddsNumbers self.old self.new) }
     {
-        for at in 0..self.meaning.levels.len() {
-            if matches!(self.meaning.levels.get(at), Some(LevelKind::Precedence)) {
-                self.add_token_below(at)?;
+        for before in 0..self.meaning.levels.len() {
+            if !matches!(self.meaning.levels.get(before), Some(LevelKind::Precedence)) {
+                continue;
             }
+            let number = before + 1;
+            let name = format!(in self.allocator(); "%precedence {number}")?;
+            let level = before as u64 * 2 + 1;
+            let kind = AssocKind::Nonassoc;
+            let token = self.add_token(name, Some(Precedence { level, kind }))?;
+            self.below.insert(before, token)?;
         }
-        Ok(())
-    }
-
-    /// Adds a token below those of a line, before which so many lines begin.
-    #[tactic(auto, using(crate::proofs::Numbered::adds_again, crate::proofs::Numbered::adds_none))]
-    fn add_token_below(&mut self, before: usize) -> Result<(), AllocError>
-        ensures { OnOk result (AddsNumbers self.old self.new) }
-    {
-        let Some(level) = level_below(before) else {
-            return Ok(());
-        };
-        let number = before.saturating_add(1);
-        let name = format!(in self.allocator(); "%precedence {number}")?;
-        let kind = AssocKind::Nonassoc;
-        let token = self.add_token(name, Some(Precedence { level, kind }))?;
-        self.below.insert(before, token)?;
         Ok(())
     }
 

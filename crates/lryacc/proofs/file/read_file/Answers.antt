@@ -1,4 +1,4 @@
-use Rattle.std.proofs.Common.{◌≡◌, ℕ, List, [], IfOk, Ok, Err, Result, Bool, true, ◌==◌, arith, subst, sym, vec_len}
+use Rattle.std.proofs.Common.{◌≡◌, ℕ, List, [], IfOk, Ok, Err, Result, Bool, true, ◌==◌, ap, arith, subst, sym, vec_len}
 use Rattle.lryacc.specs.declared.contents.Alternative.{Alternative}
 use Rattle.lryacc.specs.declared.contents.Statement.{Statement}
 use Rattle.lryacc.specs.declared.dialects.Dialect.{Dialect}
@@ -34,8 +34,10 @@ returns-then-not-is_empty-clause-bodies c =
 
 pub returns-clause-bodies : goal.returns-clause-bodies
 returns-clause-bodies c =
-    let contents = c.in_ok-contents.contents in
+    let contents = c.file.new.self.contents in
+    let begun = c.new-reader.ensures in
     let none = none-told (vec_len contents.faults) c.is_empty.result c.is_empty.ensures c.if-not-is_empty.false in
+    let scanned : vec_len c.in_ok-lexemes.field-0.faults ≡ 0 = omega (arith, none, c.file.ensures.faults, ap vec_len begun.faults) in
     each-ok _ _ c.contents_read.result
     (λ read has. record {
       dialect = c.dialect_of-dialect.result;
@@ -46,9 +48,9 @@ returns-clause-bodies c =
         lexemes = c.as_slice-lexemes.result.now;
         of_text =
             subst (AreAllLexemesOf c.args.text.now c.dialect_of-dialect.result) (sym c.as_slice-lexemes.ensures.value)
-            (c.in_ok-lexemes.ensures.all (c.in_ok-contents.ensures.faults none));
-        declared = c.in_ok-contents.ensures.declared none;
-        all = c.in_ok-contents.ensures.read none;
+            (c.in_ok-lexemes.ensures.all scanned);
+        declared = rw (← begun.text, ← begun.lexemes, ← begun.dialect) (c.in_ok-file.ensures.declared none);
+        all = rw (← begun.text, ← begun.lexemes, ← begun.dialect) (c.in_ok-file.ensures.read none);
       };
       has = has;
     })

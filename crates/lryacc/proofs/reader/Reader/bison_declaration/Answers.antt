@@ -95,3 +95,24 @@ returns-in_default-form-2 c = record {
       (directive-taken c.in-Some-form.form c.in-Some-form.ensures c.in-Some.ensures.taken c.take.ensures.statements).0
       c.passed_over.ensures.none c.passed_over.ensures.said;
 }
+
+pub returns-in-Tokens-clause-over : goal.returns-in-Tokens-clause-over
+returns-in-Tokens-clause-over c = over_again (over-directive c.in-Some.ensures.taken) c.listing.ensures.over
+
+pub returns-in-Rules-clause-over : goal.returns-in-Rules-clause-over
+returns-in-Rules-clause-over c = over_again (over-directive c.in-Some.ensures.taken) c.listing-in-Rules.ensures.over
+
+pub returns-in-Types-clause-over : goal.returns-in-Types-clause-over
+returns-in-Types-clause-over c = over_again (over-directive c.in-Some.ensures.taken) c.listing-in-Types.ensures.over
+
+pub returns-in-Starts-clause-over : goal.returns-in-Starts-clause-over
+returns-in-Starts-clause-over c = over_again (over-directive c.in-Some.ensures.taken) c.said.ensures.over
+
+pub returns-in-ShiftReduce-clause-over : goal.returns-in-ShiftReduce-clause-over
+returns-in-ShiftReduce-clause-over c = over_again (over-directive c.in-Some.ensures.taken) c.expected.ensures.over
+
+pub returns-in-ReduceReduce-clause-over : goal.returns-in-ReduceReduce-clause-over
+returns-in-ReduceReduce-clause-over c = over_again (over-directive c.in-Some.ensures.taken) c.expected-in-ReduceReduce.ensures.over
+
+pub returns-in-Nothing-clause-over : goal.returns-in-Nothing-clause-over
+returns-in-Nothing-clause-over c = over-directive c.in-Some.ensures.taken

@@ -2,7 +2,7 @@ use Rattle.std.proofs.Common.{◌≡◌, ℕ, ap, refl, subst, length, arith}
 use Rattle.std.proofs.lemmas.List.{length_push}
 use Rattle.lryacc.specs.declared.symbols.Symbols.{Symbols}
 use Rattle.lryacc.specs.NamedSymbols.{AddsName}
-use Rattle.lryacc.proofs.NamesOfOne.{new-names, ok-then}
+use Rattle.lryacc.proofs.NamesOfOne.{item-numbers, new-names, ok-then}
 use Rattle.lryacc.proofs.symbols.Symbols.add.Goals as goal
 
 pub returns : goal.returns
@@ -21,3 +21,9 @@ returns c =
       adds = subst (λ (n : ℕ). AddsName now new c.args.lexeme n) same adds;
     })
     c.add_name.ensures
+
+pub returns-then-lexeme-symbol : goal.returns-then-lexeme-symbol
+returns-then-lexeme-symbol c = item-numbers c.args.self.now c.in-Some.number _
+
+pub returns-else-lexeme-symbol : goal.returns-else-lexeme-symbol
+returns-else-lexeme-symbol c = item-numbers c.args.self.now c.in-Some.number _
