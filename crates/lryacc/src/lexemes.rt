@@ -182,17 +182,6 @@ pub(crate) fn invalid(from: usize) -> Fault
     }
 }
 
-/// No lexeme begins with the byte at a place, nor with those behind it that are as Bison passes over with it.
-pub(crate) fn invalid_run(text: &[u8], from: usize) -> Fault
-    requires { from < length text.now }
-{
-    let span = Span::new(from, Run::Invalid.end(text, from + 1));
-    Fault {
-        kind: FaultKind::InvalidCharacter,
-        span,
-    }
-}
-
 /// The code that begins at a place with a mark of so many bytes.
 fn code(
     text: &[u8],
@@ -354,6 +343,9 @@ pub(crate) fn lexeme_at(text: &[u8], from: usize) -> Result<(LexemeKind, usize),
         b'=' => Ok((LexemeKind::Equals, from + 1)),
         _ if is_name_start(first) => Ok((LexemeKind::Name, Run::Name.end(text, from + 1))),
         _ if first.is_ascii_digit() => number(text, from),
-        _ => Err(invalid_run(text, from)),
+        _ => Err(Fault {
+            kind: FaultKind::InvalidCharacter,
+            span: Span::new(from, Run::Invalid.end(text, from + 1)),
+        }),
     }
 }

@@ -107,13 +107,7 @@ impl<'a> Reader<'a> {
             (Stays self.old self.new) }
         ensures statements { self.new.contents.statements ≡ self.old.contents.statements }
     {
-        match self.here() {
-            Some(lexeme) if lexeme.kind == kind => {
-                self.pass();
-                true
-            }
-            _ => false,
-        }
+        self.take(kind).is_some()
     }
 
     /// Takes the next lexeme, which is to be of that kind.

@@ -9,7 +9,7 @@ ghost use Rattle.lryacc.specs.KeptProductions.{AreInOrder, IsWithout, new_number
 ghost use Rattle.lryacc.specs.PlacedProductions.{placed, placed_at, placed_in};
 ghost use Rattle.lryacc.specs.ProductionPlaces.{Adds, ArePlaced, IsPlaced};
 ghost use Rattle.lryacc.specs.UsefulRules.{AreProductive, AreReached, HasProductive, HasReached, has, has_all, is_useful, productions_in};
-ghost use Rattle.lryacc.specs.UsefulRules.{FindsAmong, FindsProductive, FindsReached, IsRuleAmong};
+ghost use Rattle.lryacc.specs.UsefulRules.{FindsProductive, FindsReached, IsRuleAmong};
 
 use crate::faults::{Fault, FaultKind};
 use crate::numbering::FileGrammar;

@@ -5,7 +5,6 @@ ghost use Rattle.lryacc.specs.EndTokens.{KeepsMeaning};
 
 use crate::dialects::Dialect;
 use crate::faults::FaultKind;
-use crate::lexemes::Lexeme;
 use crate::meaning::Meaning;
 use crate::places::Span;
 use crate::spellings::Meant;

@@ -1,7 +1,6 @@
 //! What is told of useless rules and productions.
 
-ghost use Rattle.std.specs.Prelude.{◌≡◌, ◌+◌, length, IfOk, OnOk, vec_len};
-ghost use Rattle.lryacc.specs.Spellings.{ProposesNear};
+ghost use Rattle.std.specs.Prelude.{◌≡◌, ◌+◌, length, OnOk, vec_len};
 
 use crate::contents::Contents;
 use crate::dialects::Dialect;
@@ -59,24 +58,19 @@ impl<'a> Meaning<'a> {
     /// Tells of start symbols that derive no text.
     fn tell_unproductive(&mut self, starts: &[Span]) -> Result<(), AllocError> {
         for span in starts {
-            let kind = self.unproductive(*span)?;
-            self.tell(kind, *span)?;
+            let name = Lexeme {
+                kind: LexemeKind::RuleName,
+                span: *span,
+            };
+            match self.symbols.named(name) {
+                Some(symbol) if symbol.class == Class::Unknown => {
+                    let near = self.near(name, Meant::Rule)?;
+                    self.tell(FaultKind::StartHasNoRule(near), *span)?;
+                }
+                _ => self.tell(FaultKind::StartIsUnproductive, *span)?,
+            }
         }
         Ok(())
-    }
-
-    /// Why the start symbol that is named at a place derives no text.
-    fn unproductive(&self, span: Span) -> Result<FaultKind, AllocError>
-        ensures { IfOk result (λ kind. ProposesNear self.now.symbols kind span) }
-    {
-        let kind = LexemeKind::RuleName;
-        let name = Lexeme { kind, span };
-        match self.symbols.named(name) {
-            Some(symbol) if symbol.class == Class::Unknown => {
-                Ok(FaultKind::StartHasNoRule(self.near(name, Meant::Rule)?))
-            }
-            _ => Ok(FaultKind::StartIsUnproductive),
-        }
     }
 
     /// Tells of start symbols that are tokens.

@@ -2,8 +2,8 @@
 
 ghost use Rattle.std.specs.Prelude.{◌≡◌, ◌+◌, [], ◌∷◌, ◌++◌, Some, flat_map, IfOk, OnOk, None};
 ghost use Rattle.lryacc.specs.ProductionPlaces.{Adds, action_place, action_places, body_places, parts_before_last};
-ghost use Rattle.lryacc.specs.BodyProductions.{AddsProduction, AddsProductions, AreOfActions, AreOfBodies, AreOfBody};
-ghost use Rattle.lryacc.specs.BodyProductions.{AreRelated, IsEmptyProduction, IsOfPart, IsOfPartBefore, IsRuleOfAction, symbol_parts};
+ghost use Rattle.lryacc.specs.BodyProductions.{AddsProductions, AreOfActions, AreOfBodies, AreOfBody};
+ghost use Rattle.lryacc.specs.BodyProductions.{AreRelated, IsOfPart, IsOfPartBefore, IsRuleOfAction, symbol_parts};
 ghost use Rattle.lryacc.specs.NamedSymbols.{IsNamed};
 ghost use Rattle.lryacc.specs.Numbered.{IsLevelled, IsNumbered, names_of};
 

@@ -1,7 +1,7 @@
 //! The tokens of the grammar of a file, and their precedences.
 
 ghost use Rattle.std.specs.Prelude.{◌≡◌, ◌<◌, ◌+◌, ◌*◌, true, [], ◌∷◌, ◌++◌, Some, length, slice_get, string_bytes};
-ghost use Rattle.std.specs.Prelude.{IfOk, OnOk, IfSome, None};
+ghost use Rattle.std.specs.Prelude.{IfOk, OnOk, None};
 ghost use Rattle.std.specs.BTreeMap.{get};
 ghost use Rattle.lryacc.specs.Levels.{group_of, line_of, precedence_of};
 ghost use Rattle.lryacc.specs.NamedSymbols.{IsTokenText, name_of};

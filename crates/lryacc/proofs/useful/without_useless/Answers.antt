@@ -1,4 +1,4 @@
-use Rattle.std.proofs.Common.{◌∙◌, is_some, length, map, refl, arith}
+use Rattle.std.proofs.Common.{◌∙◌, is_some, map, refl, arith}
 use Rattle.lryacc.proofs.useful.without_useless.Goals as goal
 
 pub returns-clause-without : goal.returns-clause-without

@@ -1,6 +1,5 @@
 use Rattle.std.proofs.Common.{◌≡◌, ◌∙◌, ℕ, List, Some, IfSome, ap, inl, inr, refl, slice_get, subst, sym}
 use Rattle.std.proofs.lemmas.Option.{same_Some}
-use Rattle.lryacc.specs.declared.places.Span.{Span}
 use Rattle.lryacc.specs.declared.spellings.Near.{Near}
 use Rattle.lryacc.specs.declared.symbols.Symbol.{Symbol}
 use Rattle.lryacc.specs.declared.symbols.Symbols.{Symbols}
