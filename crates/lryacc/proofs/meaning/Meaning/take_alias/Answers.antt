@@ -1,4 +1,4 @@
-use Rattle.std.proofs.Common.{◌≡◌, ◌∙◌, None, Some, ap, inl, inr}
+use Rattle.std.proofs.Common.{◌≡◌, ◌∙◌, None, Some, ap, inl, inr, sym}
 use Rattle.std.specs.BTreeMap.{get}
 use Rattle.std.specs.Ordering.{nat_cmp}
 use Rattle.lryacc.specs.Aliases.{HasText}
@@ -14,8 +14,8 @@ returns-then-eq-clause-taken c = ok-then c.tell.result (λ keeps. takes_other _ 
 pub returns-then-can_pair-clause-taken : goal.returns-then-can_pair-clause-taken
 returns-then-can_pair-clause-taken c =
     let s = c.args.self.now.symbols in
-    let first : number_of s c.args.symbol ≡ Some c.in-Some-Some.one = cc in
-    let second : number_of s c.args.text ≡ Some c.in-Some-Some.other = cc in
+    let first : number_of s c.args.symbol ≡ Some c.in-Some-Some.one = sym c.find.ensures ∙ c.in-Some-Some.is-0 in
+    let second : number_of s c.args.text ≡ Some c.in-Some-Some.other = sym c.find-2.ensures ∙ c.in-Some-Some.is-1 in
     let free = c.can_pair.ensures.free c.if-can_pair.true in
     ok-then c.pair.result
     (λ one. pair_taken s one.now c.pair.new.self.symbols c.args.symbol c.args.text c.in-Some-Some.one c.in-Some-Some.other first second free.apart free.first free.second one.pairs one.keeps)
@@ -26,7 +26,7 @@ returns-clause-taken c = ok-then c.warn.result (λ keeps. takes_other _ keeps.sy
 
 pub returns-in_default-clause-aliases : goal.returns-in_default-clause-aliases
 returns-in_default-clause-aliases c =
-    let none : number_of c.args.self.now.symbols c.args.text ≡ None = cc in
+    let none : number_of c.args.self.now.symbols c.args.text ≡ None = sym c.find-2.ensures ∙ c.in_default.is-1 in
     takes_unknown c.args.symbol c.args.text c.args.self.now (inr none)
 
 pub returns-in_default-2-clause-aliases : goal.returns-in_default-2-clause-aliases
@@ -37,8 +37,8 @@ returns-in_default-2-clause-aliases c =
 pub returns-then-eq-clause-aliases : goal.returns-then-eq-clause-aliases
 returns-then-eq-clause-aliases c =
     let s = c.args.self.now.symbols in
-    let first : number_of s c.args.symbol ≡ Some c.in-Some-Some.one = cc in
-    let second : number_of s c.args.text ≡ Some c.in-Some-Some.other = cc in
+    let first : number_of s c.args.symbol ≡ Some c.in-Some-Some.one = sym c.find.ensures ∙ c.in-Some-Some.is-0 in
+    let second : number_of s c.args.text ≡ Some c.in-Some-Some.other = sym c.find-2.ensures ∙ c.in-Some-Some.is-1 in
     ok-both c.tell.result
     (λ keeps told. takes_known c.args.symbol c.args.text c.in-Some-Some.one c.in-Some-Some.other first second (others_kept keeps.symbols keeps.faults) (inr told))
     c.tell.ensures.keeps c.tell.ensures.told
@@ -46,8 +46,8 @@ returns-then-eq-clause-aliases c =
 pub returns-then-can_pair-clause-aliases : goal.returns-then-can_pair-clause-aliases
 returns-then-can_pair-clause-aliases c =
     let s = c.args.self.now.symbols in
-    let first : number_of s c.args.symbol ≡ Some c.in-Some-Some.one = cc in
-    let second : number_of s c.args.text ≡ Some c.in-Some-Some.other = cc in
+    let first : number_of s c.args.symbol ≡ Some c.in-Some-Some.one = sym c.find.ensures ∙ c.in-Some-Some.is-0 in
+    let second : number_of s c.args.text ≡ Some c.in-Some-Some.other = sym c.find-2.ensures ∙ c.in-Some-Some.is-1 in
     let new = c.pair.new.self.symbols in
     let n = c.in-Some-Some.one in
     let m = c.in-Some-Some.other in
@@ -65,8 +65,8 @@ returns-then-can_pair-clause-aliases c =
 pub returns-then-eq-2-clause-aliases : goal.returns-then-eq-2-clause-aliases
 returns-then-eq-2-clause-aliases c =
     let s = c.args.self.now.symbols in
-    let first : number_of s c.args.symbol ≡ Some c.in-Some-Some.one = cc in
-    let second : number_of s c.args.text ≡ Some c.in-Some-Some.other = cc in
+    let first : number_of s c.args.symbol ≡ Some c.in-Some-Some.one = sym c.find.ensures ∙ c.in-Some-Some.is-0 in
+    let second : number_of s c.args.text ≡ Some c.in-Some-Some.other = sym c.find-2.ensures ∙ c.in-Some-Some.is-1 in
     takes_known c.args.symbol c.args.text c.in-Some-Some.one c.in-Some-Some.other first second (others_same c.args.self.now)
     (inl (c.can_pair.ensures.settled c.if-can_pair.false))
 
@@ -75,8 +75,8 @@ returns-clause-aliases c =
     let s = c.args.self.now.symbols in
     let n = c.in-Some-Some.one in
     let m = c.in-Some-Some.other in
-    let first : number_of s c.args.symbol ≡ Some n = cc in
-    let second : number_of s c.args.text ≡ Some m = cc in
+    let first : number_of s c.args.symbol ≡ Some n = sym c.find.ensures ∙ c.in-Some-Some.is-0 in
+    let second : number_of s c.args.text ≡ Some m = sym c.find-2.ensures ∙ c.in-Some-Some.is-1 in
     ok-then c.warn.result
     (λ keeps.
     let others = others_kept keeps.symbols keeps.faults in
