@@ -12,9 +12,12 @@ use Rattle.lrreport.specs.declared.conflicts.Checked.{Checked}
 use Rattle.lrreport.specs.Conflicts.{conflict_of}
 
 -- in one state a production meets another one, or a shift, at those tokens, and that is all that the entries tell
-pub record MeetTogether (production : ℕ) (other : Option ℕ) (tokens : List ℕ) (entries : List Evidence) : Type 0 where
+pub record MeetTogether
+    (production : ℕ) (other : Option ℕ) (tokens : List ℕ)
+    (entries : List Evidence) : Type 0 where
   pub state : ℕ
-  pub are : map (λ e. told e.entry) entries ≡ map (λ token. (token, production, other, state)) tokens
+  pub are : map (λ e. told e.entry) entries
+      ≡ map (λ token. (token, production, other, state)) tokens
 
 -- the entries of a cause, state by state
 abbrev pub entries_in : Cause → List Evidence
@@ -26,11 +29,16 @@ states_of cause = map (λ meeting. meeting.now) cause.meetings.items
 
 -- whether the same meets at both entries in the same state
 abbrev pub meet_alike : Entry → Entry → Bool
-meet_alike e f = (e.state == f.state) && ((e.production == f.production) && option_eq nat_eq e.other f.other)
+meet_alike e f =
+    (e.state == f.state)
+    && ((e.production == f.production) && option_eq nat_eq e.other f.other)
 
 -- an entry before runs of entries, and in the first of these if the same meets in it
 abbrev pub run_before : Evidence → List (List Evidence) → List (List Evidence)
-run_before e ((f ∷ es) ∷ runs) = if meet_alike e.entry f.entry then (e ∷ f ∷ es) ∷ runs else (e ∷ []) ∷ (f ∷ es) ∷ runs
+run_before e ((f ∷ es) ∷ runs) =
+    if meet_alike e.entry f.entry
+    then (e ∷ f ∷ es) ∷ runs
+    else (e ∷ []) ∷ (f ∷ es) ∷ runs
 run_before e runs = (e ∷ []) ∷ runs
 
 -- the runs of entries at which the same meets in the same state
@@ -48,12 +56,16 @@ pub record IsOneCause (cause : Cause) : Type 0 where
 -- all the states of a cause have one conflict
 abbrev pub IsOneConflict : Checked → Cause → Type 0
 IsOneConflict c cause =
-    All (λ one. All (λ another. conflict_of c one.now ≡ conflict_of c another.now) cause.meetings.items) cause.meetings.items
+    All
+    (λ one. All (λ another. conflict_of c one.now ≡ conflict_of c another.now) cause.meetings.items)
+    cause.meetings.items
 
 -- no state of one cause has the conflict of a state of another
 abbrev pub AreApart : Checked → Cause → Cause → Type 0
 AreApart c cause other =
-    All (λ one. All (λ another. conflict_of c one.now ≢ conflict_of c another.now) other.meetings.items) cause.meetings.items
+    All
+    (λ one. All (λ another. conflict_of c one.now ≢ conflict_of c another.now) other.meetings.items)
+    cause.meetings.items
 
 -- what a meeting keeps is what meets in its entries
 abbrev pub IsMet : Meeting → Type 0
@@ -63,8 +75,10 @@ IsMet m = MeetTogether m.kind.production m.kind.other m.kind.tokens.items m.evid
 pub record HasKind (c : Checked) (m : Meeting) : Type 0 where
   pub some : 0 < length m.evidence.now
   pub decided : m.kind.decided.items ≡ (conflict_of c m.evidence.now).decided
-  pub shifting : c.told.options.detail.all ≡ false → m.kind.items.items ≡ (conflict_of c m.evidence.now).shifting
-  pub choice : c.told.options.detail.all ≡ false → m.kind.choice ≡ (conflict_of c m.evidence.now).choice
+  pub shifting : c.told.options.detail.all ≡ false
+      → m.kind.items.items ≡ (conflict_of c m.evidence.now).shifting
+  pub choice : c.told.options.detail.all ≡ false
+      → m.kind.choice ≡ (conflict_of c m.evidence.now).choice
 
 -- both kinds are the same
 pub record AreAlike (one another : Kind) : Type 0 where

@@ -93,7 +93,8 @@ pub record IsConcluded (left_out : Bool) (c : Conclusion) : Type 0 where
   pub of_grammar : IsGraphOf grammar graph
   pub left : AreLeftOpen grammar graph (map (λ e. e.entry) c.evidence.items)
   pub resolved : c.resolved ≡ length (resolved_in grammar graph)
-  pub verdict : IsVerdict shown (counts_of (map (λ e. e.entry) c.evidence.items)) c.expected c.verdict
+  pub verdict :
+      IsVerdict shown (counts_of (map (λ e. e.entry) c.evidence.items)) c.expected c.verdict
   pub unambiguous : IsTrue shown → IsUnambiguous grammar
   pub yet_unambiguous : IsTrue c.is_unambiguous → IsUnambiguous grammar
   pub known : HasNoPrecedences grammar → c.evidence.items ≡ [] → IsTrue shown

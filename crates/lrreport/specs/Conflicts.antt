@@ -20,7 +20,12 @@ use Rattle.lrreport.specs.declared.conflicts.Checked.{Checked}
 -- which of the things that meet in an entry an action does
 abbrev pub choice_by : Entry → Action → Choice
 choice_by e (table.Shift s) = Shift
-choice_by e (table.Reduce p) = if p == e.production then Reduce else if option_eq nat_eq (Some p) e.other then Other else Neither
+choice_by e (table.Reduce p) =
+    if p == e.production
+    then Reduce
+    else if option_eq nat_eq (Some p) e.other
+    then Other
+    else Neither
 choice_by e Accept = Neither
 choice_by e Error = Neither
 
@@ -31,7 +36,9 @@ greatest_index = 4294967295
 -- that of the cell of an entry; none where its state or its token is above the greatest index
 abbrev pub choice_at : Table → Entry → Choice
 choice_at b e =
-    if nat_le e.state greatest_index && nat_le e.token greatest_index then choice_by e (action_of b e.state e.token) else Neither
+    if nat_le e.state greatest_index && nat_le e.token greatest_index
+    then choice_by e (action_of b e.state e.token)
+    else Neither
 
 -- whether both are the same
 abbrev pub is_choice : Choice → Choice → Bool
@@ -45,7 +52,9 @@ is_choice _ _ = false
 abbrev pub common_choice : Table → List Entry → Option Choice
 common_choice b [] = None
 common_choice b (e ∷ es) =
-    if list_all (λ f. is_choice (choice_at b e) (choice_at b f)) es then Some (choice_at b e) else None
+    if list_all (λ f. is_choice (choice_at b e) (choice_at b f)) es
+    then Some (choice_at b e)
+    else None
 
 -- none where the parser splits, and does both
 abbrev pub choice_of : Table → Bool → List Entry → Option Choice
@@ -63,7 +72,8 @@ is_token test (Some (Token t)) = test t
 
 -- the items, as production and dot, behind whose dot such a token stands
 abbrev pub items_before : FileGrammar → (ℕ → Bool) → Items → List (ℕ × ℕ)
-items_before file test items = filter (λ item. is_token test (symbol_behind file item)) (map (λ e. e.0) items)
+items_before file test items =
+    filter (λ item. is_token test (symbol_behind file item)) (map (λ e. e.0) items)
 
 -- whether one of the entries is at the token
 abbrev pub is_met_at : List Entry → ℕ → Bool
@@ -73,7 +83,10 @@ is_met_at entries t = list_any (λ e. t == e.token) entries
 abbrev pub shifting_items : FileGrammar → Option Graph → List Entry → List (ℕ × ℕ)
 shifting_items file None entries = []
 shifting_items file (Some h) [] = []
-shifting_items file (Some h) (e ∷ es) = if is_none e.other then items_before file (is_met_at (e ∷ es)) (closed_of h e.state) else []
+shifting_items file (Some h) (e ∷ es) =
+    if is_none e.other
+    then items_before file (is_met_at (e ∷ es)) (closed_of h e.state)
+    else []
 
 -- a conflict, whatever its state
 pub record Conflict : Type 0 where

@@ -66,7 +66,8 @@ head_tokens name verdict shown known without exact =
 abbrev pub json_head : List ℕ → Conclusion → List ℕ
 json_head name c =
     print
-    (head_tokens name c.verdict c.is_unambiguous (list_any has_sentence c.evidence.items) (is_some c.decided) c.exactness)
+    (head_tokens name c.verdict c.is_unambiguous (list_any has_sentence c.evidence.items)
+    (is_some c.decided) c.exactness)
 
 -- a text begins with another one
 pub record BeginsWith (head text : List ℕ) : Type 0 where

@@ -19,8 +19,8 @@ has_hint options = is_report options.output && not options.detail.resolved
 -- the words of what is concluded
 abbrev pub words_of : Options → Conclusion → List ℕ
 words_of options c =
-    verdict_words c.verdict c.is_unambiguous c.evidence.items (nat_lt 0 options.steps) c.resolved (has_hint options) c.exactness
-    (is_some c.decided)
+    verdict_words c.verdict c.is_unambiguous c.evidence.items (nat_lt 0 options.steps) c.resolved
+    (has_hint options) c.exactness (is_some c.decided)
 
 -- the line of a file of that name
 abbrev pub line_of : List ℕ → List ℕ → List ℕ
@@ -46,4 +46,5 @@ Tells output columns line head text = ⊤
 
 abbrev pub TellsConclusion : Options → List ℕ → Conclusion → List ℕ → Type 0
 TellsConclusion options name c text =
-    Tells options.output options.lines.columns (last_line name (words_of options c)) (json_head name c) text
+    Tells options.output options.lines.columns (last_line name (words_of options c))
+    (json_head name c) text
