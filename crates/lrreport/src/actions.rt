@@ -42,16 +42,6 @@ pub(crate) struct Row<'a> {
     pub(crate) accepts: bool,
 }
 
-/// The cells that entries are about.
-fn cells_of(alloc: Global, entries: &[Entry]) -> Result<Vec<Cell>, AllocError> {
-    let mut cells = Vec::new(alloc);
-    for entry in entries {
-        let (production, token) = (entry.production, entry.token);
-        cells.push(Cell { production, token })?;
-    }
-    Ok(cells)
-}
-
 /// How many columns the widest of the symbols takes.
 fn widest(targets: &[Target<'_>]) -> usize {
     let mut width = 0;
@@ -112,22 +102,16 @@ impl Told<'_> {
         words
     }
 
-    /// The names of the tokens of cells, with a comma behind each but the last.
-    fn names_of_cells(&self, alloc: Global, cells: &[Cell]) -> Words {
-        let mut names = Words::new(alloc);
+    /// Adds what is done at tokens: behind their names, with commas between these, or in a line of its own where that would get too
+    /// long.
+    fn push_cells(&self, text: &mut Text, cells: &[Cell], action: &Words) {
+        let (layout, mut names) = (self.layout(), Words::new(text.allocator()));
         for cell in cells {
             if let Some(token) = self.file.parts.tokens.get(cell.token) {
                 let is_first = names.is_empty();
                 names.add_listed(is_first, token.name.as_str());
             }
         }
-        names
-    }
-
-    /// Adds what is done at tokens: behind their names, or in a line of its own where that would get too long.
-    fn push_cells(&self, text: &mut Text, cells: &[Cell], action: &Words) {
-        let layout = self.layout();
-        let names = self.names_of_cells(text.allocator(), cells);
         text.add("    ");
         names.lay_out(text, layout, 4, 4);
         let mut column: usize = 4;
@@ -192,37 +176,23 @@ impl<'a> Listing<'a> {
         state: StIdx<u32>,
         entries: &[Entry],
     ) -> Result<Vec<Cell>, AllocError> {
-        let mut cells = cells_of(alloc, entries)?;
+        let mut cells = Vec::new(alloc);
         for entry in entries {
+            let (production, token) = (entry.production, entry.token);
+            let cell = Cell { production, token };
+            if !self.does(state, cell) {
+                cells.push(cell)?;
+            }
             if let Some(production) = entry.other {
-                let token = entry.token;
-                cells.push(Cell { production, token })?;
+                let cell = Cell { production, token };
+                if !self.does(state, cell) {
+                    cells.push(cell)?;
+                }
             }
         }
-        cells.retain(|cell| !self.does(state, *cell));
         cells.sort_unstable();
         cells.dedup();
         Ok(cells)
-    }
-
-    /// Adds what else would be possible in a state, where there are conflicts, and what is an error by precedences.
-    fn push_others(&self, text: &mut Text, state: StIdx<u32>) -> Result<(), AllocError> {
-        let (alloc, number) = (text.allocator(), usize::from(state));
-        if let Some(entries) = self.conflicts.get(&number) {
-            let cells = self.alternatives(alloc, state, entries.as_slice())?;
-            self.checked
-                .told
-                .push_reductions(text, cells.as_slice(), "[or ", "]");
-        }
-        if let Some(entries) = self.errors.get(&number) {
-            let cells = cells_of(alloc, entries.as_slice())?;
-            let mut action = Words::new(alloc);
-            action.add("error (nonassociative)");
-            self.checked
-                .told
-                .push_cells(text, cells.as_slice(), &action);
-        }
-        Ok(())
     }
 
     /// Where the rules of the file lead from a state.
@@ -245,19 +215,31 @@ impl<'a> Listing<'a> {
         Ok(targets)
     }
 
-    /// Adds what the table does in a state where it doesn't shift, and what else would be possible in it.
-    pub(crate) fn push_reducing(
-        &self,
-        text: &mut Text,
-        state: StIdx<u32>,
-        row: &Row<'a>,
-    ) -> Result<(), AllocError> {
-        self.push_others(text, state)?;
-        let reductions = row.reductions.as_slice();
-        self.checked.told.push_reductions(text, reductions, "", "");
+    /// Adds what the table does in a state where it doesn't shift, and before that what else would be possible, where there are
+    /// conflicts, and what is an error by precedences.
+    pub(crate) fn push_reducing(&self, text: &mut Text, state: StIdx<u32>, row: &Row<'a>) {
+        let (alloc, number, told) = (text.allocator(), usize::from(state), self.checked.told);
+        if let Some(entries) = self.conflicts.get(&number) {
+            match self.alternatives(alloc, state, entries.as_slice()) {
+                Ok(cells) => told.push_reductions(text, cells.as_slice(), "[or ", "]"),
+                Err(_) => text.give_up(),
+            }
+        }
+        if let Some(entries) = self.errors.get(&number) {
+            let mut cells = Vec::new(alloc);
+            for entry in entries {
+                let (production, token) = (entry.production, entry.token);
+                if cells.push(Cell { production, token }).is_err() {
+                    return text.give_up();
+                }
+            }
+            let mut action = Words::new(alloc);
+            action.add("error (nonassociative)");
+            told.push_cells(text, cells.as_slice(), &action);
+        }
+        told.push_reductions(text, row.reductions.as_slice(), "", "");
         if row.accepts {
             text.add("    accept\n");
         }
-        Ok(())
     }
 }

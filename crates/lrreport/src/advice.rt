@@ -17,16 +17,6 @@ pub(crate) enum Place {
     Below,
 }
 
-impl Place {
-    /// The other one.
-    pub(crate) fn other(self) -> Place {
-        match self {
-            Place::Above => Place::Below,
-            Place::Below => Place::Above,
-        }
-    }
-}
-
 /// Why no levels resolve a conflict by itself.
 #[derive(Clone, Copy)]
 pub(crate) enum Hindrance {
@@ -96,14 +86,6 @@ impl Hindrance {
     }
 }
 
-/// The precedence line that makes no group.
-fn plain_line(dialect: Dialect) -> &'static str {
-    match dialect {
-        Dialect::Bison => "%precedence",
-        Dialect::Grmtools => "%nonassoc",
-    }
-}
-
 /// Adds where a new line keeps the shift, and that it reduces in the other place, where it may.
 fn add_places(words: &mut Words, place: Place, can_reduce: bool) {
     words.add_all(match place {
@@ -133,22 +115,15 @@ fn add_tokens(words: &mut Words, file: &FileGrammar, tokens: &[usize]) {
     }
 }
 
-/// Adds an associativity for what has one level of a line without one.
-fn add_associativity(words: &mut Words, is_of_operator: bool) {
-    words.add_all("both have one level of %precedence, which resolves nothing between them: use");
-    words.add_all(if is_of_operator {
-        "%left or %right"
-    } else {
-        "%right to keep the shift"
-    });
-}
-
 impl Told<'_> {
     /// Adds that tokens get a level by a line that makes no group.
     fn add_plain_level(&self, words: &mut Words, tokens: &[usize]) {
         add_tokens(words, self.file, tokens);
         words.add_all("a level by");
-        words.add(plain_line(self.options.dialect));
+        words.add(match self.options.dialect {
+            Dialect::Bison => "%precedence",
+            Dialect::Grmtools => "%nonassoc",
+        });
     }
 
     /// Adds that tokens get one level.
@@ -206,7 +181,11 @@ impl Told<'_> {
     pub(crate) fn add_levels(&self, words: &mut Words, levels: &NewLevels) {
         let tokens = levels.tokens.as_slice();
         match levels.way {
-            Way::Associativity { is_of_operator } => add_associativity(words, is_of_operator),
+            Way::Associativity { is_of_operator } => words.add_all(if is_of_operator {
+                "both have one level of %precedence, which resolves nothing between them: use %left or %right"
+            } else {
+                "both have one level of %precedence, which resolves nothing between them: use %right to keep the shift"
+            }),
             Way::One { is_right } => self.add_one_level(words, tokens, is_right),
             Way::Two { source, can_reduce } => {
                 self.add_two_levels(words, source, tokens, can_reduce);

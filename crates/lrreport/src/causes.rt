@@ -56,18 +56,6 @@ pub(crate) struct Cause<'e> {
     meetings: Vec<&'e [Evidence]>,
 }
 
-/// The first of those with a sentence that has two trees, if there is one.
-fn with_sentence<'e>(meetings: &[&'e [Evidence]]) -> Option<&'e [Evidence]>
-    ensures { IfSome result (Contains meetings.now) }
-{
-    for meeting in meetings {
-        if own_sentences(meeting) > 0 {
-            return Some(*meeting);
-        }
-    }
-    None
-}
-
 /// Whether of one of the entries a sentence is known that the parser rejects.
 pub(crate) fn have_loss(meeting: &[Evidence]) -> bool {
     for evidence in meeting {
@@ -78,23 +66,16 @@ pub(crate) fn have_loss(meeting: &[Evidence]) -> bool {
     false
 }
 
-/// The first of those with a sentence that the parser rejects, if there is one.
-fn with_loss<'e>(meetings: &[&'e [Evidence]]) -> Option<&'e [Evidence]>
-    ensures { IfSome result (Contains meetings.now) }
-{
-    for meeting in meetings {
-        if have_loss(meeting) {
-            return Some(*meeting);
-        }
-    }
-    None
-}
-
 /// Whether each entry of each has a sentence with two trees that part by what meets in it.
 fn have_all_sentences(meetings: &[&[Evidence]]) -> bool
     ensures { IsTrue result → All (λ m. All (λ e. IsSome e.ambiguity) m.now) meetings.now }
 {
-    meetings.iter().all(|it| have_sentences(it))
+    for meeting in meetings {
+        if !have_sentences(meeting) {
+            return false;
+        }
+    }
+    true
 }
 
 impl<'e> Cause<'e> {
@@ -102,7 +83,12 @@ impl<'e> Cause<'e> {
     pub(crate) fn rejecting(&self) -> Option<&'e [Evidence]>
         ensures { IfSome result (Contains self.now.meetings.items) }
     {
-        with_loss(self.meetings.as_slice())
+        for meeting in self.meetings.as_slice() {
+            if have_loss(meeting) {
+                return Some(*meeting);
+            }
+        }
+        None
     }
 
     /// The entries of the state that is shown: one with a sentence that has two trees, or else with one that the parser rejects,
@@ -110,12 +96,22 @@ impl<'e> Cause<'e> {
     pub(crate) fn shown(&self) -> Option<&'e [Evidence]>
         ensures { IfSome result (Contains self.now.meetings.items) }
     {
-        match with_sentence(self.meetings.as_slice()) {
+        for meeting in self.meetings.as_slice() {
+            if own_sentences(meeting) > 0 {
+                return Some(*meeting);
+            }
+        }
+        match self.rejecting() {
             Some(meeting) => Some(meeting),
-            None => match self.rejecting() {
-                Some(meeting) => Some(meeting),
-                None => self.meetings.first().copied(),
-            },
+            None => self.meetings.first().copied(),
+        }
+    }
+
+    /// The same; no entries where there is no state.
+    pub(crate) fn shown_entries(&self) -> &'e [Evidence] {
+        match self.shown() {
+            Some(meeting) => meeting,
+            None => &[],
         }
     }
 
@@ -166,14 +162,6 @@ impl<'e> Cause<'e> {
     }
 }
 
-/// Whether the same meets at another entry in the same state.
-fn stands_with(first: &Evidence, other: &Evidence) -> bool
-    ensures like { IsTrue result → MeetsLike first.now.entry other.now.entry }
-    ensures unlike { MeetsLike first.now.entry other.now.entry → IsTrue result }
-{
-    first.entry.meets_like(&other.entry)
-}
-
 /// How many of those behind the first one stand together with it, since the same meets at them in the same state; none where all are
 /// told.
 fn together(first: &Evidence, others: &[Evidence], tells_all: bool) -> usize
@@ -186,7 +174,7 @@ fn together(first: &Evidence, others: &[Evidence], tells_all: bool) -> usize
         return 0;
     }
     for (place, other) in others.iter().enumerate() {
-        if !stands_with(first, other) {
+        if !first.entry.meets_like(&other.entry) {
             return place;
         }
     }
@@ -211,21 +199,15 @@ fn alike(first: &Meeting<'_>, others: &[Meeting<'_>], tells_all: bool) -> usize
     others.len()
 }
 
-/// What is known of the entries of each.
-fn evidence_of<'e>(
-    alloc: Global,
-    meetings: &[Meeting<'e>],
-) -> Result<Vec<&'e [Evidence]>, AllocError>
-    ensures { IfOk result (λ v. v.items ≡ map (λ m. m.evidence) meetings.now) }
-{
-    meetings.iter().map(|it| it.evidence).collect(alloc)
-}
-
 /// The tokens of entries.
-pub(crate) fn tokens_at(alloc: Global, evidence: &[Evidence]) -> Result<Vec<usize>, AllocError>
+fn tokens_at(alloc: Global, evidence: &[Evidence]) -> Result<Vec<usize>, AllocError>
     ensures { IfOk result (λ v. v.items ≡ map (λ e. e.entry.token) evidence.now) }
 {
-    evidence.iter().map(|it| it.entry.token).collect(alloc)
+    let mut tokens = Vec::new(alloc);
+    for one in evidence {
+        tokens.push(one.entry.token)?;
+    }
+    Ok(tokens)
 }
 
 /// By entry how many tokens decide it, if that is known; None where it is not decided.
@@ -236,10 +218,14 @@ fn decided_by(
     ensures { IfOk result (λ v.
         v.items ≡ map (λ e. option_map (λ d. d.tokens) e.decided) evidence.now) }
 {
-    evidence
-        .iter()
-        .map(|it| it.decided.map(|decided| decided.tokens))
-        .collect(alloc)
+    let mut list = Vec::new(alloc);
+    for one in evidence {
+        match one.decided {
+            Some(decided) => list.push(Some(decided.tokens))?,
+            None => list.push(None)?,
+        }
+    }
+    Ok(list)
 }
 
 /// Puts those of one kind together, unless all are told.
@@ -266,8 +252,11 @@ fn cause_of<'e>(
         cause.meetings.items ≡ map (λ m. m.evidence) meetings.now) }
     ensures alike { IfOk result IsOneCause }
 {
-    let meetings = evidence_of(alloc, meetings)?;
-    Ok(Cause { meetings })
+    let mut list = Vec::new(alloc);
+    for meeting in meetings {
+        list.push(meeting.evidence)?;
+    }
+    Ok(Cause { meetings: list })
 }
 
 /// The cause of the first of the meetings, and how many of the first ones have it.
@@ -296,23 +285,8 @@ fn first_cause<'e>(
 }
 
 impl<'a> Checked<'a> {
-    /// The items by which the state of entries goes on where they meet a shift, and what the table does there.
-    fn done_by(
-        &self,
-        alloc: Global,
-        evidence: &[Evidence],
-    ) -> Result<(Vec<(usize, usize)>, Option<Choice>), AllocError>
-        ensures items { IfOk result (λ done. done.0.items
-            ≡ (conflict_of self.now evidence.now).shifting) }
-        ensures choice { IfOk result (λ done. done.1
-            ≡ (conflict_of self.now evidence.now).choice) }
-    {
-        let entries = entries_of(alloc, evidence)?;
-        let items = self.shifting_items(alloc, entries.as_slice())?;
-        Ok((items, self.choice_of(entries.as_slice())))
-    }
-
-    /// The same; nothing where all are told, since nothing is compared then.
+    /// The items by which the state of entries goes on where they meet a shift, and what the table does there; nothing where all are
+    /// told, since nothing is compared then.
     fn done_unless(
         &self,
         alloc: Global,
@@ -325,10 +299,11 @@ impl<'a> Checked<'a> {
             ≡ (conflict_of self.now evidence.now).choice) }
     {
         if tells_all {
-            Ok((Vec::new(alloc), None))
-        } else {
-            self.done_by(alloc, evidence)
+            return Ok((Vec::new(alloc), None));
         }
+        let entries = entries_of(alloc, evidence)?;
+        let items = self.shifting_items(alloc, entries.as_slice())?;
+        Ok((items, self.choice_of(entries.as_slice())))
     }
 
     /// Entries that meet like one of them, and what their state does.

@@ -16,7 +16,7 @@ ghost use Rattle.lrshown.specs.DecidedEntries.{tokens_of};
 ghost use Rattle.lrshown.specs.Ambiguities.{has_sentence};
 ghost use Rattle.lrreport.specs.Sentences.{IsKnownAt};
 ghost use Rattle.lrreport.specs.Causes.{entries_in};
-ghost use Rattle.lrreport.specs.Conflicts.{choice_at, choice_by, choice_of, is_choice, shifting_items};
+ghost use Rattle.lrreport.specs.Conflicts.{choice_at, choice_by, choice_of, is_choice, number_of, shifting_items};
 
 use crate::alike::{Alike, Leads, kinds};
 use crate::causes::Cause;
@@ -76,8 +76,8 @@ pub(crate) struct Checked<'a> {
 }
 
 /// What a table does by an action in the cell of an entry.
-fn choice_by<T: IndexStorage>(entry: &Entry, action: Action<T>) -> Choice
-    ensures { result ≡ choice_by entry.now (stored_action T.number action) }
+fn choice_by(entry: &Entry, action: Action<u32>) -> Choice
+    ensures { result ≡ choice_by entry.now (stored_action number_of action) }
 {
     match action {
         Action::Shift(_) => Choice::Shift,
@@ -88,18 +88,15 @@ fn choice_by<T: IndexStorage>(entry: &Entry, action: Action<T>) -> Choice
 }
 
 /// The closed state of a state of a graph, if there is such a one.
-pub(crate) fn closed_state<T: IndexStorage>(
-    graph: &StateGraph<T>,
-    state: usize,
-) -> Option<&Itemset<T>>
+pub(crate) fn closed_state(graph: &StateGraph<u32>, state: usize) -> Option<&Itemset<u32>>
     ensures some { IfSome result (λ closed.
-        set_of T.number closed.now ≡ closed_of graph.now state) }
+        set_of number_of closed.now ≡ closed_of graph.now state) }
     ensures none { IfNone result (closed_of graph.now state ≡ []) }
 {
-    if state >= graph.all_states_len().0.to_usize() {
+    if state >= usize::from(graph.all_states_len()) {
         return None;
     }
-    let number = T::from_usize(state)?;
+    let number = u32::from_usize(state)?;
     Some(graph.closed_state(StIdx(number)))
 }
 
@@ -130,7 +127,10 @@ impl Told<'_> {
         entries: &[Entry],
         cause: Option<&Cause<'_>>,
     ) {
-        let kinds = kinds(entries);
+        let Some(first) = entries.first() else {
+            return;
+        };
+        let kinds = kinds(first);
         let mut names = Words::new(text.allocator());
         for (place, entry) in entries.iter().enumerate() {
             names.add_listed(place == 0, self.token_name(entry.token));
@@ -165,7 +165,12 @@ impl Checked<'_> {
         ensures { result ≡ list_all (λ e.
             is_choice choice (choice_at self.now.found.now.table e)) entries.now }
     {
-        entries.iter().all(|entry| choice.is(self.choice(entry)))
+        for entry in entries {
+            if !choice.is(self.choice(entry)) {
+                return false;
+            }
+        }
+        true
     }
 
     /// What it does in the cells of all the entries, where that is the same, and no more.
@@ -314,13 +319,7 @@ impl Checked<'_> {
 
     /// Adds a conflict: a state in which it is, with the entries at which the same meets, what is known of them, how it can be
     /// resolved, and which conflicts are like it.
-    fn push_cause(
-        &self,
-        text: &mut Text,
-        cause: &Cause<'_>,
-        help: &Words,
-        alike: &Alike,
-    ) -> Result<(), AllocError>
+    fn push_cause(&self, text: &mut Text, cause: &Cause<'_>, help: &Words, alike: &Alike)
         requires proved { All (IsProved self.now.found.now.grm) (entries_in cause.now) }
         requires lost { All (IsLostAtEntry self.now.found.now.grm self.now.found.now.table)
             (entries_in cause.now) }
@@ -330,17 +329,21 @@ impl Checked<'_> {
             self.now.found.now.table self.now.told.kept.now }
     {
         let Some(meeting) = cause.shown() else {
-            return Ok(());
+            return;
         };
-        let alloc = text.allocator();
-        let entries = entries_of(alloc, meeting)?;
-        let marks = self.marks(alloc, entries.as_slice())?;
+        let Ok(entries) = entries_of(text.allocator(), meeting) else {
+            return text.give_up();
+        };
+        let entries = entries.as_slice();
+        let Ok(marks) = self.marks(text.allocator(), entries) else {
+            return text.give_up();
+        };
+        let marks = marks.as_slice();
         self.told
-            .push_heading(text, "conflict", entries.as_slice(), Some(cause));
-        self.told.teller().add_placed(text, marks.as_slice())?;
-        self.push_notes(text, marks.as_slice(), cause, meeting, help, alike)?;
+            .push_heading(text, "conflict", entries, Some(cause));
+        self.told.add_placed(text, marks);
+        self.push_notes(text, marks, cause, meeting, help, alike);
         text.add_char('\n');
-        Ok(())
     }
 
     /// Adds those of the conflicts that are told by themselves: so many at the most. Those that are told behind them stand in lines.
@@ -351,7 +354,7 @@ impl Checked<'_> {
         leads: &Leads,
         most: usize,
         trials: &Trials<'_, '_>,
-    ) -> Result<(), AllocError>
+    )
         requires proved { All (IsProved self.now.found.now.grm) (flat_map entries_in causes.now) }
         requires lost { All (IsLostAtEntry self.now.found.now.grm self.now.found.now.table)
             (flat_map entries_in causes.now) }
@@ -364,16 +367,17 @@ impl Checked<'_> {
         for (place, cause) in causes.iter().enumerate() {
             if leads.is_lead(place) && told < most {
                 told += 1;
-                let help = trials.help_on(text.allocator(), cause)?;
-                let alike = trials.alike(text.allocator(), causes, leads, place, &help)?;
-                self.push_cause(text, cause, &help, &alike)?;
+                let help = trials.help_on(text.allocator(), cause);
+                match trials.alike(text.allocator(), causes, leads, place, &help) {
+                    Ok(alike) => self.push_cause(text, cause, &help, &alike),
+                    Err(_) => text.give_up(),
+                }
             }
         }
-        Ok(())
     }
 
     /// Adds the conflicts: the first ones, so many at the most, further ones in a line each, and how many there are besides.
-    pub(crate) fn push_conflicts(&self, text: &mut Text, most: usize) -> Result<(), AllocError>
+    pub(crate) fn push_conflicts(&self, text: &mut Text, most: usize)
         requires proved { All (IsProved self.now.found.now.grm) self.now.told.evidence.now }
         requires lost { All (IsLostAtEntry self.now.found.now.grm self.now.found.now.table)
             self.now.told.evidence.now }
@@ -383,12 +387,18 @@ impl Checked<'_> {
             self.now.found.now.table self.now.told.kept.now }
     {
         let alloc = text.allocator();
-        let causes = self.causes(alloc)?;
+        let Ok(causes) = self.causes(alloc) else {
+            return text.give_up();
+        };
         let causes = causes.as_slice();
-        let leads = self.told.leads(alloc, causes)?;
-        let trials = Trials::new(alloc, self)?;
-        self.push_causes(text, causes, &leads, most, &trials)?;
-        trials.push_further(text, causes, &leads, most)
+        let Ok(leads) = self.told.leads(alloc, causes) else {
+            return text.give_up();
+        };
+        let Ok(trials) = Trials::new(alloc, self) else {
+            return text.give_up();
+        };
+        self.push_causes(text, causes, &leads, most, &trials);
+        trials.push_further(text, causes, &leads, most);
     }
 }
 
@@ -396,7 +406,12 @@ impl Checked<'_> {
 pub(crate) fn are_decided(meeting: &[Evidence]) -> bool
     ensures { IsTrue result → All (λ evidence. IsSome evidence.decided) meeting.now }
 {
-    meeting.iter().all(Evidence::is_decided)
+    for evidence in meeting {
+        if !evidence.is_decided() {
+            return false;
+        }
+    }
+    true
 }
 
 /// How many tokens decide each of the entries, if that is known, and the same of all.
@@ -404,11 +419,12 @@ pub(crate) fn tokens_of_each(meeting: &[Evidence]) -> Option<usize>
     ensures { IfSome result (λ k. All (λ evidence. tokens_of evidence ≡ Some k) meeting.now) }
 {
     let tokens = meeting.first()?.tokens()?;
-    if meeting.iter().all(|it| it.is_decided_by(tokens)) {
-        Some(tokens)
-    } else {
-        None
+    for evidence in meeting {
+        if !evidence.is_decided_by(tokens) {
+            return None;
+        }
     }
+    Some(tokens)
 }
 
 /// What is known of entries, in groups, in each of which the same meets in the same state; each entry by itself where all are
@@ -430,12 +446,9 @@ pub(crate) fn meetings(
 pub(crate) fn entries_of(alloc: Global, evidence: &[Evidence]) -> Result<Vec<Entry>, AllocError>
     ensures { IfOk result (λ entries. entries.items ≡ map (λ e. e.entry) evidence.now) }
 {
-    evidence.iter().map(|it| it.entry).collect(alloc)
-}
-
-/// Adds how many are not told of what precedences resolve.
-pub(crate) fn push_more(text: &mut Text, more: usize) {
-    if more > 0 {
-        write!(text, "and {more} more, which --all shows\n\n");
+    let mut entries = Vec::new(alloc);
+    for one in evidence {
+        entries.push(one.entry)?;
     }
+    Ok(entries)
 }

@@ -45,9 +45,9 @@ struct Drawing<'a> {
 }
 
 impl Drawing<'_> {
-    /// Adds what stands before a node below those of which it is told whether they are the last of their row; the highest one is in
-    /// no row.
-    fn push_branch(&self, text: &mut Text, number: usize, above: &[bool]) {
+    /// Adds the line of a node below those of which it is told whether they are the last of their row; the highest one is in no row.
+    /// One above which others are left out stands right before the one above these.
+    fn push_line(&self, text: &mut Text, number: usize, above: &[bool], has_dot: bool) {
         text.add_times(' ', self.indent);
         for is_last in above.iter().skip(1) {
             text.add(if *is_last { "   " } else { self.pen.past });
@@ -60,11 +60,6 @@ impl Drawing<'_> {
                 self.pen.branch
             });
         }
-    }
-
-    /// Adds the line of a node below such nodes. One above which others are left out stands right before the one above these.
-    fn push_line(&self, text: &mut Text, number: usize, above: &[bool], has_dot: bool) {
-        self.push_branch(text, number, above);
         if has_dot {
             text.add(". ");
         }
@@ -78,12 +73,7 @@ impl Drawing<'_> {
 
 /// What stands in brackets where nodes are left out.
 pub(crate) fn cut_mark(is_plain: bool) -> &'static str {
-    pen_for(is_plain).cut
-}
-
-/// What trees are drawn with.
-fn pen_for(is_plain: bool) -> Pen {
-    if is_plain { PLAIN } else { BOXES }
+    if is_plain { PLAIN.cut } else { BOXES.cut }
 }
 
 /// Adds the drawing of a tree behind so many blanks, with the dot before that leaf.
@@ -98,7 +88,7 @@ pub fn push_drawing(
     let drawing = Drawing {
         file,
         shown,
-        pen: pen_for(is_plain),
+        pen: if is_plain { PLAIN } else { BOXES },
         indent,
     };
     let visits = shown.tree.visits(text.allocator())?;

@@ -2,7 +2,6 @@
 
 use crate::options::{Options, Output};
 use lrevidence::Effort;
-use lrfindings::Findings;
 use lryacc::Parser;
 
 /// How much work the searches at all conflicts of a file may do together, for each step that one of them may take; and as much
@@ -34,7 +33,7 @@ const STEPS_A_NODE: usize = 100;
 const POSITIONS: usize = 100_000;
 
 /// Of a table in which more conflicts and resolved ones than these meet that is not searched.
-const MANY: usize = 400;
+pub(crate) const MANY: usize = 400;
 
 /// How many positions searches look at together whether no sentence is lost at each of what is told.
 const POSITIONS_OF_ENTRIES: usize = 10_000;
@@ -48,15 +47,6 @@ pub(crate) fn work_of(options: Options) -> usize {
 /// since then it rejects none because of a conflict.
 pub(crate) fn losses_by(parser: &Parser, most: usize) -> usize {
     if parser.splits() { 0 } else { most }
-}
-
-/// At how many conflicts of a graph with so many states one is looked for in any case.
-fn losses_among(states: usize) -> usize {
-    if states > STATES_SEARCHED {
-        0
-    } else {
-        LOSSES_IN_ANY_CASE
-    }
 }
 
 /// What is looked for of the conflicts of a graph with so many states, for such a parser.
@@ -86,11 +76,10 @@ pub(crate) fn effort_of(parser: &Parser, states: usize, options: Options) -> Eff
         counts_each: options.detail.all
             || options.makes_page
             || matches!(options.output, Output::Json { .. }),
-        losses_in_any_case: losses_by(parser, losses_among(states)),
+        losses_in_any_case: if states > STATES_SEARCHED {
+            0
+        } else {
+            losses_by(parser, LOSSES_IN_ANY_CASE)
+        },
     }
-}
-
-/// Whether so much meets in the cells of the table that it is not searched whether the parser accepts every sentence.
-pub(crate) fn has_many(found: &Findings<u32>) -> bool {
-    found.left.len().saturating_add(found.resolved.len()) > MANY
 }

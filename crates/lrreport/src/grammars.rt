@@ -3,13 +3,8 @@
 use crate::json_parts::add_symbols;
 use crate::json_texts::JsonText;
 use lrevidence::{rule_name, token_name};
-use lrgrammar::grammar::{AssocKind, PartProd, PartToken, Precedence};
+use lrgrammar::grammar::{AssocKind, PartToken, Precedence};
 use lryacc::FileGrammar;
-
-/// How many rules the file has, without `$accept`.
-pub(crate) fn rules_of_file(file: &FileGrammar) -> usize {
-    file.parts.rules.len().saturating_sub(1)
-}
 
 /// How many productions the file has, without those of `$accept`.
 pub(crate) fn productions_of_file(file: &FileGrammar) -> usize {
@@ -44,41 +39,29 @@ pub(crate) fn tokens_of_file(file: &FileGrammar) -> usize {
     count
 }
 
-/// Whether a token stands below those of the `%precedence` line of a level.
-fn is_below(token: &PartToken, level: u64) -> bool {
-    match token.precedence {
-        Some(below) => below.level.checked_add(1) == Some(level),
-        None => false,
-    }
-}
-
 /// Whether the line of a level is one of `%precedence`: tokens stand below those of it.
 fn is_precedence(file: &FileGrammar, level: u64) -> bool {
     for token in &file.parts.tokens {
-        if is_below(token, level) {
-            return true;
+        match token.precedence {
+            Some(below) if below.level.checked_add(1) == Some(level) => return true,
+            _ => {}
         }
     }
     false
 }
 
-/// The word of a precedence line, without its mark.
-fn kind_of(file: &FileGrammar, level: u64, kind: AssocKind) -> &'static str {
-    match kind {
-        AssocKind::Left => "left",
-        AssocKind::Right => "right",
-        AssocKind::Nonassoc if is_precedence(file, level) => "precedence",
-        AssocKind::Nonassoc => "nonassoc",
-    }
-}
-
-/// Adds a token. Levels are twice as many as in the file.
+/// Adds a token, with the word of its precedence line, without the mark of that. Levels are twice as many as in the file.
 fn add_token(json: &mut JsonText, file: &FileGrammar, token: &PartToken) {
     let (level, kind) = match token.precedence {
-        Some(Precedence { level, kind }) => (
-            Some((level / 2) as usize),
-            Some(kind_of(file, level, kind)),
-        ),
+        Some(Precedence { level, kind }) => {
+            let word = match kind {
+                AssocKind::Left => "left",
+                AssocKind::Right => "right",
+                AssocKind::Nonassoc if is_precedence(file, level) => "precedence",
+                AssocKind::Nonassoc => "nonassoc",
+            };
+            (Some((level / 2) as usize), Some(word))
+        }
         None => (None, None),
     };
     json.begin_object();
@@ -101,36 +84,22 @@ fn add_tokens_of_file(json: &mut JsonText, file: &FileGrammar) {
     json.end_array();
 }
 
-/// Adds the names of the rules of the file.
-fn add_rules(json: &mut JsonText, file: &FileGrammar) {
-    json.begin_array();
-    for name in file.parts.rules.iter().skip(1) {
-        json.string(name.as_str());
-    }
-    json.end_array();
-}
-
-/// Adds a production, and the token that it names for its precedence.
-fn add_production(json: &mut JsonText, file: &FileGrammar, number: usize, prod: &PartProd) {
-    let named = match file.named_precedence(number) {
-        Some(named) => Some(token_name(file, named.token)),
-        None => None,
-    };
-    json.begin_object();
-    json.string_at("rule", rule_name(file, prod.rule));
-    json.key("body");
-    add_symbols(json, file, prod.symbols.as_slice());
-    json.key("prec");
-    json.string_or_null(named);
-    json.end_object();
-}
-
-/// Adds the productions of the file.
+/// Adds the productions of the file, each with the token that it names for its precedence.
 fn add_productions(json: &mut JsonText, file: &FileGrammar) {
     json.begin_array();
     for (number, prod) in file.parts.prods.iter().enumerate() {
         if prod.rule > 0 {
-            add_production(json, file, number, prod);
+            let named = match file.named_precedence(number) {
+                Some(named) => Some(token_name(file, named.token)),
+                None => None,
+            };
+            json.begin_object();
+            json.string_at("rule", rule_name(file, prod.rule));
+            json.key("body");
+            add_symbols(json, file, prod.symbols.as_slice());
+            json.key("prec");
+            json.string_or_null(named);
+            json.end_object();
         }
     }
     json.end_array();
@@ -142,7 +111,11 @@ pub(crate) fn add_grammar(json: &mut JsonText, file: &FileGrammar) {
     json.key("tokens");
     add_tokens_of_file(json, file);
     json.key("rules");
-    add_rules(json, file);
+    json.begin_array();
+    for name in file.parts.rules.iter().skip(1) {
+        json.string(name.as_str());
+    }
+    json.end_array();
     json.key("productions");
     add_productions(json, file);
     json.end_object();

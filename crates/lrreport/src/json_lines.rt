@@ -17,13 +17,13 @@ ghost use Rattle.lrreport.specs.JsonTexts.{AddsTokens};
 ghost use Rattle.lrreport.specs.JsonHeads.{verdict_word, is_unambiguous, fact_tokens, exact_tokens, proved_tokens, count_tokens, head_tokens, BeginsWith};
 
 use crate::conflicts::{Checked, entries_of};
-use crate::grammars::{add_grammar, productions_of_file, rules_of_file, tokens_of_file};
+use crate::grammars::{add_grammar, productions_of_file, tokens_of_file};
 use crate::helps::cut_off;
-use crate::json_parts::{add_faults, add_tokens_of, add_unplaced};
+use crate::json_parts::add_faults;
 use crate::json_texts::JsonText;
+use crate::known::Unread;
 use crate::resolved::won_by;
 use crate::trees::alternatives;
-use lrdiagnostics::Source;
 use lrevidence::{Ambiguity, Evidence, Exactness};
 use lrfindings::{Counts, Entry, Verdict, Winner};
 use lryacc::{Expected, Fault, FileGrammar};
@@ -76,14 +76,6 @@ fn add_counts(json: &mut JsonText, counts: Counts)
     json.number_at("reduce_reduce", counts.reduce_reduce);
 }
 
-/// Adds that it is not known how many there are.
-fn add_no_counts(json: &mut JsonText) {
-    for name in ["shift_reduce", "reduce_reduce"] {
-        json.key(name);
-        json.null();
-    }
-}
-
 /// Adds how many are expected, where that is said.
 fn add_expected(json: &mut JsonText, expected: Expected) {
     json.key("expected");
@@ -98,28 +90,44 @@ fn add_expected(json: &mut JsonText, expected: Expected) {
 
 /// Adds how large a grammar and its graph are.
 fn add_sizes(json: &mut JsonText, file: Option<&FileGrammar>, states: Option<usize>) {
+    let (rules, productions, tokens) = match file {
+        Some(file) => (
+            // without `$accept`
+            Some(file.parts.rules.len().saturating_sub(1)),
+            Some(productions_of_file(file)),
+            Some(tokens_of_file(file)),
+        ),
+        None => (None, None, None),
+    };
     json.key("rules");
-    json.number_or_null(file.map(rules_of_file));
+    json.number_or_null(rules);
     json.key("productions");
-    json.number_or_null(file.map(productions_of_file));
+    json.number_or_null(productions);
     json.key("tokens");
-    json.number_or_null(file.map(tokens_of_file));
+    json.number_or_null(tokens);
     json.key("states");
     json.number_or_null(states);
 }
 
-/// Adds that nothing was found in a grammar.
-fn add_nothing_found(json: &mut JsonText) {
-    for name in [
-        "conflicts",
-        "settled",
-        "unused_precedences",
-        "unused_tokens",
-    ] {
-        json.key(name);
-        json.begin_array();
-        json.end_array();
+/// Adds warnings and errors: faults, or, without a place, why a grammar can't be checked.
+fn add_faults_of(json: &mut JsonText, unread: Unread<'_>) {
+    json.key("warnings");
+    json.begin_array();
+    add_faults(json, unread.source, unread.warnings);
+    json.end_array();
+    json.key("errors");
+    json.begin_array();
+    add_faults(json, unread.source, unread.faults);
+    if let Some(why) = unread.why {
+        json.begin_object();
+        for name in ["line", "column", "end_line", "end_column"] {
+            json.key(name);
+            json.null();
+        }
+        json.string_at("message", why);
+        json.end_object();
     }
+    json.end_array();
 }
 
 /// Adds the grammar, where it is asked for.
@@ -133,14 +141,6 @@ fn add_grammar_of(json: &mut JsonText, file: Option<&FileGrammar>, has_grammar: 
     }
 }
 
-/// Adds that there are no states, where they are asked for.
-fn add_no_states(json: &mut JsonText, has_states: bool) {
-    if has_states {
-        json.key("automaton");
-        json.null();
-    }
-}
-
 /// Ends the line of a file.
 fn end_line(mut json: JsonText) -> Result<String, AllocError> {
     json.end_object();
@@ -149,57 +149,39 @@ fn end_line(mut json: JsonText) -> Result<String, AllocError> {
     Ok(line)
 }
 
-/// The line of a file that is no grammar.
-pub(crate) fn json_of_faults(
+/// The line of a file in which nothing is checked.
+pub(crate) fn json_of_unread(
     alloc: Global,
-    source: &Source<'_>,
-    faults: &[Fault],
+    unread: Unread<'_>,
     has_grammar: bool,
     has_states: bool,
 ) -> Result<String, AllocError> {
     let mut json = JsonText::new(alloc);
     json.begin_object();
-    add_verdict(&mut json, source.name, "not read");
+    add_verdict(&mut json, unread.source.name, "not read");
     add_not_proved(&mut json);
-    add_no_counts(&mut json);
+    json.key("shift_reduce");
+    json.null();
+    json.key("reduce_reduce");
+    json.null();
     add_expected(&mut json, Expected::default());
-    add_sizes(&mut json, None, None);
-    add_nothing_found(&mut json);
-    json.key("warnings");
-    add_faults(&mut json, source, &[]);
-    json.key("errors");
-    add_faults(&mut json, source, faults);
-    add_grammar_of(&mut json, None, has_grammar);
-    add_no_states(&mut json, has_states);
-    end_line(json)
-}
-
-/// The line of a file with a grammar in which nothing could be found, and why.
-pub(crate) fn json_of_refusal(
-    alloc: Global,
-    source: &Source<'_>,
-    file: &FileGrammar,
-    warnings: &[Fault],
-    message: &str,
-    has_grammar: bool,
-    has_states: bool,
-) -> Result<String, AllocError> {
-    let mut json = JsonText::new(alloc);
-    json.begin_object();
-    add_verdict(&mut json, source.name, "not read");
-    add_not_proved(&mut json);
-    add_no_counts(&mut json);
-    add_expected(&mut json, Expected::default());
-    add_sizes(&mut json, Some(file), None);
-    add_nothing_found(&mut json);
-    json.key("warnings");
-    add_faults(&mut json, source, warnings);
-    json.key("errors");
-    json.begin_array();
-    add_unplaced(&mut json, message);
-    json.end_array();
-    add_grammar_of(&mut json, Some(file), has_grammar);
-    add_no_states(&mut json, has_states);
+    add_sizes(&mut json, unread.file, None);
+    for name in [
+        "conflicts",
+        "settled",
+        "unused_precedences",
+        "unused_tokens",
+    ] {
+        json.key(name);
+        json.begin_array();
+        json.end_array();
+    }
+    add_faults_of(&mut json, unread);
+    add_grammar_of(&mut json, unread.file, has_grammar);
+    if has_states {
+        json.key("automaton");
+        json.null();
+    }
     end_line(json)
 }
 
@@ -237,7 +219,7 @@ pub(crate) fn json_of_findings(
     let mut json = JsonText::new(alloc);
     checked.add_head(&mut json, verdict, decided);
     add_expected(&mut json, expected);
-    checked.add_rest(&mut json, warnings, has_grammar)?;
+    checked.add_rest(&mut json, warnings, has_grammar);
     let line = end_line(json)?;
     let head = checked.head(alloc, verdict, decided)?;
     begun_with(alloc, line, head.as_str())
@@ -391,7 +373,7 @@ impl<'a> Checked<'a> {
     }
 
     /// Adds what was found.
-    fn add_findings(&self, json: &mut JsonText) -> Result<(), AllocError>
+    fn add_findings(&self, json: &mut JsonText)
         requires proved { All (IsProved self.now.found.now.grm) self.now.told.evidence.now }
         requires lost { All (IsLostAtEntry self.now.found.now.grm self.now.found.now.table)
             self.now.told.evidence.now }
@@ -403,25 +385,21 @@ impl<'a> Checked<'a> {
         requires kept { AreToldKept self.now.found.now.grm self.now.found.now.graph
             self.now.found.now.table self.now.told.kept.now }
     {
-        let alternatives = alternatives(json.allocator(), self.told.file)?;
+        let Ok(alternatives) = alternatives(json.allocator(), self.told.file) else {
+            return json.give_up();
+        };
         json.key("conflicts");
-        self.add_conflicts(json, alternatives.as_slice())?;
+        self.add_conflicts(json, alternatives.as_slice());
         json.key("settled");
-        self.add_resolved(json, alternatives.as_slice())?;
+        self.add_resolved(json, alternatives.as_slice());
         json.key("unused_precedences");
         self.told.add_useless_precedences(json);
         json.key("unused_tokens");
         self.told.add_unused_tokens(json);
-        Ok(())
     }
 
     /// Adds what stands behind how many conflicts are expected.
-    fn add_rest(
-        &self,
-        json: &mut JsonText,
-        warnings: &[Fault],
-        has_grammar: bool,
-    ) -> Result<(), AllocError>
+    fn add_rest(&self, json: &mut JsonText, warnings: &[Fault], has_grammar: bool)
         requires proved { All (IsProved self.now.found.now.grm) self.now.told.evidence.now }
         requires lost { All (IsLostAtEntry self.now.found.now.grm self.now.found.now.table)
             self.now.told.evidence.now }
@@ -435,28 +413,24 @@ impl<'a> Checked<'a> {
     {
         let told = self.told;
         add_sizes(json, Some(told.file), Some(self.found.states));
-        self.add_findings(json)?;
+        self.add_findings(json);
         json.key("warnings");
+        json.begin_array();
         add_faults(json, told.source, warnings);
+        json.end_array();
         json.key("errors");
-        add_faults(json, told.source, &[]);
+        json.begin_array();
+        json.end_array();
         add_grammar_of(json, Some(told.file), has_grammar);
-        self.add_automaton(json)
+        self.add_automaton(json);
     }
 
-    /// Adds the items of a state in which it goes on by the token of one of the entries.
-    fn add_shifts(&self, json: &mut JsonText, entries: &[Entry]) -> Result<(), AllocError> {
-        let items = self.shifting_items(json.allocator(), entries)?;
-        json.key("shift");
-        self.told.add_items(json, items.as_slice());
-        Ok(())
-    }
-
-    /// Adds what meets in a group: where, at which tokens, and the productions; either with `shift` or with `other`.
-    fn add_meeting(&self, json: &mut JsonText, group: &Group) -> Result<(), AllocError> {
+    /// Adds what meets in a group: where, at which tokens, and the productions; either with `shift`, the items in which the state goes
+    /// on by one of them, or with `other`.
+    fn add_meeting(&self, json: &mut JsonText, group: &Group) {
         let entries = group.entries.as_slice();
         let Some(first) = entries.first() else {
-            return Ok(());
+            return;
         };
         json.string_at(
             "kind",
@@ -467,17 +441,22 @@ impl<'a> Checked<'a> {
         );
         json.number_at("state", first.state);
         json.key("tokens");
-        add_tokens_of(json, self.told.file, entries);
+        json.begin_array();
+        for entry in entries {
+            json.string(self.told.token_name(entry.token));
+        }
+        json.end_array();
         json.key("reduce");
         self.told.add_production(json, first.production);
-        match first.other {
-            Some(other) => {
-                json.key("other");
-                self.told.add_production(json, other);
-                Ok(())
-            }
-            None => self.add_shifts(json, entries),
+        if let Some(other) = first.other {
+            json.key("other");
+            return self.told.add_production(json, other);
         }
+        let Ok(items) = self.shifting_items(json.allocator(), entries) else {
+            return json.give_up();
+        };
+        json.key("shift");
+        self.told.add_items(json, items.as_slice());
     }
 
     /// Adds that no sentence is lost at any entry of a group.
@@ -502,12 +481,7 @@ impl<'a> Checked<'a> {
     }
 
     /// Adds a conflict: entries at which the same meets in the same state, and of which the table makes the same.
-    fn add_conflict(
-        &self,
-        json: &mut JsonText,
-        meeting: &[Evidence],
-        alternatives: &[usize],
-    ) -> Result<(), AllocError>
+    fn add_conflict(&self, json: &mut JsonText, meeting: &[Evidence], alternatives: &[usize])
         requires proved { All (IsProved self.now.found.now.grm) meeting.now }
         requires lost { All (IsLostAtEntry self.now.found.now.grm self.now.found.now.table)
             meeting.now }
@@ -517,17 +491,18 @@ impl<'a> Checked<'a> {
             self.now.found.now.table self.now.told.kept.now }
     {
         let Some(first) = meeting.first() else {
-            return Ok(());
+            return;
         };
-        let group = Group {
-            entries: entries_of(json.allocator(), meeting)?,
+        let Ok(entries) = entries_of(json.allocator(), meeting) else {
+            return json.give_up();
         };
+        let group = Group { entries };
         json.begin_object();
-        self.add_meeting(json, &group)?;
+        self.add_meeting(json, &group);
         json.string_at("chosen", self.choice(&first.entry).word());
         json.key("ambiguity");
         let ambiguity = self.sentence_with_trees(meeting);
-        self.add_ambiguity(json, &first.entry, ambiguity, alternatives)?;
+        self.add_ambiguity(json, &first.entry, ambiguity, alternatives);
         json.key("after");
         self.told.add_example(json, first);
         json.boolean_at(
@@ -539,7 +514,6 @@ impl<'a> Checked<'a> {
         self.add_if_kept(json, &group);
         self.add_decided(json, meeting);
         json.end_object();
-        Ok(())
     }
 
     /// What is known of the conflicts, in groups, in each of which the same meets in the same state, and the table does the same;
@@ -559,7 +533,7 @@ impl<'a> Checked<'a> {
     }
 
     /// Adds the conflicts, in the order of the file: each entry by itself where all are told.
-    fn add_conflicts(&self, json: &mut JsonText, alternatives: &[usize]) -> Result<(), AllocError>
+    fn add_conflicts(&self, json: &mut JsonText, alternatives: &[usize])
         requires proved { All (IsProved self.now.found.now.grm) self.now.told.evidence.now }
         requires lost { All (IsLostAtEntry self.now.found.now.grm self.now.found.now.table)
             self.now.told.evidence.now }
@@ -568,16 +542,18 @@ impl<'a> Checked<'a> {
         requires kept { AreToldKept self.now.found.now.grm self.now.found.now.graph
             self.now.found.now.table self.now.told.kept.now }
     {
+        let Ok(groups) = self.alike(json.allocator()) else {
+            return json.give_up();
+        };
         json.begin_array();
-        for meeting in &self.alike(json.allocator())? {
-            self.add_conflict(json, meeting, alternatives)?;
+        for meeting in &groups {
+            self.add_conflict(json, meeting, alternatives);
         }
         json.end_array();
-        Ok(())
     }
 
     /// Adds what precedences resolve, in the order of the file.
-    fn add_resolved(&self, json: &mut JsonText, alternatives: &[usize]) -> Result<(), AllocError>
+    fn add_resolved(&self, json: &mut JsonText, alternatives: &[usize])
         requires proved { All (IsProved self.now.found.now.grm) self.now.told.resolved.now }
         requires lost { All (IsLostAtEntry self.now.found.now.grm self.now.found.now.table)
             self.now.told.resolved.now }
@@ -592,14 +568,15 @@ impl<'a> Checked<'a> {
             .chunk_by(|one, other| one.entry.meets_like(&other.entry))
         {
             for winner in [Winner::Shift, Winner::Reduce, Winner::Neither] {
-                let group = Group {
-                    entries: won_by(json.allocator(), meeting, winner)?,
-                };
-                self.add_resolution(json, &group, winner, alternatives)?;
+                match won_by(json.allocator(), meeting, winner) {
+                    Ok(entries) => {
+                        self.add_resolution(json, &Group { entries }, winner, alternatives);
+                    }
+                    Err(_) => json.give_up(),
+                }
             }
         }
         json.end_array();
-        Ok(())
     }
 
     /// Adds what precedences resolve alike in a state, for the same production, if there is something.
@@ -609,7 +586,7 @@ impl<'a> Checked<'a> {
         group: &Group,
         winner: Winner,
         alternatives: &[usize],
-    ) -> Result<(), AllocError>
+    )
         requires proved { All (IsProved self.now.found.now.grm) self.now.told.resolved.now }
         requires lost { All (IsLostAtEntry self.now.found.now.grm self.now.found.now.table)
             self.now.told.resolved.now }
@@ -618,13 +595,13 @@ impl<'a> Checked<'a> {
     {
         let entries = group.entries.as_slice();
         let Some(first) = entries.first() else {
-            return Ok(());
+            return;
         };
         json.begin_object();
-        self.add_meeting(json, group)?;
+        self.add_meeting(json, group);
         json.string_at("winner", winner.word());
         json.key("ambiguity");
-        self.add_ambiguity(json, first, self.decided(entries), alternatives)?;
+        self.add_ambiguity(json, first, self.decided(entries), alternatives);
         json.boolean_at(
             "searched",
             self.told.options.steps > 0 && self.are_searched(entries),
@@ -633,6 +610,5 @@ impl<'a> Checked<'a> {
         self.add_loss(json, self.lost(entries));
         self.add_if_kept(json, group);
         json.end_object();
-        Ok(())
     }
 }

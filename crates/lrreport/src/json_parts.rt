@@ -4,7 +4,6 @@ use crate::json_texts::JsonText;
 use crate::told::Told;
 use lrdiagnostics::{Source, words_of};
 use lrevidence::{body_of, symbol_name, token_name};
-use lrfindings::Entry;
 use lrgrammar::grammar::PartSymbol;
 use lryacc::{Fault, FileGrammar, Span};
 
@@ -26,15 +25,6 @@ pub(crate) fn add_tokens(json: &mut JsonText, file: &FileGrammar, tokens: &[usiz
     json.end_array();
 }
 
-/// Adds the names of the tokens of entries.
-pub(crate) fn add_tokens_of(json: &mut JsonText, file: &FileGrammar, entries: &[Entry]) {
-    json.begin_array();
-    for entry in entries {
-        json.string(token_name(file, entry.token));
-    }
-    json.end_array();
-}
-
 /// Adds where a place begins and ends, as members of an object.
 pub(crate) fn add_place(json: &mut JsonText, source: &Source<'_>, place: Span) {
     let from = source.position(place.start);
@@ -45,25 +35,8 @@ pub(crate) fn add_place(json: &mut JsonText, source: &Source<'_>, place: Span) {
     json.number_at("end_column", to.column);
 }
 
-/// Adds that something has no place, as members of an object.
-fn add_no_place(json: &mut JsonText) {
-    for name in ["line", "column", "end_line", "end_column"] {
-        json.key(name);
-        json.null();
-    }
-}
-
-/// Adds a fault that has no place in the file.
-pub(crate) fn add_unplaced(json: &mut JsonText, message: &str) {
-    json.begin_object();
-    add_no_place(json);
-    json.string_at("message", message);
-    json.end_object();
-}
-
-/// Adds faults, or warnings.
+/// Adds faults, or warnings, of an array.
 pub(crate) fn add_faults(json: &mut JsonText, source: &Source<'_>, faults: &[Fault]) {
-    json.begin_array();
     for fault in faults {
         let Ok(message) = words_of(json.allocator(), source, fault) else {
             return json.give_up();
@@ -73,7 +46,6 @@ pub(crate) fn add_faults(json: &mut JsonText, source: &Source<'_>, faults: &[Fau
         json.string_at("message", message.as_str());
         json.end_object();
     }
-    json.end_array();
 }
 
 impl Told<'_> {
@@ -92,14 +64,19 @@ impl Told<'_> {
         json.end_object();
     }
 
-    /// Adds items: productions, each with how many of its symbols stand before the dot.
+    /// Adds an item: a production, and how many of its symbols stand before the dot.
+    pub(crate) fn add_item(&self, json: &mut JsonText, production: usize, dot: usize) {
+        json.begin_object();
+        self.add_members(json, production);
+        json.number_at("dot", dot);
+        json.end_object();
+    }
+
+    /// Adds items.
     pub(crate) fn add_items(&self, json: &mut JsonText, items: &[(usize, usize)]) {
         json.begin_array();
         for (production, dot) in items {
-            json.begin_object();
-            self.add_members(json, *production);
-            json.number_at("dot", *dot);
-            json.end_object();
+            self.add_item(json, *production, *dot);
         }
         json.end_array();
     }

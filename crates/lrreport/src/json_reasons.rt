@@ -8,12 +8,12 @@ ghost use Rattle.lrevidence.specs.DecidedEntries.{IsToldDecided};
 use crate::conflicts::{Checked, are_decided, tokens_of_each};
 use crate::json_parts::{add_symbols, add_tokens};
 use crate::json_texts::JsonText;
-use crate::texts::leaves;
 use crate::told::Told;
 use crate::trees::add_tree;
-use lrevidence::{Ambiguity, Evidence, Loss, Outlook, Step, Tree, TwoTrees, list_of, text_of};
+use lrevidence::{
+    Ambiguity, Evidence, Loss, Node, Outlook, Step, Tree, TwoTrees, list_of, symbol_name, text_of,
+};
 use lrfindings::Entry;
-use std::alloc::AllocError;
 
 impl Told<'_> {
     /// Adds the tokens of a text, if there is one.
@@ -55,72 +55,50 @@ impl Told<'_> {
         json.end_object();
     }
 
-    /// Adds the rule whose two ways the trees of a text are; empty where there is none.
-    fn add_rule(&self, json: &mut JsonText, ambiguity: &Ambiguity) {
-        json.string_at(
-            "rule",
-            match ambiguity.form.one.last() {
-                Some(Step::Reduce(production)) => self.rule_name(*production),
-                _ => "",
-            },
-        );
-    }
-
     /// Adds both trees of a text or a form, that by the reduction first.
-    fn add_trees(
-        &self,
-        json: &mut JsonText,
-        trees: (&Tree, &Tree),
-        alternatives: &[usize],
-    ) -> Result<(), AllocError> {
+    fn add_trees(&self, json: &mut JsonText, trees: (&Tree, &Tree), alternatives: &[usize]) {
         json.key("trees");
         json.begin_array();
-        add_tree(json, self.file, alternatives, trees.0)?;
-        add_tree(json, self.file, alternatives, trees.1)?;
+        add_tree(json, self.file, alternatives, trees.0);
+        add_tree(json, self.file, alternatives, trees.1);
         json.end_array();
-        Ok(())
     }
 
     /// Adds the tokens of a text, how many stand before the dot, and both trees; nothing of them where it is long.
-    fn add_whole(
-        &self,
-        json: &mut JsonText,
-        ambiguity: &Ambiguity,
-        alternatives: &[usize],
-    ) -> Result<(), AllocError> {
+    fn add_whole(&self, json: &mut JsonText, ambiguity: &Ambiguity, alternatives: &[usize]) {
         if ambiguity.is_long() {
             for name in ["text", "dot", "trees"] {
                 json.key(name);
                 json.null();
             }
-            return Ok(());
+            return;
         }
-        let (one, other) = Tree::both(json.allocator(), self.file, &ambiguity.trees)?;
+        let Ok((one, other)) = Tree::both(json.allocator(), self.file, &ambiguity.trees) else {
+            return json.give_up();
+        };
         json.key("text");
         self.add_text(json, Some(&ambiguity.tokens));
         json.number_at("dot", ambiguity.dot(self.file));
-        self.add_trees(json, (&one, &other), alternatives)
+        self.add_trees(json, (&one, &other), alternatives);
     }
 
     /// Adds that part of a text in which its trees differ: its symbols, how many stand before the dot, and both trees.
-    fn add_form(
-        &self,
-        json: &mut JsonText,
-        form: &TwoTrees,
-        alternatives: &[usize],
-    ) -> Result<(), AllocError> {
-        let (one, other) = Tree::both(json.allocator(), self.file, form)?;
+    fn add_form(&self, json: &mut JsonText, form: &TwoTrees, alternatives: &[usize]) {
+        let Ok((one, other)) = Tree::both(json.allocator(), self.file, form) else {
+            return json.give_up();
+        };
         json.begin_object();
         json.key("symbols");
         json.begin_array();
-        for name in &leaves(json.allocator(), self.file, &one)? {
-            json.string(name);
+        for node in &one.nodes {
+            if let Node::Leaf(symbol) = node {
+                json.string(symbol_name(self.file, *symbol));
+            }
         }
         json.end_array();
         json.number_at("dot", form.dot());
-        self.add_trees(json, (&one, &other), alternatives)?;
+        self.add_trees(json, (&one, &other), alternatives);
         json.end_object();
-        Ok(())
     }
 }
 
@@ -164,17 +142,20 @@ impl Checked<'_> {
         entry: &Entry,
         ambiguity: Option<&Ambiguity>,
         alternatives: &[usize],
-    ) -> Result<(), AllocError>
+    )
         requires proved { IfSome ambiguity (λ a. HasTwoTrees self.now.found.now.grm a.now) }
     {
         let told = &self.told;
         let Some(ambiguity) = ambiguity else {
-            json.null();
-            return Ok(());
+            return json.null();
+        };
+        let rule = match ambiguity.form.one.last() {
+            Some(Step::Reduce(production)) => told.rule_name(*production),
+            _ => "",
         };
         json.begin_object();
-        told.add_rule(json, ambiguity);
-        told.add_whole(json, ambiguity, alternatives)?;
+        json.string_at("rule", rule);
+        told.add_whole(json, ambiguity, alternatives);
         json.boolean_at("own", ambiguity.is_of(entry));
         json.number_at(
             "length",
@@ -182,11 +163,10 @@ impl Checked<'_> {
         );
         json.key("form");
         if ambiguity.is_long() {
-            told.add_form(json, &ambiguity.form, alternatives)?;
+            told.add_form(json, &ambiguity.form, alternatives);
         } else {
             json.null();
         }
         json.end_object();
-        Ok(())
     }
 }

@@ -1,11 +1,11 @@
 //! The states of the graph, as JSON.
 
-use crate::actions::{Cell, Row, Target};
+use crate::actions::{Cell, Target};
 use crate::conflicts::Checked;
 use crate::json_texts::JsonText;
 use crate::states::Listing;
 use lrgrammar::idx::StIdx;
-use std::alloc::{AllocError, Global};
+use lrtable::StateGraph;
 
 /// Adds symbols, each with the state that it leads to.
 fn add_targets(json: &mut JsonText, targets: &[Target<'_>], kind: &str) {
@@ -19,40 +19,31 @@ fn add_targets(json: &mut JsonText, targets: &[Target<'_>], kind: &str) {
     json.end_array();
 }
 
-impl<'a> Listing<'a> {
+impl Listing<'_> {
     /// Adds the items by which the rule that stands around the grammar begins: those of `$accept`.
-    fn add_start_items(&self, items: &mut Vec<(usize, usize)>) -> Result<(), AllocError> {
-        let checked = self.checked;
-        let file = checked.told.file;
-        for (production, prod) in file.parts.prods.iter().enumerate() {
+    fn add_start_items(&self, json: &mut JsonText) {
+        let told = &self.checked.told;
+        for (production, prod) in told.file.parts.prods.iter().enumerate() {
             if prod.rule == 0 {
-                items.push((production, 0))?;
+                told.add_item(json, production, 0);
             }
         }
-        Ok(())
     }
 
-    /// The items of the core of a state, as production and dot, with those of `$accept` for the rule that stands around it.
-    fn items(&self, alloc: Global, state: StIdx<u32>) -> Result<Vec<(usize, usize)>, AllocError> {
-        let mut items = Vec::new(alloc);
-        let Some(graph) = &self.checked.found.graph else {
-            return Ok(items);
-        };
+    /// Adds the items of the core of a state, with those of `$accept` for the rule that stands around it.
+    fn add_core(&self, json: &mut JsonText, graph: &StateGraph<u32>, state: StIdx<u32>) {
+        let told = &self.checked.told;
         if usize::from(state) >= usize::from(graph.all_states_len()) {
-            return Ok(items);
+            return;
         }
-        let checked = self.checked;
-        let file = checked.told.file;
-        let count = file.parts.prods.len();
         for key in graph.core_state(state).items.keys() {
             let (production, dot) = (usize::from(key.0), usize::from(key.1));
-            if production < count {
-                items.push((production, dot))?;
+            if production < told.file.parts.prods.len() {
+                told.add_item(json, production, dot);
             } else if dot == 0 {
-                self.add_start_items(&mut items)?;
+                self.add_start_items(json);
             }
         }
-        Ok(items)
     }
 
     /// Adds the names of the tokens of cells. The one behind all of the file has none.
@@ -83,8 +74,26 @@ impl<'a> Listing<'a> {
         json.end_array();
     }
 
-    /// Adds the names of the tokens that `%nonassoc` makes errors in a state.
-    fn add_errors(&self, json: &mut JsonText, state: StIdx<u32>) {
+    /// Adds a state of a graph: its items, what the table does, which tokens `%nonassoc` makes errors, and where rules lead.
+    fn add_state(&self, json: &mut JsonText, graph: &StateGraph<u32>, state: StIdx<u32>) {
+        let Ok(row) = self.row(json.allocator(), state) else {
+            return json.give_up();
+        };
+        let Ok(gotos) = self.gotos(json.allocator(), state) else {
+            return json.give_up();
+        };
+        json.begin_object();
+        json.number_at("state", usize::from(state));
+        json.key("items");
+        json.begin_array();
+        self.add_core(json, graph, state);
+        json.end_array();
+        json.key("shifts");
+        add_targets(json, row.shifts.as_slice(), "token");
+        json.key("reductions");
+        self.add_reductions(json, row.reductions.as_slice());
+        json.boolean_at("accepts", row.accepts);
+        json.key("errors");
         json.begin_array();
         if let Some(entries) = self.errors.get(&usize::from(state)) {
             for entry in entries {
@@ -92,59 +101,31 @@ impl<'a> Listing<'a> {
             }
         }
         json.end_array();
-    }
-
-    /// Adds what the table does in a state, as members of an object.
-    fn add_row(&self, json: &mut JsonText, row: &Row<'a>) {
-        json.key("shifts");
-        add_targets(json, row.shifts.as_slice(), "token");
-        json.key("reductions");
-        self.add_reductions(json, row.reductions.as_slice());
-        json.boolean_at("accepts", row.accepts);
-    }
-
-    /// Adds a state.
-    fn add_state(&self, json: &mut JsonText, state: StIdx<u32>) -> Result<(), AllocError> {
-        let alloc = json.allocator();
-        let items = self.items(alloc, state)?;
-        json.begin_object();
-        json.number_at("state", usize::from(state));
-        json.key("items");
-        self.checked.told.add_items(json, items.as_slice());
-        self.add_row(json, &self.row(alloc, state)?);
-        json.key("errors");
-        self.add_errors(json, state);
         json.key("gotos");
-        add_targets(json, self.gotos(alloc, state)?.as_slice(), "rule");
+        add_targets(json, gotos.as_slice(), "rule");
         json.end_object();
-        Ok(())
     }
 }
 
 impl Checked<'_> {
-    /// Adds the states of the graph, in their order.
-    fn add_states(&self, json: &mut JsonText) -> Result<(), AllocError> {
-        json.begin_array();
-        if let Some(graph) = &self.found.graph {
-            let listing = Listing::new(json.allocator(), self)?;
-            for state in graph.iter_stidxs() {
-                listing.add_state(json, state)?;
-            }
-        }
-        json.end_array();
-        Ok(())
-    }
-
-    /// Adds the states where they are asked for, as a member of an object.
-    pub(crate) fn add_automaton(&self, json: &mut JsonText) -> Result<(), AllocError> {
+    /// Adds the states of the graph, in their order, where they are asked for, as a member of an object.
+    pub(crate) fn add_automaton(&self, json: &mut JsonText) {
         if !self.told.options.detail.states {
-            return Ok(());
+            return;
         }
         json.key("automaton");
         json.begin_object();
         json.key("states");
-        self.add_states(json)?;
+        json.begin_array();
+        if let Some(graph) = &self.found.graph {
+            let Ok(listing) = Listing::new(json.allocator(), self) else {
+                return json.give_up();
+            };
+            for state in graph.iter_stidxs() {
+                listing.add_state(json, graph, state);
+            }
+        }
+        json.end_array();
         json.end_object();
-        Ok(())
     }
 }

@@ -16,7 +16,7 @@ ghost use Rattle.lrevidence.specs.DecidedEntries.{IsToldDecided};
 ghost use Rattle.lrevidence.specs.KeptEntries.{AreToldKept};
 ghost use Rattle.lrreport.specs.Conclusions.{known_by, without_loss};
 
-use crate::efforts::{effort_of, has_many, losses_by, work_of};
+use crate::efforts::{MANY, effort_of, losses_by, work_of};
 use crate::options::Options;
 use lrdiagnostics::Source;
 use lrevidence::{
@@ -35,6 +35,19 @@ pub(crate) struct Read<'a> {
     pub(crate) expected: Expected,
     pub(crate) parser: &'a Parser,
     pub(crate) warnings: &'a [Fault],
+}
+
+/// A file in which nothing is checked.
+#[derive(Clone, Copy)]
+pub(crate) struct Unread<'a> {
+    pub(crate) source: &'a Source<'a>,
+    /// Its grammar; None where it is no grammar.
+    pub(crate) file: Option<&'a FileGrammar>,
+    pub(crate) warnings: &'a [Fault],
+    /// Why it is no grammar.
+    pub(crate) faults: &'a [Fault],
+    /// Why its grammar can't be checked.
+    pub(crate) why: Option<&'a str>,
 }
 
 /// What is known of a grammar beside what was found in it.
@@ -60,7 +73,11 @@ pub(crate) struct Known {
 fn resolved_entries(alloc: Global, resolved: &[Resolved]) -> Result<Vec<Entry>, AllocError>
     ensures { IfOk result (λ v. v.items ≡ map (λ s. s.entry) resolved.now) }
 {
-    resolved.iter().map(|it| it.entry).collect(alloc)
+    let mut entries = Vec::new(alloc);
+    for one in resolved {
+        entries.push(one.entry)?;
+    }
+    Ok(entries)
 }
 
 /// What is known of entries, but for sentences that are rejected.
@@ -109,7 +126,8 @@ fn accepted_by(
     if parser.splits() {
         return Ok(Accepted::nothing(found.grm.allocator()));
     }
-    let positions = if has_many(found) { 0 } else { effort.positions };
+    let count = found.left.len().saturating_add(found.resolved.len());
+    let positions = if count > MANY { 0 } else { effort.positions };
     let effort = Effort {
         positions,
         ..effort

@@ -7,7 +7,7 @@ use crate::conflicts::{Checked, closed_state};
 use crate::told::Told;
 use lrevidence::Evidence;
 use lrfindings::Entry;
-use lrgrammar::grammar::{PartSymbol, Precedence};
+use lrgrammar::grammar::PartSymbol;
 use std::alloc::{AllocError, Global};
 use std::cell::Cell;
 use std::cmp::Ordering;
@@ -49,23 +49,15 @@ pub(crate) struct Level {
     pub(crate) group: Group,
 }
 
-impl Level {
-    /// That of a token of the file. Where a token and a production have one level and meet in an open conflict, it is one of
-    /// `%precedence`.
-    fn of_file(precedence: Precedence) -> Level {
-        Level {
-            rank: Rank::File(precedence.level),
-            group: Group::Open,
-        }
-    }
-}
-
 /// New levels.
-#[derive(Drop)]
-pub(crate) struct Proposal {
-    /// Of tokens, by their numbers.
-    pub(crate) tokens: Vec<(usize, Level)>,
-    /// Of a production, by `%prec`.
+#[derive(Clone, Copy)]
+pub(crate) struct Proposal<'t> {
+    /// The tokens of a new line, and their level.
+    pub(crate) tokens: &'t [usize],
+    pub(crate) level: Level,
+    /// Those of a line of the same group below all others.
+    pub(crate) last: &'t [usize],
+    /// A production with its level by `%prec`.
     pub(crate) production: Option<(usize, Level)>,
 }
 
@@ -89,33 +81,12 @@ enum Outcome {
     Neither,
 }
 
-impl Proposal {
-    /// That tokens get one level.
-    pub(crate) fn of_tokens(
-        alloc: Global,
-        tokens: &[usize],
-        rank: Rank,
-        group: Group,
-    ) -> Result<Proposal, AllocError> {
-        let mut proposal = Proposal {
-            tokens: Vec::new(alloc),
-            production: None,
-        };
-        proposal.add(tokens, rank, group)?;
-        Ok(proposal)
-    }
-
-    /// Adds that tokens get one level.
-    pub(crate) fn add(
-        &mut self,
-        tokens: &[usize],
-        rank: Rank,
-        group: Group,
-    ) -> Result<(), AllocError> {
-        for token in tokens {
-            self.tokens.push((*token, Level { rank, group }))?;
+/// Gives tokens a level.
+fn give(levels: &mut Vec<Option<Level>>, tokens: &[usize], level: Level) {
+    for token in tokens {
+        if let Some(place) = levels.get_mut(*token) {
+            *place = Some(level);
         }
-        Ok(())
     }
 }
 
@@ -137,11 +108,12 @@ fn outcome_of(token: Option<Level>, production: Option<Level>) -> Outcome {
 }
 
 /// The levels of a grammar with new ones.
-#[derive(Drop)]
-struct Levels<'p> {
+#[derive(Clone, Copy)]
+struct Levels<'l> {
     /// By token.
-    tokens: Vec<Option<Level>>,
-    proposal: &'p Proposal,
+    tokens: &'l [Option<Level>],
+    /// Of a production, by `%prec`.
+    production: Option<(usize, Level)>,
 }
 
 /// What is tried on a file.
@@ -154,6 +126,8 @@ pub(crate) struct Trials<'c, 'a> {
     rules: BTreeMap<usize, Option<usize>>,
     /// How many entries may still be looked at.
     left: Cell<usize>,
+    /// Whether all memory was granted that what was advised took.
+    pub(crate) is_whole: Cell<bool>,
 }
 
 impl<'c, 'a> Trials<'c, 'a> {
@@ -167,9 +141,13 @@ impl<'c, 'a> Trials<'c, 'a> {
             cells: Vec::new(alloc),
             rules: BTreeMap::new(alloc),
             left: Cell::new(MOST),
+            is_whole: Cell::new(true),
         };
         trials.add_entries()?;
-        trials.add_resolved()?;
+        for resolved in &checked.found.resolved {
+            let entry = resolved.entry;
+            trials.cells.push((entry.state, entry.token))?;
+        }
         trials.cells.sort_unstable();
         Ok(trials)
     }
@@ -192,21 +170,14 @@ impl<'c, 'a> Trials<'c, 'a> {
         Ok(())
     }
 
-    /// Adds the entries that precedences resolve.
-    fn add_resolved(&mut self) -> Result<(), AllocError> {
-        let checked = self.checked;
-        for resolved in &checked.found.resolved {
-            self.cells
-                .push((resolved.entry.state, resolved.entry.token))?;
-        }
-        Ok(())
-    }
-
     /// Whether more than two candidates meet in the cell of an entry.
     pub(crate) fn is_crowded(&self, entry: &Entry) -> bool {
         let cell = (entry.state, entry.token);
-        let place = self.cells.partition_point(|it| *it < cell);
-        self.cells.get(place.saturating_add(1)) == Some(&cell)
+        match self.cells.binary_search(&cell) {
+            Ok(at) => self.cells.get(at.saturating_add(1)) == Some(&cell)
+                || at > 0 && self.cells.get(at - 1) == Some(&cell),
+            Err(_) => false,
+        }
     }
 
     /// Whether a rule and its operator meet in an entry: the production ends with its rule, and the token stands behind that rule
@@ -220,30 +191,26 @@ impl<'c, 'a> Trials<'c, 'a> {
         self.rules.get(&entry.state).copied().flatten() == Some(prod.rule)
     }
 
-    /// By token, the levels of the file.
+    /// By token, the levels of the file. Where a token and a production have one level and meet in an open conflict, it is one of
+    /// `%precedence`.
     fn levels_of_file(&self, alloc: Global) -> Result<Vec<Option<Level>>, AllocError> {
         let file = self.told().file;
         let mut levels = Vec::new(alloc);
         for token in &file.parts.tokens {
-            levels.push(token.precedence.map(Level::of_file))?;
+            levels.push(match token.precedence {
+                Some(precedence) => Some(Level {
+                    rank: Rank::File(precedence.level),
+                    group: Group::Open,
+                }),
+                None => None,
+            })?;
         }
         Ok(levels)
     }
 
-    /// The levels with those of a proposal.
-    fn levels<'p>(&self, alloc: Global, proposal: &'p Proposal) -> Result<Levels<'p>, AllocError> {
-        let mut tokens = self.levels_of_file(alloc)?;
-        for (token, level) in &proposal.tokens {
-            if let Some(place) = tokens.get_mut(*token) {
-                *place = Some(*level);
-            }
-        }
-        Ok(Levels { tokens, proposal })
-    }
-
     /// What levels make of a shift of a token and the reduction by a production.
-    fn outcome(&self, levels: &Levels<'_>, token: usize, production: usize) -> Outcome {
-        let level = match levels.proposal.production {
+    fn outcome(&self, levels: Levels<'_>, token: usize, production: usize) -> Outcome {
+        let level = match levels.production {
             Some((named, level)) if named == production => Some(level),
             _ => match self.told().token_of(production) {
                 Some(source) => levels.tokens.get(source).copied().flatten(),
@@ -254,7 +221,7 @@ impl<'c, 'a> Trials<'c, 'a> {
     }
 
     /// Whether levels keep the shift, if there is one, where a production could reduce.
-    fn keeps_shift(&self, levels: &Levels<'_>, token: usize, production: usize) -> bool {
+    fn keeps_shift(&self, levels: Levels<'_>, token: usize, production: usize) -> bool {
         matches!(
             self.outcome(levels, token, production),
             Outcome::Open | Outcome::Shift
@@ -262,7 +229,7 @@ impl<'c, 'a> Trials<'c, 'a> {
     }
 
     /// Whether what levels make of an entry changes nothing. Where two reductions meet, a shift may be there too.
-    fn is_harmless(&self, levels: &Levels<'_>, entry: &Entry) -> bool {
+    fn is_harmless(&self, levels: Levels<'_>, entry: &Entry) -> bool {
         if let Some(other) = entry.other {
             return self.keeps_shift(levels, entry.token, entry.production)
                 && self.keeps_shift(levels, entry.token, other);
@@ -276,7 +243,7 @@ impl<'c, 'a> Trials<'c, 'a> {
     }
 
     /// Whether levels resolve each of the entries.
-    fn resolves(&self, levels: &Levels<'_>, meeting: &[Evidence]) -> bool {
+    fn resolves(&self, levels: Levels<'_>, meeting: &[Evidence]) -> bool {
         for evidence in meeting {
             let entry = &evidence.entry;
             if self.outcome(levels, entry.token, entry.production) == Outcome::Open {
@@ -287,7 +254,7 @@ impl<'c, 'a> Trials<'c, 'a> {
     }
 
     /// Whether what levels make of each of the entries changes nothing.
-    fn are_harmless(&self, levels: &Levels<'_>, evidence: &[Evidence]) -> bool {
+    fn are_harmless(&self, levels: Levels<'_>, evidence: &[Evidence]) -> bool {
         for one in evidence {
             if !self.is_harmless(levels, &one.entry) {
                 return false;
@@ -297,31 +264,28 @@ impl<'c, 'a> Trials<'c, 'a> {
     }
 
     /// What comes of new levels for entries and for all others.
-    pub(crate) fn run(
-        &self,
-        alloc: Global,
-        proposal: &Proposal,
-        meeting: &[Evidence],
-    ) -> Result<Trial, AllocError> {
+    pub(crate) fn run(&self, proposal: Proposal<'_>, meeting: &[Evidence]) -> Trial {
         let told = self.told();
         let evidence = told.evidence;
         let Some(left) = self.left.get().checked_sub(evidence.len()) else {
-            return Ok(Trial::Untried);
+            return Trial::Untried;
         };
         self.left.set(left);
-        let levels = self.levels(alloc, proposal)?;
-        let is_good = self.resolves(&levels, meeting) && self.are_harmless(&levels, evidence);
-        Ok(if is_good { Trial::Good } else { Trial::Bad })
-    }
-}
-
-impl Told<'_> {
-    /// The rule of an item with its dot behind that rule, in the first place, as one of an operator; None of another item.
-    fn rule_before(&self, production: usize, dot: usize) -> Option<usize> {
-        let prod = self.production(production)?;
-        match prod.symbols.first() {
-            Some(PartSymbol::Rule(first)) if dot == 1 && *first == prod.rule => Some(prod.rule),
-            _ => None,
+        let Ok(mut tokens) = self.levels_of_file(*self.cells.allocator()) else {
+            self.is_whole.set(false);
+            return Trial::Untried;
+        };
+        let (rank, group) = (Rank::LastBelow, proposal.level.group);
+        give(&mut tokens, proposal.tokens, proposal.level);
+        give(&mut tokens, proposal.last, Level { rank, group });
+        let levels = Levels {
+            tokens: tokens.as_slice(),
+            production: proposal.production,
+        };
+        if self.resolves(levels, meeting) && self.are_harmless(levels, evidence) {
+            Trial::Good
+        } else {
+            Trial::Bad
         }
     }
 }
@@ -334,10 +298,14 @@ impl Checked<'_> {
         let mut rule = None;
         for key in closed.items.keys() {
             let (production, dot) = (usize::from(key.0), usize::from(key.1));
-            if dot == self.told.production(production)?.symbols.len() {
+            let prod = self.told.production(production)?;
+            if dot == prod.symbols.len() {
                 continue;
             }
-            let own = self.told.rule_before(production, dot)?;
+            let own = match prod.symbols.first() {
+                Some(PartSymbol::Rule(first)) if dot == 1 && *first == prod.rule => prod.rule,
+                _ => return None,
+            };
             match rule {
                 Some(rule) if rule != own => return None,
                 _ => rule = Some(own),

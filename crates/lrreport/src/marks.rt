@@ -23,17 +23,16 @@ fn before_action(bytes: &[u8]) -> usize {
     count
 }
 
-/// Whether a byte may stand in a name.
-fn is_of_name(byte: u8) -> bool {
-    byte.is_ascii_alphanumeric() || matches!(byte, b'_' | b'.' | b'-' | 0x80..=0xFF)
-}
-
-/// Whether bytes end with a name, but for blanks.
+/// Whether bytes end with a name, but for blanks: no byte that may stand in one is before it.
 fn ends_with_name(bytes: &[u8], name: &[u8]) -> bool {
     let text = bytes.trim_ascii_end();
     let before = text.get(..text.len().saturating_sub(name.len()));
-    let last = before.unwrap_or(b"").last().copied();
-    text.ends_with(name) && !is_of_name(last.unwrap_or(b' '))
+    let is_longer = match before.unwrap_or(b"").last().copied() {
+        Some(b'_' | b'.' | b'-' | 0x80..=0xFF) => true,
+        Some(last) => last.is_ascii_alphanumeric(),
+        None => false,
+    };
+    text.ends_with(name) && !is_longer
 }
 
 /// Whether a name stands before a colon, as where a rule begins.
@@ -79,15 +78,6 @@ impl Told<'_> {
         }
     }
 
-    /// Whether two productions of one rule have the same body.
-    fn are_same(&self, one: usize, other: usize) -> bool {
-        match (self.production(one), self.production(other)) {
-            (Some(one), Some(other)) => one.rule == other.rule
-                && one.symbols.as_slice() == other.symbols.as_slice(),
-            _ => false,
-        }
-    }
-
     /// Whether the rule of a production begins in the line of a place: for the first time, or once more.
     fn is_named_in_line(&self, production: usize, at: usize) -> bool {
         let Some(prod) = self.production(production) else {
@@ -126,7 +116,12 @@ impl Told<'_> {
         so: &str,
     ) -> Result<Mark, AllocError> {
         let rule = self.rule_name(other);
-        let how = if self.are_same(production, other) {
+        let are_same = match (self.production(production), self.production(other)) {
+            (Some(one), Some(other)) => one.rule == other.rule
+                && one.symbols.as_slice() == other.symbols.as_slice(),
+            _ => false,
+        };
+        let how = if are_same {
             ", by the same production again"
         } else if self.is_empty(other) {
             ", which can be empty here"
@@ -141,15 +136,8 @@ impl Told<'_> {
         })
     }
 
-    /// What is said where a state goes on by a shift: which rule goes on, where the line doesn't show it.
-    fn shift_label(
-        &self,
-        alloc: Global,
-        production: usize,
-        at: usize,
-        is_first: bool,
-    ) -> Result<String, AllocError> {
-        let mut text = Text::new(alloc);
+    /// Adds what is said where a state goes on by a shift: which rule goes on, where the line doesn't show it.
+    fn add_shift(&self, text: &mut Text, production: usize, at: usize, is_first: bool) {
         let is_start = self.is_start(production);
         let is_named = is_start || self.is_named_in_line(production, at);
         text.add(match (is_first, is_start) {
@@ -162,7 +150,6 @@ impl Told<'_> {
             text.add(" in ");
             text.add(self.rule_name(production));
         }
-        text.finish()
     }
 
     /// The place at which an item goes on, and what follows from that where it is the first one, with how many there are besides.
@@ -175,17 +162,17 @@ impl Told<'_> {
     ) -> Result<Mark, AllocError> {
         let (production, dot) = item;
         let span = self.symbol_place(production, dot);
-        let mut label = self.shift_label(alloc, production, span.start, so.is_some())?;
-        label.push_str(so.unwrap_or(""))?;
+        let mut label = Text::new(alloc);
+        self.add_shift(&mut label, production, span.start, so.is_some());
+        label.add(so.unwrap_or(""));
         if more > 0 {
-            let and = format!(in alloc; ", and {more} more")?;
-            label.push_str(and.as_str())?;
+            write!(label, ", and {more} more");
         }
         Ok(Mark {
             span,
             mark: '-',
             style: Style::Blue,
-            label,
+            label: label.finish()?,
         })
     }
 

@@ -18,8 +18,7 @@ use crate::conflicts::{Checked, Choice, are_decided, tokens_of_each};
 use crate::drawings::{cut_mark, push_drawing};
 use crate::resolved::Resolution;
 use crate::texts::{
-    Label, add_list, add_loss, add_names, add_shortened, add_start, add_text, add_tree_words,
-    add_two_trees, labels,
+    Label, SIDE, add_list, add_loss, add_names, add_start, add_text, add_two_trees, labels,
 };
 use crate::told::Told;
 use crate::verdicts::own_sentences;
@@ -27,7 +26,7 @@ use crate::words::Words;
 use lrdiagnostics::{Layout, Mark};
 use lrevidence::{
     Ambiguity, Evidence, Example, Loss, Outlook, ShownTree, Step, TwoTrees, candidates_of, list_of,
-    names_of_tokens, shown_trees, start_of, text_of,
+    shown_trees, start_of, text_of, tree_words,
 };
 use lrfindings::Entry;
 use lrwriter::Text;
@@ -85,11 +84,7 @@ impl Notes {
         for line in lines {
             self.push_shown(text, line);
         }
-        self.push_untold(text, count.saturating_sub(lines.len()));
-    }
-
-    /// Adds how many of those are not told, if some are not.
-    fn push_untold(self, text: &mut Text, more: usize) {
+        let more = count.saturating_sub(lines.len());
         if more > 0 {
             let mut words = Words::new(text.allocator());
             words.add("and");
@@ -140,27 +135,6 @@ impl Whole<'_, '_> {
     }
 }
 
-/// That a conflict is not known to be ambiguous in so many of its states.
-fn words_of_states(alloc: Global, count: usize) -> Words {
-    let mut words = Words::new(alloc);
-    words.add_all("not known to be ambiguous in");
-    words.add_number(count);
-    words.add_all("of these states");
-    words
-}
-
-/// The tokens of the entries that are not decided, and for which there is no sentence with two trees that part by what meets in
-/// them.
-fn unknown(alloc: Global, meeting: &[Evidence]) -> Result<Vec<usize>, AllocError> {
-    let mut tokens = Vec::new(alloc);
-    for evidence in meeting {
-        if !evidence.has_own_sentence() && !evidence.is_decided() {
-            tokens.push(evidence.entry.token)?;
-        }
-    }
-    Ok(tokens)
-}
-
 /// The tokens of the entries that are decided.
 fn decided(alloc: Global, meeting: &[Evidence]) -> Result<Vec<usize>, AllocError>
     ensures { IfOk result (λ tokens.
@@ -179,7 +153,12 @@ fn decided(alloc: Global, meeting: &[Evidence]) -> Result<Vec<usize>, AllocError
 pub(crate) fn have_sentences(meeting: &[Evidence]) -> bool
     ensures { IsTrue result → All (λ evidence. IsSome evidence.ambiguity) meeting.now }
 {
-    meeting.iter().all(Evidence::has_own_sentence)
+    for evidence in meeting {
+        if !evidence.has_own_sentence() {
+            return false;
+        }
+    }
+    true
 }
 
 impl Told<'_> {
@@ -191,6 +170,14 @@ impl Told<'_> {
         }
     }
 
+    /// Adds lines of notes under places of such marks.
+    fn add_notes(&self, text: &mut Text, marks: &[Mark], lines: Text) {
+        match lines.finish() {
+            Ok(lines) => self.teller().add_notes(text, marks, lines.as_str()),
+            Err(_) => text.give_up(),
+        }
+    }
+
     /// Adds a tree behind its label, in brackets or as a drawing.
     fn push_tree(
         &self,
@@ -199,57 +186,58 @@ impl Told<'_> {
         label: Label<'_>,
         shown: &ShownTree,
         dot: usize,
-    ) -> Result<(), AllocError> {
-        let is_plain = self.options.lines.is_plain;
+    ) {
+        let (alloc, is_plain) = (text.allocator(), self.options.lines.is_plain);
         if self.options.detail.trees {
             text.add_times(' ', notes.indent.saturating_add(2));
             label.push(text);
             text.add_char('\n');
             let indent = notes.indent.saturating_add(6);
-            return push_drawing(text, self.file, shown, dot, indent, is_plain);
+            if push_drawing(text, self.file, shown, dot, indent, is_plain).is_err() {
+                text.give_up();
+            }
+            return;
         }
-        let mut words = Words::new(text.allocator());
-        add_tree_words(&mut words, self.file, shown, cut_mark(is_plain), dot)?;
+        let Ok(list) = tree_words(alloc, self.file, shown, cut_mark(is_plain), dot) else {
+            return text.give_up();
+        };
+        let mut words = Words::new(alloc);
+        for word in &list {
+            words.add(word.as_str());
+        }
         notes.push_labelled(text, label, &words);
-        Ok(())
     }
 
     /// Adds both trees of a form.
-    fn push_trees(
-        &self,
-        text: &mut Text,
-        notes: Notes,
-        trees: &TwoTrees,
-    ) -> Result<(), AllocError> {
+    fn push_trees(&self, text: &mut Text, notes: Notes, trees: &TwoTrees) {
         let (candidates, dot) = (trees.candidates(), trees.dot());
         let (label, other_label) = labels(self.file, candidates, ":");
-        let (one, other) = shown_trees(text.allocator(), self.file, trees)?;
+        let Ok((one, other)) = shown_trees(text.allocator(), self.file, trees) else {
+            return text.give_up();
+        };
         let (one, other) = ((label, &one), (other_label, &other));
         let (first, second) = if candidates.1 == Step::Shift {
             (other, one)
         } else {
             (one, other)
         };
-        self.push_tree(text, notes, first.0, first.1, dot)?;
-        self.push_tree(text, notes, second.0, second.1, dot)
+        self.push_tree(text, notes, first.0, first.1, dot);
+        self.push_tree(text, notes, second.0, second.1, dot);
     }
 
     /// Adds at which of the entries no sentence with two trees was found, nor that there is none, if at some.
-    fn push_unknown(
-        &self,
-        text: &mut Text,
-        notes: Notes,
-        meeting: &[Evidence],
-    ) -> Result<(), AllocError> {
-        let tokens = unknown(text.allocator(), meeting)?;
-        if tokens.is_empty() {
-            return Ok(());
-        }
-        let mut words = Words::new(text.allocator());
+    fn push_unknown(&self, text: &mut Text, notes: Notes, meeting: &[Evidence]) {
+        let (mut words, mut is_first) = (Words::new(text.allocator()), true);
         words.add_all("not known to be ambiguous at");
-        add_names(&mut words, self.file, tokens.as_slice());
-        notes.push(text, &words);
-        Ok(())
+        for evidence in meeting {
+            if !evidence.has_own_sentence() && !evidence.is_decided() {
+                words.add_listed(is_first, self.token_name(evidence.entry.token));
+                is_first = false;
+            }
+        }
+        if !is_first {
+            notes.push(text, &words);
+        }
     }
 
     /// Adds how a text goes on by a candidate, where that is known.
@@ -259,7 +247,7 @@ impl Told<'_> {
         notes: Notes,
         label: Label<'_>,
         outlook: Option<&Outlook>,
-    ) -> Result<(), AllocError> {
+    ) {
         let Some(
             Outlook {
                 rest: Some(rest),
@@ -267,85 +255,52 @@ impl Told<'_> {
             },
         ) = outlook
         else {
-            return Ok(());
+            return;
         };
+        let tokens = text_of(self.file, rest.as_slice());
         let mut words = Words::new(text.allocator());
-        let names = names_of_tokens(
-            text.allocator(),
-            self.file,
-            text_of(self.file, rest.as_slice()),
-        )?;
-        if names.is_empty() {
+        if tokens.is_empty() {
             words.add("the end");
         }
-        add_shortened(&mut words, names.as_slice());
-        notes.push_labelled(text, label, &words);
-        Ok(())
-    }
-
-    /// Adds how far a search went that found no sentence.
-    fn add_effort(&self, words: &mut Words, evidence: &Evidence) {
-        if evidence.is_cut_off {
-            words.add_all("(not searched to the end: the allowance of this file was used up):");
-        } else {
-            write!(words, "({}", self.options.steps);
-            words.add_all("steps):");
+        for token in tokens.iter().take(SIDE) {
+            words.add(self.token_name(*token));
         }
+        if tokens.len() > SIDE {
+            words.add("...");
+        }
+        notes.push_labelled(text, label, &words);
     }
 
-    /// Adds after what an entry is real.
-    fn push_list(
-        &self,
-        text: &mut Text,
-        notes: Notes,
-        evidence: &Evidence,
-        example: &Example,
-    ) -> Result<(), AllocError> {
+    /// Adds after what an entry is real, how far the search went that found no sentence with two trees, and how the text goes on.
+    fn push_example(&self, text: &mut Text, notes: Notes, evidence: &Evidence, example: &Example) {
+        let (file, symbols) = (self.file, example.list.as_slice());
         let mut why = Words::new(text.allocator());
         if !evidence.is_decided() {
             why.add_all("not known to be ambiguous");
-            self.add_effort(&mut why, evidence);
+            if evidence.is_cut_off {
+                why.add_all("(not searched to the end: the allowance of this file was used up):");
+            } else {
+                write!(why, "({}", self.options.steps);
+                why.add_all("steps):");
+            }
         }
         why.add_all("both are possible");
-        add_start(
-            &mut why,
-            self.file,
-            start_of(self.file, example.list.first().copied()),
-        );
+        add_start(&mut why, file, start_of(file, symbols.first().copied()));
         why.add("after");
         notes.push(text, &why);
-        let list = list_of(self.file, example.list.as_slice());
         let mut words = Words::new(text.allocator());
-        add_list(&mut words, self.file, list, example.token)?;
+        add_list(&mut words, file, list_of(file, symbols), example.token);
         notes.push_shown(text, &words);
-        Ok(())
-    }
-
-    /// Adds after what an entry is real, and how the text goes on.
-    fn push_example(
-        &self,
-        text: &mut Text,
-        notes: Notes,
-        evidence: &Evidence,
-        example: &Example,
-    ) -> Result<(), AllocError> {
         let candidates = candidates_of(&evidence.entry);
-        let (label, other_label) = labels(self.file, candidates, ", and go on:");
-        self.push_list(text, notes, evidence, example)?;
-        self.push_outlook(text, notes, label, example.one.as_ref())?;
-        self.push_outlook(text, notes, other_label, example.other.as_ref())
+        let (label, other_label) = labels(file, candidates, ", and go on:");
+        self.push_outlook(text, notes, label, example.one.as_ref());
+        self.push_outlook(text, notes, other_label, example.other.as_ref());
     }
 }
 
 impl Checked<'_> {
     /// Adds a sentence with two trees, and both. Where these part by something else that meets in the cell of the entry, it is said so.
-    fn push_ambiguity(
-        &self,
-        text: &mut Text,
-        notes: Notes,
-        entry: &Entry,
-        ambiguity: &Ambiguity,
-    ) -> Result<(), AllocError>
+    fn push_ambiguity(&self, text: &mut Text, notes: Notes, entry: &Entry, ambiguity: &Ambiguity)
         requires proved { HasTwoTrees self.now.found.now.grm ambiguity.now }
     {
         let mut words = Words::new(text.allocator());
@@ -356,27 +311,22 @@ impl Checked<'_> {
         });
         add_two_trees(&mut words, self.told.file, ambiguity);
         notes.push(text, &words);
-        self.push_sentence(text, notes, ambiguity)?;
-        self.told.push_fate(text, notes, ambiguity)
+        self.push_sentence(text, notes, ambiguity);
+        self.told.push_fate(text, notes, ambiguity);
     }
 
     /// Adds a text, and both trees of the part of it in which they differ; of a long text that part alone.
-    fn push_sentence(
-        &self,
-        text: &mut Text,
-        notes: Notes,
-        ambiguity: &Ambiguity,
-    ) -> Result<(), AllocError>
+    fn push_sentence(&self, text: &mut Text, notes: Notes, ambiguity: &Ambiguity)
         requires proved { HasTwoTrees self.now.found.now.grm ambiguity.now }
     {
         let mut words = Words::new(text.allocator());
-        add_text(&mut words, self.told.file, ambiguity)?;
+        add_text(&mut words, self.told.file, ambiguity);
         notes.push_shown(text, &words);
-        self.told.push_trees(text, notes, &ambiguity.form)
+        self.told.push_trees(text, notes, &ambiguity.form);
     }
 
     /// Adds a sentence that the parser rejects, and where.
-    fn push_loss(&self, text: &mut Text, notes: Notes, loss: &Loss) -> Result<(), AllocError>
+    fn push_loss(&self, text: &mut Text, notes: Notes, loss: &Loss)
         requires proved { IsLoss self.now.found.now.grm self.now.found.now.table loss.now }
     {
         let mut why = Words::new(text.allocator());
@@ -384,10 +334,9 @@ impl Checked<'_> {
         add_start(&mut why, self.told.file, loss.start(self.told.file));
         why.add_all("(proved),");
         let mut words = Words::new(text.allocator());
-        add_loss(&mut why, &mut words, self.told.file, loss)?;
+        add_loss(&mut why, &mut words, self.told.file, loss);
         notes.push(text, &why);
         notes.push_shown(text, &words);
-        Ok(())
     }
 
     /// Adds that no sentence is lost by what the table does at any entry of what is told.
@@ -414,36 +363,26 @@ impl Checked<'_> {
     }
 
     /// Adds the same, where it is shown.
-    fn push_if_kept(
-        &self,
-        text: &mut Text,
-        notes: Notes,
-        whole: Whole<'_, '_>,
-    ) -> Result<(), AllocError>
+    fn push_if_kept(&self, text: &mut Text, notes: Notes, whole: Whole<'_, '_>)
         requires { AreToldKept self.now.found.now.grm self.now.found.now.graph
             self.now.found.now.table self.now.told.kept.now }
     {
-        let entries = whole.entries(text.allocator())?;
+        let Ok(entries) = whole.entries(text.allocator()) else {
+            return text.give_up();
+        };
         let entries = entries.as_slice();
         if self.are_kept(entries) {
             self.push_kept(text, notes, whole, self.choice_of(entries));
         }
-        Ok(())
     }
 
     /// Adds a sentence that the parser rejects, where one is known.
-    fn push_if_lost(
-        &self,
-        text: &mut Text,
-        notes: Notes,
-        loss: Option<&Loss>,
-    ) -> Result<(), AllocError>
+    fn push_if_lost(&self, text: &mut Text, notes: Notes, loss: Option<&Loss>)
         requires { IfSome loss (λ l.
             IsLoss self.now.found.now.grm self.now.found.now.table l.now) }
     {
-        match loss {
-            Some(loss) => self.push_loss(text, notes, loss),
-            None => Ok(()),
+        if let Some(loss) = loss {
+            self.push_loss(text, notes, loss);
         }
     }
 
@@ -493,54 +432,38 @@ impl Checked<'_> {
     }
 
     /// Adds which of the entries are decided, if some are.
-    fn push_decided_entries(
-        &self,
-        text: &mut Text,
-        notes: Notes,
-        meeting: &[Evidence],
-    ) -> Result<(), AllocError>
+    fn push_decided_entries(&self, text: &mut Text, notes: Notes, meeting: &[Evidence])
         requires { All (IsToldDecided self.now.found.now.grm self.now.found.now.graph) meeting.now }
     {
-        let tokens = decided(text.allocator(), meeting)?;
-        self.push_decided_tokens(text, notes, meeting, tokens.as_slice());
-        Ok(())
+        match decided(text.allocator(), meeting) {
+            Ok(tokens) => self.push_decided_tokens(text, notes, meeting, tokens.as_slice()),
+            Err(_) => text.give_up(),
+        }
     }
 
     /// Adds what is known of entries without a sentence that has two trees.
-    fn push_without_sentence(
-        &self,
-        text: &mut Text,
-        notes: Notes,
-        meeting: &[Evidence],
-    ) -> Result<(), AllocError>
+    fn push_without_sentence(&self, text: &mut Text, notes: Notes, meeting: &[Evidence])
         requires proved { All (IsToldDecided self.now.found.now.grm self.now.found.now.graph)
             meeting.now }
     {
         let Some(first) = meeting.first() else {
-            return Ok(());
+            return;
         };
         if are_decided(meeting) {
             self.push_not_ambiguous(text, notes, meeting, tokens_of_each(meeting));
         } else {
-            self.push_decided_entries(text, notes, meeting)?;
+            self.push_decided_entries(text, notes, meeting);
             if first.is_decided() {
-                self.told.push_unknown(text, notes, meeting)?;
+                self.told.push_unknown(text, notes, meeting);
             }
         }
-        match &first.example {
-            Some(example) => self.told.push_example(text, notes, first, example),
-            None => Ok(()),
+        if let Some(example) = &first.example {
+            self.told.push_example(text, notes, first, example);
         }
     }
 
     /// Adds the text that shows the same at another token.
-    fn push_also(
-        &self,
-        text: &mut Text,
-        notes: Notes,
-        token: usize,
-        ambiguity: &Ambiguity,
-    ) -> Result<(), AllocError>
+    fn push_also(&self, text: &mut Text, notes: Notes, token: usize, ambiguity: &Ambiguity)
         requires proved { HasTwoTrees self.now.found.now.grm ambiguity.now }
     {
         let mut words = Words::new(text.allocator());
@@ -551,9 +474,8 @@ impl Checked<'_> {
             add_two_trees(&mut words, self.told.file, ambiguity);
             words.add_piece(":");
         }
-        add_text(&mut words, self.told.file, ambiguity)?;
+        add_text(&mut words, self.told.file, ambiguity);
         notes.push(text, &words);
-        Ok(())
     }
 
     /// Adds that each of the entries has a text, where they are more than two.
@@ -570,13 +492,7 @@ impl Checked<'_> {
     }
 
     /// Adds what is known of the other entries than the first that has a text, which is one at that token.
-    fn push_others(
-        &self,
-        text: &mut Text,
-        notes: Notes,
-        meeting: &[Evidence],
-        first: usize,
-    ) -> Result<(), AllocError>
+    fn push_others(&self, text: &mut Text, notes: Notes, meeting: &[Evidence], first: usize)
         requires proved { All (IsProved self.now.found.now.grm) meeting.now }
         requires entries { All (IsToldDecided self.now.found.now.grm self.now.found.now.graph)
             meeting.now }
@@ -584,38 +500,32 @@ impl Checked<'_> {
         if have_sentences(meeting) {
             self.push_each(text, notes, meeting);
         } else {
-            self.push_decided_entries(text, notes, meeting)?;
-            self.told.push_unknown(text, notes, meeting)?;
+            self.push_decided_entries(text, notes, meeting);
+            self.told.push_unknown(text, notes, meeting);
         }
         if own_sentences(meeting) == 2 {
             if let Some((token, ambiguity)) = self.own_sentence_but_at(meeting, Some(first)) {
-                self.push_also(text, notes, token, ambiguity)?;
+                self.push_also(text, notes, token, ambiguity);
             }
         }
-        Ok(())
     }
 
     /// Adds what is known of entries at which the same meets, but for what becomes of sentences.
-    fn push_known(
-        &self,
-        text: &mut Text,
-        notes: Notes,
-        meeting: &[Evidence],
-    ) -> Result<(), AllocError>
+    fn push_known(&self, text: &mut Text, notes: Notes, meeting: &[Evidence])
         requires proved { All (IsProved self.now.found.now.grm) meeting.now }
         requires entries { All (IsToldDecided self.now.found.now.grm self.now.found.now.graph)
             meeting.now }
     {
         let Some(first) = meeting.first() else {
-            return Ok(());
+            return;
         };
         if let Some((token, ambiguity)) = self.own_sentence_but_at(meeting, None) {
-            self.push_ambiguity(text, notes, &first.entry, ambiguity)?;
-            self.push_others(text, notes, meeting, token)
+            self.push_ambiguity(text, notes, &first.entry, ambiguity);
+            self.push_others(text, notes, meeting, token);
         } else if let Some(ambiguity) = self.sentence_with_trees(meeting) {
-            self.push_ambiguity(text, notes, &first.entry, ambiguity)
+            self.push_ambiguity(text, notes, &first.entry, ambiguity);
         } else {
-            self.push_without_sentence(text, notes, meeting)
+            self.push_without_sentence(text, notes, meeting);
         }
     }
 
@@ -666,10 +576,11 @@ impl Checked<'_> {
         if cause.has_sentences() {
             self.push_each_state(text, notes, cause);
         } else {
-            notes.push(
-                text,
-                &words_of_states(text.allocator(), cause.states_without()),
-            );
+            let mut words = Words::new(text.allocator());
+            words.add_all("not known to be ambiguous in");
+            words.add_number(cause.states_without());
+            words.add_all("of these states");
+            notes.push(text, &words);
         }
     }
 
@@ -683,7 +594,7 @@ impl Checked<'_> {
         shown: &'e [Evidence],
         help: &Words,
         alike: &Alike,
-    ) -> Result<(), AllocError>
+    )
         requires proved { All (IsProved self.now.found.now.grm) (entries_in cause.now) }
         requires lost { All (IsLostAtEntry self.now.found.now.grm self.now.found.now.table)
             (entries_in cause.now) }
@@ -698,18 +609,16 @@ impl Checked<'_> {
         let mut lines = Text::new(text.allocator());
         let notes = self.told.notes(marks);
         if self.told.options.steps > 0 {
-            self.push_known(&mut lines, notes, shown)?;
+            self.push_known(&mut lines, notes, shown);
             self.push_other_states(&mut lines, notes, cause, shown);
-            self.push_if_lost(&mut lines, notes, self.loss_of(cause, shown))?;
-            self.push_if_kept(&mut lines, notes, Whole::Conflict(cause))?;
+            self.push_if_lost(&mut lines, notes, self.loss_of(cause, shown));
+            self.push_if_kept(&mut lines, notes, Whole::Conflict(cause));
         }
         if !help.is_empty() {
             notes.push(&mut lines, help);
         }
         notes.push_alike(&mut lines, alike);
-        let lines = lines.finish()?;
-        self.told.teller().add_notes(text, marks, lines.as_str());
-        Ok(())
+        self.told.add_notes(text, marks, lines);
     }
 
     /// Adds a sentence that has two trees without the precedences, of which one is kept.
@@ -719,7 +628,7 @@ impl Checked<'_> {
         notes: Notes,
         kept: &str,
         ambiguity: &Ambiguity,
-    ) -> Result<(), AllocError>
+    )
         requires proved { HasTwoTrees self.now.found.now.grm ambiguity.now }
     {
         let mut words = Words::new(text.allocator());
@@ -728,7 +637,7 @@ impl Checked<'_> {
         words.add_all("(proved);");
         words.add_all(kept);
         notes.push(text, &words);
-        self.push_sentence(text, notes, ambiguity)
+        self.push_sentence(text, notes, ambiguity);
     }
 
     /// Adds notes on what precedences resolve: why, a sentence with two trees, of which one is kept, and one that is rejected, or that
@@ -740,7 +649,7 @@ impl Checked<'_> {
         why: &str,
         resolution: &Resolution,
         known: KnownResolved<'_>,
-    ) -> Result<(), AllocError>
+    )
         requires proved { IfSome known.ambiguity (λ a. HasTwoTrees self.now.found.now.grm a.now) }
         requires lost { IfSome known.loss (λ l.
             IsLoss self.now.found.now.grm self.now.found.now.table l.now) }
@@ -757,12 +666,10 @@ impl Checked<'_> {
             );
         }
         if let Some(ambiguity) = known.ambiguity {
-            self.push_decided_sentence(&mut lines, notes, resolution.kept(), ambiguity)?;
+            self.push_decided_sentence(&mut lines, notes, resolution.kept(), ambiguity);
         }
-        self.push_if_lost(&mut lines, notes, known.loss)?;
-        self.push_if_kept(&mut lines, notes, Whole::Resolved(resolution))?;
-        let lines = lines.finish()?;
-        self.told.teller().add_notes(text, marks, lines.as_str());
-        Ok(())
+        self.push_if_lost(&mut lines, notes, known.loss);
+        self.push_if_kept(&mut lines, notes, Whole::Resolved(resolution));
+        self.told.add_notes(text, marks, lines);
     }
 }

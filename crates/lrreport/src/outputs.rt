@@ -18,6 +18,7 @@ ghost use Rattle.lrevidence.specs.KeptEntries.{AreToldKept};
 ghost use Rattle.json.specs.Print.{print};
 ghost use Rattle.lrshown.specs.Ambiguities.{has_sentence};
 ghost use Rattle.lrreport.specs.JsonHeads.{head_tokens};
+ghost use Rattle.lrreport.specs.ToldFaults.{most_told};
 ghost use Rattle.lrreport.specs.ToldConclusions.{has_hint, last_line, line_of, EndsIn, Tells};
 
 use crate::conflicts::Checked;
@@ -32,21 +33,14 @@ use lrwriter::Text;
 use lryacc::Fault;
 use std::alloc::{AllocError, Global};
 
-/// How many conflicts are shown, of which no others are like them.
+/// How many conflicts are shown, of which no others are like them; further ones are told in a line each.
 const SHOWN: usize = 10;
 
 /// How many faults of a file, or warnings, are told one by one at the most.
-pub(crate) fn most_told(options: Options) -> usize {
+pub(crate) fn most_told(options: Options) -> usize
+    ensures { result ≡ most_told options }
+{
     if options.detail.all { usize::MAX } else { TOLD }
-}
-
-/// How many conflicts are shown at the most; further ones are told in a line each.
-fn most_shown(options: Options) -> usize {
-    if options.detail.all {
-        usize::MAX
-    } else {
-        SHOWN
-    }
 }
 
 /// What is told of a file, and how.
@@ -96,7 +90,7 @@ fn add_last_line(text: &mut Text, line: &str, columns: Option<usize>)
 
 impl Checked<'_> {
     /// Adds all that stands before the last line.
-    fn push_details(&self, text: &mut Text, warnings: &[Fault]) -> Result<(), AllocError>
+    fn push_details(&self, text: &mut Text, warnings: &[Fault])
         requires proved { All (IsProved self.now.found.now.grm) self.now.told.evidence.now }
         requires lost { All (IsLostAtEntry self.now.found.now.grm self.now.found.now.table)
             self.now.told.evidence.now }
@@ -113,12 +107,23 @@ impl Checked<'_> {
             return self.push_states(text);
         }
         let most = most_told(options);
-        self.push_conflicts(text, most_shown(options))?;
-        self.told.push_notes_on_all(text)?;
-        if options.detail.resolved {
-            self.push_resolved(text, most)?;
+        let shown = if options.detail.all {
+            usize::MAX
+        } else {
+            SHOWN
+        };
+        self.push_conflicts(text, shown);
+        let Ok(notes) = self.told.notes_on_all(text.allocator()) else {
+            return text.give_up();
+        };
+        for note in &notes {
+            text.add(note.as_str());
+            text.add("\n\n");
         }
-        self.told.push_warnings(text, warnings, most)
+        if options.detail.resolved {
+            self.push_resolved(text, most);
+        }
+        self.told.push_warnings(text, warnings, most);
     }
 
     /// The line of the verdict.
@@ -180,7 +185,7 @@ fn lines(
         EndsIn (shown_text line.now ++ codes "\n") (string_bytes s)) }
 {
     let mut text = Text::new(alloc);
-    checked.push_details(&mut text, warnings)?;
+    checked.push_details(&mut text, warnings);
     add_last_line(&mut text, line, checked.told.options.lines.columns);
     text.finish()
 }

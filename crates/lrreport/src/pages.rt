@@ -17,17 +17,6 @@ use lrwriter::Text;
 use lryacc::Fault;
 use std::alloc::{AllocError, Global};
 
-/// How entries at which the same meets can be resolved, in one line.
-fn help_line(
-    alloc: Global,
-    trials: &Trials<'_, '_>,
-    meeting: &[Evidence],
-) -> Result<String, AllocError> {
-    let mut line = Text::new(alloc);
-    trials.help(alloc, meeting)?.join(&mut line);
-    line.finish()
-}
-
 impl<'a> Checked<'a> {
     /// The card of entries at which the same meets.
     fn card(
@@ -39,10 +28,14 @@ impl<'a> Checked<'a> {
         ensures { IfOk result (λ card. card.meeting.now ≡ meeting.now) }
     {
         let entries = entries_of(alloc, meeting)?;
+        let marks = self.marks(alloc, entries.as_slice())?;
+        let mut help = Text::new(alloc);
+        trials.help(alloc, meeting).join(&mut help);
+        let help = help.finish()?;
         Ok(Card {
             meeting,
-            marks: self.marks(alloc, entries.as_slice())?,
-            help: help_line(alloc, trials, meeting)?,
+            marks,
+            help,
         })
     }
 

@@ -8,13 +8,14 @@ ghost use Rattle.lrverdicts.specs.Verdicts.{status_of};
 ghost use Rattle.lrshown.specs.Exactness.{Open};
 ghost use Rattle.lrreport.specs.declared.options.Output.TheVariants.{Grammar};
 ghost use Rattle.lrreport.specs.ToldConclusions.{TellsConclusion};
+ghost use Rattle.lrreport.specs.ToldFaults.{is_lines, TellsFaults, TellsRefusal, TellsUnread, TellsWhy};
 ghost use Rattle.lrreport.specs.Conclusions.{IsConcluded, IsSaidBy, conclusion_of, expected_beside};
 
-use crate::json_lines::{json_of_faults, json_of_refusal};
-use crate::known::{Known, Read, known_of};
+use crate::json_lines::json_of_unread;
+use crate::known::{Known, Read, Unread, known_of};
 use crate::options::{Options, Output};
 use crate::outputs::{most_told, page_on_findings, text_on_findings};
-use crate::sarif::{sarif_of_faults, sarif_of_refusal};
+use crate::sarif::sarif_of_unread;
 use lrdiagnostics::{Source, Teller, Weight, messages_of};
 use lrevidence::{Ambiguity, Evidence, Exactness};
 use lrfindings::{Entry, FindError, Findings, Verdict, find, small_text};
@@ -61,51 +62,79 @@ pub struct Conclusion {
     pub decided: Option<Ambiguity>,
 }
 
-impl Report {
-    /// That of a file in which nothing was checked.
-    fn unread(text: String) -> Report
-        ensures conclusion { result.conclusion ≡ None }
-        ensures status { result.status ≡ 2 }
-    {
-        Report {
-            text,
-            status: 2,
-            page: None,
-            conclusion: None,
-        }
-    }
-}
-
-/// The report on the faults of a file.
-fn report_on_faults(
+/// The lines on a file in which nothing is checked: its faults, or why its grammar can't be checked.
+fn lines_on_unread(
     alloc: Global,
-    source: &Source<'_>,
-    faults: &[Fault],
+    unread: Unread<'_>,
     options: Options,
-) -> Result<Report, AllocError>
-    ensures conclusion { IfOk result (λ r. r.conclusion ≡ None) }
-    ensures status { IfOk result (λ r. r.status ≡ 2) }
+) -> Result<String, AllocError>
+    ensures { IfOk result (λ text. TellsUnread options unread.entry (string_bytes text)) }
 {
-    if let Output::Json { has_grammar } = options.output {
-        let text = json_of_faults(alloc, source, faults, has_grammar, options.detail.states)?;
-        return Ok(Report::unread(text));
-    }
-    if options.output == Output::Sarif {
-        return Ok(Report::unread(sarif_of_faults(alloc, source, faults)?));
+    let source = unread.source;
+    if let Some(why) = unread.why {
+        let name = source.name;
+        return format!(in alloc; "{name}: error: {why}\n");
     }
     let teller = Teller {
         source,
         has_colours: options.lines.has_colours,
     };
-    let messages = messages_of(alloc, source, faults)?;
-    let mut text = Text::new(alloc);
-    teller.add_messages(
-        &mut text,
-        messages.as_slice(),
-        Weight::Error,
-        most_told(options),
-    )?;
-    Ok(Report::unread(text.finish()?))
+    let messages = messages_of(alloc, source, unread.faults)?;
+    let (mut text, most) = (Text::new(alloc), most_told(options));
+    teller.add_messages(&mut text, messages.as_slice(), Weight::Error, most)?;
+    text.finish()
+}
+
+/// The report on a file in which nothing is checked.
+fn report_on_unread(
+    alloc: Global,
+    unread: Unread<'_>,
+    options: Options,
+) -> Result<Report, AllocError>
+    ensures conclusion { IfOk result (λ r. r.conclusion ≡ None) }
+    ensures status { IfOk result (λ r. r.status ≡ 2) }
+    ensures told { is_lines options.output ≡ true → IfOk result (λ r.
+        TellsUnread options unread.entry (string_bytes r.text)) }
+{
+    let text = match options.output {
+        Output::Json { has_grammar } => json_of_unread(
+            alloc,
+            unread,
+            has_grammar,
+            options.detail.states,
+        )?,
+        Output::Sarif => sarif_of_unread(alloc, unread)?,
+        _ => lines_on_unread(alloc, unread, options)?,
+    };
+    Ok(Report {
+        text,
+        status: 2,
+        page: None,
+        conclusion: None,
+    })
+}
+
+/// The report on the faults of a file.
+fn report_on_faults<'a>(
+    alloc: Global,
+    source: &'a Source<'a>,
+    faults: &'a [Fault],
+    options: Options,
+) -> Result<Report, AllocError>
+    ensures conclusion { IfOk result (λ r. r.conclusion ≡ None) }
+    ensures status { IfOk result (λ r. r.status ≡ 2) }
+    ensures told { is_lines options.output ≡ true → IfOk result (λ r.
+        TellsFaults options source.entry.now.name.now source.entry.now.bytes.now faults.entry.now
+        (string_bytes r.text)) }
+{
+    let unread = Unread {
+        source,
+        file: None,
+        warnings: &[],
+        faults,
+        why: None,
+    };
+    report_on_unread(alloc, unread, options)
 }
 
 /// The report on a grammar that can't be checked.
@@ -117,27 +146,21 @@ fn report_on_refusal(
 ) -> Result<Report, AllocError>
     ensures conclusion { IfOk result (λ r. r.conclusion ≡ None) }
     ensures status { IfOk result (λ r. r.status ≡ 2) }
+    ensures told { is_lines options.output ≡ true → IfOk result (λ r.
+        TellsRefusal read.entry.source.now.name.now (string_bytes r.text)) }
 {
     if let FindError::Memory = why {
         return Err(AllocError);
     }
-    let (name, why) = (read.source.name, format!(in alloc; "{why}")?);
-    let text = if let Output::Json { has_grammar } = options.output {
-        json_of_refusal(
-            alloc,
-            read.source,
-            read.file,
-            read.warnings,
-            why.as_str(),
-            has_grammar,
-            options.detail.states,
-        )?
-    } else if options.output == Output::Sarif {
-        sarif_of_refusal(alloc, read.source, read.warnings, why.as_str())?
-    } else {
-        format!(in alloc; "{name}: error: {why}\n")?
+    let why = format!(in alloc; "{why}")?;
+    let unread = Unread {
+        source: read.source,
+        file: Some(read.file),
+        warnings: read.warnings,
+        faults: &[],
+        why: Some(why.as_str()),
     };
-    Ok(Report::unread(text))
+    report_on_unread(alloc, unread, options)
 }
 
 /// What is told of a grammar, and was concluded of it.
@@ -286,6 +309,8 @@ pub fn report_on(
         TellsConclusion options name.now c (string_bytes r.text))) }
     ensures unread { IfOk result (λ r.
         options.output ≢ Grammar → IfNone r.conclusion (r.status ≡ 2)) }
+    ensures why { IfOk result (λ r. options.output ≢ Grammar → is_lines options.output ≡ true
+        → IfNone r.conclusion (TellsWhy options name.now bytes.now (string_bytes r.text))) }
 {
     let source = Source::new(alloc, name, bytes)?;
     let (file, expected, parser, warnings) = match read_file(alloc, bytes, options.dialect)? {

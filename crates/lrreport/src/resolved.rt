@@ -9,7 +9,7 @@ ghost use Rattle.lrshown.specs.Ambiguities.{IsShown};
 ghost use Rattle.lrshown.specs.Losses.{IsShownLoss};
 ghost use Rattle.lrreport.specs.Sentences.{IsLostAtOne, IsOfOne};
 
-use crate::conflicts::{Checked, DONE, push_more};
+use crate::conflicts::{Checked, DONE};
 use crate::notes::KnownResolved;
 use crate::told::Told;
 use lrdiagnostics::{Mark, add_shown};
@@ -45,34 +45,10 @@ impl Reason {
             (Winner::Neither, _) => Reason::Nonassoc,
         }
     }
-
-    /// What is said of what the table does, where it reduces, and where it shifts.
-    fn done(self) -> (&'static str, &'static str) {
-        match self {
-            Reason::Token | Reason::Right => ("", DONE),
-            Reason::Production | Reason::Left => (DONE, ""),
-            Reason::Nonassoc => ("", ""),
-        }
-    }
-
-    /// What wins.
-    fn wins(self) -> &'static str {
-        match self {
-            Reason::Token | Reason::Right => "the shift wins",
-            Reason::Production | Reason::Left => "the reduction wins",
-            Reason::Nonassoc => "neither wins",
-        }
-    }
-
-    /// Which of two trees is kept.
-    fn kept(self) -> &'static str {
-        match self {
-            Reason::Token | Reason::Right => "that of the shift is kept",
-            Reason::Production | Reason::Left => "that of the reduction is kept",
-            Reason::Nonassoc => "none is kept",
-        }
-    }
 }
+
+/// Where something is resolved: the place in the file, the state, and the production.
+type Place = (usize, usize, usize);
 
 /// What is resolved in one state between one production and shifts, for one reason.
 #[derive(Drop)]
@@ -93,7 +69,11 @@ impl Resolution {
 
     /// Which of two trees is kept.
     pub(crate) fn kept(&self) -> &'static str {
-        self.reason.kept()
+        match self.reason {
+            Reason::Token | Reason::Right => "that of the shift is kept",
+            Reason::Production | Reason::Left => "that of the reduction is kept",
+            Reason::Nonassoc => "none is kept",
+        }
     }
 }
 
@@ -130,16 +110,15 @@ impl Told<'_> {
         &self,
         alloc: Global,
         resolved: &[Resolved],
-    ) -> Result<Vec<(Entry, Reason)>, AllocError> {
+    ) -> Result<Vec<(Place, Reason, Entry)>, AllocError> {
         let mut list = Vec::new(alloc);
         for resolved in resolved {
             let entry = resolved.entry;
-            list.push((entry, Reason::of(resolved.winner, self.is_level(entry))))?;
+            let place = (entry.place, entry.state, entry.production);
+            let reason = Reason::of(resolved.winner, self.is_level(entry));
+            list.push((place, reason, entry))?;
         }
-        list.sort_unstable_by_key(|it| (
-            (it.0.place, it.0.state, it.0.production),
-            (it.1, it.0.token),
-        ));
+        list.sort_unstable();
         Ok(list)
     }
 
@@ -150,7 +129,7 @@ impl Told<'_> {
         resolved: &[Resolved],
     ) -> Result<Vec<Resolution>, AllocError> {
         let mut list: Vec<Resolution> = Vec::new(alloc);
-        for (entry, reason) in &self.reasoned(alloc, resolved)? {
+        for (_, reason, entry) in &self.reasoned(alloc, resolved)? {
             match list.last_mut() {
                 Some(last) if last.is_like(entry, *reason) => last.entries.push(*entry)?,
                 _ => list.push(Resolution {
@@ -254,7 +233,11 @@ impl<'a> Checked<'a> {
         let entries = resolution.entries.as_slice();
         let mut marks = Vec::new(alloc);
         if let Some(first) = entries.first() {
-            let (reduced, shifted) = resolution.reason.done();
+            let (reduced, shifted) = match resolution.reason {
+                Reason::Token | Reason::Right => ("", DONE),
+                Reason::Production | Reason::Left => (DONE, ""),
+                Reason::Nonassoc => ("", ""),
+            };
             marks.push(self.told.reduction_mark(alloc, first.production, reduced)?)?;
             self.push_shifts(&mut marks, entries, shifted)?;
         }
@@ -278,7 +261,7 @@ impl<'a> Checked<'a> {
     }
 
     /// Adds what is resolved.
-    fn push_resolution(&self, text: &mut Text, resolution: &Resolution) -> Result<(), AllocError>
+    fn push_resolution(&self, text: &mut Text, resolution: &Resolution)
         requires proved { All (IsProved self.now.found.now.grm) self.now.told.resolved.now }
         requires lost { All (IsLostAtEntry self.now.found.now.grm self.now.found.now.table)
             self.now.told.resolved.now }
@@ -286,18 +269,22 @@ impl<'a> Checked<'a> {
             self.now.found.now.table self.now.told.kept.now }
     {
         let (alloc, entries) = (text.allocator(), resolution.entries.as_slice());
-        let marks = self.resolution_marks(alloc, resolution)?;
+        let Ok(marks) = self.resolution_marks(alloc, resolution) else {
+            return text.give_up();
+        };
+        let Ok(why) = self.told.reason(alloc, resolution) else {
+            return text.give_up();
+        };
+        let marks = marks.as_slice();
         self.told.push_heading(text, "resolved", entries, None);
-        self.told.teller().add_placed(text, marks.as_slice())?;
-        let why = self.told.reason(alloc, resolution)?;
+        self.told.add_placed(text, marks);
         let known = self.known_resolved(entries);
-        self.push_decided(text, marks.as_slice(), why.as_str(), resolution, known)?;
+        self.push_decided(text, marks, why.as_str(), resolution, known);
         text.add_char('\n');
-        Ok(())
     }
 
     /// Adds what precedences resolve: the first ones, so many at the most, and how many there are besides.
-    pub(crate) fn push_resolved(&self, text: &mut Text, most: usize) -> Result<(), AllocError>
+    pub(crate) fn push_resolved(&self, text: &mut Text, most: usize)
         requires proved { All (IsProved self.now.found.now.grm) self.now.told.resolved.now }
         requires lost { All (IsLostAtEntry self.now.found.now.grm self.now.found.now.table)
             self.now.told.resolved.now }
@@ -305,12 +292,16 @@ impl<'a> Checked<'a> {
             self.now.found.now.table self.now.told.kept.now }
     {
         let resolved = self.found.resolved.as_slice();
-        let resolutions = self.told.resolutions(text.allocator(), resolved)?;
+        let Ok(resolutions) = self.told.resolutions(text.allocator(), resolved) else {
+            return text.give_up();
+        };
         for resolution in resolutions.iter().take(most) {
-            self.push_resolution(text, resolution)?;
+            self.push_resolution(text, resolution);
         }
-        push_more(text, resolutions.len().saturating_sub(most));
-        Ok(())
+        let more = resolutions.len().saturating_sub(most);
+        if more > 0 {
+            write!(text, "and {more} more, which --all shows\n\n");
+        }
     }
 
     /// The card of what is resolved.
@@ -331,7 +322,11 @@ impl<'a> Checked<'a> {
         Ok(ResolvedCard {
             marks: self.resolution_marks(alloc, &resolution)?,
             why: self.told.reason(alloc, &resolution)?,
-            wins: resolution.reason.wins(),
+            wins: match resolution.reason {
+                Reason::Token | Reason::Right => "the shift wins",
+                Reason::Production | Reason::Left => "the reduction wins",
+                Reason::Nonassoc => "neither wins",
+            },
             kept: resolution.kept(),
             entries: resolution.entries,
             ambiguity: known.ambiguity,

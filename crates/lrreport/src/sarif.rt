@@ -3,12 +3,12 @@
 ghost use Rattle.std.specs.Prelude.{All};
 ghost use Rattle.lrevidence.specs.Ambiguities.{IsProved};
 
-use crate::causes::tokens_at;
 use crate::conflicts::{Checked, entries_of, meetings};
 use crate::json_texts::JsonText;
+use crate::known::Unread;
 use crate::sarif_logs::{Rule, add_message};
 use crate::sarif_places::{add_location, uri_of};
-use crate::texts::{add_names, add_text};
+use crate::texts::add_text;
 use crate::told::Told;
 use crate::words::Words;
 use lrdiagnostics::{Mark, Message, Source, messages_of};
@@ -38,11 +38,6 @@ impl<'a> Results<'a> {
         let mut json = JsonText::new(alloc);
         json.begin_array();
         Results { source, uri, json }
-    }
-
-    /// The allocator by which they grow.
-    fn allocator(&self) -> Global {
-        self.json.allocator()
     }
 
     /// Begins a result at a place, or of the file as such, with what it tells.
@@ -82,6 +77,14 @@ impl<'a> Results<'a> {
         }
     }
 
+    /// Adds faults, or warnings.
+    fn add_faults(&mut self, rule: Rule, level: &str, faults: &[Fault]) {
+        match messages_of(self.json.allocator(), self.source, faults) {
+            Ok(messages) => self.add_all(rule, level, messages.as_slice()),
+            Err(_) => self.json.give_up(),
+        }
+    }
+
     /// Adds places with what is said of each, as those that belong to the result in hand.
     fn add_marks(&mut self, marks: &[Mark]) {
         self.json.key("relatedLocations");
@@ -105,68 +108,30 @@ impl<'a> Results<'a> {
     }
 }
 
-/// The results of a file that is no grammar.
-pub(crate) fn sarif_of_faults(
-    alloc: Global,
-    source: &Source<'_>,
-    faults: &[Fault],
-) -> Result<String, AllocError> {
-    let uri = uri_of(alloc, source.name)?;
-    let messages = messages_of(alloc, source, faults)?;
-    let mut results = Results::new(alloc, source, uri.as_str());
-    results.add_all(Rule::Error, "error", messages.as_slice());
-    results.finish()
-}
-
-/// The results of a file with a grammar that can't be checked, and why.
-pub(crate) fn sarif_of_refusal(
-    alloc: Global,
-    source: &Source<'_>,
-    warnings: &[Fault],
-    why: &str,
-) -> Result<String, AllocError> {
-    let uri = uri_of(alloc, source.name)?;
-    let messages = messages_of(alloc, source, warnings)?;
-    let mut results = Results::new(alloc, source, uri.as_str());
-    results.add(Rule::Error, "error", why, &[]);
-    results.add_all(Rule::Warning, "warning", messages.as_slice());
+/// The results of a file in which nothing is checked.
+pub(crate) fn sarif_of_unread(alloc: Global, unread: Unread<'_>) -> Result<String, AllocError> {
+    let uri = uri_of(alloc, unread.source.name)?;
+    let mut results = Results::new(alloc, unread.source, uri.as_str());
+    if let Some(why) = unread.why {
+        results.add(Rule::Error, "error", why, &[]);
+    }
+    results.add_faults(Rule::Error, "error", unread.faults);
+    results.add_faults(Rule::Warning, "warning", unread.warnings);
     results.finish()
 }
 
 impl Told<'_> {
-    /// Adds what reading the file warned of.
-    fn add_read(&self, results: &mut Results<'_>, faults: &[Fault]) -> Result<(), AllocError> {
-        let messages = messages_of(results.allocator(), self.source, faults)?;
-        results.add_all(Rule::Warning, "warning", messages.as_slice());
-        Ok(())
-    }
-
-    /// Adds which tokens are in no rule, or in useless ones alone.
-    fn add_unused_results(&self, results: &mut Results<'_>) -> Result<(), AllocError> {
-        let mut messages = Vec::new(results.allocator());
-        self.add_unused(&mut messages)?;
-        results.add_all(Rule::UnusedToken, "warning", messages.as_slice());
-        Ok(())
-    }
-
-    /// Adds which precedences resolve nothing.
-    fn add_useless_results(
-        &self,
-        results: &mut Results<'_>,
-        faults: &[Fault],
-    ) -> Result<(), AllocError> {
-        let mut messages = Vec::new(results.allocator());
-        self.add_useless_lines(&mut messages)?;
-        self.add_useless_productions(&mut messages, faults)?;
-        results.add_all(Rule::UselessPrecedence, "warning", messages.as_slice());
-        Ok(())
-    }
-
-    /// Adds what the file is warned of.
-    fn add_warnings(&self, results: &mut Results<'_>, faults: &[Fault]) -> Result<(), AllocError> {
-        self.add_read(results, faults)?;
-        self.add_unused_results(results)?;
-        self.add_useless_results(results, faults)
+    /// Adds which tokens are in no rule, or in useless ones alone, and which precedences resolve nothing.
+    fn add_without_use(&self, results: &mut Results<'_>, faults: &[Fault]) {
+        let alloc = results.json.allocator();
+        let (mut unused, mut useless) = (Vec::new(alloc), Vec::new(alloc));
+        if self.add_unused(&mut unused).is_err()
+            || self.add_useless(&mut useless, faults).is_err()
+        {
+            return results.json.give_up();
+        }
+        results.add_all(Rule::UnusedToken, "warning", unused.as_slice());
+        results.add_all(Rule::UselessPrecedence, "warning", useless.as_slice());
     }
 }
 
@@ -180,17 +145,18 @@ impl Checked<'_> {
     ) -> Result<String, AllocError>
         requires proved { All (IsProved self.now.found.now.grm) meeting.now }
     {
-        let tokens = tokens_at(alloc, meeting)?;
         let mut words = Words::new(alloc);
         words.add_all(match rule {
             Rule::ReduceReduce => "conflict: reduce or reduce at",
             _ => "conflict: shift or reduce at",
         });
-        add_names(&mut words, self.told.file, tokens.as_slice());
+        for (place, evidence) in meeting.iter().enumerate() {
+            words.add_listed(place == 0, self.told.token_name(evidence.entry.token));
+        }
         if let Some(ambiguity) = self.sentence_with_trees(meeting) {
             words.add_piece(";");
             words.add_all("ambiguous (proved): this sentence has two trees:");
-            add_text(&mut words, self.told.file, ambiguity)?;
+            add_text(&mut words, self.told.file, ambiguity);
         }
         let mut text = Text::new(alloc);
         words.join(&mut text);
@@ -198,22 +164,23 @@ impl Checked<'_> {
     }
 
     /// Adds a conflict: entries at which the same meets in the same state.
-    fn add_conflict_result(
-        &self,
-        results: &mut Results<'_>,
-        level: &str,
-        meeting: &[Evidence],
-    ) -> Result<(), AllocError>
+    fn add_conflict_result(&self, results: &mut Results<'_>, level: &str, meeting: &[Evidence])
         requires proved { All (IsProved self.now.found.now.grm) meeting.now }
     {
-        let alloc = results.allocator();
-        let entries = entries_of(alloc, meeting)?;
+        let alloc = results.json.allocator();
+        let Ok(entries) = entries_of(alloc, meeting) else {
+            return results.json.give_up();
+        };
+        let Ok(marks) = self.marks(alloc, entries.as_slice()) else {
+            return results.json.give_up();
+        };
         let rule = match entries.first() {
             Some(entry) if entry.other.is_some() => Rule::ReduceReduce,
             _ => Rule::ShiftReduce,
         };
-        let words = self.conflict_words(alloc, rule, meeting)?;
-        let marks = self.marks(alloc, entries.as_slice())?;
+        let Ok(words) = self.conflict_words(alloc, rule, meeting) else {
+            return results.json.give_up();
+        };
         let place = match marks.first() {
             Some(mark) => Some(mark.span),
             None => None,
@@ -221,7 +188,6 @@ impl Checked<'_> {
         results.begin(rule, level, words.as_str(), place);
         results.add_marks(marks.as_slice());
         results.json.end_object();
-        Ok(())
     }
 
     /// The results of a file in whose grammar this was found, with that verdict.
@@ -242,9 +208,10 @@ impl Checked<'_> {
             "error"
         };
         for meeting in &meetings(alloc, self.told.evidence, self.told.options.detail.all)? {
-            self.add_conflict_result(&mut results, level, meeting)?;
+            self.add_conflict_result(&mut results, level, meeting);
         }
-        self.told.add_warnings(&mut results, warnings)?;
+        results.add_faults(Rule::Warning, "warning", warnings);
+        self.told.add_without_use(&mut results, warnings);
         results.finish()
     }
 }

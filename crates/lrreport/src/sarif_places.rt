@@ -6,37 +6,20 @@ use lrwriter::Text;
 use lryacc::Span;
 use std::alloc::{AllocError, Global};
 
-/// How many code units of UTF-16 the character has that begins with a byte; none where the byte goes on with one.
-fn units(byte: u8) -> usize {
-    match byte {
-        0x80..=0xBF => 0,
-        0xF0..=0xFF => 2,
-        _ => 1,
-    }
-}
-
-/// The column of a place in code units of UTF-16, from 1.
+/// The column of a place in code units of UTF-16, from 1. A character has two of these where its first byte is such a one, and the
+/// bytes that go on with one have none.
 fn column(bytes: &[u8], at: usize) -> usize {
     let before = bytes.get(..at).unwrap_or(bytes);
     let mut column: usize = 1;
     for byte in before.iter().rev() {
-        if *byte == b'\n' {
-            break;
-        }
-        column = column.saturating_add(units(*byte));
+        column = column.saturating_add(match *byte {
+            b'\n' => break,
+            0x80..=0xBF => 0,
+            0xF0..=0xFF => 2,
+            _ => 1,
+        });
     }
     column
-}
-
-/// Adds a place as the value of a key: from its first character to behind its last one.
-fn add_region(json: &mut JsonText, source: &Source<'_>, place: Span) {
-    json.key("region");
-    json.begin_object();
-    json.number_at("startLine", source.position(place.start).line);
-    json.number_at("startColumn", column(source.bytes, place.start));
-    json.number_at("endLine", source.position(place.end).line);
-    json.number_at("endColumn", column(source.bytes, place.end));
-    json.end_object();
 }
 
 /// Adds a byte of a path to a reference: by its number where it may not stand there.
@@ -64,7 +47,7 @@ pub(crate) fn uri_of(alloc: Global, name: &str) -> Result<String, AllocError> {
     uri.finish()
 }
 
-/// Adds a file by its reference, or a place in it, as a member of an object.
+/// Adds a file by its reference, or a place in it, from its first character to behind its last one, as a member of an object.
 pub(crate) fn add_location(
     json: &mut JsonText,
     source: &Source<'_>,
@@ -78,7 +61,13 @@ pub(crate) fn add_location(
     json.string_at("uri", uri);
     json.end_object();
     if let Some(place) = place {
-        add_region(json, source, place);
+        json.key("region");
+        json.begin_object();
+        json.number_at("startLine", source.position(place.start).line);
+        json.number_at("startColumn", column(source.bytes, place.start));
+        json.number_at("endLine", source.position(place.end).line);
+        json.number_at("endColumn", column(source.bytes, place.end));
+        json.end_object();
     }
     json.end_object();
 }

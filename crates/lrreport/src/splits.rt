@@ -8,13 +8,13 @@ use crate::told::Told;
 use crate::words::Words;
 use lrevidence::{Ambiguity, Evidence, Node, Step, Tree};
 use lrwriter::Text;
-use lryacc::{Dynamic, DynamicKind, Parser, Span};
+use lryacc::{DynamicKind, Parser};
 use std::alloc::{AllocError, Global};
 use std::str;
 
 /// What becomes of two trees.
 #[derive(Clone, Copy)]
-pub(crate) enum Fate<'a> {
+enum Fate<'a> {
     /// By `%dprec` the one is kept whose production has the greater number.
     Kept {
         is_first: bool,
@@ -48,50 +48,36 @@ fn own_sentence(meeting: &[Evidence]) -> Option<&Ambiguity> {
 }
 
 impl<'a> Told<'a> {
-    /// What bodies say, each with its place.
-    fn dynamics(&self) -> &'a [Dynamic] {
-        match self.parser {
-            Parser::Generalized(dynamics) => dynamics.as_slice(),
-            Parser::Deterministic => &[],
-        }
-    }
-
-    /// Whether a place is in the body of a production.
-    fn has_place(&self, production: usize, place: Span) -> bool {
-        let body = self.place(production);
-        body.start <= place.start && place.end <= body.end
-    }
-
-    /// The number of a production by `%dprec`; 0 where it has none.
-    fn dynamic_precedence(&self, production: usize) -> u64 {
-        for dynamic in self.dynamics() {
-            if let DynamicKind::Precedence(number) = dynamic.kind {
-                if self.has_place(production, dynamic.place) {
-                    return number;
+    /// What the body of a production says: its number by `%dprec`, 0 where it has none, and its function by `%merge`, with its
+    /// brackets.
+    fn dynamic(&self, production: usize) -> (u64, Option<&'a str>) {
+        let Parser::Generalized(dynamics) = self.parser else {
+            return (0, None);
+        };
+        let (body, mut number, mut merger) = (self.place(production), None, None);
+        for dynamic in dynamics {
+            if body.start <= dynamic.place.start && dynamic.place.end <= body.end {
+                match dynamic.kind {
+                    DynamicKind::Precedence(it) if number.is_none() => number = Some(it),
+                    DynamicKind::Merger(place) if merger.is_none() => merger = Some(place),
+                    _ => {}
                 }
             }
         }
-        0
-    }
-
-    /// The function of a production by `%merge`, with its brackets.
-    fn merger(&self, production: usize) -> Option<&'a str> {
-        for dynamic in self.dynamics() {
-            if let DynamicKind::Merger(place) = dynamic.kind {
-                if self.has_place(production, dynamic.place) {
-                    return str::from_utf8(self.source.part(place.start, place.end)).ok();
-                }
-            }
-        }
-        None
+        let name = match merger {
+            Some(place) => str::from_utf8(self.source.part(place.start, place.end)).ok(),
+            None => None,
+        };
+        (number.unwrap_or(0), name)
     }
 
     /// What becomes of two trees with these productions at their roots. Numbers that differ decide where both have one, and where
     /// they don't differ, or there is none, the function that both have.
-    pub(crate) fn fate(&self, one: usize, other: usize) -> Fate<'a> {
-        let (number, against) = (self.dynamic_precedence(one), self.dynamic_precedence(other));
+    fn fate(&self, one: usize, other: usize) -> Fate<'a> {
+        let (number, name) = self.dynamic(one);
+        let (against, same) = self.dynamic(other);
         if number == against {
-            return match (self.merger(one), self.merger(other)) {
+            return match (name, same) {
                 (Some(name), Some(same)) if name == same => Fate::Merged(name),
                 _ => Fate::Open,
             };
@@ -120,27 +106,21 @@ impl<'a> Told<'a> {
     }
 
     /// Adds what becomes of the trees of a sentence, where the parser splits.
-    pub(crate) fn push_fate(
-        &self,
-        text: &mut Text,
-        notes: Notes,
-        ambiguity: &Ambiguity,
-    ) -> Result<(), AllocError> {
+    pub(crate) fn push_fate(&self, text: &mut Text, notes: Notes, ambiguity: &Ambiguity) {
         if !self.parser.splits() {
-            return Ok(());
+            return;
         }
-        let alloc = text.allocator();
-        if let Some((one, other)) = self.roots(alloc, ambiguity)? {
-            let mut words = Words::new(alloc);
-            words.add_all("the parser splits here,");
-            self.add_fate(
-                &mut words,
-                self.fate(one, other),
-                ambiguity.form.candidates(),
-            );
-            notes.push(text, &words);
+        match self.roots(text.allocator(), ambiguity) {
+            Ok(Some((one, other))) => {
+                let (fate, candidates) = (self.fate(one, other), ambiguity.form.candidates());
+                let mut words = Words::new(text.allocator());
+                words.add_all("the parser splits here,");
+                self.add_fate(&mut words, fate, candidates);
+                notes.push(text, &words);
+            }
+            Ok(None) => {}
+            Err(_) => text.give_up(),
         }
-        Ok(())
     }
 
     /// Adds which of two trees is meant that part by these candidates, as their labels tell them.
@@ -185,8 +165,14 @@ impl<'a> Told<'a> {
         }
     }
 
-    /// Adds in which lines two productions stand.
-    fn add_lines(&self, words: &mut Words, one: usize, other: usize) {
+    /// Adds what can be said of two trees with these productions at their roots.
+    fn add_dynamics(&self, words: &mut Words, one: usize, other: usize) {
+        words.add_all(if one == other {
+            "give the production of"
+        } else {
+            "give both productions of"
+        });
+        words.add(self.rule_name(one));
         let line = self.source.line(self.place(one).start);
         let against = self.source.line(self.place(other).start);
         if line == against {
@@ -197,67 +183,42 @@ impl<'a> Told<'a> {
             words.add_all("in lines");
             write!(words, "{first} and {last}");
         }
-    }
-
-    /// Adds what can be said of two trees with these productions at their roots.
-    fn add_dynamics(&self, words: &mut Words, one: usize, other: usize) {
-        words.add_all(if one == other {
-            "give the production of"
-        } else {
-            "give both productions of"
-        });
-        words.add(self.rule_name(one));
-        self.add_lines(words, one, other);
         words.add_all(if one == other {
             "a %merge function, which makes one value of both"
         } else {
             "a %dprec number, the one to be kept the greater, or one %merge function"
         });
     }
-
-    /// What becomes of the trees of the first own sentence of entries, and the productions at their roots.
-    pub(crate) fn fate_of(
-        &self,
-        alloc: Global,
-        meeting: &[Evidence],
-    ) -> Result<Option<(Fate<'a>, usize, usize)>, AllocError> {
-        let Some(ambiguity) = own_sentence(meeting) else {
-            return Ok(None);
-        };
-        Ok(match self.roots(alloc, ambiguity)? {
-            Some((one, other)) => Some((self.fate(one, other), one, other)),
-            None => None,
-        })
-    }
 }
 
 impl<'a> Trials<'_, 'a> {
     /// Adds what there is to do about entries where the parser splits: nothing, unless neither `%dprec` nor `%merge` decides between
     /// the trees of a sentence. Then levels may resolve the conflict before that.
-    pub(crate) fn add_split_help(
-        &self,
-        words: &mut Words,
-        meeting: &[Evidence],
-    ) -> Result<(), AllocError> {
+    pub(crate) fn add_split_help(&self, words: &mut Words, meeting: &[Evidence]) {
         let (alloc, told) = (words.allocator(), self.told());
-        match told.fate_of(alloc, meeting)? {
-            Some((Fate::Open, one, other)) => {
-                words.add("help:");
-                if let Some(Advice::Levels(levels)) = self.advice(alloc, meeting)? {
-                    told.add_levels(words, &levels);
-                    words.add_piece(";");
-                    words.add("or");
+        let roots = match own_sentence(meeting) {
+            Some(ambiguity) => told.roots(alloc, ambiguity),
+            None => Ok(None),
+        };
+        match roots {
+            Ok(Some((one, other))) => {
+                if let Fate::Open = told.fate(one, other) {
+                    words.add("help:");
+                    if let Some(Advice::Levels(levels)) = self.advice(alloc, meeting) {
+                        told.add_levels(words, &levels);
+                        words.add_piece(";");
+                        words.add("or");
+                    }
+                    told.add_dynamics(words, one, other);
                 }
-                told.add_dynamics(words, one, other);
             }
-            Some(_) => {}
-            None if are_decided(meeting) => {
+            Ok(None) if are_decided(meeting) => {
                 words.add_all("help: the parser splits here, so nothing needs to be done");
             }
-            None => words.add_all(
+            Ok(None) => words.add_all(
                 "help: the parser splits here; if a sentence has two trees, %dprec or %merge decides between them",
             ),
+            Err(_) => words.give_up(),
         }
-        Ok(())
     }
 }

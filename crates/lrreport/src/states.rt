@@ -37,10 +37,14 @@ fn by_state(alloc: Global, entries: &[Entry]) -> Result<BTreeMap<usize, Vec<Entr
 }
 
 /// Adds the lines of a block, if it has some, behind an empty one.
-fn push_block(text: &mut Text, block: &str) {
-    if !block.is_empty() {
-        text.add_char('\n');
-        text.add(block);
+fn push_block(text: &mut Text, block: Text) {
+    match block.finish() {
+        Ok(block) if block.is_empty() => {}
+        Ok(block) => {
+            text.add_char('\n');
+            text.add(block.as_str());
+        }
+        Err(_) => text.give_up(),
     }
 }
 
@@ -121,28 +125,24 @@ impl<'a> Listing<'a> {
         }
     }
 
-    /// The lines of what the table does in a state, but for where rules lead.
-    fn actions(&self, alloc: Global, state: StIdx<u32>) -> Result<String, AllocError> {
-        let row = self.row(alloc, state)?;
-        let mut text = Text::new(alloc);
-        push_targets(&mut text, row.shifts.as_slice(), "shift, and go to");
-        let mut block = Text::new(alloc);
-        self.push_reducing(&mut block, state, &row)?;
-        push_block(&mut text, block.finish()?.as_str());
-        text.finish()
-    }
-
     /// Adds a state: its number, the items of its core, and what the table does in it.
-    fn push_state(&self, text: &mut Text, state: StIdx<u32>) -> Result<(), AllocError> {
+    fn push_state(&self, text: &mut Text, state: StIdx<u32>) {
         let alloc = text.allocator();
-        let mut items = Text::new(alloc);
+        let Ok(row) = self.row(alloc, state) else {
+            return text.give_up();
+        };
+        let Ok(gotos) = self.gotos(alloc, state) else {
+            return text.give_up();
+        };
+        let (mut items, mut reducing) = (Text::new(alloc), Text::new(alloc));
         self.push_items(&mut items, state);
+        self.push_reducing(&mut reducing, state, &row);
         write!(text, "State {}\n", usize::from(state));
-        push_block(text, items.finish()?.as_str());
-        text.add(self.actions(alloc, state)?.as_str());
-        push_targets(text, self.gotos(alloc, state)?.as_slice(), "go to");
+        push_block(text, items);
+        push_targets(text, row.shifts.as_slice(), "shift, and go to");
+        push_block(text, reducing);
+        push_targets(text, gotos.as_slice(), "go to");
         text.add("\n\n");
-        Ok(())
     }
 }
 
@@ -162,15 +162,16 @@ impl Checked<'_> {
     }
 
     /// Adds the states of the graph: first those that have conflicts, with their numbers alone, and then all of them.
-    pub(crate) fn push_states(&self, text: &mut Text) -> Result<(), AllocError> {
+    pub(crate) fn push_states(&self, text: &mut Text) {
         let Some(graph) = &self.found.graph else {
-            return Ok(());
+            return;
         };
-        let listing = Listing::new(text.allocator(), self)?;
+        let Ok(listing) = Listing::new(text.allocator(), self) else {
+            return text.give_up();
+        };
         listing.push_counts(text);
         for state in graph.iter_stidxs() {
-            listing.push_state(text, state)?;
+            listing.push_state(text, state);
         }
-        Ok(())
     }
 }

@@ -2,8 +2,8 @@
 
 use crate::words::Words;
 use lrevidence::{
-    Ambiguity, Loss, Node, ShownTree, Step, Tree, name_of_rule, names_of, names_of_tokens,
-    symbol_name, text_of, token_name, tree_words,
+    Ambiguity, Loss, Node, Step, Tree, TwoTrees, name_of_rule, names_of_tokens, symbol_name,
+    text_of, token_name,
 };
 use lrgrammar::grammar::PartSymbol;
 use lrwriter::Text;
@@ -11,7 +11,7 @@ use lryacc::FileGrammar;
 use std::alloc::{AllocError, Global};
 
 /// How many words of a text or a tree are told on either side of the dot.
-const SIDE: usize = 40;
+pub(crate) const SIDE: usize = 40;
 
 /// Adds the names of tokens, with a comma behind each but the last.
 pub(crate) fn add_names(words: &mut Words, file: &FileGrammar, tokens: &[usize]) {
@@ -42,22 +42,13 @@ fn add_with_dot(words: &mut Words, names: &[&str], dot: usize) {
     }
 }
 
-/// Adds the first of many names, and that there are more.
-pub(crate) fn add_shortened(words: &mut Words, names: &[&str]) {
-    for name in names.iter().take(SIDE) {
-        words.add(name);
-    }
-    if names.len() > SIDE {
-        words.add("...");
-    }
-}
-
-/// The names of the leaves of a tree.
-pub(crate) fn leaves<'a>(
+/// The names of the leaves of the trees of a form.
+fn names_of_form<'a>(
     alloc: Global,
     file: &'a FileGrammar,
-    tree: &Tree,
+    form: &TwoTrees,
 ) -> Result<Vec<&'a str>, AllocError> {
+    let (tree, _) = Tree::both(alloc, file, form)?;
     let mut names = Vec::new(alloc);
     for node in &tree.nodes {
         if let Node::Leaf(symbol) = node {
@@ -68,33 +59,31 @@ pub(crate) fn leaves<'a>(
 }
 
 /// Adds the words of a sentence with two trees, or of the part of a long one in which they differ, with a dot where they part.
-pub(crate) fn add_text(
-    words: &mut Words,
-    file: &FileGrammar,
-    ambiguity: &Ambiguity,
-) -> Result<(), AllocError> {
-    let alloc = words.allocator();
-    if ambiguity.is_long() {
-        let (tree, _) = Tree::both(alloc, file, &ambiguity.form)?;
-        let names = leaves(alloc, file, &tree)?;
-        add_with_dot(words, names.as_slice(), ambiguity.form.dot());
-        return Ok(());
+pub(crate) fn add_text(words: &mut Words, file: &FileGrammar, ambiguity: &Ambiguity) {
+    let (names, dot) = if ambiguity.is_long() {
+        (
+            names_of_form(words.allocator(), file, &ambiguity.form),
+            ambiguity.form.dot(),
+        )
+    } else {
+        let tokens = text_of(file, ambiguity.tokens.as_slice());
+        (
+            names_of_tokens(words.allocator(), file, tokens),
+            ambiguity.dot(file),
+        )
+    };
+    match names {
+        Ok(names) => add_with_dot(words, names.as_slice(), dot),
+        Err(_) => words.give_up(),
     }
-    let tokens = text_of(file, ambiguity.tokens.as_slice());
-    let names = names_of_tokens(alloc, file, tokens)?;
-    add_with_dot(words, names.as_slice(), ambiguity.dot(file));
-    Ok(())
 }
 
 /// Adds the words of a sentence that the parser rejects, with a dot where it goes wrong, and to other words where it stops.
-pub(crate) fn add_loss(
-    at: &mut Words,
-    words: &mut Words,
-    file: &FileGrammar,
-    loss: &Loss,
-) -> Result<(), AllocError> {
+pub(crate) fn add_loss(at: &mut Words, words: &mut Words, file: &FileGrammar, loss: &Loss) {
     let tokens = text_of(file, loss.tokens.as_slice());
-    let names = names_of_tokens(words.allocator(), file, tokens)?;
+    let Ok(names) = names_of_tokens(words.allocator(), file, tokens) else {
+        return words.give_up();
+    };
     let stop = loss.shown_stop(file);
     match names.get(stop) {
         Some(name) => {
@@ -105,7 +94,6 @@ pub(crate) fn add_loss(
         None => at.add_all("at its end"),
     }
     add_with_dot(words, names.as_slice(), loss.shown_dot(file));
-    Ok(())
 }
 
 /// Adds from which start rule a text is derived, where the file has several.
@@ -135,35 +123,19 @@ pub(crate) fn add_two_trees(words: &mut Words, file: &FileGrammar, ambiguity: &A
     }
 }
 
-/// Adds the words of a list of symbols with a dot behind it, and then a token.
-pub(crate) fn add_list(
-    words: &mut Words,
-    file: &FileGrammar,
-    list: &[PartSymbol],
-    token: usize,
-) -> Result<(), AllocError> {
-    let mut names = names_of(words.allocator(), file, list)?;
-    let dot = names.len();
+/// Adds the words of the end of a list of symbols with a dot behind it, and then a token.
+pub(crate) fn add_list(words: &mut Words, file: &FileGrammar, list: &[PartSymbol], token: usize) {
+    let first = list.len().saturating_sub(SIDE);
+    if first > 0 {
+        words.add("...");
+    }
+    for symbol in list.iter().skip(first) {
+        words.add(symbol_name(file, *symbol));
+    }
+    words.add(".");
     if token > 0 {
-        names.push(token_name(file, token))?;
+        words.add(token_name(file, token));
     }
-    add_with_dot(words, names.as_slice(), dot);
-    Ok(())
-}
-
-/// Adds the words of a tree in brackets, as `E(E(E '+' E) . '+' E)`, with a dot before that leaf, and the mark where nodes are left
-/// out.
-pub(crate) fn add_tree_words(
-    words: &mut Words,
-    file: &FileGrammar,
-    shown: &ShownTree,
-    mark: &str,
-    dot: usize,
-) -> Result<(), AllocError> {
-    for word in &tree_words(words.allocator(), file, shown, mark, dot)? {
-        words.add(word.as_str());
-    }
-    Ok(())
 }
 
 /// What stands before what a candidate comes to.

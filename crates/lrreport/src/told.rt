@@ -1,18 +1,18 @@
-//! What is told of a file, whatever its graph and its table are stored in.
+//! What is told of a file.
 
 ghost use Rattle.std.specs.Prelude.{◌≡◌, IfOk};
 ghost use Rattle.std.specs.BTreeSet.{contains};
 ghost use Rattle.std.specs.Ordering.{nat_cmp};
 ghost use Rattle.lritems.specs.ItemsOf.{set_of};
-ghost use Rattle.lrreport.specs.Conflicts.{is_token, items_before, symbol_behind};
+ghost use Rattle.lrreport.specs.Conflicts.{is_token, items_before, number_of, symbol_behind};
 
 use crate::options::Options;
-use lrdiagnostics::{Layout, Source, Teller};
+use lrdiagnostics::{Layout, Mark, Source, Teller};
 use lrevidence::{Evidence, Exactness, body_of, name_of_rule, token_name};
 use lrfindings::{Entry, UselessPrecedences, precedence_token};
 use lrgrammar::grammar::{PartProd, PartSymbol, Precedence};
-use lrgrammar::idx::IndexStorage;
 use lrtable::itemset::Itemset;
+use lrwriter::Text;
 use lryacc::{FileGrammar, Parser, Span};
 use std::alloc::{AllocError, Global};
 use std::collections::BTreeSet;
@@ -79,33 +79,26 @@ impl<'a> Told<'a> {
         precedence_token(self.production(production)?)
     }
 
-    /// The symbol behind the dot of an item, if there is one.
-    fn symbol_behind(&self, production: usize, dot: usize) -> Option<PartSymbol>
-        ensures { result ≡ symbol_behind self.now.file.now (production, dot) }
-    {
-        body_of(self.file, production).get(dot).copied()
-    }
-
-    /// Whether that is one of the tokens.
+    /// Whether the symbol behind the dot of an item is one of the tokens.
     fn is_before(&self, production: usize, dot: usize, tokens: &BTreeSet<usize>) -> bool
         ensures { result ≡ is_token (contains nat_cmp tokens.now)
             (symbol_behind self.now.file.now (production, dot)) }
     {
-        match self.symbol_behind(production, dot) {
-            Some(PartSymbol::Token(token)) => tokens.contains(&token),
+        match body_of(self.file, production).get(dot) {
+            Some(PartSymbol::Token(token)) => tokens.contains(token),
             _ => false,
         }
     }
 
     /// The items of a closed state, as production and dot, behind whose dot one of the tokens stands.
-    pub(crate) fn items_before<T: IndexStorage>(
+    pub(crate) fn items_before(
         &self,
         alloc: Global,
-        closed: &Itemset<T>,
+        closed: &Itemset<u32>,
         tokens: &BTreeSet<usize>,
     ) -> Result<Vec<(usize, usize)>, AllocError>
         ensures { IfOk result (λ items. items.items ≡ items_before self.now.file.now
-            (contains nat_cmp tokens.now) (set_of T.number closed.now)) }
+            (contains nat_cmp tokens.now) (set_of number_of closed.now)) }
     {
         let mut items = Vec::new(alloc);
         for key in closed.items.keys() {
@@ -130,6 +123,13 @@ impl<'a> Told<'a> {
         Teller {
             source: self.source,
             has_colours: self.options.lines.has_colours,
+        }
+    }
+
+    /// Adds the lines of the file at marks, with what is said of each.
+    pub(crate) fn add_placed(&self, text: &mut Text, marks: &[Mark]) {
+        if self.teller().add_placed(text, marks).is_err() {
+            text.give_up();
         }
     }
 

@@ -73,15 +73,15 @@ pub(crate) fn add_tree(
     file: &FileGrammar,
     alternatives: &[usize],
     tree: &Tree,
-) -> Result<(), AllocError> {
-    let visits = tree.visits(json.allocator())?;
+) {
+    let Ok(visits) = tree.visits(json.allocator()) else {
+        return json.give_up();
+    };
     let (start, depth) = last_tree(visits.as_slice());
     if visits.is_empty() || depth > DEEPEST {
-        json.null();
-        return Ok(());
+        return json.null();
     }
     for visit in visits.iter().skip(start) {
         add_visit(json, file, alternatives, tree, *visit);
     }
-    Ok(())
 }

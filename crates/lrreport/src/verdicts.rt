@@ -12,7 +12,7 @@ ghost use Rattle.lrshown.specs.Ambiguities.{has_own_sentence};
 ghost use Rattle.lrshown.specs.Losses.{rejects};
 ghost use Rattle.lrshown.specs.DecidedEntries.{is_decided};
 ghost use Rattle.lrshown.specs.Exactness.{Exact, ButAtErrors, IsExact, RejectsAtErrorsAlone, IsToldExact};
-ghost use Rattle.lrshown.specs.VerdictWords.{unambiguous_words, ambiguous_words, plain_words, sentences_words, rejecting_words, ambiguous_verdict, none_known_words, unknown_words, unknown_verdict, verdict_on, known_verdict, decided_or_unknown, yet_unambiguous_words, resolved_words, exact_words, decided_words, verdict_words};
+ghost use Rattle.lrshown.specs.VerdictWords.{unambiguous_words, ambiguous_words, plain_words, sentences_words, rejecting_words, ambiguous_verdict, unknown_words, verdict_on, known_verdict, decided_or_unknown, yet_unambiguous_words, resolved_words, exact_words, decided_words, verdict_words};
 
 use crate::conflicts::Checked;
 use crate::told::Told;
@@ -60,23 +60,16 @@ fn decided_entries(evidence: &[Evidence]) -> usize
     count
 }
 
-/// Adds that no sentence with two trees is known for all those conflicts.
-fn push_none_known(line: &mut Text, all: usize)
-    ensures { Adds line.old line.new (none_known_words all) }
-{
-    if all == 1 {
-        line.add(", not known to be ambiguous");
-    } else {
-        line.add(", none known to be ambiguous");
-    }
-}
-
-/// Adds the same, and how many of the conflicts are decided, if some are.
+/// Adds that no sentence with two trees is known for all those conflicts, and how many of these are decided, if some are.
 fn push_unknown(line: &mut Text, decided: usize, all: usize)
     ensures { Adds line.old line.new (unknown_words decided all) }
 {
     if decided == 0 {
-        push_none_known(line, all);
+        if all == 1 {
+            line.add(", not known to be ambiguous");
+        } else {
+            line.add(", none known to be ambiguous");
+        }
     } else if decided != all {
         write!(
             line,
@@ -234,22 +227,8 @@ impl Checked<'_> {
         }
     }
 
-    /// Adds a verdict, and that no sentence with two trees is known, or that none has two.
-    fn push_unknown_verdict(&self, line: &mut Text, verdict: Verdict)
-        requires entries { All (IsToldDecided self.now.found.now.grm self.now.found.now.graph)
-            self.now.told.evidence.now }
-        requires unambiguous { verdict ≡ Unambiguous → IsUnambiguous self.now.found.now.grm }
-        requires yet_unambiguous { IsTrue self.now.told.is_unambiguous
-            → IsUnambiguous self.now.found.now.grm }
-        ensures { Adds line.old line.new (unknown_verdict verdict self.now.told.is_unambiguous
-            (count_by is_decided self.now.told.evidence.now)
-            (length self.now.told.evidence.now)) }
-    {
-        self.push_plain_verdict(line, verdict);
-        self.push_decided_or_unknown(line);
-    }
-
-    /// Adds the verdict, and for how many of the conflicts a sentence with two trees is known.
+    /// Adds the verdict, and for how many of the conflicts a sentence with two trees is known; else that none is known, or that none
+    /// has two.
     fn push_verdict_on(&self, line: &mut Text, verdict: Verdict)
         requires proved { All (IsProved self.now.found.now.grm) self.now.told.evidence.now }
         requires entries { All (IsToldDecided self.now.found.now.grm self.now.found.now.graph)
@@ -262,7 +241,10 @@ impl Checked<'_> {
     {
         match self.any_sentence(self.told.evidence) {
             Some(text) => self.push_ambiguous_verdict(line, verdict, text),
-            None => self.push_unknown_verdict(line, verdict),
+            None => {
+                self.push_plain_verdict(line, verdict);
+                self.push_decided_or_unknown(line);
+            }
         }
     }
 

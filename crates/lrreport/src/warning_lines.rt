@@ -12,14 +12,6 @@ const NAMED: usize = 4;
 /// How many bytes the text of a place has at the most that is named.
 const LONGEST: usize = 30;
 
-/// Whether a text begins as a name does, or a quoted one.
-fn begins_as_name(text: &str) -> bool {
-    match text.chars().next() {
-        Some(first) => first.is_alphabetic() || matches!(first, '_' | '\'' | '"'),
-        None => false,
-    }
-}
-
 /// Whether a name is one of the parts of words between such marks.
 fn is_between(words: &str, mark: char, name: &str) -> bool {
     for part in words.split(mark) {
@@ -30,26 +22,17 @@ fn is_between(words: &str, mark: char, name: &str) -> bool {
     false
 }
 
-/// Whether the words of a warning have a name already.
-fn have_name(words: &str, name: &str) -> bool {
-    is_between(words, '`', name) || is_between(words, ' ', name)
-}
-
-/// Adds names behind a bracket.
-fn add_names(text: &mut Text, names: &[&str]) {
-    for (number, name) in names.iter().enumerate() {
-        text.add(if number == 0 { " (" } else { ", " });
-        add_shown(text, name);
-    }
-}
-
 impl Told<'_> {
-    /// The text of a place, if it is short, stands in one line, and begins with a name.
+    /// The text of a place, if it is short, stands in one line, and begins with a name, or a quoted one.
     fn text_at(&self, place: Span) -> Option<&str> {
         let bytes = self.source.part(place.start, place.end);
-        match str::from_utf8(bytes) {
-            Ok(text) if bytes.len() <= LONGEST && !text.contains('\n') && begins_as_name(text) =>
-                Some(text),
+        let text = match str::from_utf8(bytes) {
+            Ok(text) if bytes.len() <= LONGEST && !text.contains('\n') => text,
+            _ => return None,
+        };
+        match text.chars().next() {
+            Some('_' | '\'' | '"') => Some(text),
+            Some(first) if first.is_alphabetic() => Some(text),
             _ => None,
         }
     }
@@ -57,13 +40,17 @@ impl Told<'_> {
     /// The texts of the first places of a warning; None where its words have one of them, or where one has no text or that of another
     /// one.
     fn names_at(&self, alloc: Global, message: &Message) -> Result<Option<Vec<&str>>, AllocError> {
+        let words = message.words.as_str();
         let mut names: Vec<&str> = Vec::new(alloc);
         for place in message.places.iter().take(NAMED) {
-            match self.text_at(*place) {
-                Some(text) if !have_name(message.words.as_str(), text) && !names.contains(&text) =>
-                    names.push(text)?,
-                _ => return Ok(None),
+            let Some(text) = self.text_at(*place) else {
+                return Ok(None);
+            };
+            let is_said = is_between(words, '`', text) || is_between(words, ' ', text);
+            if is_said || names.contains(&text) {
+                return Ok(None);
             }
+            names.push(text)?;
         }
         Ok(Some(names))
     }
@@ -80,44 +67,43 @@ impl Told<'_> {
     }
 
     /// Adds the names of the first places of a warning, or their lines, unless its words tell it, and how many there are besides.
-    fn add_named(&self, text: &mut Text, message: &Message) -> Result<(), AllocError> {
-        match self.names_at(text.allocator(), message)? {
-            Some(names) => add_names(text, names.as_slice()),
-            None if message.places.len() > 1 => self.add_line_numbers(text, message),
-            None => return Ok(()),
+    fn add_named(&self, text: &mut Text, message: &Message) {
+        match self.names_at(text.allocator(), message) {
+            Ok(Some(names)) => {
+                for (number, name) in names.iter().enumerate() {
+                    text.add(if number == 0 { " (" } else { ", " });
+                    add_shown(text, name);
+                }
+            }
+            Ok(None) if message.places.len() > 1 => self.add_line_numbers(text, message),
+            Ok(None) => return,
+            Err(_) => return text.give_up(),
         }
         let more = message.places.len().saturating_sub(NAMED);
         if more > 0 {
             write!(text, " and {more} more, which --all shows");
         }
         text.add_char(')');
-        Ok(())
     }
 
     /// Adds a warning as a line.
-    fn push_warning_line(&self, text: &mut Text, message: &Message) -> Result<(), AllocError> {
+    fn push_warning_line(&self, text: &mut Text, message: &Message) {
         let Some(first) = message.places.first() else {
-            return Ok(());
+            return;
         };
         let at = self.source.position(first.start);
         let (name, words) = (self.source.name, message.words.as_str());
         write!(text, "{name}:{}:{}: ", at.line, at.column);
         Style::Yellow.add(text, "warning", self.options.lines.has_colours);
         write!(text, ": {words}");
-        self.add_named(text, message)?;
+        self.add_named(text, message);
         text.add_char('\n');
-        Ok(())
     }
 
     /// Adds the first warnings, so many at the most, in a line each, and how many there are besides.
-    pub(crate) fn push_warning_lines(
-        &self,
-        text: &mut Text,
-        messages: &[Message],
-        most: usize,
-    ) -> Result<(), AllocError> {
+    pub(crate) fn push_warning_lines(&self, text: &mut Text, messages: &[Message], most: usize) {
         for message in messages.iter().take(most) {
-            self.push_warning_line(text, message)?;
+            self.push_warning_line(text, message);
         }
         let (name, more) = (self.source.name, messages.len().saturating_sub(most));
         if more == 1 {
@@ -128,6 +114,5 @@ impl Told<'_> {
                 "{name}: and {more} more warnings, which --all shows\n"
             );
         }
-        Ok(())
     }
 }

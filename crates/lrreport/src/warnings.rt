@@ -41,32 +41,35 @@ impl<'a> Told<'a> {
     }
 
     /// Adds a message for each precedence line with tokens that resolve nothing.
-    pub(crate) fn add_useless_lines(&self, messages: &mut Vec<Message>) -> Result<(), AllocError> {
+    fn add_useless_lines(&self, messages: &mut Vec<Message>) -> Result<(), AllocError> {
         let alloc = *messages.allocator();
-        for line in self
-            .useless_levels()
-            .chunk_by(|one, other| self.level(*one) == self.level(*other))
-        {
-            messages.push(Message {
-                words: String::from_str(alloc, "useless precedence: it resolves nothing")?,
-                places: self.level_places(alloc, line)?,
-            })?;
+        let mut before = None;
+        for token in self.useless_levels() {
+            let level = self.level(*token);
+            if before != Some(level) {
+                before = Some(level);
+                messages.push(Message {
+                    words: String::from_str(alloc, "useless precedence: it resolves nothing")?,
+                    places: Vec::new(alloc),
+                })?;
+            }
+            if let Some(place) = self.file.level_place(*token) {
+                if let Some(message) = messages.last_mut() {
+                    message.places.push(place)?;
+                }
+            }
         }
         Ok(())
     }
 
-    /// Where tokens stand in their precedence lines.
-    fn level_places(&self, alloc: Global, tokens: &[usize]) -> Result<Vec<Span>, AllocError> {
-        let mut places = Vec::new(alloc);
-        for token in tokens {
-            places.extend(self.file.level_place(*token))?;
-        }
-        Ok(places)
-    }
-
-    /// Where the `%prec` stand that resolve nothing, and of which no fault is told.
-    fn prec_places(&self, alloc: Global, faults: &[Fault]) -> Result<Vec<Span>, AllocError> {
-        let mut places = Vec::new(alloc);
+    /// Adds messages of the precedences that resolve nothing: one for each line, and one of the `%prec` of which no fault is told.
+    pub(crate) fn add_useless(
+        &self,
+        messages: &mut Vec<Message>,
+        faults: &[Fault],
+    ) -> Result<(), AllocError> {
+        self.add_useless_lines(messages)?;
+        let mut places = Vec::new(*messages.allocator());
         for production in self.useless_productions() {
             let Some(named) = self.file.named_precedence(*production) else {
                 continue;
@@ -79,16 +82,6 @@ impl<'a> Told<'a> {
                 places.push(place)?;
             }
         }
-        Ok(places)
-    }
-
-    /// Adds a message of the `%prec` that resolve nothing.
-    pub(crate) fn add_useless_productions(
-        &self,
-        messages: &mut Vec<Message>,
-        faults: &[Fault],
-    ) -> Result<(), AllocError> {
-        let places = self.prec_places(*messages.allocator(), faults)?;
         add_message(
             messages,
             places,
@@ -102,7 +95,9 @@ impl<'a> Told<'a> {
         let mut places = Vec::new(alloc);
         for token in &self.useless.tokens {
             if self.file.is_in_useless(*token) == is_in_useless {
-                places.extend(self.file.declared_place(*token))?;
+                if let Some(place) = self.file.declared_place(*token) {
+                    places.push(place)?;
+                }
             }
         }
         Ok(places)
@@ -133,34 +128,33 @@ impl<'a> Told<'a> {
     ) -> Result<Vec<Message>, AllocError> {
         let mut messages = messages_of(alloc, self.source, faults)?;
         self.add_unused(&mut messages)?;
-        self.add_useless_lines(&mut messages)?;
-        self.add_useless_productions(&mut messages, faults)?;
+        self.add_useless(&mut messages, faults)?;
         messages.sort_by_key(place_of)?;
         Ok(messages)
     }
 
     /// Adds what the file is warned of: the first warnings, so many at the most, and how many there are besides.
-    pub(crate) fn push_warnings(
-        &self,
-        text: &mut Text,
-        faults: &[Fault],
-        most: usize,
-    ) -> Result<(), AllocError> {
-        let messages = self.warnings(text.allocator(), faults)?;
-        if self.options.detail.all {
-            let teller = self.teller();
-            teller.add_messages(text, messages.as_slice(), Weight::Warning, most)?;
-        } else {
-            self.push_warning_lines(text, messages.as_slice(), most)?;
+    pub(crate) fn push_warnings(&self, text: &mut Text, faults: &[Fault], most: usize) {
+        let Ok(messages) = self.warnings(text.allocator(), faults) else {
+            return text.give_up();
+        };
+        let messages = messages.as_slice();
+        if !self.options.detail.all {
+            self.push_warning_lines(text, messages, most);
+        } else if self
+            .teller()
+            .add_messages(text, messages, Weight::Warning, most)
+            .is_err()
+        {
+            text.give_up();
         }
         if !messages.is_empty() {
             text.add_char('\n');
         }
-        Ok(())
     }
 
     /// Adds a precedence that resolves nothing: what it is one of, its token, and its place.
-    fn add_useless(&self, json: &mut JsonText, kind: &str, token: usize, place: Span) {
+    fn add_useless_one(&self, json: &mut JsonText, kind: &str, token: usize, place: Span) {
         json.begin_object();
         json.string_at("kind", kind);
         json.string_at("token", self.token_name(token));
@@ -173,12 +167,12 @@ impl<'a> Told<'a> {
         json.begin_array();
         for token in self.useless_levels() {
             if let Some(place) = self.file.level_place(*token) {
-                self.add_useless(json, "level", *token, place);
+                self.add_useless_one(json, "level", *token, place);
             }
         }
         for production in self.useless_productions() {
             if let Some(named) = self.file.named_precedence(*production) {
-                self.add_useless(json, "prec", named.token, named.place);
+                self.add_useless_one(json, "prec", named.token, named.place);
             }
         }
         json.end_array();

@@ -2,7 +2,7 @@
 
 use lrdiagnostics::{Layout, width_of};
 use lrwriter::Text;
-use std::alloc::{AllocError, Global};
+use std::alloc::Global;
 use std::fmt::Display;
 
 /// Words in the making, which are laid out into lines. They keep their fault until then.
@@ -49,16 +49,19 @@ impl Words {
         width_of(self.list.as_slice())
     }
 
-    /// Adds a word.
-    fn push(&mut self, word: &str) -> Result<(), AllocError> {
-        let word = String::from_str(self.allocator(), word)?;
-        self.list.push(word)?;
-        Ok(())
-    }
-
     /// Adds a word, in which blanks may be.
     pub(crate) fn add(&mut self, word: &str) {
-        self.is_whole = self.is_whole && self.push(word).is_ok();
+        if self.is_whole {
+            self.is_whole = match String::from_str(self.allocator(), word) {
+                Ok(word) => self.list.push(word).is_ok(),
+                Err(_) => false,
+            };
+        }
+    }
+
+    /// Takes in that memory was refused for something that belongs to them.
+    pub(crate) fn give_up(&mut self) {
+        self.is_whole = false;
     }
 
     /// Adds words that are parted by blanks.

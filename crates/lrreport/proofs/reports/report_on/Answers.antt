@@ -1,7 +1,11 @@
-use Rattle.std.proofs.Common.{◌≡◌, rules, Option, None, Some, Result, Ok, Err, IfOk, sym, subst}
+use Rattle.std.proofs.Common.{◌≡◌, ◌<◌, ℕ, List, true, length, rules, arith, string_bytes, Option, None, Some, Result, Ok, Err, IfOk, sym, subst}
 use Rattle.std.specs.Prelude.{IfNone, IfSome}
+use Rattle.lryacc.specs.declared.faults.Fault.{Fault}
+use Rattle.lrreport.specs.declared.options.Options.{Options}
 use Rattle.lrreport.specs.declared.reports.Conclusion.{Conclusion}
 use Rattle.lrreport.specs.declared.reports.Report.{Report}
+use Rattle.lrreport.specs.ToldFaults as told
+use Rattle.lrreport.specs.ToldFaults.{is_lines, TellsFaults, TellsRefusal, TellsWhy}
 use Rattle.lrreport.proofs.reports.report_on.Goals as goal
 
 pub returns-in-Ok-clause-proved : goal.returns-in-Ok-clause-proved
@@ -30,6 +34,9 @@ returns-in-Ok-clause-status c = rw c.report.ensures.concluded c.report.ensures.s
 pub returns-in-Ok-clause-unread : goal.returns-in-Ok-clause-unread
 returns-in-Ok-clause-unread c = λ other. rw c.report.ensures.concluded tt
 
+pub returns-in-Ok-clause-why : goal.returns-in-Ok-clause-why
+returns-in-Ok-clause-why c = λ other lines. rw c.report.ensures.concluded tt
+
 -- where nothing is concluded, all is so that is asked of a conclusion
 of_none : {E : Type 0} (P : Report → Conclusion → Type 0) (r : Result Report E) → IfOk r (λ x. x.conclusion ≡ None) → IfOk r (λ x. IfSome x.conclusion (P x))
 of_none P (Ok x) none = subst (λ o. IfSome o (P x)) (sym none) tt
@@ -49,6 +56,22 @@ of_others : {E P : Type 0} (Q : Report → Type 0) (r : Result Report E) → ¬ 
 of_others Q (Ok x) not_so = λ p. absurd (not_so p)
 of_others Q (Err e) not_so = tt
 
+-- lines that tell faults tell why
+by_faults :
+    {E : Type 0} (P : Type 0) (options : Options) (name bytes : List ℕ) (faults : List Fault) (r : Result Report E) → 0 < length faults
+    → (is_lines options.output ≡ true → IfOk r (λ x. TellsFaults options name bytes faults (string_bytes x.text)))
+    → IfOk r (λ x. P → is_lines options.output ≡ true → IfNone x.conclusion (TellsWhy options name bytes (string_bytes x.text)))
+by_faults P options name bytes faults (Ok x) some tells = λ other lines. if_none x.conclusion _ (told.TellsWhy.faults faults some (tells lines))
+by_faults P options name bytes faults (Err e) some tells = tt
+
+-- and so does one that tells what stands against the grammar
+by_refusal :
+    {E : Type 0} (P : Type 0) (options : Options) (name bytes : List ℕ) (r : Result Report E)
+    → (is_lines options.output ≡ true → IfOk r (λ x. TellsRefusal name (string_bytes x.text)))
+    → IfOk r (λ x. P → is_lines options.output ≡ true → IfNone x.conclusion (TellsWhy options name bytes (string_bytes x.text)))
+by_refusal P options name bytes (Ok x) tells = λ other lines. if_none x.conclusion _ (told.TellsWhy.refusal (tells lines))
+by_refusal P options name bytes (Err e) tells = tt
+
 pub returns-in-Faults : goal.returns-in-Faults
 returns-in-Faults c =
     let none = c.report_on_faults.ensures.conclusion in
@@ -58,6 +81,10 @@ returns-in-Faults c =
       status = of_none _ c.report_on_faults.result none;
       told = of_none _ c.report_on_faults.result none;
       unread = of_unread _ _ c.report_on_faults.result c.report_on_faults.ensures.status;
+      why =
+          by_faults _ _ _ _ c.in-Faults.faults.items c.report_on_faults.result
+          (omega (arith, rw c.in-Faults.is at c.in_ok-file.ensures.faults, c.in-Faults.faults.ok.0))
+          (rw (c.in_ok-source.ensures.name, c.in_ok-source.ensures.bytes, c.as_slice.ensures.value) at c.report_on_faults.ensures.told);
     }
 
 pub returns-then-eq : goal.returns-then-eq
@@ -69,6 +96,7 @@ returns-then-eq c =
       status = of_none _ c.report_of_grammar.result none;
       told = of_none _ c.report_of_grammar.result none;
       unread = of_others _ c.report_of_grammar.result (λ other. other (search rules));
+      why = of_others _ c.report_of_grammar.result (λ other. other (search rules));
     }
 
 pub returns : goal.returns
@@ -80,4 +108,5 @@ returns c =
       status = of_none _ c.report_on_refusal.result none;
       told = of_none _ c.report_on_refusal.result none;
       unread = of_unread _ _ c.report_on_refusal.result c.report_on_refusal.ensures.status;
+      why = by_refusal _ _ _ _ c.report_on_refusal.result (rw c.in_ok-source.ensures.name at c.report_on_refusal.ensures.told);
     }

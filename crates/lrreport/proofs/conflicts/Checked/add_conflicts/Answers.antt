@@ -10,12 +10,12 @@ add_conflict-requires c =
     record {
       kept = c.requires.kept;
       proved = in_group (IsProved checked.found.now.grm) (λ group. group.now) c.deref-meeting-items.result.now checked.told.evidence.now
-          (rw c.deref-meeting-items.ensures.value c.in_ok-alike.ensures) c.requires.proved
+          (rw c.deref-meeting-items.ensures.value c.in-Ok.ensures) c.requires.proved
           c.loop-meeting.meeting-index c.meeting-item.result c.loop-meeting-test.true c.meeting-item.is;
       lost = in_group (IsLostAtEntry checked.found.now.grm checked.found.now.table) (λ group. group.now) c.deref-meeting-items.result.now
-          checked.told.evidence.now (rw c.deref-meeting-items.ensures.value c.in_ok-alike.ensures) c.requires.lost
+          checked.told.evidence.now (rw c.deref-meeting-items.ensures.value c.in-Ok.ensures) c.requires.lost
           c.loop-meeting.meeting-index c.meeting-item.result c.loop-meeting-test.true c.meeting-item.is;
       entries = in_group (IsToldDecided checked.found.now.grm checked.found.now.graph) (λ group. group.now) c.deref-meeting-items.result.now
-          checked.told.evidence.now (rw c.deref-meeting-items.ensures.value c.in_ok-alike.ensures) c.requires.entries
+          checked.told.evidence.now (rw c.deref-meeting-items.ensures.value c.in-Ok.ensures) c.requires.entries
           c.loop-meeting.meeting-index c.meeting-item.result c.loop-meeting-test.true c.meeting-item.is;
     }

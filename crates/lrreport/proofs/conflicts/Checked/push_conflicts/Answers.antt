@@ -7,7 +7,7 @@ use Rattle.lrreport.proofs.conflicts.Checked.push_conflicts.Goals as goal
 pub push_causes-requires : goal.push_causes-requires
 push_causes-requires c =
     let checked = c.args.self.now in
-    let order = c.in_ok-causes.ensures.each in
+    let order = c.in-Ok.ensures.each in
     record {
       kept = c.requires.kept;
       proved = rw c.as_slice-causes.ensures.value (All-permutation (IsProved checked.found.now.grm) _ _ order c.requires.proved);

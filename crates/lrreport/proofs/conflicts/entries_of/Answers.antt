@@ -1,9 +1,0 @@
-use Rattle.std.proofs.Common.{rules}
-use Rattle.std.proofs.lemmas.Iterator.{items_from_collect, YieldsList-from_map, YieldsList-from_slice}
-use Rattle.lrshown.specs.declared.evidence.Evidence.{Evidence}
-use Rattle.lrreport.proofs.conflicts.entries_of.Goals as goal
-
-pub returns : goal.returns
-returns c =
-    items_from_collect _ c.collect.ensures.ran
-    (YieldsList-from_map _ (λ (e : Evidence). e.entry) (YieldsList-from_slice c.args.evidence.now cc) c.map.ensures.closure (λ x r q k. search rules))
