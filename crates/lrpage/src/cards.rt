@@ -303,7 +303,13 @@ impl<T: IndexStorage> Page<'_, T> {
         let entry = &evidence.entry;
         page.add("<p>");
         self.add_effort(page, evidence);
-        page.add("Both are possible");
+        if example.token == entry.token {
+            page.add("Both are possible");
+        } else {
+            page.add(
+                "Only merged states have this conflict, a canonical LR(1) table has none. Both are possible at another token",
+            );
+        }
         self.add_start(page, start_of(self.file, example.list.first().copied()));
         page.add(" after</p>\n<p class=\"text\">");
         for symbol in list_of(self.file, example.list.as_slice()) {

@@ -89,8 +89,8 @@ impl Hindrance {
 /// Adds where a new line keeps the shift, and that it reduces in the other place, where it may.
 fn add_places(words: &mut Words, place: Place, can_reduce: bool) {
     words.add_all(match place {
-        Place::Above => "above all others",
-        Place::Below => "below all others",
+        Place::Above => "in a line above all others",
+        Place::Below => "in a line below all others",
     });
     words.add_all("to keep the shift");
     if can_reduce {
@@ -135,7 +135,7 @@ impl Told<'_> {
         });
         add_tokens(words, self.file, tokens);
         words.add_all(if is_right {
-            "one level by %right, below all others"
+            "one level by %right, in a line below all others"
         } else {
             "one level by %left or %right to resolve it"
         });
@@ -167,12 +167,12 @@ impl Told<'_> {
     fn add_prec_and_line(&self, words: &mut Words, tokens: &[usize], place: Place) {
         words.add_all("to keep the shift, give this production a level by %prec");
         words.add_all(match place {
-            Place::Above => "above all others, and",
+            Place::Above => "in a line above all others, and",
             Place::Below => "and",
         });
         add_tokens(words, self.file, tokens);
         words.add_all(match place {
-            Place::Above => "one below them",
+            Place::Above => "one in a line below them",
             Place::Below => "one in a line below it",
         });
     }

@@ -160,6 +160,16 @@ impl Checked<'_> {
         }
     }
 
+    /// Whether that cell is an error.
+    pub(crate) fn is_error(&self, entry: &Entry) -> bool {
+        match (u32::from_usize(entry.state), u32::from_usize(entry.token)) {
+            (Some(state), Some(token)) => {
+                self.found.table.action(StIdx(state), TIdx(token)) == Action::Error
+            }
+            _ => false,
+        }
+    }
+
     /// Whether that is what it does in the cells of all the entries.
     fn is_common(&self, choice: Choice, entries: &[Entry]) -> bool
         ensures { result ≡ list_all (λ e.

@@ -64,9 +64,10 @@ pub(crate) fn cut_off(evidence: &[Evidence]) -> usize {
 }
 
 impl Told<'_> {
-    /// Whether a token is one to which an author would give a level.
+    /// Whether an author can give a token a level.
     fn can_have_level(&self, token: usize) -> bool {
-        token >= FIRST_TOKENS && self.token_name(token) != "%no-default-prec"
+        let name = self.token_name(token);
+        name == "error" || token >= FIRST_TOKENS && name != "%no-default-prec"
     }
 
     /// Whether one of the entries is ambiguous at which the parser rejects a sentence, and levels could reduce there, so that it may

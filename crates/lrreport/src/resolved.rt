@@ -9,7 +9,7 @@ ghost use Rattle.lrshown.specs.Ambiguities.{IsShown};
 ghost use Rattle.lrshown.specs.Losses.{IsShownLoss};
 ghost use Rattle.lrreport.specs.Sentences.{IsLostAtOne, IsOfOne};
 
-use crate::conflicts::{Checked, DONE};
+use crate::conflicts::{Checked, Choice, DONE};
 use crate::notes::KnownResolved;
 use crate::told::Told;
 use lrdiagnostics::{Mark, add_shown};
@@ -32,6 +32,8 @@ enum Reason {
     Left,
     /// They have one level, of a `%nonassoc` line.
     Nonassoc,
+    /// Whatever wins, the table goes by another production: of several that meet a shift it takes the first.
+    Elsewhere,
 }
 
 impl Reason {
@@ -73,6 +75,7 @@ impl Resolution {
             Reason::Token | Reason::Right => "that of the shift is kept",
             Reason::Production | Reason::Left => "that of the reduction is kept",
             Reason::Nonassoc => "none is kept",
+            Reason::Elsewhere => "the table goes by another production",
         }
     }
 }
@@ -105,42 +108,6 @@ impl Told<'_> {
         }
     }
 
-    /// What is resolved, in the order of the file, and of one production by the reasons.
-    fn reasoned(
-        &self,
-        alloc: Global,
-        resolved: &[Resolved],
-    ) -> Result<Vec<(Place, Reason, Entry)>, AllocError> {
-        let mut list = Vec::new(alloc);
-        for resolved in resolved {
-            let entry = resolved.entry;
-            let place = (entry.place, entry.state, entry.production);
-            let reason = Reason::of(resolved.winner, self.is_level(entry));
-            list.push((place, reason, entry))?;
-        }
-        list.sort_unstable();
-        Ok(list)
-    }
-
-    /// What is resolved, put together where the same meets in the same state, and wins for the same reason.
-    fn resolutions(
-        &self,
-        alloc: Global,
-        resolved: &[Resolved],
-    ) -> Result<Vec<Resolution>, AllocError> {
-        let mut list: Vec<Resolution> = Vec::new(alloc);
-        for (_, reason, entry) in &self.reasoned(alloc, resolved)? {
-            match list.last_mut() {
-                Some(last) if last.is_like(entry, *reason) => last.entries.push(*entry)?,
-                _ => list.push(Resolution {
-                    reason: *reason,
-                    entries: vec![in alloc; *entry]?,
-                })?,
-            }
-        }
-        Ok(list)
-    }
-
     /// Why the same wins at all the entries.
     fn reason(&self, alloc: Global, resolution: &Resolution) -> Result<String, AllocError> {
         let mut text = Text::new(alloc);
@@ -152,6 +119,8 @@ impl Told<'_> {
             Reason::Left => "both have one level, and it is %left",
             Reason::Nonassoc =>
                 "both have one level, and it is %nonassoc: the token is an error here",
+            Reason::Elsewhere =>
+                "of several productions the table compares the first with the shift, and Bison each one",
         });
         if let (Reason::Production, Some(entry)) = (resolution.reason, resolution.entries.first()) {
             if let Some(token) = source_of(self.file, entry.production) {
@@ -160,6 +129,65 @@ impl Told<'_> {
             }
         }
         text.finish()
+    }
+}
+
+impl Checked<'_> {
+    /// Whether the table does what wins in an entry.
+    fn goes_by(&self, resolved: &Resolved) -> bool {
+        let entry = &resolved.entry;
+        match resolved.winner {
+            Winner::Shift => self.choice(entry) == Choice::Shift,
+            Winner::Reduce => self.choice(entry) == Choice::Reduce,
+            Winner::Neither => self.is_error(entry),
+        }
+    }
+
+    /// Why the table does what it does where precedences resolve something.
+    fn reason(&self, resolved: &Resolved) -> Reason {
+        if self.goes_by(resolved) {
+            Reason::of(resolved.winner, self.told.is_level(resolved.entry))
+        } else {
+            Reason::Elsewhere
+        }
+    }
+
+    /// What is resolved, in the order of the file, and of one production by the reasons.
+    fn reasoned(&self, alloc: Global) -> Result<Vec<(Place, Reason, Entry)>, AllocError> {
+        let mut list = Vec::new(alloc);
+        for resolved in &self.found.resolved {
+            let entry = resolved.entry;
+            let place = (entry.place, entry.state, entry.production);
+            list.push((place, self.reason(resolved), entry))?;
+        }
+        list.sort_unstable();
+        Ok(list)
+    }
+
+    /// What is resolved, put together where the same meets in the same state, and wins for the same reason.
+    fn resolutions(&self, alloc: Global) -> Result<Vec<Resolution>, AllocError> {
+        let mut list: Vec<Resolution> = Vec::new(alloc);
+        for (_, reason, entry) in &self.reasoned(alloc)? {
+            match list.last_mut() {
+                Some(last) if last.is_like(entry, *reason) => last.entries.push(*entry)?,
+                _ => list.push(Resolution {
+                    reason: *reason,
+                    entries: vec![in alloc; *entry]?,
+                })?,
+            }
+        }
+        Ok(list)
+    }
+
+    /// What `%nonassoc` makes errors in the table.
+    pub(crate) fn errors(&self, alloc: Global) -> Result<Vec<Entry>, AllocError> {
+        let mut errors = Vec::new(alloc);
+        for resolved in &self.found.resolved {
+            if resolved.winner == Winner::Neither && self.goes_by(resolved) {
+                errors.push(resolved.entry)?;
+            }
+        }
+        Ok(errors)
     }
 }
 
@@ -236,7 +264,7 @@ impl<'a> Checked<'a> {
             let (reduced, shifted) = match resolution.reason {
                 Reason::Token | Reason::Right => ("", DONE),
                 Reason::Production | Reason::Left => (DONE, ""),
-                Reason::Nonassoc => ("", ""),
+                Reason::Nonassoc | Reason::Elsewhere => ("", ""),
             };
             marks.push(self.told.reduction_mark(alloc, first.production, reduced)?)?;
             self.push_shifts(&mut marks, entries, shifted)?;
@@ -291,8 +319,7 @@ impl<'a> Checked<'a> {
         requires kept { AreToldKept self.now.found.now.grm self.now.found.now.graph
             self.now.found.now.table self.now.told.kept.now }
     {
-        let resolved = self.found.resolved.as_slice();
-        let Ok(resolutions) = self.told.resolutions(text.allocator(), resolved) else {
+        let Ok(resolutions) = self.resolutions(text.allocator()) else {
             return text.give_up();
         };
         for resolution in resolutions.iter().take(most) {
@@ -326,6 +353,7 @@ impl<'a> Checked<'a> {
                 Reason::Token | Reason::Right => "the shift wins",
                 Reason::Production | Reason::Left => "the reduction wins",
                 Reason::Nonassoc => "neither wins",
+                Reason::Elsewhere => "another production stands first",
             },
             kept: resolution.kept(),
             entries: resolution.entries,
@@ -350,10 +378,7 @@ impl<'a> Checked<'a> {
         if !self.told.options.detail.resolved {
             return Ok(cards);
         }
-        for resolution in self
-            .told
-            .resolutions(alloc, self.found.resolved.as_slice())?
-        {
+        for resolution in self.resolutions(alloc)? {
             cards.push(self.resolved_card(alloc, resolution)?)?;
         }
         Ok(cards)

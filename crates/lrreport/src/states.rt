@@ -5,11 +5,10 @@
 
 use crate::actions::push_targets;
 use crate::conflicts::{Checked, entries_of};
-use crate::resolved::won_by;
 use crate::told::Told;
 use crate::words::Words;
 use lrevidence::{body_of, symbol_name};
-use lrfindings::{Counts, Entry, Winner};
+use lrfindings::{Counts, Entry};
 use lrgrammar::idx::{IndexStorage, PIdx, RIdx, StIdx};
 use lrwriter::Text;
 use std::alloc::{AllocError, Global};
@@ -86,7 +85,7 @@ impl<'a> Listing<'a> {
     /// Shows the states of what was found.
     pub(crate) fn new(alloc: Global, checked: &'a Checked<'a>) -> Result<Listing<'a>, AllocError> {
         let conflicts = entries_of(alloc, checked.told.evidence)?;
-        let errors = won_by(alloc, checked.found.resolved.as_slice(), Winner::Neither)?;
+        let errors = checked.errors(alloc)?;
         Ok(Listing {
             checked,
             rules: checked.rules(alloc)?,
