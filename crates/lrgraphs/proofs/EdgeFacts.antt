@@ -117,14 +117,3 @@ by_kinds number cmp rr rt tr tt (code.Rule r) (code.Rule s) = rr r s
 by_kinds number cmp rr rt tr tt (code.Rule r) (code.Token t) = rt r t
 by_kinds number cmp rr rt tr tt (code.Token t) (code.Rule r) = tr t r
 by_kinds number cmp rr rt tr tt (code.Token t) (code.Token u) = tt t u
-
--- what an insertion of an edge comes to
-pub inserted_edge :
-    {T X : Type 0} (number : T → ℕ) (state : X → ℕ) (cmp : Symbol T → Symbol T → Ordering) (es fs : List (Symbol T × X)) (k : Symbol T) (w : X)
-    → ((q : Symbol T) → lookup (is_at (cmp q)) fs ≡ cond (is_at (cmp k) q) (Some w) (lookup (is_at (cmp q)) es))
-    → ((r s : RIdx T) → cmp (code.Rule r) (code.Rule s) ≡ nat_cmp (number r.0) (number s.0))
-    → ((r : RIdx T) (t : TIdx T) → cmp (code.Rule r) (code.Token t) ≡ Less) → ((t : TIdx T) (r : RIdx T) → cmp (code.Token t) (code.Rule r) ≡ Greater)
-    → ((t u : TIdx T) → cmp (code.Token t) (code.Token u) ≡ nat_cmp (number t.0) (number u.0))
-    → (y : math.Symbol)
-    → edge_at (edges_of number state fs) y ≡ if same_symbol y (symbol_of number k) then Some (state w) else edge_at (edges_of number state es) y
-inserted_edge number state cmp es fs k w u rr rt tr tt = edge_updated number state cmp (by_kinds number cmp rr rt tr tt) es fs k w u

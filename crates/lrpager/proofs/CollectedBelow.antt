@@ -163,19 +163,6 @@ pub record AreKeptSoFar (kept : Kept) (g : Grammar) (f : ℕ → ℕ) (ss : List
   pub collecting : AreCollecting g f ss marks k whole edges
   pub kept_is : states ≡ kept_states kept g whole
 
--- before the first state there are none
-pub kept_none :
-    (kept : Kept) (g : Grammar) (f : ℕ → ℕ) (ss : List Draft) (marks : List Bool) (states : Graph) → states ≡ [] → AreKeptSoFar kept g f ss marks 0 states 0
-kept_none kept g f ss marks states none = record {
-  whole = [];
-  collecting = record {
-    collected = record { length_is = refl; each = λ j l m. absurd (omega arith) };
-    counted = refl;
-    few = omega arith;
-  };
-  kept_is = none;
-}
-
 pub kept_not :
     (kept : Kept) (g : Grammar) (f : ℕ → ℕ) (ss : List Draft) (marks : List Bool) (k : ℕ) (states : Graph) (edges : ℕ) → k < length marks
     → get_or marks k false ≡ false → AreKeptSoFar kept g f ss marks k states edges → AreKeptSoFar kept g f ss marks (k + 1) states edges

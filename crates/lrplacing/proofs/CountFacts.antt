@@ -1,5 +1,5 @@
 -- how many states are to be closed and what they weigh: their bounds, and when no state is to be closed
-use Rattle.std.proofs.Common.{◌≡◌, ℕ, zero, suc, ◌+◌, ◌*◌, ◌<◌, ◌≤◌, Bool, true, false, cond, not, List, [], ◌∷◌, length, refl, ap, arith, ◌↔◌}
+use Rattle.std.proofs.Common.{◌≡◌, ℕ, zero, suc, ◌+◌, ◌*◌, ◌<◌, ◌≤◌, Bool, true, false, cond, not, List, [], ◌∷◌, length, refl, ap, arith}
 use Rattle.std.proofs.lemmas.List.Sums.{sum_by-cons}
 use Rattle.lrspec.specs.grammars.Grammar.{Grammar, token_count, item_count}
 use Rattle.lrplacing.specs.Construction.{Draft, closed_at}
@@ -77,10 +77,6 @@ pub none_unclosed_of_closed : (ss : List Draft) → AreClosed ss → unclosed ss
 none_unclosed_of_closed [] h = unclosed_empty
 none_unclosed_of_closed (s ∷ ss) h =
     omega (arith, unclosed_cons s ss, count_of_closed s.is_closed (h 0 (omega arith)), none_unclosed_of_closed ss (λ k b. h (suc k) (omega arith)))
-
--- both together
-pub unclosed_none_iff : (ss : List Draft) → (unclosed ss ≡ 0) ↔ AreClosed ss
-unclosed_none_iff ss = (closed_of_none_unclosed ss, none_unclosed_of_closed ss)
 
 -- a state that is to be closed is counted
 pub unclosed_at : (ss : List Draft) (k : ℕ) → k < length ss → closed_at ss k ≡ false → 0 < unclosed ss

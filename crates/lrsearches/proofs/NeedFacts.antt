@@ -5,7 +5,7 @@ use Rattle.lrspec.specs.grammars.Grammar.{Grammar}
 use Rattle.lrspec.specs.grammars.ItemSets.{Items, item_at, LooksIn}
 use Rattle.lrbits.specs.Bits.{bit}
 use Rattle.lrsearches.specs.Searches as search
-use Rattle.lrsearches.specs.Searches.{Need, Met, Look, GoesBack, IsSettled}
+use Rattle.lrsearches.specs.Searches.{Need, Look, GoesBack, IsSettled}
 
 -- what is needed with a dot above 0 is settled
 pub settled_moved : (g : Grammar) (p d : ℕ) → 0 < d → IsSettled g (Look p d)
@@ -19,10 +19,6 @@ settled_start g p d e f = rw (e, f) search.IsSettled.start
 -- a dot above 0 goes back
 pub back_of_moved : (p d e : ℕ) → d ≡ suc e → GoesBack (Look p d) (Look p e)
 back_of_moved p d e k = rw k search.GoesBack.look
-
--- and dot 0 does not
-pub back_of_none : (p d : ℕ) → d ≡ 0 → (z : Need) → GoesBack (Look p d) z → ⊥
-back_of_none p d k z search.GoesBack.look = absurd cc
 
 -- it goes back in one way
 pub back_unique : {x : Need} (y z : Need) → GoesBack x y → GoesBack x z → y ≡ z

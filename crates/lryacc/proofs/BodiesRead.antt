@@ -213,11 +213,6 @@ GoesOn-equals old new body lexeme (Ok false) here is stays = record {
 }
 GoesOn-equals old new body lexeme (Err halt) here is none = tt
 
--- what is passed over or not, the file is the same
-pub skips_same : {old new : Reader} (k : LexemeKind) (is : Bool) → MatchBool is (SkipsKind old new k) (Stays old new) → IsSameFile old new
-skips_same k true skips = skips.passes.file
-skips_same k false stays = stays.file
-
 -- a body has no delimiter
 no_delimiter_kind : (k : LexemeKind) → is_symbol k ≡ true → delimiter_of k ≡ 0
 no_delimiter_kind kind.RuleName is = cc
@@ -332,11 +327,6 @@ begins_next {old} {now} {new} {mark} rule bar begins_here added taken =
     let there : IsRuleBefore now.lexemes.now now.at rule =
     rw added.lexemes (rule_over old.lexemes.now old.at now.at rule added.on same begins_here.rule_is) in
     begins_taken rule kind.Bar taken.taken refl refl (rule_kept rule taken.over there)
-
--- whether a `|` was taken or not, the file is the same
-pub bar_same : {old new : Reader} (bar : Option Lexeme) → MatchOption bar (PassesNoDelimiter old new) (TakesBar old new) → IsSameFile old new
-bar_same None over = over.file
-bar_same (Some bar) taken = IsSameFile-again taken.over.file taken.taken.passes.file
 
 -- it is taken behind `;`, or those are passed over
 pub bar_taken : (old now new : Reader) (bar : Option Lexeme) → PassesNoDelimiter old now → MatchOption bar (Stays now new) (λ (lexeme : Lexeme). TakesKind now new kind.Bar lexeme) → MatchOption bar (PassesNoDelimiter old new) (TakesBar old new)

@@ -104,28 +104,6 @@ takes_no_end statement other same grow = record {
   faults = grow;
 }
 
--- a declaration that gives a symbol a value, which is told as a fault
-pub takes_told_end : (statement : Statement) {old new : Meaning} → KeepsMeaning old new → 0 < vec_len new.faults → TakesEnd (statement ∷ []) old new
-takes_told_end statement keeps told = record {
-  given = λ end e. inl (sym keeps.end ∙ e);
-  some = λ n h. inr told;
-  first = λ end e. keeps.end ∙ e;
-  faults = keeps.faults;
-}
-
--- one that gives a symbol another value than 0
-pub takes_other_end : (lexeme number : Lexeme) {old new : Meaning} → KeepsMeaning old new → (written_number (text_at old.symbols.text.now number.span) ≡ 0 → ⊥) → TakesEnd (says.Code lexeme number ∷ []) old new
-takes_other_end lexeme number {old} {new} keeps other = record {
-  given = λ end e. inl (sym keeps.end ∙ e);
-  some = λ n h.
-      let same = only (says.Code lexeme number) (says.Code h.symbol h.value) h.is in
-      let value : h.value ≡ number = cc in
-      let text = keeps.symbols.names.text in
-      absurd (other (ap (λ (t : List ℕ). written_number (text_at t number.span)) (sym text) ∙ ap (λ (l : Lexeme). written_number (text_at new.symbols.text.now l.span)) (sym value) ∙ h.zero));
-  first = λ end e. keeps.end ∙ e;
-  faults = keeps.faults;
-}
-
 -- one that gives a symbol the value 0
 module _ (lexeme number : Lexeme) (symbol : ℕ) (old new : Meaning) (keeps : KeepsSymbols old.symbols new.symbols) (zero : written_number (text_at old.symbols.text.now number.span) ≡ 0) (named : number_of old.symbols lexeme ≡ Some symbol) (found : new.end ≡ option_or old.end (Some symbol)) (grow : vec_len old.faults ≤ vec_len new.faults) where
   is-given : IsGivenZeroBy (says.Code lexeme number ∷ []) new symbol

@@ -177,9 +177,6 @@ reaches_behind productive prods at prod old new is useful among = record {
 
 -- ---- rules among symbols
 
-pub among_nothing : (symbols : List Symbol) (found : List Bool) → FindsAmong symbols found found
-among_nothing symbols found = record { many = refl; within = λ other all within. within }
-
 pub among_again : {symbols : List Symbol} {old now new : List Bool} → FindsAmong symbols old now → FindsAmong symbols now new → FindsAmong symbols old new
 among_again one other = record {
   many = other.many ∙ one.many;

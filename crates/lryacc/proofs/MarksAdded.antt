@@ -72,12 +72,6 @@ pub marks-several : (names : Names) (starts : List Lexeme) (marks : List ℕ) �
 marks-several names starts marks other all =
     subst (λ (only : Bool). AreMarks names only starts marks) (sym (several (length starts) other)) all
 
--- there is one
-pub marks-one : (names : Names) (starts : List Lexeme) (marks : List ℕ) → length starts ≡ 1 → marks ≡ [] → AreMarks names (is_one starts) starts marks
-marks-one names starts marks one no_mark =
-    let is : is_one starts ≡ true = ap (λ (n : ℕ). nat_eq n 1) one in
-    subst (λ (only : Bool). AreMarks names only starts marks) (sym is) no_mark
-
 -- the mark at a place is that of the start rule there
 pub mark-at : (names : Names) (starts : List Lexeme) (marks : List ℕ) (only : Bool) → AreMarks names only starts marks → (at : ℕ) (start : Lexeme) → slice_get starts at ≡ Some start → IsMark names only start (slice_get marks at)
 mark-at names starts marks true all at start is = ap (λ (ms : List ℕ). slice_get ms at) all

@@ -223,10 +223,6 @@ numbered-action a r t s s' start rule puts is h = record {
 pub rule_symbol : (r t : ℕ → Option ℕ) (number rule : ℕ) → r number ≡ Some rule → symbol_by r t number ≡ Some (Rule rule)
 rule_symbol r t number rule is = ap (λ own. option_or (option_map Rule own) (option_map Token (t number))) is
 
-pub token_symbol : (r t : ℕ → Option ℕ) (number token : ℕ) → r number ≡ None → t number ≡ Some token → symbol_by r t number ≡ Some (Token token)
-token_symbol r t number token none is =
-    ap (λ own. option_or (option_map Rule own) (option_map Token (t number))) none ∙ ap (option_map Token) is
-
 one-by : (r t : ℕ → Option ℕ) (n m : ℕ) (symbol : PartSymbol) (a b c d : Option ℕ) → AreOwn r → AreOwn t → r n ≡ a → r m ≡ b → t n ≡ c → t m ≡ d → option_or (option_map Rule a) (option_map Token c) ≡ Some symbol → option_or (option_map Rule b) (option_map Token d) ≡ Some symbol → n ≡ m
 one-by r t n m symbol (Some x) (Some y) c d rules tokens e f g h p q =
     let same : x ≡ y = cc in
