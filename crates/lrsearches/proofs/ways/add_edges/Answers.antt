@@ -4,7 +4,8 @@ use Rattle.lrspec.specs.merging.Graph as math
 use Rattle.lrgrammar.specs.Symbols.{symbol_of}
 use Rattle.lrgrammar.specs.declared.idx.StIdx.{StIdx}
 use Rattle.lrgraphs.specs.GraphOf.{edges_of}
-use Rattle.lrsearches.proofs.RowsInTurn.{found_all, begin_adding, next_adding, end_adding}
+use Rattle.lrgraphs.proofs.FoundEdges.{found_all}
+use Rattle.lrsearches.proofs.RowsInTurn.{begin_adding, next_adding, end_adding}
 use Rattle.lrsearches.proofs.ways.add_edges.Goals as goal
 
 pub loop-symbol-init : goal.loop-symbol-init

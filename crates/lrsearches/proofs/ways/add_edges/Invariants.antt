@@ -1,7 +1,8 @@
 -- the edges so far are added
 use Rattle.lrspec.specs.merging.Graph.{edge}
 use Rattle.lrgraphs.specs.GraphOf.{edges_of}
-use Rattle.lrsearches.proofs.RowsInTurn.{FoundAll, AreAdding}
+use Rattle.lrgraphs.proofs.FoundEdges.{FoundAll}
+use Rattle.lrsearches.proofs.RowsInTurn.{AreAdding}
 use Rattle.lrsearches.proofs.ways.add_edges.Given as goal
 
 abbrev pub invariant-loop-symbol : goal.invariant-loop-symbol

@@ -3,7 +3,7 @@ use Rattle.std.proofs.Common.{◌<◌, length, length-set, ◌∙◌}
 use Rattle.lrgrammar.proofs.Turns.{all_more}
 use Rattle.lrspec.specs.merging.Graph as math
 use Rattle.lrgrammar.specs.Symbols.{symbol_of}
-use Rattle.lrsearches.proofs.RowsInTurn.{found_all}
+use Rattle.lrgraphs.proofs.FoundEdges.{found_all}
 use Rattle.lrsearches.proofs.ways.add_targets.Goals as goal
 
 pub loop-target-init : goal.loop-target-init

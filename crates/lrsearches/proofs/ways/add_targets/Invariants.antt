@@ -2,7 +2,7 @@
 use Rattle.std.proofs.Common.{◌≡◌, ◌<◌, length}
 use Rattle.std.specs.Prelude.{All}
 use Rattle.lrspec.specs.merging.Graph.{edge}
-use Rattle.lrsearches.proofs.RowsInTurn.{FoundAll}
+use Rattle.lrgraphs.proofs.FoundEdges.{FoundAll}
 use Rattle.lrsearches.proofs.ways.add_targets.Given as goal
 
 abbrev pub invariant-loop-target : goal.invariant-loop-target
