@@ -5,8 +5,7 @@ use Rattle.lrspec.specs.grammars.Grammar.{Symbol}
 use Rattle.lrspec.proofs.grammars.ListMembers.{Among, among_from_contains, contains_from_among}
 use Rattle.lrbits.specs.Bits.{bit}
 use Rattle.lrcharts.specs.Charts.{HasSpan, Laid, KeepsBits, row_of, symbols_of}
-use Rattle.lrlosses.specs.FoundLosses.{number_of}
-use Rattle.lrgrammar.specs.Symbols.{symbol_of}
+use Rattle.lrgrammar.specs.Symbols.{number_of, symbol_of}
 use Rattle.lrgrammar.specs.declared.idx.Symbol as code
 use Rattle.lrcharts.specs.Charts as chart
 use Rattle.lrcharts.specs.declared.charts.Chart.{Chart}

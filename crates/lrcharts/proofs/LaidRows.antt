@@ -12,8 +12,7 @@ use Rattle.lrkept.specs.Kept.{Finishes}
 use Rattle.lrconflicts.specs.Moves.{Move}
 use Rattle.lrcharts.specs.Charts.{HasSpan, Laid, IsClosed, HasStates, HasTokens, LacksWhole, symbols_of}
 use Rattle.lrtable.specs.RunAnswers.{text_of}
-use Rattle.lrlosses.specs.FoundLosses.{number_of}
-use Rattle.lrgrammar.specs.Symbols.{symbol_of}
+use Rattle.lrgrammar.specs.Symbols.{number_of, symbol_of}
 use Rattle.lrgrammar.specs.declared.idx.Symbol as code
 use Rattle.lrcharts.specs.Machines.{left_of}
 use Rattle.lrcharts.specs.Ways.{reading, IsDeadEnd}

@@ -11,7 +11,7 @@ use Rattle.lrspec.specs.tables.Machine.{Goes, reduce_by, act}
 use Rattle.lrtable.specs.RunAnswers.{text_of}
 use Rattle.lrtable.proofs.ReachedRuns.{reached_first, reached_next}
 use Rattle.lrtable.proofs.MachineSteps.{step_shifts}
-use Rattle.lrlosses.specs.FoundLosses.{number_of}
+use Rattle.lrgrammar.specs.Symbols.{number_of}
 use Rattle.lrcharts.specs.declared.machine.Machine.{Machine}
 use Rattle.lrcharts.specs.Machines.{config_of, cell_of, HasCome}
 

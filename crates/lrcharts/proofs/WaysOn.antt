@@ -14,7 +14,7 @@ use Rattle.lrlosses.proofs.Sentences.{sentence_named}
 use Rattle.lrlosses.proofs.WholeTrees.{along_reads}
 use Rattle.lrkept.specs.Kept.{Finishes}
 use Rattle.lrkept.proofs.Finishing.{way_of_tree}
-use Rattle.lrlosses.specs.FoundLosses.{number_of}
+use Rattle.lrgrammar.specs.Symbols.{number_of}
 use Rattle.lrcharts.specs.declared.machine.Machine.{Machine}
 use Rattle.lrcharts.specs.Machines.{config_of, HasCome}
 use Rattle.lrcharts.specs.Ways.{reading, HasNoTreeLeft, IsDeadEnd}

@@ -1,11 +1,10 @@
 -- charts: between which places of a row symbols are derived
 use Rattle.std.specs.Prelude.{◌≡◌, ◌≢◌, ℕ, ◌+◌, ◌-◌, ◌*◌, ◌<◌, ◌≤◌, Bool, List, [], ◌∷◌, Some, length, map, slice_get, slice_index_or, IsTrue}
 use Rattle.lrbits.specs.Bits.{bit}
-use Rattle.lrgrammar.specs.Symbols.{symbol_of}
+use Rattle.lrgrammar.specs.Symbols.{symbol_of, number_of}
 use Rattle.lrgrammar.specs.declared.idx.Symbol as code
 use Rattle.lrspec.specs.grammars.Grammar.{Symbol, Rule, Token, Grammar, IsGrammar, body_of, IsProductionOf}
 use Rattle.lrspec.specs.merging.Graph.{Graph, edge}
-use Rattle.lrlosses.specs.FoundLosses.{number_of}
 use Rattle.lrcharts.specs.declared.charts.Chart.{Chart}
 
 -- symbols by their numbers

@@ -8,7 +8,7 @@ use Rattle.lrspec.specs.tables.Machine.{Config, top, next_token}
 use Rattle.lrtable.specs.RunAnswers.{text_of}
 use Rattle.lrtable.specs.WorkingMachine.{stack_of}
 use Rattle.lrtable.specs.Reached.{IsReachedIn}
-use Rattle.lrlosses.specs.FoundLosses.{number_of}
+use Rattle.lrgrammar.specs.Symbols.{number_of}
 use Rattle.lrcharts.specs.declared.machine.Machine.{Machine}
 
 -- what is left of the text

@@ -9,7 +9,7 @@ use Rattle.lrspec.proofs.tables.MachineStacks.{IsStack}
 use Rattle.lrtable.specs.WorkingMachine.{stack_of}
 use Rattle.lrconflicts.specs.Moves.{Move, moves_of, IsTreeOfText}
 use Rattle.lrlosses.specs.Losses.{GoesAlong}
-use Rattle.lrlosses.specs.FoundLosses.{number_of}
+use Rattle.lrgrammar.specs.Symbols.{number_of}
 use Rattle.lrkept.specs.Kept.{Finishes}
 use Rattle.lrcharts.specs.declared.machine.Machine.{Machine}
 use Rattle.lrcharts.specs.Machines.{left_of}

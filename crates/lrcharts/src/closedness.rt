@@ -2,11 +2,10 @@
 
 ghost use Rattle.std.specs.Prelude.{◌≡◌, ◌≢◌, ℕ, ◌+◌, ◌-◌, ◌<◌, ◌≤◌, length, map, IfOk, IsTrue};
 ghost use Rattle.lrbits.specs.Bits.{bit};
-ghost use Rattle.lrgrammar.specs.Symbols.{symbol_of};
+ghost use Rattle.lrgrammar.specs.Symbols.{number_of, symbol_of};
 ghost use Rattle.lrspec.specs.grammars.Grammar.{Rule};
 ghost use Rattle.lrspec.specs.merging.Graph.{edge};
 ghost use Rattle.lrtable.specs.RunAnswers.{text_of};
-ghost use Rattle.lrlosses.specs.FoundLosses.{number_of};
 ghost use Rattle.lrcharts.specs.Charts.{HasSpan, Laid, IsClosed, IsClosedBy, HasEdges, HasStates, HasTokens, symbols_of};
 
 use crate::charts::Chart;

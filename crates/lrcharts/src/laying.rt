@@ -2,9 +2,8 @@
 
 ghost use Rattle.std.specs.Prelude.{◌≡◌, ℕ, ◌+◌, ◌*◌, ◌<◌, ◌≤◌, [], length, false, IsTrue, IfNone, IfSome, ◌↔◌};
 ghost use Rattle.lrbits.specs.Bits.{bit};
-ghost use Rattle.lrgrammar.specs.Symbols.{symbol_of};
+ghost use Rattle.lrgrammar.specs.Symbols.{number_of, symbol_of};
 ghost use Rattle.lrspec.specs.grammars.Grammar.{Rule};
-ghost use Rattle.lrlosses.specs.FoundLosses.{number_of};
 ghost use Rattle.lrcharts.specs.Charts.{row_of, HasSpan, Laid, KeepsBits, symbols_of};
 
 use crate::charts::{Chart, MOST_PLACES};

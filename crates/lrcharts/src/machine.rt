@@ -9,7 +9,7 @@ ghost use Rattle.lrspec.specs.tables.Machine.{Goes, reduce_by};
 ghost use Rattle.lrrows.specs.StoredActions.{stored_action};
 ghost use Rattle.lrtable.specs.RunAnswers.{text_of};
 ghost use Rattle.lrtable.specs.WorkingMachine.{stack_of};
-ghost use Rattle.lrlosses.specs.FoundLosses.{number_of};
+ghost use Rattle.lrgrammar.specs.Symbols.{number_of};
 ghost use Rattle.lrcharts.specs.Machines.{left_of, config_of, cell_of, HasCome};
 
 use lrconflicts::Move;

@@ -6,7 +6,7 @@ ghost use Rattle.lrspec.specs.grammars.Grammar as math;
 ghost use Rattle.lrspec.specs.grammars.Grammar.{IsGrammar};
 ghost use Rattle.lrspec.specs.merging.Graph.{IsGraphOf};
 ghost use Rattle.lrtable.specs.RunAnswers.{text_of};
-ghost use Rattle.lrlosses.specs.FoundLosses.{number_of};
+ghost use Rattle.lrgrammar.specs.Symbols.{number_of};
 ghost use Rattle.lrspec.specs.tables.Table.{IsTableOf};
 ghost use Rattle.lrcharts.specs.Machines.{left_of};
 ghost use Rattle.lrcharts.specs.Charts.{HasSpan, LacksWhole};

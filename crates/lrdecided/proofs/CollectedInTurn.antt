@@ -17,10 +17,9 @@ use Rattle.lrbits.specs.Bits.{bit}
 use Rattle.lrgrammar.specs.declared.idx.StIdx.{StIdx}
 use Rattle.lrgrammar.specs.declared.idx.Symbol.{Symbol}
 use Rattle.lrgrammar.specs.declared.idx.Symbol.TheVariants as code
-use Rattle.lrgrammar.specs.Symbols.{symbol_of}
+use Rattle.lrgrammar.specs.Symbols.{symbol_of, number_of}
 use Rattle.lrclosing.proofs.SymbolsBehindDots.{left_at, left_none}
 use Rattle.lrsearches.specs.StoredWays.{row_of, IsRowOf, AreIncoming}
-use Rattle.lrdecided.specs.Numbers.{number_of}
 use Rattle.lrdecided.specs.StoredNodes.{states_of}
 use Rattle.lrdecided.specs.StoredStates.{AreSeen, IsMarked, KeepsStates, HasSources}
 

@@ -8,7 +8,7 @@ use Rattle.lrdecided.specs.declared.decided.Entry as stored
 use Rattle.lrdecided.specs.Certificates.{IsCertificate}
 use Rattle.lrdecided.specs.Decided.{IsDecided, IsDecidedBy}
 use Rattle.lrdecided.specs.Nodes.{Side, Node}
-use Rattle.lrdecided.specs.Numbers.{number_of}
+use Rattle.lrgrammar.specs.Symbols.{number_of}
 use Rattle.lrdecided.specs.Starts.{HasCores, HasSides, HasStarts}
 
 -- two moves that meet in a state on a token

@@ -8,8 +8,6 @@ pub mod Nodes
 pub mod Rules
 -- and what certifies that no two texts part at a cell
 pub mod Certificates
--- the numbers of indices
-pub mod Numbers
 -- how the code stores nodes
 pub mod StoredNodes
 -- with what symbols begin

@@ -5,11 +5,10 @@ use Rattle.lrspec.specs.grammars.Grammar as math
 use Rattle.lrgrammar.specs.declared.idx.StIdx.{StIdx}
 use Rattle.lrgrammar.specs.declared.idx.TIdx.{TIdx}
 use Rattle.lrgrammar.specs.declared.idx.Symbol.{Symbol}
-use Rattle.lrgrammar.specs.Symbols.{symbol_of}
+use Rattle.lrgrammar.specs.Symbols.{symbol_of, number_of}
 use Rattle.lrdecided.specs.declared.nodes.Side as code
 use Rattle.lrdecided.specs.declared.nodes.Node as kept
 use Rattle.lrdecided.specs.Nodes.{Side, Node}
-use Rattle.lrdecided.specs.Numbers.{number_of}
 
 -- symbols by their numbers
 abbrev pub symbols_of : List (Symbol ℕ) → List math.Symbol

@@ -4,7 +4,7 @@ ghost use Rattle.std.specs.Prelude.{◌≡◌, List, Contains, IsTrue, IfOk};
 ghost use Rattle.lrspec.specs.merging.Graph.{IsGraphOf};
 ghost use Rattle.lrgrammar.specs.Firsts.{AreFirstsOf};
 ghost use Rattle.lrsearches.specs.StoredWays.{AreWaysOf};
-ghost use Rattle.lrdecided.specs.Numbers.{number_of};
+ghost use Rattle.lrgrammar.specs.Symbols.{number_of};
 ghost use Rattle.lrdecided.specs.Moved.{AreSettled, AllProceed};
 ghost use Rattle.lrdecided.specs.Rules.{IsSettled, Proceeds};
 ghost use Rattle.lrdecided.specs.StoredNodes.{node_of, nodes_of};

@@ -6,7 +6,7 @@ ghost use Rattle.lrspec.specs.merging.Graph.{closed_of, edge};
 ghost use Rattle.lrbits.specs.Bits.{bit};
 ghost use Rattle.lrconflicts.specs.Moves.{Reduce};
 ghost use Rattle.lrconflicts.specs.StoredMoves.{moves_stored};
-ghost use Rattle.lrdecided.specs.Numbers.{number_of};
+ghost use Rattle.lrgrammar.specs.Symbols.{number_of};
 ghost use Rattle.lrdecided.specs.Contenders.{complete_of, completes_of, HasCompletes, KeepsCompletes, KeepsMoves, HasReductions, HasContenders};
 
 use lrconflicts::Move;

@@ -3,7 +3,7 @@
 ghost use Rattle.std.specs.Prelude.{◌<◌, None, Some, length, IsTrue, IfOk, IfSome};
 ghost use Rattle.lrspec.specs.merging.Graph.{IsGraphOf};
 ghost use Rattle.lrsearches.specs.StoredWays.{AreWaysOf};
-ghost use Rattle.lrdecided.specs.Numbers.{number_of};
+ghost use Rattle.lrgrammar.specs.Symbols.{number_of};
 ghost use Rattle.lrdecided.specs.Entries.{entry_of, AreStarts, IsCertified, IsDecidedAt, IsDecidedAtBy};
 ghost use Rattle.lrdecided.specs.StoredNodes.{nodes_of};
 

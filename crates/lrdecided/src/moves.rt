@@ -5,7 +5,7 @@ ghost use Rattle.lrspec.specs.grammars.Grammar as math;
 ghost use Rattle.lrspec.specs.merging.Graph.{IsGraphOf};
 ghost use Rattle.lrsearches.specs.StoredUses.{keys_of, HasUsesOfRule};
 ghost use Rattle.lrsearches.specs.StoredWays.{AreWaysOf};
-ghost use Rattle.lrdecided.specs.Numbers.{number_of};
+ghost use Rattle.lrgrammar.specs.Symbols.{number_of};
 ghost use Rattle.lrdecided.specs.Moved.{expanded, HasExpansions, HasOutside, HasAllOutside, HasNodes, AreMoves};
 ghost use Rattle.lrdecided.specs.Nodes as nodes;
 ghost use Rattle.lrdecided.specs.Nodes.{outside};

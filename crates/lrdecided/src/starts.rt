@@ -5,7 +5,7 @@ ghost use Rattle.lrspec.specs.merging.Graph.{IsGraphOf};
 ghost use Rattle.lrconflicts.specs.Moves.{Shift};
 ghost use Rattle.lrconflicts.specs.StoredMoves.{move_of};
 ghost use Rattle.lrsearches.specs.StoredWays.{AreFingerprints};
-ghost use Rattle.lrdecided.specs.Numbers.{number_of};
+ghost use Rattle.lrgrammar.specs.Symbols.{number_of};
 ghost use Rattle.lrdecided.specs.Moved.{HasNodes};
 ghost use Rattle.lrdecided.specs.Starts.{reduced, HasCores, HasSide, HasSides, KeepsSides, HasStarts, HasStartsOf};
 ghost use Rattle.lrdecided.specs.StoredNodes.{side_of, sides_of, states_of, nodes_of};

@@ -4,7 +4,7 @@ ghost use Rattle.std.specs.Prelude.{◌≡◌, ◌<◌, false, length, IsTrue, I
 ghost use Rattle.lrspec.specs.grammars.ItemSets.{HasItem};
 ghost use Rattle.lrspec.specs.merging.Graph.{closed_of, IsGraphOf};
 ghost use Rattle.lrsearches.specs.StoredWays.{row_of, AreIncoming};
-ghost use Rattle.lrdecided.specs.Numbers.{number_of};
+ghost use Rattle.lrgrammar.specs.Symbols.{number_of};
 ghost use Rattle.lrdecided.specs.Moved.{HasBefore, HasWithItem};
 ghost use Rattle.lrdecided.specs.StoredNodes.{states_of};
 ghost use Rattle.lrdecided.specs.StoredStates.{AreSeen, IsMarked, KeepsStates, HasSources};

@@ -5,7 +5,7 @@ ghost use Rattle.lrspec.specs.merging.Graph.{IsGraphOf};
 ghost use Rattle.lrspec.specs.tables.Recognition.{IsUnambiguous};
 ghost use Rattle.lrconflicts.specs.StoredMoves.{move_of, moves_stored};
 ghost use Rattle.lrsearches.specs.StoredWays.{AreWaysOf};
-ghost use Rattle.lrdecided.specs.Numbers.{number_of};
+ghost use Rattle.lrgrammar.specs.Symbols.{number_of};
 ghost use Rattle.lrdecided.specs.Contenders.{AcceptsAlone, IsDecidedAgainst, ArePairsDecided, IsStateDecided};
 ghost use Rattle.lrdecided.specs.Decided.{AreDecided};
 ghost use Rattle.lrdecided.specs.Entries.{entry_of, IsDecidedAt};

@@ -2,7 +2,7 @@
 
 ghost use Rattle.std.specs.Prelude.{◌≡◌, IfOk, IfSome};
 ghost use Rattle.lrtable.specs.RunAnswers.{text_of};
-ghost use Rattle.lrlosses.specs.FoundLosses.{number_of};
+ghost use Rattle.lrgrammar.specs.Symbols.{number_of};
 
 use lrgrammar::idx::{IndexStorage, TIdx};
 use std::alloc::{AllocError, Global};

@@ -3,7 +3,7 @@ use Rattle.std.proofs.Common.{◌≡◌, ◌≢◌, ℕ, List, [], ◌∷◌, So
 use Rattle.std.specs.Prelude.{slice_get}
 use Rattle.lrspec.specs.grammars.Grammar.{Grammar}
 use Rattle.lrspec.specs.merging.Graph.{Graph}
-use Rattle.lrgrammar.specs.Symbols.{symbol_of}
+use Rattle.lrgrammar.specs.Symbols.{symbol_of, number_of}
 use Rattle.lrtable.specs.RunAnswers.{text_of}
 use Rattle.lrtree.specs.StoredTrees.{tree_of}
 use Rattle.lrconflicts.specs.Moves.{Move}
@@ -14,7 +14,6 @@ use Rattle.lrconflicts.specs.declared.conflicts.Conflict.{Conflict}
 use Rattle.lrambiguity.specs.Partings.{BeginsWith}
 use Rattle.lrreasons.specs.declared.ambiguities.ProvedAmbiguity.{ProvedAmbiguity}
 use Rattle.lrreasons.specs.Ambiguities.{IsProofOf}
-use Rattle.lrreasons.specs.Numbers.{number_of}
 use Rattle.lrshown.specs.declared.ambiguities.Ambiguity.{Ambiguity}
 use Rattle.lrshown.specs.Steps.{moves_by}
 use Rattle.lrshown.specs.Ambiguities.{HasTwoTrees, HasTwoWays, PartAlike}

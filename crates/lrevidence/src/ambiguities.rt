@@ -6,7 +6,7 @@ ghost use Rattle.lrconflicts.specs.StoredMoves.{moves_stored};
 ghost use Rattle.lrambiguity.specs.StoredAmbiguities.{IsAmbiguity};
 ghost use Rattle.lrshown.specs.Steps.{moves_by};
 ghost use Rattle.lrshown.specs.Ambiguities.{HasTwoTrees};
-ghost use Rattle.lrreasons.specs.Numbers.{number_of};
+ghost use Rattle.lrgrammar.specs.Symbols.{number_of};
 ghost use Rattle.lrevidence.specs.Ambiguities.{PartsAt};
 
 use lrentries::numbers_of;

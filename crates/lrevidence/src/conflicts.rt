@@ -2,7 +2,7 @@
 
 ghost use Rattle.std.specs.Prelude.{◌≡◌, IfSome, option_map};
 ghost use Rattle.lrconflicts.specs.Entries.{entry_of, entry_by};
-ghost use Rattle.lrreasons.specs.Numbers.{number_of};
+ghost use Rattle.lrgrammar.specs.Symbols.{number_of};
 
 use lrfindings::Entry;
 use lrgrammar::idx::{IndexStorage, PIdx, StIdx, TIdx};

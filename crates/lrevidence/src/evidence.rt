@@ -5,7 +5,7 @@ ghost use Rattle.lrspec.specs.merging.Graph.{IsGraphOf};
 ghost use Rattle.lrspec.specs.tables.Conflicts.{AreReductionsContested};
 ghost use Rattle.lrspec.specs.tables.Table.{IsTableOf};
 ghost use Rattle.lrconflicts.specs.Entries.{entry_of, IsListed};
-ghost use Rattle.lrreasons.specs.Numbers.{number_of};
+ghost use Rattle.lrgrammar.specs.Symbols.{number_of};
 ghost use Rattle.lrevidence.specs.Entries.{AreListedIn};
 ghost use Rattle.lrevidence.specs.Ambiguities.{HasTwoTrees, IsProved, PartsAtEntry};
 ghost use Rattle.lrentries.specs.Losses.{ResolvesPairs};

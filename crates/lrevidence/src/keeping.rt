@@ -5,7 +5,7 @@ ghost use Rattle.lrspec.specs.merging.Graph.{IsGraphOf};
 ghost use Rattle.lrspec.specs.tables.Table.{IsTableOf};
 ghost use Rattle.lrsearches.specs.StoredWays.{AreWaysOf};
 ghost use Rattle.lrkept.specs.Keeping.{IsWon};
-ghost use Rattle.lrreasons.specs.Numbers.{number_of};
+ghost use Rattle.lrgrammar.specs.Symbols.{number_of};
 ghost use Rattle.lrevidence.specs.KeptEntries.{IsKeptEntry};
 
 use lrentries::meeting;

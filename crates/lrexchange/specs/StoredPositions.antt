@@ -3,14 +3,13 @@ use Rattle.std.specs.Prelude.{ℕ, List, map}
 use Rattle.std.specs.Option.{option_map}
 use Rattle.lrspec.specs.grammars.Grammar as math
 use Rattle.lrgrammar.specs.declared.idx.Symbol.{Symbol}
-use Rattle.lrgrammar.specs.Symbols.{symbol_of}
+use Rattle.lrgrammar.specs.Symbols.{symbol_of, number_of}
 use Rattle.lrexchange.specs.declared.below.Below as step
 use Rattle.lrexchange.specs.declared.positions.Mark as mark
 use Rattle.lrexchange.specs.declared.positions.Ours as own
 use Rattle.lrexchange.specs.declared.positions.Turn as stored
 use Rattle.lrexchange.specs.declared.positions.Turn.TheVariants as code
 use Rattle.lrexchange.specs.declared.positions.Position as kept
-use Rattle.lrdecided.specs.Numbers.{number_of}
 use Rattle.lrexchange.specs.Positions.{Mark, Ours, Turn, Even, Open, Ahead, Before, Behind, Position}
 
 -- symbols by their numbers

@@ -1,9 +1,8 @@
 //! What is asked where stacks are reduced, above each stack that leads to the state of a position.
 
 ghost use Rattle.std.specs.Prelude.{◌≡◌, Contains, IfOk, IsTrue, OnOk};
-ghost use Rattle.lrgrammar.specs.Symbols.{symbol_of};
+ghost use Rattle.lrgrammar.specs.Symbols.{number_of, symbol_of};
 ghost use Rattle.lrsearches.specs.StoredWays.{AreWaysOf};
-ghost use Rattle.lrdecided.specs.Numbers.{number_of};
 ghost use Rattle.lrexchange.specs.Asked.{deepened, KeepsPositions, AsksThem, AsksBoth, AsksUs, AsksHidden, Asks, AllAsked, EachAsked};
 ghost use Rattle.lrexchange.specs.StoredActs.{act_of};
 ghost use Rattle.lrexchange.specs.StoredPositions.{symbols_of, turn_of, mark_of, position_of, positions_of, belows_of};

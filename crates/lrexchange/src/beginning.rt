@@ -1,11 +1,10 @@
 //! What is asked of a cell, for which they make the first of two moves and we the second one.
 
 ghost use Rattle.std.specs.Prelude.{◌≡◌, ◌∷◌, [], None, Contains, IfOk, IfSome, IsTrue};
-ghost use Rattle.lrgrammar.specs.Symbols.{symbol_of};
+ghost use Rattle.lrgrammar.specs.Symbols.{number_of, symbol_of};
 ghost use Rattle.lrsearches.specs.StoredWays.{AreWaysOf};
 ghost use Rattle.lrconflicts.specs.Moves.{Shift, Reduce};
 ghost use Rattle.lrconflicts.specs.StoredMoves.{move_of};
-ghost use Rattle.lrdecided.specs.Numbers.{number_of};
 ghost use Rattle.lrexchange.specs.Asked.{AllOwn};
 ghost use Rattle.lrexchange.specs.Exchanges.{at, Begins};
 ghost use Rattle.lrexchange.specs.StoredPositions.{symbols_of, turn_of, position_of, positions_of};

@@ -1,9 +1,8 @@
 //! What is below a state on stacks that lead to it.
 
 ghost use Rattle.std.specs.Prelude.{◌≡◌, ◌∷◌, IfOk, IfSome, OnOk};
-ghost use Rattle.lrgrammar.specs.Symbols.{symbol_of};
+ghost use Rattle.lrgrammar.specs.Symbols.{number_of, symbol_of};
 ghost use Rattle.lrsearches.specs.StoredWays.{row_of, AreIncoming};
-ghost use Rattle.lrdecided.specs.Numbers.{number_of};
 ghost use Rattle.lrexchange.specs.Asked.{AreStepsBack, KeepsBelows, HasSteps, AreBelow};
 ghost use Rattle.lrexchange.specs.StoredPositions.{symbols_of, belows_of};
 

@@ -4,7 +4,7 @@ ghost use Rattle.std.specs.Prelude.{◌≡◌, map, is_some, Contains, IfOk, IfS
 ghost use Rattle.lrspec.specs.grammars.Grammar.{Token};
 ghost use Rattle.lrspec.specs.merging.Graph.{edge};
 ghost use Rattle.lrsearches.specs.StoredWays.{AreWaysOf};
-ghost use Rattle.lrdecided.specs.Numbers.{number_of};
+ghost use Rattle.lrgrammar.specs.Symbols.{number_of};
 ghost use Rattle.lrexchange.specs.Asked.{KeepsPositions, TakesShift, TakesStart, TakesReductions, TakesReductionsBy, OpensItems, GoesAhead, GoesBefore};
 ghost use Rattle.lrexchange.specs.Exchanges.{IsMarkOf, IsDeep, TakesReduction};
 ghost use Rattle.lrexchange.specs.Asked.{IsAhead};

@@ -1,8 +1,7 @@
 //! Positions at which two ways to go on are compared.
 
 ghost use Rattle.std.specs.Prelude.{◌≡◌, ◌+◌, ◌∷◌, ◌++◌, [], IfOk, IfSome};
-ghost use Rattle.lrgrammar.specs.Symbols.{symbol_of};
-ghost use Rattle.lrdecided.specs.Numbers.{number_of};
+ghost use Rattle.lrgrammar.specs.Symbols.{number_of, symbol_of};
 ghost use Rattle.lrexchange.specs.Positions.{least_of, raised, pushed};
 ghost use Rattle.lrexchange.specs.StoredPositions.{symbols_of, mark_of, turn_of, ours_of, position_of};
 ghost use Rattle.lrexchange.specs.Asked.{deepened};

@@ -3,7 +3,7 @@
 ghost use Rattle.std.specs.Prelude.{◌≡◌, ◌<◌, [], length, Contains, IfOk, IfSome, IsTrue, OnOk};
 ghost use Rattle.lrspec.specs.grammars.Grammar.{rest};
 ghost use Rattle.lrsearches.specs.StoredWays.{AreWaysOf};
-ghost use Rattle.lrdecided.specs.Numbers.{number_of};
+ghost use Rattle.lrgrammar.specs.Symbols.{number_of};
 ghost use Rattle.lrexchange.specs.Asked.{IsOpen, Steps, ReadsToo};
 ghost use Rattle.lrexchange.specs.Exchanges.{Proceeds};
 ghost use Rattle.lrexchange.specs.StoredPositions.{position_of, positions_of};

@@ -1,9 +1,8 @@
 //! What is asked of others where a position is won by our reductions alone.
 
 ghost use Rattle.std.specs.Prelude.{Contains, IfOk, IfSome, IsTrue};
-ghost use Rattle.lrgrammar.specs.Symbols.{symbol_of};
+ghost use Rattle.lrgrammar.specs.Symbols.{number_of, symbol_of};
 ghost use Rattle.lrsearches.specs.StoredWays.{AreWaysOf};
-ghost use Rattle.lrdecided.specs.Numbers.{number_of};
 ghost use Rattle.lrexchange.specs.Asked.{IsBeforeLast, Unmarks};
 ghost use Rattle.lrexchange.specs.Exchanges.{Retreats};
 ghost use Rattle.lrexchange.specs.StoredPositions.{symbols_of, position_of, positions_of};

@@ -9,9 +9,8 @@ use Rattle.lrgrammar.specs.declared.idx.Symbol as stored
 use Rattle.lrgrammar.specs.declared.idx.Symbol.TheVariants as code
 use Rattle.lrgrammar.specs.declared.idx.RIdx.{RIdx}
 use Rattle.lrgrammar.specs.declared.idx.TIdx.{TIdx}
-use Rattle.lrgrammar.specs.Symbols.{symbol_of}
+use Rattle.lrgrammar.specs.Symbols.{symbol_of, number_of}
 use Rattle.lrgrammar.specs.Firsts.{Firsts, AreFirstsOf}
-use Rattle.lrdecided.specs.Numbers.{number_of}
 
 pub null_head : {g : Grammar} {r : ℕ} {y : List Symbol} → AllNullable g (Rule r ∷ y) → Nullable g r
 null_head (first.AllNullable.more n a) = n

@@ -3,8 +3,7 @@
 ghost use Rattle.std.specs.Prelude.{◌≡◌, ◌<◌, ◌↔◌, [], ◌∷◌, length, map, IfOk, IfSome, IfNone, IsTrue, OnOk, ℕ};
 ghost use Rattle.lrspec.specs.grammars.First.{AllNullable};
 ghost use Rattle.lrgrammar.specs.Firsts.{AreFirstsOf};
-ghost use Rattle.lrgrammar.specs.Symbols.{symbol_of};
-ghost use Rattle.lrdecided.specs.Numbers.{number_of};
+ghost use Rattle.lrgrammar.specs.Symbols.{number_of, symbol_of};
 ghost use Rattle.lrkept.specs.Pairs.{StandsAlone, AreAlone, HasAloneOf, KeepsPairs, ArePairsOf, IsAddedAt};
 
 use lrgrammar::firsts::YaccFirsts;

@@ -5,7 +5,7 @@ ghost use Rattle.lrspec.specs.grammars.Grammar.{Grammar};
 ghost use Rattle.lrspec.specs.merging.Graph.{Graph};
 ghost use Rattle.lrsearches.specs.StoredWays.{AreWaysOf};
 ghost use Rattle.lrconflicts.specs.StoredMoves.{move_of};
-ghost use Rattle.lrdecided.specs.Numbers.{number_of};
+ghost use Rattle.lrgrammar.specs.Symbols.{number_of};
 ghost use Rattle.lrexchange.specs.Asked.{AreListed, IsWonAt, AreWonBelow};
 ghost use Rattle.lrexchange.specs.Exchanges.{IsListed, Proceeds, Retreats, AreWon, Begins};
 ghost use Rattle.lrkept.specs.Keeping.{IsWon};

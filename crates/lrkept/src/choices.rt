@@ -7,7 +7,7 @@ ghost use Rattle.lrbits.specs.Bits.{bit};
 ghost use Rattle.lrrows.specs.StoredActions.{stored_action};
 ghost use Rattle.lrconflicts.specs.StoredMoves.{move_of};
 ghost use Rattle.lrlosses.specs.Losses.{Takes};
-ghost use Rattle.lrdecided.specs.Numbers.{number_of};
+ghost use Rattle.lrgrammar.specs.Symbols.{number_of};
 ghost use Rattle.lrkept.specs.Choices.{TakesReductions, TakesShift, TakesAll, TakesAllIn, TakesAllOfItem};
 
 use lrcells::statetable::StateTable;

@@ -9,7 +9,7 @@ ghost use Rattle.lrconflicts.specs.Moves.{Reduce};
 ghost use Rattle.lrconflicts.specs.StoredMoves.{move_of, moves_stored};
 ghost use Rattle.lrsearches.specs.StoredWays.{AreWaysOf};
 ghost use Rattle.lrlosses.specs.Losses.{Takes};
-ghost use Rattle.lrdecided.specs.Numbers.{number_of};
+ghost use Rattle.lrgrammar.specs.Symbols.{number_of};
 ghost use Rattle.lrkept.specs.declared.keeping.Exactness.TheVariants as known;
 ghost use Rattle.lrkept.specs.Keeping.{IsWon, IsCertified, IsKeptAs, IsKnownOf, AreKnownOf, IsStateKeptAs, IsKnownOfBoth};
 

@@ -2,7 +2,7 @@
 
 ghost use Rattle.std.specs.Prelude.{OnOk};
 ghost use Rattle.lrsearches.specs.StoredWays.{AreWaysOf};
-ghost use Rattle.lrdecided.specs.Numbers.{number_of};
+ghost use Rattle.lrgrammar.specs.Symbols.{number_of};
 ghost use Rattle.lrexchange.specs.Asked.{AddsPositions};
 ghost use Rattle.lrexchange.specs.StoredPositions.{positions_of};
 

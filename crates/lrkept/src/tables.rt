@@ -5,7 +5,7 @@ ghost use Rattle.lrspec.specs.merging.Graph.{IsGraphOf};
 ghost use Rattle.lrspec.specs.tables.Table.{IsTableOf};
 ghost use Rattle.lrconflicts.specs.StoredMoves.{move_of};
 ghost use Rattle.lrsearches.specs.StoredWays.{AreWaysOf};
-ghost use Rattle.lrdecided.specs.Numbers.{number_of};
+ghost use Rattle.lrgrammar.specs.Symbols.{number_of};
 ghost use Rattle.lrkept.specs.declared.keeping.Exactness.TheVariants as known;
 ghost use Rattle.lrkept.specs.Acyclicity.{IsAcyclic};
 ghost use Rattle.lrkept.specs.Choices.{TakesAll};

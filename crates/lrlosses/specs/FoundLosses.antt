@@ -4,6 +4,7 @@ use Rattle.lrspec.specs.grammars.Grammar.{Grammar}
 use Rattle.lrspec.specs.tables.Table.{Table}
 use Rattle.lrtree.specs.StoredTrees.{tree_of}
 use Rattle.lrconflicts.specs.Moves.{Move, IsTreeOfText, moves_of}
+use Rattle.lrgrammar.specs.Symbols.{number_of}
 use Rattle.lrlosses.specs.declared.losses.Loss as stored
 use Rattle.lrlosses.specs.Losses.{IsLost, PartsAt, StopsAt}
 use Rattle.lrlosses.specs.StoredLosses.{place_of}
@@ -12,10 +13,6 @@ use Rattle.lrlosses.specs.StoredLosses.{place_of}
 pub record Tabled : Type 0 where
   pub grammar : Grammar
   pub table : Table
-
--- an index that is stored as a `u32` is its number
-abbrev pub number_of : ℕ → ℕ
-number_of n = n
 
 -- a candidate of a cell of a table
 pub record Candidate : Type 0 where

@@ -3,7 +3,8 @@ use Rattle.lrtable.specs.RunAnswers.{text_of}
 use Rattle.lrconflicts.specs.StoredMoves.{move_of}
 use Rattle.lrlosses.specs.declared.checks.Candidate as stored
 use Rattle.lrlosses.specs.declared.checks.Find.{Find}
-use Rattle.lrlosses.specs.FoundLosses.{Tabled, Candidate, number_of, IsLostAt}
+use Rattle.lrlosses.specs.FoundLosses.{Tabled, Candidate, IsLostAt}
+use Rattle.lrgrammar.specs.Symbols.{number_of}
 
 -- a candidate by its numbers
 abbrev pub candidate_of : stored.Candidate → Candidate

@@ -3,7 +3,8 @@
 ghost use Rattle.std.specs.Prelude.{◌≡◌, IsTrue, IfOk, IfSome};
 ghost use Rattle.lrspec.specs.tables.Table.{IsTableFor};
 ghost use Rattle.lrtable.specs.RunAnswers.{text_of};
-ghost use Rattle.lrlosses.specs.FoundLosses.{IsLostAt, number_of};
+ghost use Rattle.lrlosses.specs.FoundLosses.{IsLostAt};
+ghost use Rattle.lrgrammar.specs.Symbols.{number_of};
 ghost use Rattle.lrlosses.specs.StoredFinds.{candidate_of};
 
 use crate::losses::{Loss, check_lost};

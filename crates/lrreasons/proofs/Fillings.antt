@@ -6,7 +6,7 @@ use Rattle.std.proofs.lemmas.Slice.Zip.{all_zipped_more}
 use Rattle.std.proofs.Math.ListN.{get_or-map}
 use Rattle.lrgrammar.specs.declared.idx.PIdx.{PIdx}
 use Rattle.lrgrammar.specs.declared.idx.Symbol.{Symbol}
-use Rattle.lrgrammar.specs.Symbols.{symbol_of}
+use Rattle.lrgrammar.specs.Symbols.{symbol_of, number_of}
 use Rattle.lrspec.specs.grammars.Grammar.{Grammar}
 use Rattle.lrtable.specs.RunAnswers.{text_of}
 use Rattle.lrconflicts.specs.declared.moves.Move as stored
@@ -18,7 +18,6 @@ use Rattle.lrambiguity.specs.Inputs.{IsReadAs}
 use Rattle.lrambiguity.specs.Parts as part
 use Rattle.lrambiguity.specs.Parts.{Derives, IsFilled}
 use Rattle.lrreasons.specs.declared.parts.Filling.{Filling}
-use Rattle.lrreasons.specs.Numbers.{number_of}
 use Rattle.lrreasons.specs.Parts.{moves_of_all, HasFilled, FillsOn}
 
 -- the moves of a text

@@ -8,7 +8,7 @@ use Rattle.lrambiguity.proofs.TwoTrees.{tree_of_text, ambiguous, trees_differ}
 use Rattle.lrconflicts.specs.declared.conflicts.Conflict.{Conflict}
 use Rattle.lrreasons.specs.declared.ambiguities.ProvedAmbiguity.{ProvedAmbiguity}
 use Rattle.lrreasons.specs.Ambiguities.{IsProofOf}
-use Rattle.lrreasons.specs.Numbers.{number_of}
+use Rattle.lrgrammar.specs.Symbols.{number_of}
 
 -- what is so of what there is
 pub some_follows : {X : Type 0} {P Q : X → Type 0} (o : Option X) → ((x : X) → P x → Q x) → IfSome o P → IfSome o Q

@@ -2,7 +2,7 @@
 use Rattle.std.specs.Prelude.{◌≡◌, ◌≢◌, ℕ, List, ◌++◌, map, slice_get}
 use Rattle.lrspec.specs.grammars.Grammar.{Grammar}
 use Rattle.lrspec.specs.merging.Graph.{Graph}
-use Rattle.lrgrammar.specs.Symbols.{symbol_of}
+use Rattle.lrgrammar.specs.Symbols.{symbol_of, number_of}
 use Rattle.lrconflicts.specs.declared.moves.Move as stored
 use Rattle.lrambiguity.specs.Derivations.{IsDerivedBy}
 use Rattle.lrambiguity.specs.Partings.{BeginsWith}
@@ -14,7 +14,6 @@ use Rattle.lrambiguity.specs.StoredAmbiguities.{IsAmbiguity, AmbiguityPartsAt}
 use Rattle.lrconflicts.specs.declared.conflicts.Conflict.{Conflict}
 use Rattle.lrforms.specs.declared.ambiguous.Form.{Form}
 use Rattle.lrreasons.specs.declared.ambiguities.ProvedAmbiguity.{ProvedAmbiguity}
-use Rattle.lrreasons.specs.Numbers.{number_of}
 use Rattle.lrreasons.specs.Parts.{ways_of}
 
 -- the rule derives the form by the moves before the dot and those behind it

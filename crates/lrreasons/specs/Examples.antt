@@ -3,7 +3,7 @@ use Rattle.std.specs.Prelude.{◌≡◌, ℕ, ◌<◌, List, [], ◌∷◌, ◌+
 use Rattle.lrspec.specs.grammars.Grammar.{Symbol, Token, Grammar, body_of}
 use Rattle.lrspec.specs.grammars.ItemSets.{IsBefore}
 use Rattle.lrspec.specs.merging.Graph.{Graph}
-use Rattle.lrgrammar.specs.Symbols.{symbol_of}
+use Rattle.lrgrammar.specs.Symbols.{symbol_of, number_of}
 use Rattle.lrtable.specs.RunAnswers.{text_of}
 use Rattle.lrconflicts.specs.declared.moves.Written.{Written}
 use Rattle.lrconflicts.specs.Moves.{Move, Shift, Reduce}
@@ -14,7 +14,6 @@ use Rattle.lrambiguity.specs.StoredItems.{items_of}
 use Rattle.lrforms.specs.declared.outlooks.Outlook.{Outlook}
 use Rattle.lrreasons.specs.declared.examples.Example.{Example}
 use Rattle.lrconflicts.specs.Entries.{Entry, token_of, one_of, other_of, IsRealAfter, IsNowhereReal}
-use Rattle.lrreasons.specs.Numbers.{number_of}
 
 -- the list derives the text by its moves
 abbrev pub IsTextOf : Grammar → List Symbol → Written ℕ → Type 0

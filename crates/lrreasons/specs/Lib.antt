@@ -1,5 +1,4 @@
 -- the files of definitions
-pub mod Numbers
 pub mod Examples
 pub mod Parts
 pub mod Ambiguities

@@ -6,7 +6,7 @@ use Rattle.lrconflicts.specs.StoredMoves.{moves_stored}
 use Rattle.lrambiguity.specs.Parts.{Ways, IsFilled}
 use Rattle.lrforms.specs.declared.ambiguous.Ways as stored
 use Rattle.lrreasons.specs.declared.parts.Filling.{Filling}
-use Rattle.lrreasons.specs.Numbers.{number_of}
+use Rattle.lrgrammar.specs.Symbols.{number_of}
 
 -- two ways to read the same, by the numbers of their productions
 abbrev pub ways_of : stored.Ways → Ways

@@ -4,7 +4,7 @@ use Rattle.lrspec.specs.grammars.Grammar.{Grammar}
 use Rattle.lrspec.specs.merging.Graph.{Graph}
 use Rattle.lrreasons.specs.declared.reasons.Reason.{Reason}
 use Rattle.lrconflicts.specs.Entries.{entry_of}
-use Rattle.lrreasons.specs.Numbers.{number_of}
+use Rattle.lrgrammar.specs.Symbols.{number_of}
 use Rattle.lrreasons.specs.Examples.{IsExampleOf}
 use Rattle.lrreasons.specs.Ambiguities.{IsProofOf}
 

@@ -3,10 +3,9 @@ use Rattle.std.specs.Prelude.{ℕ, List, String, Vec, map}
 use Rattle.std.specs.String.{string_bytes}
 use Rattle.std.specs.declared.alloc.Global.{Global}
 use Rattle.lrspec.specs.grammars.Grammar.{Grammar}
-use Rattle.lrgrammar.specs.Symbols.{symbol_of}
+use Rattle.lrgrammar.specs.Symbols.{symbol_of, number_of}
 use Rattle.lrforms.specs.declared.ambiguous.Form.{Form}
 use Rattle.lrreasons.specs.declared.brackets.Row as stored
-use Rattle.lrreasons.specs.Numbers.{number_of}
 use Rattle.lrreasons.specs.Words.{words_of}
 use Rattle.lrreasons.specs.Brackets.{Row}
 

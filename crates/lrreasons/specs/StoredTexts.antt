@@ -4,7 +4,7 @@ use Rattle.std.specs.List.{flat_map, list_any}
 use Rattle.lrspec.specs.grammars.Grammar.{Symbol, Token, Grammar}
 use Rattle.lrgrammar.specs.declared.idx.TIdx.{TIdx}
 use Rattle.lrspec.specs.texts.PrintedTexts.{rule_name}
-use Rattle.lrgrammar.specs.Symbols.{symbol_of}
+use Rattle.lrgrammar.specs.Symbols.{symbol_of, number_of}
 use Rattle.lrambiguity.specs.declared.ambiguities.Ambiguity.{Ambiguity}
 use Rattle.lrconflicts.specs.declared.moves.Written.{Written}
 use Rattle.lrconflicts.specs.Moves.{Move, Reduce}
@@ -16,7 +16,6 @@ use Rattle.lrforms.specs.declared.outlooks.Outlook.{Outlook}
 use Rattle.lrreasons.specs.declared.ambiguities.ProvedAmbiguity.{ProvedAmbiguity}
 use Rattle.lrreasons.specs.declared.examples.Example.{Example}
 use Rattle.lrreasons.specs.declared.reasons.Reason.{Reason}
-use Rattle.lrreasons.specs.Numbers.{number_of}
 use Rattle.lrreasons.specs.Words.{words_of, first_words, with_dot}
 use Rattle.lrreasons.specs.Lines.{line_text}
 use Rattle.lrreasons.specs.Brackets.{bracketed_words}

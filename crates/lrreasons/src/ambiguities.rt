@@ -4,7 +4,7 @@ ghost use Rattle.std.specs.Prelude.{◌≡◌, ◌<◌, ◌++◌, length, IsTrue
 ghost use Rattle.lrspec.specs.merging.Graph.{IsGraphOf};
 ghost use Rattle.lrambiguity.specs.StoredAmbiguities.{IsAmbiguity, AmbiguityPartsAt};
 ghost use Rattle.lrreasons.specs.Ambiguities.{IsWayOf, IsAmbiguousForm, FormPartsBy, IsPart, ways_to, IsProofOf};
-ghost use Rattle.lrreasons.specs.Numbers.{number_of};
+ghost use Rattle.lrgrammar.specs.Symbols.{number_of};
 
 use crate::candidates::{Pair, pairs};
 use crate::cutting::cut_out;

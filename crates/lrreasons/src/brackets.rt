@@ -6,7 +6,7 @@ ghost use Rattle.lrconflicts.specs.Moves as plain;
 ghost use Rattle.lrconflicts.specs.StoredMoves.{moves_stored};
 ghost use Rattle.lrreasons.specs.Brackets.{joined, opened, closed, leaf, next_row, bracketed_words};
 ghost use Rattle.lrreasons.specs.StoredForms.{trees_of, row_of, form_words};
-ghost use Rattle.lrreasons.specs.Numbers.{number_of};
+ghost use Rattle.lrgrammar.specs.Symbols.{number_of};
 
 use crate::names::{body, name_of_rule};
 use crate::words::{push_word, symbol_word};

@@ -2,12 +2,11 @@
 
 ghost use Rattle.std.specs.Prelude.{◌≡◌, List, ◌∷◌, ◌++◌, [], ℕ, map, drop, option_map, IsTrue, IfOk, IfSome};
 ghost use Rattle.lrspec.specs.grammars.Grammar as math;
-ghost use Rattle.lrgrammar.specs.Symbols.{symbol_of};
+ghost use Rattle.lrgrammar.specs.Symbols.{number_of, symbol_of};
 ghost use Rattle.lrambiguity.specs.Nesting.{Nests};
 ghost use Rattle.lrambiguity.specs.StoredItems.{items_of};
 ghost use Rattle.lrconflicts.specs.StoredMoves.{move_of};
 ghost use Rattle.lrreasons.specs.Examples.{IsTextOf, IsItemOf, IsLastItemOf, IsRestBehind, IsOutlook};
-ghost use Rattle.lrreasons.specs.Numbers.{number_of};
 
 use lrambiguity::{Move, Written, goes_on, nests, reads_as};
 use lrforms::{Forms, Outlook};

@@ -4,8 +4,7 @@ ghost use Rattle.std.specs.Prelude.{◌≡◌, map, IfOk};
 ghost use Rattle.std.specs.String.{string_bytes};
 ghost use Rattle.lrspec.specs.grammars.Grammar as math;
 ghost use Rattle.lrspec.specs.texts.PrintedTexts as printed;
-ghost use Rattle.lrgrammar.specs.Symbols.{symbol_of};
-ghost use Rattle.lrreasons.specs.Numbers.{number_of};
+ghost use Rattle.lrgrammar.specs.Symbols.{number_of, symbol_of};
 
 use lrgrammar::grammar::YaccGrammar;
 use lrgrammar::idx::{PIdx, RIdx, Symbol, TIdx};

@@ -2,12 +2,11 @@
 
 ghost use Rattle.std.specs.Prelude.{map, IfOk, IfSome, IsTrue};
 ghost use Rattle.std.specs.List.{AllZip};
-ghost use Rattle.lrgrammar.specs.Symbols.{symbol_of};
+ghost use Rattle.lrgrammar.specs.Symbols.{number_of, symbol_of};
 ghost use Rattle.lrconflicts.specs.StoredMoves.{move_of, moves_stored};
 ghost use Rattle.lrambiguity.specs.Parts.{Derives, IsFilled, StandsIn};
 ghost use Rattle.lrreasons.specs.Ambiguities.{IsPart};
 ghost use Rattle.lrreasons.specs.Parts.{ways_of, moves_of_all, FillsOn};
-ghost use Rattle.lrreasons.specs.Numbers.{number_of};
 
 use crate::places::texts_of;
 use lrambiguity::{Move, Written, reads_as};

@@ -7,7 +7,7 @@ ghost use Rattle.lrspec.specs.tables.Table.{Table, IsTableFor};
 ghost use Rattle.lrspec.specs.tables.Conflicts.{AreReductionsContested};
 ghost use Rattle.lrspec.specs.tables.LrTables.{HasNoPrecedences, ListsNothing};
 ghost use Rattle.lrspec.specs.tables.Recognition.{IsUnambiguous};
-ghost use Rattle.lrgrammar.specs.Symbols.{symbol_of};
+ghost use Rattle.lrgrammar.specs.Symbols.{number_of, symbol_of};
 ghost use Rattle.lrsearches.specs.StoredWays.{AreWaysOf};
 ghost use Rattle.lrtable.specs.RunAnswers.{text_of as tokens_of};
 ghost use Rattle.lrtree.specs.StoredTrees.{tree_of};
@@ -18,7 +18,6 @@ ghost use Rattle.lrreasons.specs.Examples.{list_of, IsTextOf, IsOutlook, IsExamp
 ghost use Rattle.lrreasons.specs.Ambiguities.{IsProofOf};
 ghost use Rattle.lrreasons.specs.Reasons.{IsReason};
 ghost use Rattle.lrreasons.specs.StoredTexts.{reason_text, reasons_text};
-ghost use Rattle.lrreasons.specs.Numbers.{number_of};
 
 use crate::ambiguities::{ProvedAmbiguity, prove, prove_by};
 use crate::examples::{Example, input, outlook};

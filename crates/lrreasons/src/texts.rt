@@ -5,12 +5,11 @@ ghost use Rattle.std.specs.List.{flat_map, list_any};
 ghost use Rattle.std.specs.String.{string_bytes};
 ghost use Rattle.lrconflicts.specs.StoredMoves.{move_of, moves_stored};
 ghost use Rattle.lrambiguity.specs.StoredItems.{items_of};
-ghost use Rattle.lrgrammar.specs.Symbols.{symbol_of};
+ghost use Rattle.lrgrammar.specs.Symbols.{number_of, symbol_of};
 ghost use Rattle.lrreasons.specs.Texts as told;
 ghost use Rattle.lrreasons.specs.StoredTexts as stored;
 ghost use Rattle.lrconflicts.specs.Entries.{entry_of, other_of};
 ghost use Rattle.lrreasons.specs.Words.{words_of};
-ghost use Rattle.lrreasons.specs.Numbers.{number_of};
 
 use crate::ambiguities::ProvedAmbiguity;
 use crate::brackets::bracketed;

@@ -4,9 +4,8 @@ ghost use Rattle.std.specs.Prelude.{◌≡◌, ◌++◌, ◌∷◌, [], map, IfO
 ghost use Rattle.std.specs.String.{string_bytes};
 ghost use Rattle.lrspec.specs.grammars.Grammar as math;
 ghost use Rattle.lrspec.specs.texts.PrintedTexts as printed;
-ghost use Rattle.lrgrammar.specs.Symbols.{symbol_of};
+ghost use Rattle.lrgrammar.specs.Symbols.{number_of, symbol_of};
 ghost use Rattle.lrreasons.specs.Words.{words_of, first_words, last_words, with_dot};
-ghost use Rattle.lrreasons.specs.Numbers.{number_of};
 
 use crate::names::{rule_name, token_name};
 use lrgrammar::grammar::YaccGrammar;

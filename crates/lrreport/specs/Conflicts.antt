@@ -29,10 +29,6 @@ choice_by e (table.Reduce p) =
 choice_by e Accept = Neither
 choice_by e Error = Neither
 
--- the number of an index, which is stored as that
-abbrev pub number_of : ℕ → ℕ
-number_of n = n
-
 -- the greatest index of a state or a token
 abbrev pub greatest_index : ℕ
 greatest_index = 4294967295

@@ -16,7 +16,8 @@ ghost use Rattle.lrshown.specs.DecidedEntries.{tokens_of};
 ghost use Rattle.lrshown.specs.Ambiguities.{has_sentence};
 ghost use Rattle.lrreport.specs.Sentences.{IsKnownAt};
 ghost use Rattle.lrreport.specs.Causes.{entries_in};
-ghost use Rattle.lrreport.specs.Conflicts.{choice_at, choice_by, choice_of, is_choice, number_of, shifting_items};
+ghost use Rattle.lrreport.specs.Conflicts.{choice_at, choice_by, choice_of, is_choice, shifting_items};
+ghost use Rattle.lrgrammar.specs.Symbols.{number_of};
 
 use crate::alike::{Alike, Leads, kinds};
 use crate::causes::Cause;

@@ -4,7 +4,8 @@ ghost use Rattle.std.specs.Prelude.{◌≡◌, IfOk};
 ghost use Rattle.std.specs.BTreeSet.{contains};
 ghost use Rattle.std.specs.Ordering.{nat_cmp};
 ghost use Rattle.lritems.specs.ItemsOf.{set_of};
-ghost use Rattle.lrreport.specs.Conflicts.{is_token, items_before, number_of, symbol_behind};
+ghost use Rattle.lrreport.specs.Conflicts.{is_token, items_before, symbol_behind};
+ghost use Rattle.lrgrammar.specs.Symbols.{number_of};
 
 use crate::options::Options;
 use lrdiagnostics::{Layout, Mark, Source, Teller};

@@ -2,10 +2,9 @@
 use Rattle.std.proofs.Common.{ℕ, ◌≡◌, false, true, sym, ap, ◌∙◌, ◌+◌}
 use Rattle.std.specs.Prelude.{not}
 use Rattle.std.proofs.lemmas.Bool.{eq-eqb}
-use Rattle.lrgrammar.specs.Symbols.{symbol_of}
+use Rattle.lrgrammar.specs.Symbols.{symbol_of, number_of}
 use Rattle.lrgrammar.specs.declared.idx.StIdx.{StIdx}
 use Rattle.lrgraphs.specs.GraphOf.{edges_of}
-use Rattle.lrlosses.specs.FoundLosses.{number_of}
 use Rattle.lrcharts.specs.Charts.{HasSpan}
 use Rattle.lrcharts.proofs.LeavesInTurn.{begin_edges, pass_edge, next_edge, all_edges}
 use Rattle.lrcharts.proofs.closedness.has_edges.Goals as goal

@@ -1,7 +1,7 @@
 -- the symbols of the edges so far are leaves
 use Rattle.std.proofs.Common.{◌+◌}
 use Rattle.lrgraphs.specs.GraphOf.{edges_of}
-use Rattle.lrlosses.specs.FoundLosses.{number_of}
+use Rattle.lrgrammar.specs.Symbols.{number_of}
 use Rattle.lrcharts.specs.Charts.{HasSpan}
 use Rattle.lrcharts.proofs.LeavesInTurn.{EdgesLeft}
 use Rattle.lrcharts.proofs.closedness.has_edges.Given as goal

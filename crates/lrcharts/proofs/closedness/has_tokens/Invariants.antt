@@ -2,7 +2,7 @@
 use Rattle.std.proofs.Common.{◌≡◌, ◌+◌, map, take}
 use Rattle.lrspec.specs.grammars.Grammar.{Token}
 use Rattle.lrtable.specs.RunAnswers.{text_of}
-use Rattle.lrlosses.specs.FoundLosses.{number_of}
+use Rattle.lrgrammar.specs.Symbols.{number_of}
 use Rattle.lrcharts.specs.Charts.{Laid}
 use Rattle.lrcharts.proofs.closedness.has_tokens.Given as goal
 

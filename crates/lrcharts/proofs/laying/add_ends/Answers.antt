@@ -1,8 +1,7 @@
 -- a turn for each bit of the range
 use Rattle.std.proofs.Common.{true, length, refl, ap, ◌∙◌, inl, arith}
 use Rattle.std.proofs.lemmas.List.{length-set}
-use Rattle.lrgrammar.specs.Symbols.{symbol_of}
-use Rattle.lrlosses.specs.FoundLosses.{number_of}
+use Rattle.lrgrammar.specs.Symbols.{symbol_of, number_of}
 use Rattle.lrcharts.proofs.EndsInTurn.{begin_adding, next_adding}
 use Rattle.lrcharts.proofs.laying.add_ends.Goals as goal
 

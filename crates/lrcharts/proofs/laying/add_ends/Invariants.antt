@@ -1,6 +1,5 @@
 -- the ends so far are set
-use Rattle.lrgrammar.specs.Symbols.{symbol_of}
-use Rattle.lrlosses.specs.FoundLosses.{number_of}
+use Rattle.lrgrammar.specs.Symbols.{symbol_of, number_of}
 use Rattle.lrcharts.proofs.EndsInTurn.{AreAdding}
 use Rattle.lrcharts.proofs.laying.add_ends.Given as goal
 

@@ -2,8 +2,7 @@
 use Rattle.std.proofs.Common.{◌≡◌, ℕ, length}
 use Rattle.std.specs.Prelude.{IsTrue}
 use Rattle.lrbits.specs.Bits.{bit}
-use Rattle.lrgrammar.specs.Symbols.{symbol_of}
-use Rattle.lrlosses.specs.FoundLosses.{number_of}
+use Rattle.lrgrammar.specs.Symbols.{symbol_of, number_of}
 use Rattle.lrcharts.specs.Charts.{HasSpan}
 use Rattle.lrcharts.proofs.BitsInTurn.{AreDone}
 use Rattle.lrcharts.proofs.laying.follow.Given as goal

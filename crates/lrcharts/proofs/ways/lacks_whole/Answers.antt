@@ -5,7 +5,7 @@ use Rattle.lrgrammar.specs.declared.idx.StIdx.{StIdx}
 use Rattle.lrgrammar.specs.declared.idx.TIdx.{TIdx}
 use Rattle.lrspec.specs.grammars.Grammar.{Rule}
 use Rattle.lrtable.specs.RunAnswers.{text_of}
-use Rattle.lrlosses.specs.FoundLosses.{number_of}
+use Rattle.lrgrammar.specs.Symbols.{number_of}
 use Rattle.lrcharts.specs.Charts.{HasSpan, HasTokens}
 use Rattle.lrcharts.proofs.ways.lacks_whole.Goals as goal
 

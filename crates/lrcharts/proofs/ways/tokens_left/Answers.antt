@@ -3,7 +3,7 @@ use Rattle.std.proofs.Common.{◌-◌, length, drop, sym, ap, ◌∙◌, length-
 use Rattle.std.proofs.lemmas.List.{take_all, drop-map}
 use Rattle.lrgrammar.specs.declared.idx.TIdx.{TIdx}
 use Rattle.lrtable.specs.RunAnswers.{text_of}
-use Rattle.lrlosses.specs.FoundLosses.{number_of}
+use Rattle.lrgrammar.specs.Symbols.{number_of}
 use Rattle.lrcharts.proofs.ways.tokens_left.Goals as goal
 
 pub returns : goal.returns

@@ -2,9 +2,8 @@
 use Rattle.std.proofs.Common.{ℕ, Bool, true, ◌||◌, List, set, ap, sym, ◌∙◌, arith}
 use Rattle.std.proofs.lemmas.List.{get_or_default}
 use Rattle.lrbits.specs.Bits.{bit}
-use Rattle.lrgrammar.specs.Symbols.{symbol_of}
+use Rattle.lrgrammar.specs.Symbols.{symbol_of, number_of}
 use Rattle.lrclosing.proofs.SymbolsBehindDots.{left_at}
-use Rattle.lrdecided.specs.Numbers.{number_of}
 use Rattle.lrdecided.proofs.BeginningsInTurn.{token_begun, rule_begun, rule_past}
 use Rattle.lrdecided.proofs.beginnings.beginning.Goals as goal
 

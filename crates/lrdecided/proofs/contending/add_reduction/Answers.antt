@@ -1,7 +1,7 @@
 -- the item looks at the token, or does not
 use Rattle.std.proofs.Common.{refl}
 use Rattle.lrconflicts.specs.StoredMoves.{move_of}
-use Rattle.lrdecided.specs.Numbers.{number_of}
+use Rattle.lrgrammar.specs.Symbols.{number_of}
 use Rattle.lrdecided.proofs.CollectedInTurn.{kept, added}
 use Rattle.lrdecided.proofs.contending.add_reduction.Goals as goal
 

@@ -3,7 +3,7 @@ use Rattle.std.proofs.Common.{sym, ap, ◌∙◌, subst}
 use Rattle.lrspec.specs.grammars.ItemSets.{Items}
 use Rattle.lrspec.specs.merging.Graph.{closed_of}
 use Rattle.lritems.specs.ItemsOf.{items_of}
-use Rattle.lrdecided.specs.Numbers.{number_of}
+use Rattle.lrgrammar.specs.Symbols.{number_of}
 use Rattle.lrdecided.specs.Contenders.{completes_of}
 use Rattle.lrdecided.proofs.FoundContenders.{HasCompletesBut, begin_completes, next_completes, end_completes}
 use Rattle.lrdecided.proofs.contending.completes.Goals as goal

@@ -1,7 +1,7 @@
 -- the complete ones of the items so far are listed
 use Rattle.lritems.specs.ItemsOf.{items_of}
 use Rattle.lrspec.specs.merging.Graph.{closed_of}
-use Rattle.lrdecided.specs.Numbers.{number_of}
+use Rattle.lrgrammar.specs.Symbols.{number_of}
 use Rattle.lrdecided.specs.Contenders.{completes_of}
 use Rattle.lrdecided.proofs.FoundContenders.{HasCompletesBut}
 use Rattle.lrdecided.proofs.contending.completes.Given as goal

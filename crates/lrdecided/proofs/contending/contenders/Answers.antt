@@ -1,7 +1,7 @@
 -- with the shift or without it
 use Rattle.std.proofs.Common.{refl}
 use Rattle.lrconflicts.specs.StoredMoves.{move_of, moves_stored}
-use Rattle.lrdecided.specs.Numbers.{number_of}
+use Rattle.lrgrammar.specs.Symbols.{number_of}
 use Rattle.lrdecided.specs.Contenders.{completes_of}
 use Rattle.lrdecided.proofs.CollectedInTurn.{kept, added}
 use Rattle.lrdecided.proofs.FoundContenders.{all_without_shift, all_with_shift}

@@ -2,7 +2,7 @@
 use Rattle.std.proofs.Common.{refl}
 use Rattle.lrclosing.proofs.SymbolsBehindDots.{left_at, left_none}
 use Rattle.lrconflicts.specs.StoredMoves.{moves_stored}
-use Rattle.lrdecided.specs.Numbers.{number_of}
+use Rattle.lrgrammar.specs.Symbols.{number_of}
 use Rattle.lrdecided.specs.Contenders.{complete_of, completes_of}
 use Rattle.lrdecided.proofs.FoundContenders.{begin_reductions, next_reductions, end_reductions}
 use Rattle.lrdecided.proofs.contending.reductions.Goals as goal

@@ -1,7 +1,7 @@
 -- the reductions by the complete items so far are listed
 use Rattle.std.proofs.Common.{drop}
 use Rattle.lrconflicts.specs.StoredMoves.{moves_stored}
-use Rattle.lrdecided.specs.Numbers.{number_of}
+use Rattle.lrgrammar.specs.Symbols.{number_of}
 use Rattle.lrdecided.specs.Contenders.{completes_of}
 use Rattle.lrdecided.proofs.FoundContenders.{HasReductionsBut}
 use Rattle.lrdecided.proofs.contending.reductions.Given as goal

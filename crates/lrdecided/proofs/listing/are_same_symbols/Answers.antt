@@ -1,7 +1,6 @@
 -- a turn for each symbol
 use Rattle.std.proofs.Common.{arith}
-use Rattle.lrgrammar.specs.Symbols.{symbol_of}
-use Rattle.lrdecided.specs.Numbers.{number_of}
+use Rattle.lrgrammar.specs.Symbols.{symbol_of, number_of}
 use Rattle.lrdecided.proofs.SameNodes.{same_more, same_all}
 use Rattle.lrdecided.proofs.listing.are_same_symbols.Goals as goal
 

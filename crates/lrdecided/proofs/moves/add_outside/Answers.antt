@@ -1,8 +1,7 @@
 -- the item stands before the rule, or does not
 use Rattle.std.proofs.Common.{List, ap, ◌∙◌, arith}
 use Rattle.lrspec.specs.grammars.Grammar.{Symbol, Rule}
-use Rattle.lrgrammar.specs.Symbols.{symbol_of}
-use Rattle.lrdecided.specs.Numbers.{number_of}
+use Rattle.lrgrammar.specs.Symbols.{symbol_of, number_of}
 use Rattle.lrdecided.specs.Nodes.{outside}
 use Rattle.lrdecided.specs.StoredNodes.{side_of, states_of, node_of}
 use Rattle.lrdecided.proofs.CollectedInTurn.{kept, added}

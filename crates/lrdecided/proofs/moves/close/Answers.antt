@@ -2,7 +2,7 @@
 use Rattle.std.proofs.Common.{sym, subst, arith}
 use Rattle.lrsearches.specs.StoredUses.{AreUses}
 use Rattle.lrsearches.proofs.UsesInTurn.{row_of_rule}
-use Rattle.lrdecided.specs.Numbers.{number_of}
+use Rattle.lrgrammar.specs.Symbols.{number_of}
 use Rattle.lrdecided.specs.StoredNodes.{node_of}
 use Rattle.lrdecided.proofs.FoundMoves.{closes}
 use Rattle.lrdecided.proofs.moves.close.Goals as goal

@@ -1,6 +1,5 @@
 -- the bodies of the rule
-use Rattle.lrgrammar.specs.Symbols.{symbol_of}
-use Rattle.lrdecided.specs.Numbers.{number_of}
+use Rattle.lrgrammar.specs.Symbols.{symbol_of, number_of}
 use Rattle.lrdecided.specs.StoredNodes.{node_of}
 use Rattle.lrdecided.proofs.FoundMoves.{expands, not_none}
 use Rattle.lrdecided.proofs.moves.expand.Goals as goal

@@ -2,7 +2,7 @@
 use Rattle.std.proofs.Common.{map, get_or}
 use Rattle.std.proofs.lemmas.List.{get_or_default}
 use Rattle.lrclosing.proofs.ProductionsOfRule.{number_at, end_mapped, listed_below}
-use Rattle.lrdecided.specs.Numbers.{number_of}
+use Rattle.lrgrammar.specs.Symbols.{number_of}
 use Rattle.lrdecided.specs.Moved.{expanded, expansion}
 use Rattle.lrdecided.specs.StoredNodes.{node_of, nodes_of}
 use Rattle.lrdecided.proofs.CollectedInTurn.{kept, added}

@@ -3,7 +3,7 @@ use Rattle.std.proofs.Common.{get_or}
 use Rattle.std.proofs.lemmas.List.{get_or_default}
 use Rattle.lrsearches.specs.StoredUses.{keys_of}
 use Rattle.lrsearches.proofs.UsesInTurn.{keys_left, keys_none}
-use Rattle.lrdecided.specs.Numbers.{number_of}
+use Rattle.lrgrammar.specs.Symbols.{number_of}
 use Rattle.lrdecided.specs.StoredNodes.{node_of, nodes_of}
 use Rattle.lrdecided.proofs.FoundMoves.{begin_outside, next_outside, end_outside}
 use Rattle.lrdecided.proofs.moves.outsides.Goals as goal

@@ -1,7 +1,7 @@
 -- the nodes of the items so far are there
 use Rattle.std.proofs.Common.{drop}
 use Rattle.lrsearches.specs.StoredUses.{keys_of}
-use Rattle.lrdecided.specs.Numbers.{number_of}
+use Rattle.lrgrammar.specs.Symbols.{number_of}
 use Rattle.lrdecided.specs.StoredNodes.{node_of, nodes_of}
 use Rattle.lrdecided.proofs.FoundMoves.{HasOutsideBut}
 use Rattle.lrdecided.proofs.moves.outsides.Given as goal

@@ -1,9 +1,8 @@
 -- the item stands before the token, or does not
 use Rattle.std.proofs.Common.{drop, ap, ◌∙◌, arith}
 use Rattle.lrspec.specs.grammars.Grammar.{Token, body_of}
-use Rattle.lrgrammar.specs.Symbols.{symbol_of}
+use Rattle.lrgrammar.specs.Symbols.{symbol_of, number_of}
 use Rattle.lrclosing.proofs.SymbolsBehindDots.{sliced}
-use Rattle.lrdecided.specs.Numbers.{number_of}
 use Rattle.lrdecided.specs.StoredNodes.{symbols_of, side_of}
 use Rattle.lrdecided.proofs.FoundMoves.{no_rest}
 use Rattle.lrdecided.proofs.CollectedInTurn.{kept, added}

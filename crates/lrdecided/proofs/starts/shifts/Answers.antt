@@ -4,7 +4,7 @@ use Rattle.lrspec.specs.grammars.ItemSets.{Items}
 use Rattle.lrspec.specs.merging.Graph.{closed_of}
 use Rattle.lritems.specs.ItemsOf.{items_of}
 use Rattle.lrsearches.proofs.ClosesInTurn.{none_left}
-use Rattle.lrdecided.specs.Numbers.{number_of}
+use Rattle.lrgrammar.specs.Symbols.{number_of}
 use Rattle.lrdecided.specs.StoredNodes.{sides_of}
 use Rattle.lrdecided.proofs.FoundStarts.{HasSidesBut, begin_sides, next_sides, end_sides}
 use Rattle.lrdecided.proofs.starts.shifts.Goals as goal

@@ -1,7 +1,7 @@
 -- the sides of the items so far are listed
 use Rattle.lritems.specs.ItemsOf.{items_of}
 use Rattle.lrspec.specs.merging.Graph.{closed_of}
-use Rattle.lrdecided.specs.Numbers.{number_of}
+use Rattle.lrgrammar.specs.Symbols.{number_of}
 use Rattle.lrdecided.specs.StoredNodes.{sides_of}
 use Rattle.lrdecided.proofs.FoundStarts.{HasSidesBut}
 use Rattle.lrdecided.proofs.starts.shifts.Given as goal

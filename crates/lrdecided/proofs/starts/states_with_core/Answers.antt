@@ -3,7 +3,7 @@ use Rattle.std.proofs.Common.{ℕ, ◌<◌, length, subst, sym, arith}
 use Rattle.std.specs.Prelude.{Contains}
 use Rattle.lrgrammar.proofs.Turns.{has_index, index_number}
 use Rattle.lrsearches.proofs.FingerprintsInTurn.{of_cores}
-use Rattle.lrdecided.specs.Numbers.{number_of}
+use Rattle.lrgrammar.specs.Symbols.{number_of}
 use Rattle.lrdecided.specs.StoredNodes.{states_of}
 use Rattle.lrdecided.proofs.CollectedInTurn.{push_keeps, push_has}
 use Rattle.lrdecided.proofs.FoundStarts.{next_cores}

@@ -1,8 +1,7 @@
 -- a turn for each edge
 use Rattle.std.proofs.Common.{refl, ◌∙◌}
-use Rattle.lrgrammar.specs.Symbols.{symbol_of}
+use Rattle.lrgrammar.specs.Symbols.{symbol_of, number_of}
 use Rattle.lrsearches.specs.StoredWays.{row_of}
-use Rattle.lrdecided.specs.Numbers.{number_of}
 use Rattle.lrdecided.specs.StoredNodes.{states_of}
 use Rattle.lrdecided.proofs.CollectedInTurn.{begin_sources, next_sources, end_sources, push_keeps, push_has, edge_at, edge_left, edges_none}
 use Rattle.lrdecided.proofs.states.add_sources.Goals as goal

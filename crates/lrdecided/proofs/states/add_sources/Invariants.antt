@@ -1,7 +1,7 @@
 -- the sources so far are listed
 use Rattle.std.proofs.Common.{◌≡◌, drop, length}
 use Rattle.lrsearches.specs.StoredWays.{row_of}
-use Rattle.lrdecided.specs.Numbers.{number_of}
+use Rattle.lrgrammar.specs.Symbols.{number_of}
 use Rattle.lrdecided.specs.StoredNodes.{states_of}
 use Rattle.lrdecided.specs.StoredStates.{AreSeen, KeepsStates}
 use Rattle.lrdecided.proofs.CollectedInTurn.{AreAdding}

@@ -5,7 +5,7 @@ use Rattle.lrspec.specs.grammars.ItemSets.{Items, HasItem}
 use Rattle.lritems.specs.ItemsOf.{set_of}
 use Rattle.lrclosing.proofs.ItemKeys.{item_here}
 use Rattle.lrsearches.proofs.ClosesInTurn.{absent_item}
-use Rattle.lrdecided.specs.Numbers.{number_of}
+use Rattle.lrgrammar.specs.Symbols.{number_of}
 use Rattle.lrdecided.proofs.states.has_item.Goals as goal
 
 pub returns-in-None : goal.returns-in-None

@@ -1,7 +1,6 @@
 -- so many are left
 use Rattle.std.proofs.Common.{ap, ◌∙◌}
-use Rattle.lrgrammar.specs.Symbols.{symbol_of}
-use Rattle.lrdecided.specs.Numbers.{number_of}
+use Rattle.lrgrammar.specs.Symbols.{symbol_of, number_of}
 use Rattle.lrdecided.specs.StoredNodes.{symbols_of, side_of}
 use Rattle.lrdecided.proofs.TakenAndCut.{cut_so, take_mapped}
 use Rattle.lrdecided.proofs.taking.cut_side.Goals as goal

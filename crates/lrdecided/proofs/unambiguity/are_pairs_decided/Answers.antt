@@ -1,7 +1,7 @@
 -- a turn for each move
 use Rattle.std.proofs.lemmas.List.{get_or_default}
 use Rattle.lrconflicts.specs.StoredMoves.{move_of}
-use Rattle.lrdecided.specs.Numbers.{number_of}
+use Rattle.lrgrammar.specs.Symbols.{number_of}
 use Rattle.lrdecided.proofs.DecidedCells.{no_pairs, pair_more, pair_all}
 use Rattle.lrdecided.proofs.unambiguity.are_pairs_decided.Goals as goal
 

@@ -1,7 +1,7 @@
 -- each two of those so far are decided
 use Rattle.std.proofs.Common.{take}
 use Rattle.lrconflicts.specs.StoredMoves.{moves_stored}
-use Rattle.lrdecided.specs.Numbers.{number_of}
+use Rattle.lrgrammar.specs.Symbols.{number_of}
 use Rattle.lrdecided.specs.Contenders.{ArePairsDecided}
 use Rattle.lrdecided.proofs.unambiguity.are_pairs_decided.Given as goal
 

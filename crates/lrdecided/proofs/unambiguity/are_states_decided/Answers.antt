@@ -1,7 +1,7 @@
 -- a turn for each state
 use Rattle.std.proofs.Common.{◌<◌, length, subst, arith}
 use Rattle.lrgrammar.proofs.Turns.{has_index, index_number}
-use Rattle.lrdecided.specs.Numbers.{number_of}
+use Rattle.lrgrammar.specs.Symbols.{number_of}
 use Rattle.lrdecided.specs.Contenders.{IsStateDecided}
 use Rattle.lrdecided.proofs.DecidedCells.{next_below}
 use Rattle.lrdecided.proofs.unambiguity.are_states_decided.Goals as goal

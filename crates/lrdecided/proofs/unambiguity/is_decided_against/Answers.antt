@@ -2,7 +2,7 @@
 use Rattle.std.proofs.Common.{◌≢◌}
 use Rattle.std.proofs.lemmas.List.{get_or_default}
 use Rattle.lrconflicts.specs.StoredMoves.{move_of}
-use Rattle.lrdecided.specs.Numbers.{number_of}
+use Rattle.lrgrammar.specs.Symbols.{number_of}
 use Rattle.lrdecided.specs.Decided.{IsDecided}
 use Rattle.lrdecided.proofs.SameNodes.{all_more, all_of}
 use Rattle.lrdecided.proofs.unambiguity.is_decided_against.Goals as goal

@@ -2,7 +2,7 @@
 use Rattle.std.proofs.Common.{◌≢◌, take}
 use Rattle.std.specs.Prelude.{All}
 use Rattle.lrconflicts.specs.StoredMoves.{move_of}
-use Rattle.lrdecided.specs.Numbers.{number_of}
+use Rattle.lrgrammar.specs.Symbols.{number_of}
 use Rattle.lrdecided.specs.Decided.{IsDecided}
 use Rattle.lrdecided.proofs.unambiguity.is_decided_against.Given as goal
 

@@ -2,7 +2,7 @@
 use Rattle.std.proofs.Common.{subst, arith}
 use Rattle.lrgrammar.proofs.Turns.{has_index, index_number}
 use Rattle.lrconflicts.specs.StoredMoves.{moves_stored}
-use Rattle.lrdecided.specs.Numbers.{number_of}
+use Rattle.lrgrammar.specs.Symbols.{number_of}
 use Rattle.lrdecided.specs.Contenders.{IsCellDecided}
 use Rattle.lrdecided.proofs.DecidedCells.{next_below, cell_decided}
 use Rattle.lrdecided.proofs.unambiguity.is_state_decided.Goals as goal

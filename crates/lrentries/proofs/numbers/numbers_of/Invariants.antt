@@ -1,7 +1,7 @@
 -- those so far
 use Rattle.std.proofs.Common.{◌≡◌, take}
 use Rattle.lrtable.specs.RunAnswers.{text_of}
-use Rattle.lrlosses.specs.FoundLosses.{number_of}
+use Rattle.lrgrammar.specs.Symbols.{number_of}
 use Rattle.lrentries.proofs.numbers.numbers_of.Given as goal
 
 abbrev pub invariant-loop-token : goal.invariant-loop-token

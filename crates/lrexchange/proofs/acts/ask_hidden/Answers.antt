@@ -2,9 +2,8 @@
 use Rattle.std.proofs.Common.{◌≡◌, ◌≤◌, List, [], ◌∷◌, length, Option, Some, refl, ap, subst, arith}
 use Rattle.std.proofs.lemmas.List.{length-map}
 use Rattle.lrspec.specs.grammars.Grammar as math
-use Rattle.lrgrammar.specs.Symbols.{symbol_of}
+use Rattle.lrgrammar.specs.Symbols.{symbol_of, number_of}
 use Rattle.lrdecided.proofs.CollectedInTurn.{kept, added}
-use Rattle.lrdecided.specs.Numbers.{number_of}
 use Rattle.lrexchange.specs.Exchanges.{at}
 use Rattle.lrexchange.specs.Positions.{Mark, IsCut}
 use Rattle.lrexchange.specs.StoredPositions.{symbols_of, mark_of, position_of, positions_of}

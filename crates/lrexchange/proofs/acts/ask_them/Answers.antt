@@ -1,9 +1,8 @@
 -- where their stack is cut
 use Rattle.std.proofs.Common.{◌≤◌, length, refl, arith}
 use Rattle.std.proofs.lemmas.List.{length-map}
-use Rattle.lrgrammar.specs.Symbols.{symbol_of}
+use Rattle.lrgrammar.specs.Symbols.{symbol_of, number_of}
 use Rattle.lrdecided.proofs.CollectedInTurn.{kept, added}
-use Rattle.lrdecided.specs.Numbers.{number_of}
 use Rattle.lrexchange.specs.Exchanges.{at}
 use Rattle.lrexchange.specs.StoredPositions.{symbols_of, turn_of, position_of, positions_of}
 use Rattle.lrexchange.proofs.CutStacks.{them_asked, them_unasked, none_left}

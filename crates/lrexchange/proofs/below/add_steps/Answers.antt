@@ -2,10 +2,9 @@
 use Rattle.std.proofs.Common.{ℕ, ◌∷◌}
 use Rattle.std.specs.Prelude.{Contains}
 use Rattle.lrspec.specs.grammars.Grammar as math
-use Rattle.lrgrammar.specs.Symbols.{symbol_of}
+use Rattle.lrgrammar.specs.Symbols.{symbol_of, number_of}
 use Rattle.lrsearches.specs.StoredWays.{row_of}
 use Rattle.lrdecided.proofs.CollectedInTurn.{kept, added, edge_at, edge_of, edge_left, edges_none}
-use Rattle.lrdecided.specs.Numbers.{number_of}
 use Rattle.lrexchange.specs.StoredPositions.{symbols_of, belows_of}
 use Rattle.lrexchange.proofs.AskedInTurn.{begin_all, next_all, end_all}
 use Rattle.lrexchange.proofs.BelowStates.{step_so, below_of}

@@ -2,7 +2,7 @@
 use Rattle.std.proofs.Common.{◌∷◌, drop}
 use Rattle.std.specs.Prelude.{Contains}
 use Rattle.lrsearches.specs.StoredWays.{row_of}
-use Rattle.lrdecided.specs.Numbers.{number_of}
+use Rattle.lrgrammar.specs.Symbols.{number_of}
 use Rattle.lrexchange.specs.Asked.{KeepsBelows}
 use Rattle.lrexchange.specs.StoredPositions.{symbols_of, belows_of}
 use Rattle.lrexchange.proofs.AskedInTurn.{AllBut}

@@ -3,7 +3,7 @@ use Rattle.std.proofs.Common.{◌<◌, length, refl, ◌∙◌, arith}
 use Rattle.lrsearches.specs.StoredWays.{row_of}
 use Rattle.lrclosing.proofs.SymbolsBehindDots.{left_at, left_none}
 use Rattle.lrdecided.proofs.CollectedInTurn.{row_is}
-use Rattle.lrdecided.specs.Numbers.{number_of}
+use Rattle.lrgrammar.specs.Symbols.{number_of}
 use Rattle.lrexchange.specs.StoredPositions.{symbols_of, belows_of}
 use Rattle.lrexchange.proofs.AskedInTurn.{begin_all, next_all}
 use Rattle.lrexchange.proofs.BelowStates.{StepsFrom, below_of, more_steps, steps_of_row, all_steps}

@@ -1,8 +1,7 @@
 -- a turn for each symbol
 use Rattle.std.proofs.Common.{arith}
-use Rattle.lrgrammar.specs.Symbols.{symbol_of}
+use Rattle.lrgrammar.specs.Symbols.{symbol_of, number_of}
 use Rattle.lrdecided.proofs.SameNodes.{same_more, same_all}
-use Rattle.lrdecided.specs.Numbers.{number_of}
 use Rattle.lrexchange.proofs.CutStacks.{same_there}
 use Rattle.lrexchange.proofs.Tests.{test_fails, so, not_so}
 use Rattle.lrexchange.proofs.cuts.are_same_symbols.Goals as goal

@@ -2,8 +2,7 @@
 use Rattle.std.proofs.Common.{ℕ, sym, ap, ◌∙◌, take}
 use Rattle.std.proofs.lemmas.List.{take-map}
 use Rattle.lrspec.specs.grammars.Grammar.{body_of}
-use Rattle.lrgrammar.specs.Symbols.{symbol_of}
-use Rattle.lrdecided.specs.Numbers.{number_of}
+use Rattle.lrgrammar.specs.Symbols.{symbol_of, number_of}
 use Rattle.lrexchange.proofs.cuts.before_dot.Goals as goal
 
 pub returns-then-dot-body : goal.returns-then-dot-body

@@ -2,8 +2,7 @@
 use Rattle.std.proofs.Common.{◌≡◌, ◌+◌, ◌-◌, ◌≤◌, length, refl, sym, ◌∙◌, arith}
 use Rattle.std.proofs.lemmas.List.{length-map}
 use Rattle.lrclosing.proofs.SymbolsBehindDots.{sliced}
-use Rattle.lrgrammar.specs.Symbols.{symbol_of}
-use Rattle.lrdecided.specs.Numbers.{number_of}
+use Rattle.lrgrammar.specs.Symbols.{symbol_of, number_of}
 use Rattle.lrexchange.specs.StoredPositions.{symbols_of}
 use Rattle.lrexchange.proofs.CutStacks.{no_other_end, ends_so}
 use Rattle.lrexchange.proofs.Tests.{test_fails}

@@ -1,6 +1,5 @@
 -- the rule behind the front
-use Rattle.lrgrammar.specs.Symbols.{symbol_of}
-use Rattle.lrdecided.specs.Numbers.{number_of}
+use Rattle.lrgrammar.specs.Symbols.{symbol_of, number_of}
 use Rattle.lrexchange.specs.StoredPositions.{symbols_of}
 use Rattle.lrexchange.proofs.CutStacks.{front_with_one, cut_to}
 use Rattle.lrexchange.proofs.cuts.cut.Goals as goal

@@ -1,8 +1,7 @@
 -- the first mark
 use Rattle.std.proofs.Common.{◌≡◌, length, refl, ap, arith}
 use Rattle.std.specs.Option.{option_map}
-use Rattle.lrgrammar.specs.Symbols.{symbol_of}
-use Rattle.lrdecided.specs.Numbers.{number_of}
+use Rattle.lrgrammar.specs.Symbols.{symbol_of, number_of}
 use Rattle.lrexchange.specs.StoredPositions.{mark_of, position_of}
 use Rattle.lrexchange.proofs.AskedPositions.{first_mark, one_alone}
 use Rattle.lrexchange.proofs.CutStacks.{none_left}

@@ -1,8 +1,7 @@
 -- over the symbol behind the dot
 use Rattle.std.proofs.Common.{ℕ, suc, [], ◌∷◌, ◌++◌, refl, ap}
-use Rattle.lrgrammar.specs.Symbols.{symbol_of}
+use Rattle.lrgrammar.specs.Symbols.{symbol_of, number_of}
 use Rattle.lrdecided.proofs.CollectedInTurn.{added}
-use Rattle.lrdecided.specs.Numbers.{number_of}
 use Rattle.lrexchange.specs.Exchanges.{at}
 use Rattle.lrexchange.specs.Positions.{Open, pushed}
 use Rattle.lrexchange.specs.StoredPositions.{symbols_of, ours_of, position_of}

@@ -1,8 +1,7 @@
 -- a turn for each place
 use Rattle.std.proofs.Common.{◌<◌, length, sym, arith}
 use Rattle.std.proofs.lemmas.List.{length-map}
-use Rattle.lrgrammar.specs.Symbols.{symbol_of}
-use Rattle.lrdecided.specs.Numbers.{number_of}
+use Rattle.lrgrammar.specs.Symbols.{symbol_of, number_of}
 use Rattle.lrexchange.specs.StoredPositions.{symbols_of}
 use Rattle.lrexchange.proofs.SunkPositions.{begin_common, next_common, at_mapped}
 use Rattle.lrexchange.proofs.sinking.common.Goals as goal

@@ -2,8 +2,7 @@
 use Rattle.std.proofs.Common.{take, sym, ap, ◌∙◌, arith}
 use Rattle.std.specs.Option.{option_map}
 use Rattle.std.proofs.lemmas.List.{length-map, length-take, take-map}
-use Rattle.lrgrammar.specs.Symbols.{symbol_of}
-use Rattle.lrdecided.specs.Numbers.{number_of}
+use Rattle.lrgrammar.specs.Symbols.{symbol_of, number_of}
 use Rattle.lrexchange.specs.StoredPositions.{symbols_of, mark_of, ours_of}
 use Rattle.lrexchange.proofs.SunkPositions.{first_before}
 use Rattle.lrexchange.proofs.sinking.sinkable.Goals as goal

@@ -1,8 +1,7 @@
 -- by what is common
 use Rattle.std.proofs.Common.{drop, refl, ap, ◌∙◌}
 use Rattle.lrclosing.proofs.SymbolsBehindDots.{sliced}
-use Rattle.lrgrammar.specs.Symbols.{symbol_of}
-use Rattle.lrdecided.specs.Numbers.{number_of}
+use Rattle.lrgrammar.specs.Symbols.{symbol_of, number_of}
 use Rattle.lrexchange.specs.StoredPositions.{symbols_of, ours_of, position_of}
 use Rattle.lrexchange.proofs.SamePositions.{the_position}
 use Rattle.lrexchange.proofs.SunkPositions.{sinks}

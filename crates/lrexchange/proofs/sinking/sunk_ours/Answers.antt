@@ -2,8 +2,7 @@
 use Rattle.std.proofs.Common.{drop, refl, ap, ◌∙◌}
 use Rattle.std.specs.Option.{option_map}
 use Rattle.lrclosing.proofs.SymbolsBehindDots.{sliced}
-use Rattle.lrgrammar.specs.Symbols.{symbol_of}
-use Rattle.lrdecided.specs.Numbers.{number_of}
+use Rattle.lrgrammar.specs.Symbols.{symbol_of, number_of}
 use Rattle.lrexchange.specs.StoredPositions.{symbols_of, mark_of, ours_of}
 use Rattle.lrexchange.proofs.CutStacks.{none_left}
 use Rattle.lrexchange.proofs.SunkPositions.{sunk_known, sunk_marked}

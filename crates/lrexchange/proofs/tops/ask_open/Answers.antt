@@ -4,7 +4,7 @@ use Rattle.lrspec.specs.grammars.ItemSets.{Items}
 use Rattle.lrspec.specs.merging.Graph.{core_of}
 use Rattle.lritems.specs.ItemsOf.{items_of}
 use Rattle.lrdecided.proofs.CollectedInTurn.{kept, added}
-use Rattle.lrdecided.specs.Numbers.{number_of}
+use Rattle.lrgrammar.specs.Symbols.{number_of}
 use Rattle.lrexchange.specs.Exchanges.{at}
 use Rattle.lrexchange.specs.Positions.{Open}
 use Rattle.lrexchange.specs.StoredPositions.{position_of, positions_of}

@@ -1,7 +1,7 @@
 -- the items so far are open
 use Rattle.lritems.specs.ItemsOf.{items_of}
 use Rattle.lrspec.specs.merging.Graph.{core_of}
-use Rattle.lrdecided.specs.Numbers.{number_of}
+use Rattle.lrgrammar.specs.Symbols.{number_of}
 use Rattle.lrexchange.specs.StoredPositions.{position_of, positions_of}
 use Rattle.lrexchange.proofs.ToppedStacks.{HasOpenBut}
 use Rattle.lrexchange.proofs.tops.ask_open.Given as goal

@@ -1,9 +1,8 @@
 -- a turn for each symbol
 use Rattle.std.proofs.Common.{subst}
-use Rattle.lrgrammar.specs.Symbols.{symbol_of}
+use Rattle.lrgrammar.specs.Symbols.{symbol_of, number_of}
 use Rattle.lrclosing.proofs.SymbolsBehindDots.{left_none}
 use Rattle.lrdecided.proofs.CollectedInTurn.{left_there}
-use Rattle.lrdecided.specs.Numbers.{number_of}
 use Rattle.lrexchange.specs.StoredPositions.{symbols_of}
 use Rattle.lrexchange.proofs.ToppedStacks.{LeadsOn, begin_leading, next_leading, no_lead, end_leading}
 use Rattle.lrexchange.proofs.tops.end_of.Goals as goal

@@ -4,7 +4,7 @@ use Rattle.lrspec.specs.grammars.ItemSets.{Items}
 use Rattle.lrspec.specs.merging.Graph.{closed_of}
 use Rattle.lritems.specs.ItemsOf.{items_of}
 use Rattle.lrdecided.proofs.CollectedInTurn.{kept, added}
-use Rattle.lrdecided.specs.Numbers.{number_of}
+use Rattle.lrgrammar.specs.Symbols.{number_of}
 use Rattle.lrexchange.proofs.ToppedStacks.{HasReductionsBut, begin_reductions, next_reductions, end_reductions}
 use Rattle.lrexchange.proofs.tops.reductions_on.Goals as goal
 

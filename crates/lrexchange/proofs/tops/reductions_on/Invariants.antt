@@ -2,7 +2,7 @@
 use Rattle.std.proofs.Common.{map}
 use Rattle.lritems.specs.ItemsOf.{items_of}
 use Rattle.lrspec.specs.merging.Graph.{closed_of}
-use Rattle.lrdecided.specs.Numbers.{number_of}
+use Rattle.lrgrammar.specs.Symbols.{number_of}
 use Rattle.lrexchange.proofs.ToppedStacks.{HasReductionsBut}
 use Rattle.lrexchange.proofs.tops.reductions_on.Given as goal
 

@@ -2,8 +2,7 @@
 use Rattle.std.proofs.Common.{length, map, sym, subst, ap, arith}
 use Rattle.std.proofs.lemmas.List.{length-map}
 use Rattle.lrspec.specs.grammars.Grammar.{IsProductionOf}
-use Rattle.lrgrammar.specs.Symbols.{symbol_of}
-use Rattle.lrdecided.specs.Numbers.{number_of}
+use Rattle.lrgrammar.specs.Symbols.{symbol_of, number_of}
 use Rattle.lrkept.proofs.AlonePairs.{begin_added, next_added, all_added}
 use Rattle.lrkept.proofs.alone.add_pairs.Goals as goal
 

@@ -2,8 +2,7 @@
 use Rattle.std.proofs.Common.{refl, ap, sym}
 use Rattle.lrspec.specs.grammars.Grammar.{Rule}
 use Rattle.lrgrammar.specs.declared.idx.Symbol.TheVariants as code
-use Rattle.lrgrammar.specs.Symbols.{symbol_of}
-use Rattle.lrdecided.specs.Numbers.{number_of}
+use Rattle.lrgrammar.specs.Symbols.{symbol_of, number_of}
 use Rattle.lrexchange.proofs.Tests.{test_fails}
 use Rattle.lrkept.proofs.AlonePairs.{element, alone_there, none_at_token, none_before, none_behind}
 use Rattle.lrkept.proofs.alone.alone_at.Goals as goal

@@ -1,7 +1,7 @@
 -- a turn for each production
 use Rattle.std.proofs.Common.{arith}
 use Rattle.lrgrammar.proofs.Turns.{index_number}
-use Rattle.lrdecided.specs.Numbers.{number_of}
+use Rattle.lrgrammar.specs.Symbols.{number_of}
 use Rattle.lrkept.proofs.AlonePairs.{next_pairs, all_pairs}
 use Rattle.lrkept.proofs.alone.alone_pairs.Goals as goal
 

@@ -1,10 +1,9 @@
 -- a turn for each symbol
 use Rattle.std.proofs.Common.{map, drop, ◌+◌}
-use Rattle.lrgrammar.specs.Symbols.{symbol_of}
+use Rattle.lrgrammar.specs.Symbols.{symbol_of, number_of}
 use Rattle.lrclosing.proofs.NullableRests.{null_end}
 use Rattle.lrclosing.proofs.SymbolsBehindDots.{left_none}
 use Rattle.lrdecided.proofs.CollectedInTurn.{left_there}
-use Rattle.lrdecided.specs.Numbers.{number_of}
 use Rattle.lrkept.proofs.NullableLists.{null_next, null_stop}
 use Rattle.lrexchange.proofs.Tests.{test_fails}
 use Rattle.lrkept.proofs.alone.are_nullable.Goals as goal

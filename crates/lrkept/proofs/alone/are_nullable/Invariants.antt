@@ -2,8 +2,7 @@
 use Rattle.std.proofs.Common.{map, drop}
 use Rattle.std.specs.Prelude.{◌↔◌}
 use Rattle.lrspec.specs.grammars.First.{AllNullable}
-use Rattle.lrgrammar.specs.Symbols.{symbol_of}
-use Rattle.lrdecided.specs.Numbers.{number_of}
+use Rattle.lrgrammar.specs.Symbols.{symbol_of, number_of}
 use Rattle.lrkept.proofs.alone.are_nullable.Given as goal
 
 abbrev pub invariant-loop-symbol : goal.invariant-loop-symbol

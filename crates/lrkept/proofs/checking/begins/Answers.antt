@@ -3,7 +3,7 @@ use Rattle.std.proofs.Common.{◌≡◌, length, arith}
 use Rattle.std.proofs.lemmas.List.{length-map}
 use Rattle.std.proofs.lemmas.Result.{IfOk-weaker}
 use Rattle.lrconflicts.specs.StoredMoves.{move_of}
-use Rattle.lrdecided.specs.Numbers.{number_of}
+use Rattle.lrgrammar.specs.Symbols.{number_of}
 use Rattle.lrexchange.specs.StoredPositions.{position_of, positions_of}
 use Rattle.lrexchange.proofs.WonPositions.{begins_with_listed}
 use Rattle.lrkept.proofs.checking.begins.Goals as goal

@@ -2,7 +2,7 @@
 use Rattle.std.proofs.Common.{ℕ, subst, arith}
 use Rattle.lrgrammar.proofs.Turns.{has_index, index_number}
 use Rattle.lrdecided.proofs.DecidedCells.{next_below}
-use Rattle.lrdecided.specs.Numbers.{number_of}
+use Rattle.lrgrammar.specs.Symbols.{number_of}
 use Rattle.lrkept.specs.Choices.{TakesShift, TakesReductions}
 use Rattle.lrexchange.proofs.Tests.{test_fails, so, not_so}
 use Rattle.lrkept.proofs.choices.takes_all_in.Goals as goal

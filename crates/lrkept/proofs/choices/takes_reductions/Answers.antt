@@ -1,7 +1,7 @@
 -- a turn for each item of the closed state
 use Rattle.std.proofs.Common.{ap, ◌∙◌}
 use Rattle.lritems.specs.ItemsOf.{items_of}
-use Rattle.lrdecided.specs.Numbers.{number_of}
+use Rattle.lrgrammar.specs.Symbols.{number_of}
 use Rattle.lrkept.proofs.TakenCells.{begin_taken, next_within, next_taken, next_of_all, end_taken}
 use Rattle.lrexchange.proofs.Tests.{test_fails, so, not_so}
 use Rattle.lrkept.proofs.choices.takes_reductions.Goals as goal

@@ -1,6 +1,6 @@
 -- the reductions by the items so far are taken
 use Rattle.lritems.specs.ItemsOf.{items_of}
-use Rattle.lrdecided.specs.Numbers.{number_of}
+use Rattle.lrgrammar.specs.Symbols.{number_of}
 use Rattle.lrkept.proofs.TakenCells.{TakenBut}
 use Rattle.lrkept.proofs.choices.takes_reductions.Given as goal
 

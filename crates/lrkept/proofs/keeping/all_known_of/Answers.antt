@@ -1,7 +1,7 @@
 -- a turn for each move
 use Rattle.lrconflicts.specs.StoredMoves.{move_of}
 use Rattle.lrdecided.proofs.SameNodes.{all_of}
-use Rattle.lrdecided.specs.Numbers.{number_of}
+use Rattle.lrgrammar.specs.Symbols.{number_of}
 use Rattle.lrkept.specs.Keeping.{IsKnownOf}
 use Rattle.lrkept.proofs.KeptCells.{move_more}
 use Rattle.lrkept.proofs.keeping.all_known_of.Goals as goal

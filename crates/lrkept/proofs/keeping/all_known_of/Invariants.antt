@@ -2,7 +2,7 @@
 use Rattle.std.proofs.Common.{take}
 use Rattle.std.specs.Prelude.{All}
 use Rattle.lrconflicts.specs.StoredMoves.{move_of}
-use Rattle.lrdecided.specs.Numbers.{number_of}
+use Rattle.lrgrammar.specs.Symbols.{number_of}
 use Rattle.lrkept.specs.Keeping.{IsWon, IsKnownOf}
 use Rattle.lrkept.proofs.keeping.all_known_of.Given as goal
 

@@ -2,7 +2,7 @@
 use Rattle.std.proofs.Common.{subst}
 use Rattle.lrconflicts.specs.StoredMoves.{move_of}
 use Rattle.lrlosses.specs.Losses.{Takes}
-use Rattle.lrdecided.specs.Numbers.{number_of}
+use Rattle.lrgrammar.specs.Symbols.{number_of}
 use Rattle.lrkept.proofs.ExchangeKeeps.{certificate_keeps}
 use Rattle.lrkept.proofs.keeping.kept_as.Goals as goal
 

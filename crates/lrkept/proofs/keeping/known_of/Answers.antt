@@ -1,7 +1,7 @@
 -- a reduction by the start production doesn't contend
 use Rattle.std.proofs.lemmas.Result.{IfOk-weaker}
 use Rattle.lrconflicts.specs.StoredMoves.{move_of}
-use Rattle.lrdecided.specs.Numbers.{number_of}
+use Rattle.lrgrammar.specs.Symbols.{number_of}
 use Rattle.lrkept.specs.declared.keeping.Exactness.TheVariants as known
 use Rattle.lrkept.proofs.KeptCells.{by_start}
 use Rattle.lrkept.proofs.keeping.known_of.Goals as goal

@@ -3,7 +3,7 @@ use Rattle.std.proofs.Common.{subst, arith}
 use Rattle.lrgrammar.proofs.Turns.{has_index, index_number}
 use Rattle.lrconflicts.specs.StoredMoves.{moves_stored}
 use Rattle.lrdecided.specs.Contenders.{HasContenders}
-use Rattle.lrdecided.specs.Numbers.{number_of}
+use Rattle.lrgrammar.specs.Symbols.{number_of}
 use Rattle.lrkept.specs.Keeping.{AreKnownOf}
 use Rattle.lrkept.proofs.KeptCells.{token_more}
 use Rattle.lrkept.proofs.keeping.state_kept_as.Goals as goal

@@ -1,7 +1,7 @@
 -- a turn for each state
 use Rattle.std.proofs.Common.{◌<◌, length, subst, arith}
 use Rattle.lrgrammar.proofs.Turns.{has_index, index_number}
-use Rattle.lrdecided.specs.Numbers.{number_of}
+use Rattle.lrgrammar.specs.Symbols.{number_of}
 use Rattle.lrkept.specs.Keeping.{IsStateKeptAs}
 use Rattle.lrkept.proofs.KeptCells.{state_more}
 use Rattle.lrkept.proofs.keeping.table_kept_as.Goals as goal

@@ -3,11 +3,10 @@ use Rattle.std.specs.Prelude.{fold}
 use Rattle.std.specs.String.{string_bytes}
 use Rattle.std.proofs.lemmas.List.{length-map}
 use Rattle.lrspec.specs.texts.PrintedTexts.{symbol_text}
-use Rattle.lrgrammar.specs.Symbols.{symbol_of}
+use Rattle.lrgrammar.specs.Symbols.{symbol_of, number_of}
 use Rattle.lrconflicts.specs.StoredMoves.{moves_stored}
 use Rattle.lrreasons.specs.Brackets.{no_row, next_row, joined}
 use Rattle.lrreasons.specs.StoredForms.{row_of, form_words, trees_of}
-use Rattle.lrreasons.specs.Numbers.{number_of}
 use Rattle.lrreasons.proofs.Rows.{dot_at_end, dot_within}
 use Rattle.lrreasons.proofs.brackets.bracketed.Goals.{then-len-form+in_ok-push_word, else-len-form}
 use Rattle.lrreasons.proofs.brackets.bracketed.Goals as goal

@@ -2,8 +2,7 @@ use Rattle.std.proofs.Common.{◌≡◌, ◌==◌, [], ◌∷◌, map, refl}
 use Rattle.std.specs.Prelude.{codes, if◌then◌else◌}
 use Rattle.std.specs.String.{string_bytes}
 use Rattle.lrspec.specs.texts.PrintedTexts.{symbol_text}
-use Rattle.lrgrammar.specs.Symbols.{symbol_of}
-use Rattle.lrreasons.specs.Numbers.{number_of}
+use Rattle.lrgrammar.specs.Symbols.{symbol_of, number_of}
 use Rattle.lrreasons.proofs.Pieces.{mapped_push, no_piece}
 use Rattle.lrreasons.proofs.Rows.{word_there, no_word, dot_here, no_dot}
 use Rattle.lrreasons.proofs.brackets.words_of_leaf.Goals.{then-place-form+in_ok-push_word, else-place-form, in-Some+in_ok-symbol_word+in_ok-push, in_default}

@@ -1,8 +1,7 @@
 use Rattle.std.proofs.Common.{◌≡◌, ◌+◌, ◌∷◌, map, drop, ap, ◌∙◌}
-use Rattle.lrgrammar.specs.Symbols.{symbol_of}
+use Rattle.lrgrammar.specs.Symbols.{symbol_of, number_of}
 use Rattle.lrspec.specs.grammars.Grammar.{Token}
 use Rattle.lrambiguity.proofs.NestingSteps.{symbol_behind}
-use Rattle.lrreasons.specs.Numbers.{number_of}
 use Rattle.lrreasons.proofs.SameNumbers.{are_same}
 use Rattle.lrreasons.proofs.examples.is_before.Goals as goal
 

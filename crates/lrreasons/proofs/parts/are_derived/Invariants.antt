@@ -1,9 +1,8 @@
 -- the symbols so far
 use Rattle.std.proofs.Common.{length, map, take}
 use Rattle.std.specs.List.{AllZip}
-use Rattle.lrgrammar.specs.Symbols.{symbol_of}
+use Rattle.lrgrammar.specs.Symbols.{symbol_of, number_of}
 use Rattle.lrambiguity.specs.Parts.{Derives}
-use Rattle.lrreasons.specs.Numbers.{number_of}
 use Rattle.lrreasons.specs.Parts.{moves_of_all}
 use Rattle.lrreasons.proofs.parts.are_derived.Given as goal
 

@@ -1,7 +1,7 @@
 -- the moves so far
 use Rattle.std.proofs.Common.{take}
 use Rattle.lrconflicts.specs.StoredMoves.{moves_stored}
-use Rattle.lrreasons.specs.Numbers.{number_of}
+use Rattle.lrgrammar.specs.Symbols.{number_of}
 use Rattle.lrreasons.specs.Parts.{HasFilled}
 use Rattle.lrreasons.proofs.parts.filled.Given as goal
 

@@ -3,7 +3,7 @@ use Rattle.std.proofs.lemmas.List.{map-append}
 use Rattle.std.proofs.lemmas.Slice.Eq.{slice_eq-Decides, strip_prefix_is, strip_suffix_is}
 use Rattle.lrconflicts.specs.StoredMoves.{move_of, moves_stored}
 use Rattle.lrconflicts.specs.declared.moves.Move.{Move}
-use Rattle.lrreasons.specs.Numbers.{number_of}
+use Rattle.lrgrammar.specs.Symbols.{number_of}
 use Rattle.lrreasons.proofs.MoveTests.{moves_tested}
 use Rattle.lrreasons.proofs.parts.stands_in.Goals as goal
 

@@ -1,10 +1,9 @@
 use Rattle.std.proofs.Common.{◌≡◌, true, map, get_or, refl, sym, ap, ◌∙◌}
 use Rattle.std.proofs.lemmas.List.{get_or-map, get_or_default, length-map}
 use Rattle.std.proofs.lemmas.List.Folds.{list_any_at}
-use Rattle.lrgrammar.specs.Symbols.{symbol_of}
+use Rattle.lrgrammar.specs.Symbols.{symbol_of, number_of}
 use Rattle.lrgrammar.specs.declared.idx.Symbol.TheVariants as stored
 use Rattle.lrreasons.specs.Texts.{is_rule}
-use Rattle.lrreasons.specs.Numbers.{number_of}
 use Rattle.lrreasons.proofs.texts.has_rule.Goals as goal
 
 pub returns-in-Rule : goal.returns-in-Rule

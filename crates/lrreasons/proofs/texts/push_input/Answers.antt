@@ -1,8 +1,7 @@
 use Rattle.std.proofs.Common.{◌≡◌, true, map, sym, ◌∙◌}
 use Rattle.std.specs.List.{list_any}
-use Rattle.lrgrammar.specs.Symbols.{symbol_of}
+use Rattle.lrgrammar.specs.Symbols.{symbol_of, number_of}
 use Rattle.lrreasons.specs.Texts.{is_rule}
-use Rattle.lrreasons.specs.Numbers.{number_of}
 use Rattle.lrreasons.proofs.texts.push_input.Goals as goal
 
 pub returns-in_default : goal.returns-in_default

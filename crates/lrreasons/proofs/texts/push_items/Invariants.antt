@@ -3,7 +3,7 @@ use Rattle.std.specs.List.{flat_map}
 use Rattle.std.specs.String.{string_bytes}
 use Rattle.lrambiguity.specs.StoredItems.{items_of}
 use Rattle.lrreasons.specs.Texts.{item_line}
-use Rattle.lrreasons.specs.Numbers.{number_of}
+use Rattle.lrgrammar.specs.Symbols.{number_of}
 use Rattle.lrreasons.proofs.texts.push_items.Given as goal
 
 abbrev pub invariant-loop-item : goal.invariant-loop-item

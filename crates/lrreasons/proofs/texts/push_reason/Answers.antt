@@ -3,7 +3,7 @@ use Rattle.std.specs.String.{string_bytes}
 use Rattle.lrconflicts.specs.Entries.{entry_of}
 use Rattle.lrreasons.specs.Texts.{conflict_line}
 use Rattle.lrreasons.specs.StoredTexts.{ambiguity_or_none, example_text}
-use Rattle.lrreasons.specs.Numbers.{number_of}
+use Rattle.lrgrammar.specs.Symbols.{number_of}
 use Rattle.lrreasons.proofs.Pieces.{two_pieces, last_of_two}
 use Rattle.lrreasons.proofs.texts.push_reason.Goals.{in-Some+in_ok-push_ambiguity-in-Some, in-None+in_ok-push_line-in-None}
 use Rattle.lrreasons.proofs.texts.push_reason.Goals as goal

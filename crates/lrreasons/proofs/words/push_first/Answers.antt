@@ -1,9 +1,8 @@
 use Rattle.std.proofs.Common.{[], ◌∷◌, map, arith}
 use Rattle.std.specs.Prelude.{codes}
 use Rattle.std.specs.String.{string_bytes}
-use Rattle.lrgrammar.specs.Symbols.{symbol_of}
+use Rattle.lrgrammar.specs.Symbols.{symbol_of, number_of}
 use Rattle.lrreasons.specs.Words.{words_of}
-use Rattle.lrreasons.specs.Numbers.{number_of}
 use Rattle.lrreasons.proofs.Pieces.{last_of_two}
 use Rattle.lrreasons.proofs.Shown.{all_first, some_first}
 use Rattle.lrreasons.proofs.words.push_first.Goals as goal

@@ -1,9 +1,8 @@
 use Rattle.std.proofs.Common.{[], ◌∷◌, ◌-◌, length, map, refl, arith}
 use Rattle.std.specs.Prelude.{codes}
 use Rattle.std.specs.String.{string_bytes}
-use Rattle.lrgrammar.specs.Symbols.{symbol_of}
+use Rattle.lrgrammar.specs.Symbols.{symbol_of, number_of}
 use Rattle.lrreasons.specs.Words.{words_of}
-use Rattle.lrreasons.specs.Numbers.{number_of}
 use Rattle.lrreasons.proofs.Pieces.{last_of_two}
 use Rattle.lrreasons.proofs.Shown.{all_last, some_last}
 use Rattle.lrreasons.proofs.words.push_last.Goals as goal

@@ -2,9 +2,8 @@ use Rattle.std.proofs.Common.{map, get_or, append-nil, sym}
 use Rattle.std.specs.String.{string_bytes}
 use Rattle.std.proofs.lemmas.List.{get_or_default, take_all}
 use Rattle.lrspec.specs.texts.PrintedTexts.{symbol_text}
-use Rattle.lrgrammar.specs.Symbols.{symbol_of}
+use Rattle.lrgrammar.specs.Symbols.{symbol_of, number_of}
 use Rattle.lrgrammar.specs.declared.idx.Symbol.TheVariants as stored
-use Rattle.lrreasons.specs.Numbers.{number_of}
 use Rattle.lrreasons.proofs.Pieces.{mapped_push, word_added}
 use Rattle.lrreasons.proofs.words.push_symbols.Goals as goal
 

@@ -1,7 +1,6 @@
 use Rattle.std.proofs.Common.{◌≡◌, map, take}
 use Rattle.lrspec.specs.grammars.Grammar as math
-use Rattle.lrgrammar.specs.Symbols.{symbol_of}
-use Rattle.lrreasons.specs.Numbers.{number_of}
+use Rattle.lrgrammar.specs.Symbols.{symbol_of, number_of}
 use Rattle.lrreasons.proofs.words.symbols_of.Given as goal
 
 abbrev pub invariant-loop-token : goal.invariant-loop-token

@@ -1,9 +1,8 @@
 use Rattle.std.proofs.Common.{◌≡◌, [], ◌∷◌, ◌++◌, map, refl}
 use Rattle.std.specs.Prelude.{codes}
 use Rattle.std.specs.String.{string_bytes}
-use Rattle.lrgrammar.specs.Symbols.{symbol_of}
+use Rattle.lrgrammar.specs.Symbols.{symbol_of, number_of}
 use Rattle.lrreasons.specs.Words.{words_of, first_words, last_words}
-use Rattle.lrreasons.specs.Numbers.{number_of}
 use Rattle.lrreasons.proofs.Shown.{dotted}
 use Rattle.lrreasons.proofs.words.words_with_dot.Goals as goal
 

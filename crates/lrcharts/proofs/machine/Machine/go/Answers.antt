@@ -1,6 +1,6 @@
 use Rattle.std.proofs.Common.{sym, ap, ◌∙◌}
 use Rattle.lrrows.specs.StoredActions.{stored_action}
-use Rattle.lrlosses.specs.FoundLosses.{number_of}
+use Rattle.lrgrammar.specs.Symbols.{number_of}
 use Rattle.lrcharts.proofs.MachineInTurn.{has_shifted, has_reduced}
 use Rattle.lrcharts.proofs.machine.Machine.go.Goals as goal
 

@@ -1,6 +1,6 @@
 use Rattle.std.proofs.Common.{sym}
 use Rattle.lrtable.proofs.StackLists.{next_there}
-use Rattle.lrlosses.specs.FoundLosses.{number_of}
+use Rattle.lrgrammar.specs.Symbols.{number_of}
 use Rattle.lrcharts.proofs.machine.Machine.next_token.Goals as goal
 
 pub returns-in-Some : goal.returns-in-Some

@@ -6,7 +6,7 @@ use Rattle.lrgrammar.specs.declared.idx.StIdx.{StIdx}
 use Rattle.lrspec.specs.grammars.Grammar.{body_of}
 use Rattle.lrtable.specs.WorkingMachine.{stack_of}
 use Rattle.lrtable.proofs.MachineSteps.{goto_here, reduction_made}
-use Rattle.lrlosses.specs.FoundLosses.{number_of}
+use Rattle.lrgrammar.specs.Symbols.{number_of}
 use Rattle.lrcharts.specs.Machines.{left_of}
 use Rattle.lrcharts.proofs.machine.Machine.reduce.Goals as goal
 

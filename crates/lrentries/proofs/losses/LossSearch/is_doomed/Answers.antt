@@ -1,7 +1,7 @@
 -- by the tokens of its numbers
 use Rattle.std.proofs.Common.{◌≡◌, ◌+◌, ap, ◌∙◌, subst}
 use Rattle.lrtable.specs.RunAnswers.{text_of}
-use Rattle.lrlosses.specs.FoundLosses.{number_of}
+use Rattle.lrgrammar.specs.Symbols.{number_of}
 use Rattle.lrcharts.specs.Ways.{HasNoTreeLeft}
 use Rattle.lrentries.proofs.losses.LossSearch.is_doomed.Goals as goal
 

@@ -1,7 +1,7 @@
 use Rattle.std.proofs.Common.{refl}
 use Rattle.lrtree.specs.StoredTrees.{tree_of}
 use Rattle.lrlosses.specs.StoredLosses.{place_of}
-use Rattle.lrlosses.specs.FoundLosses.{number_of}
+use Rattle.lrgrammar.specs.Symbols.{number_of}
 use Rattle.lrentries.proofs.losses.LossSearch.loss_by.Goals as goal
 
 pub returns : goal.returns

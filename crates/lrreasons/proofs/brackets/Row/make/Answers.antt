@@ -4,7 +4,7 @@ use Rattle.lrconflicts.specs.declared.moves.Move.TheVariants as stored
 use Rattle.lrconflicts.specs.StoredMoves.{move_of}
 use Rattle.lrreasons.specs.Brackets.{next_row}
 use Rattle.lrreasons.specs.StoredForms.{row_of, form_words}
-use Rattle.lrreasons.specs.Numbers.{number_of}
+use Rattle.lrgrammar.specs.Symbols.{number_of}
 use Rattle.lrreasons.proofs.Rows.{made_more}
 use Rattle.lrreasons.proofs.brackets.Row.make.Goals.{in-Shift+in_ok-shift-in-Shift, in-Reduce+in_ok-reduce-in-Reduce}
 use Rattle.lrreasons.proofs.brackets.Row.make.Goals as goal

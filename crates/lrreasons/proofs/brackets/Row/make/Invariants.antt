@@ -3,7 +3,7 @@ use Rattle.std.specs.Prelude.{fold}
 use Rattle.lrconflicts.specs.StoredMoves.{moves_stored}
 use Rattle.lrreasons.specs.Brackets.{next_row}
 use Rattle.lrreasons.specs.StoredForms.{row_of, form_words}
-use Rattle.lrreasons.specs.Numbers.{number_of}
+use Rattle.lrgrammar.specs.Symbols.{number_of}
 use Rattle.lrreasons.proofs.brackets.Row.make.Given as goal
 
 abbrev pub invariant-loop-action : goal.invariant-loop-action

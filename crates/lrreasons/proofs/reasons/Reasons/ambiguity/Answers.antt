@@ -1,5 +1,5 @@
 use Rattle.lrambiguity.proofs.TwoTrees.{tree_of_text, trees_differ, lists_conflicts}
-use Rattle.lrreasons.specs.Numbers.{number_of}
+use Rattle.lrgrammar.specs.Symbols.{number_of}
 use Rattle.lrreasons.proofs.ProvedOnes.{some_follows, follows_of_some, is_ambiguous}
 use Rattle.lrreasons.proofs.reasons.Reasons.ambiguity.Goals as goal
 

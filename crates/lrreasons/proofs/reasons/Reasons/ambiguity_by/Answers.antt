@@ -1,5 +1,5 @@
 use Rattle.lrambiguity.proofs.TwoTrees.{trees_differ}
-use Rattle.lrreasons.specs.Numbers.{number_of}
+use Rattle.lrgrammar.specs.Symbols.{number_of}
 use Rattle.lrreasons.proofs.ProvedOnes.{some_follows}
 use Rattle.lrreasons.proofs.reasons.Reasons.ambiguity_by.Goals as goal
 

@@ -6,7 +6,7 @@ use Rattle.lrcells.proofs.HeadedTexts.{image_listed}
 use Rattle.lrconflicts.specs.Entries.{entry_of, entries_of}
 use Rattle.lrreasons.specs.Reasons.{IsReason}
 use Rattle.lrconflicts.proofs.ListedEntries.{entries_listed}
-use Rattle.lrreasons.specs.Numbers.{number_of}
+use Rattle.lrgrammar.specs.Symbols.{number_of}
 use Rattle.lrreasons.proofs.ProvedOnes.{follows_of_some, is_ambiguous}
 use Rattle.lrreasons.proofs.ReasonsInTurn.{one_more, all_more}
 use Rattle.lrreasons.proofs.reasons.Reasons.reasons.Goals as goal

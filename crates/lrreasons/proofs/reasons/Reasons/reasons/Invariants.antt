@@ -3,7 +3,7 @@ use Rattle.std.proofs.Common.{◌≡◌, map, take}
 use Rattle.std.specs.Prelude.{All}
 use Rattle.lrconflicts.specs.Entries.{entry_of, entries_of}
 use Rattle.lrreasons.specs.Reasons.{IsReason}
-use Rattle.lrreasons.specs.Numbers.{number_of}
+use Rattle.lrgrammar.specs.Symbols.{number_of}
 use Rattle.lrreasons.proofs.reasons.Reasons.reasons.Given as goal
 
 abbrev pub invariant-loop-conflict : goal.invariant-loop-conflict

@@ -1,5 +1,5 @@
 use Rattle.std.proofs.Common.{◌≡◌, ◌∙◌, true, false, refl, sym}
-use Rattle.lrreport.specs.Conflicts.{number_of}
+use Rattle.lrgrammar.specs.Symbols.{number_of}
 use Rattle.lrreport.proofs.ItemsBefore.{all_before, item_of, none_before, one_before, stands}
 use Rattle.lrreport.proofs.told.Told.items_before.Goals as goal
 

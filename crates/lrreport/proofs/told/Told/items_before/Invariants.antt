@@ -1,7 +1,7 @@
 -- the items so far, and then those of the rest, are all those before such tokens
 use Rattle.std.proofs.Common.{◌≡◌, ◌++◌}
 use Rattle.std.specs.Map.{keys_of}
-use Rattle.lrreport.specs.Conflicts.{number_of}
+use Rattle.lrgrammar.specs.Symbols.{number_of}
 use Rattle.lrreport.proofs.ItemsBefore.{before}
 use Rattle.lrreport.proofs.told.Told.items_before.Given as goal
 
