@@ -40,7 +40,7 @@ pub(crate) fn table_of(alloc: Global, text: &[u8]) -> Result<Vec<u32>, Problem>
     ensures { IfOk result (λ v. IsFlat text.now v.items) }
 {
     let file = grammar_of(alloc, text)?;
-    let found = find::<u32>(alloc, &file, true, false)?;
+    let found = find(alloc, &file, true, false)?;
     Ok(flat_table(&found.grm, &found.table, found.states)?)
 }
 

@@ -42,7 +42,7 @@ module _ (s n : BTreeSet Cell) (key : Cell) (put : (q : Cell) → contains cell_
 
 -- where a set has the cells in which precedences resolve something, and none of those of the conflicts, these are apart
 pub apart :
-    (cells : BTreeSet Cell) (f : Findings ℕ) → All (λ r. HasCell cells (cell_of r.entry)) f.resolved.items
+    (cells : BTreeSet Cell) (f : Findings) → All (λ r. HasCell cells (cell_of r.entry)) f.resolved.items
     → All (λ e. LacksCell cells (cell_of e)) f.conflicts.items → ResolvesPairs f
 apart cells f has lacks =
     All-map (λ c. All (λ d. c ≢ d) (listed_cells f)) (λ (r : Resolved). cell_of r.entry) f.resolved.items

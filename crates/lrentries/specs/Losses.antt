@@ -31,11 +31,11 @@ abbrev pub cell_of : Entry → Cell
 cell_of e = (e.state, e.token)
 
 -- the cells in which precedences resolve something
-abbrev pub resolved_cells : {T : Type 0} → Findings T → List Cell
+abbrev pub resolved_cells : Findings → List Cell
 resolved_cells f = map (λ r. cell_of r.entry) f.resolved.items
 
 -- the cells of the conflicts that the table lists
-abbrev pub listed_cells : {T : Type 0} → Findings T → List Cell
+abbrev pub listed_cells : Findings → List Cell
 listed_cells f = map cell_of f.conflicts.items
 
 -- no cell is in both lists
@@ -43,7 +43,7 @@ abbrev pub AreApart : List Cell → List Cell → Type 0
 AreApart cells others = All (λ c. All (λ d. c ≢ d) others) cells
 
 -- where precedences resolve something, the table lists no conflict: the shift meets one reduction only
-abbrev pub ResolvesPairs : {T : Type 0} → Findings T → Type 0
+abbrev pub ResolvesPairs : Findings → Type 0
 ResolvesPairs f = AreApart (resolved_cells f) (listed_cells f)
 
 -- where sentences are looked for that the parser rejects: a grammar, its graph and table, the cells in which precedences resolve
@@ -56,7 +56,7 @@ pub record Searched : Type 0 where
   pub listed : List Cell
 
 -- these of what was found, and of its graph
-abbrev pub searched : {T : Type 0} → Findings T → Graph → Searched
+abbrev pub searched : Findings → Graph → Searched
 searched f h = record {
   grammar = f.grm;
   graph = h;

@@ -51,7 +51,7 @@ fn has_any(cells: &BTreeSet<(usize, usize)>, entries: &[Entry]) -> bool
 
 /// Whether a shift meets several reductions in a cell in which precedences resolve something: the table lists a conflict there too.
 /// Bison tries each reduction by itself against the shift, so its table may do something else.
-pub fn are_crowded(alloc: Global, found: &Findings<u32>) -> Result<bool, AllocError>
+pub fn are_crowded(alloc: Global, found: &Findings) -> Result<bool, AllocError>
     ensures { IfOk result (λ are. are ≡ false → ResolvesPairs found.now) }
 {
     let cells = cells_of(alloc, found.resolved.as_slice())?;
@@ -59,7 +59,7 @@ pub fn are_crowded(alloc: Global, found: &Findings<u32>) -> Result<bool, AllocEr
 }
 
 /// Whether the table takes the candidate of the conflict.
-fn is_taken(found: &Findings<u32>, conflict: Conflict<u32>, action: Move<u32>) -> bool {
+fn is_taken(found: &Findings, conflict: Conflict<u32>, action: Move<u32>) -> bool {
     match found.table.action(conflict.state, conflict.token) {
         Action::Shift(_) => action == Move::Shift,
         Action::Reduce(production) => action == Move::Reduce(production),
@@ -70,7 +70,7 @@ fn is_taken(found: &Findings<u32>, conflict: Conflict<u32>, action: Move<u32>) -
 /// What finds sentences that the parser rejects.
 #[derive(Drop)]
 pub struct LossSearch<'a> {
-    found: &'a Findings<u32>,
+    found: &'a Findings,
     graph: &'a StateGraph<u32>,
     losses: Losses<'a>,
     /// Whether Bison's table may be another one; None until that is looked at.
@@ -102,7 +102,7 @@ fn is_at(place: Place<u32>, conflict: Conflict<u32>) -> bool
 
 impl<'a> LossSearch<'a> {
     /// In the table that was found, which is one of the graph, with so much work for all searches together.
-    pub fn new(found: &'a Findings<u32>, graph: &'a StateGraph<u32>, work: usize) -> LossSearch<'a>
+    pub fn new(found: &'a Findings, graph: &'a StateGraph<u32>, work: usize) -> LossSearch<'a>
         requires graph { IsGraphOf found.now.grm graph.now }
         requires table { IsTableOf found.now.grm graph.now found.now.table }
         ensures { result ≡ searched found.entry.now graph.entry.now }

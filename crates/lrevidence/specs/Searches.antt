@@ -15,7 +15,7 @@ pub record AreOfOne (s : Searches) : Type 0 where
   pub graph : s.decisions.graph ≡ s.reasons.graph
 
 -- all are of what was found, and of the graph
-pub record AreFor (f : Findings ℕ) (h : Graph) (s : Searches) : Type 0 where
+pub record AreFor (f : Findings) (h : Graph) (s : Searches) : Type 0 where
   pub found : s.found.now ≡ f
   pub grammar : s.reasons.grammar ≡ f.grm
   pub graph : s.reasons.graph ≡ h

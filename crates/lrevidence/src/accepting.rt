@@ -48,7 +48,7 @@ fn is_any_lost(evidence: &[Evidence]) -> bool {
 
 /// Whether something meets in cells of the table, and no sentence is known that the parser rejects because of it: such a one shows
 /// that it doesn't accept every sentence.
-fn may_be_exact(found: &Findings<u32>, evidence: &[Evidence], resolved: &[Evidence]) -> bool {
+fn may_be_exact(found: &Findings, evidence: &[Evidence], resolved: &[Evidence]) -> bool {
     let has_choice = !(found.left.is_empty() && found.resolved.is_empty());
     has_choice && !is_any_lost(evidence) && !is_any_lost(resolved)
 }
@@ -129,7 +129,7 @@ fn accepted_within(
 /// far as searches show. This is known of the conflicts, and of what precedences resolve. Nothing is told where Bison's table may be
 /// another one.
 pub fn accepted_of(
-    found: &Findings<u32>,
+    found: &Findings,
     evidence: &[Evidence],
     resolved: &[Evidence],
     effort: Effort,

@@ -383,7 +383,7 @@ fn push_evidence(
 /// What all searches of a file share.
 fn searches_for<'a>(
     file: &'a FileGrammar,
-    found: &'a Findings<u32>,
+    found: &'a Findings,
     graph: &'a StateGraph<u32>,
     effort: Effort,
 ) -> Result<Searches<'a>, AllocError>
@@ -407,7 +407,7 @@ fn searches_for<'a>(
 pub fn evidence_for(
     alloc: Global,
     file: &FileGrammar,
-    found: &Findings<u32>,
+    found: &Findings,
     entries: &[Entry],
     effort: Effort,
 ) -> Result<Vec<Evidence>, AllocError>
@@ -463,7 +463,7 @@ fn first_ambiguity(
 /// search takes so many steps at the most, and all together do so much work. The error says that memory was refused.
 pub fn find_ambiguity(
     alloc: Global,
-    found: &Findings<u32>,
+    found: &Findings,
     entries: &[Entry],
     steps: usize,
     work: usize,

@@ -11,7 +11,7 @@ use std::alloc::{AllocError, Global};
 /// What the searches of a file share. What only entries without a sentence that has two trees need is made for the first of these.
 #[derive(Drop)]
 pub(crate) struct Searches<'a> {
-    pub(crate) found: &'a Findings<u32>,
+    pub(crate) found: &'a Findings,
     pub(crate) numbering: Numbering<'a>,
     /// For sentences with two trees, and for examples.
     pub(crate) reasons: Reasons<'a>,

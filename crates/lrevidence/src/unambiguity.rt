@@ -13,7 +13,7 @@ use lrshown::Evidence;
 use std::alloc::AllocError;
 
 /// Whether there are conflicts, each of which is decided, and no more entries with those that precedences resolve than may be asked.
-fn may_be_unambiguous(found: &Findings<u32>, evidence: &[Evidence], effort: Effort) -> bool {
+fn may_be_unambiguous(found: &Findings, evidence: &[Evidence], effort: Effort) -> bool {
     let entries = evidence.len().saturating_add(found.resolved.len());
     !evidence.is_empty() && entries <= effort.decisions && evidence.iter().all(|it| it.is_decided())
 }
@@ -21,7 +21,7 @@ fn may_be_unambiguous(found: &Findings<u32>, evidence: &[Evidence], effort: Effo
 /// Whether it is found that no sentence has two trees although there are these conflicts: each two moves that contend for a cell are
 /// decided, also where precedences resolve what meets.
 pub fn shows_unambiguous(
-    found: &Findings<u32>,
+    found: &Findings,
     evidence: &[Evidence],
     effort: Effort,
 ) -> Result<bool, AllocError>

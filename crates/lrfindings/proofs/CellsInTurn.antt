@@ -1,5 +1,5 @@
 -- what is found at a token in a state, and in one state after another
-use Rattle.std.proofs.Common.{◌≡◌, ◌∙◌, ℕ, zero, suc, ◌+◌, ◌<◌, Bool, true, false, is_some, List, [], ◌∷◌, ◌++◌, length, refl, sym, ap, append_assoc, arith}
+use Rattle.std.proofs.Common.{◌≡◌, ◌∙◌, ℕ, zero, suc, ◌+◌, ◌<◌, Bool, true, false, IsTrue, ◌↔◌, is_some, List, [], ◌∷◌, ◌++◌, length, eq-eqb, refl, sym, ap, append_assoc, arith}
 use Rattle.std.specs.Prelude.{◌==◌}
 use Rattle.std.specs.List.{flat_map, range_with_len}
 use Rattle.std.proofs.lemmas.Bool.{eqb-true}
@@ -51,6 +51,10 @@ no_conflicts o s t false = refl
 pub none_resolved : (o : ℕ → Outcome) (s t : ℕ) (b : Bool) → resolved_by o s t b [] ≡ []
 none_resolved o s t true = refl
 none_resolved o s t false = refl
+
+-- what the test of two numbers tells
+pub same_by_test : (m n : ℕ) → IsTrue (m == n) ↔ (m ≡ n)
+same_by_test m n = (eqb-true m n, eq-eqb m n)
 
 -- no list is empty but the one without elements
 pub nothing_listed : {X : Type 0} (xs : List X) (n : ℕ) (b : Bool) → b ≡ (n == 0) → b ≡ true → n ≡ length xs → xs ≡ []

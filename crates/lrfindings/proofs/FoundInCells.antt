@@ -1,5 +1,5 @@
 -- what is found in the cells of a graph, and where no precedence decides
-use Rattle.std.proofs.Common.{◌≡◌, ◌∙◌, ℕ, Bool, true, false, IsTrue, ◌↔◌, Bor, List, [], ◌∷◌, map, Option, None, Some, option_map, refl, sym, ap, subst}
+use Rattle.std.proofs.Common.{◌≡◌, ◌∙◌, ℕ, Bool, true, false, IsTrue, ◌↔◌, Bor, List, [], ◌∷◌, map, Option, None, Some, option_map, refl, sym, subst}
 use Rattle.std.specs.Prelude.{IfNone, IfSome}
 use Rattle.std.specs.List.{Any, flat_map, range_with_len}
 use Rattle.std.specs.Option.{IsSome}
@@ -7,8 +7,8 @@ use Rattle.std.proofs.lemmas.Bool.{false_from_ne_true}
 use Rattle.lrspec.proofs.tables.NoPrecedences.{no_precedences}
 use Rattle.std.specs.List.Sorted.{IsPermutation}
 use Rattle.std.proofs.lemmas.List.Sorted.{IsPermutation-refl}
-use Rattle.lrspec.specs.grammars.Grammar.{Grammar, Token, token_count}
-use Rattle.lrspec.specs.merging.Graph.{Graph, closed_of, edge}
+use Rattle.lrspec.specs.grammars.Grammar.{Grammar, token_count}
+use Rattle.lrspec.specs.merging.Graph.{Graph, closed_of}
 use Rattle.lrspec.specs.tables.LrTables.{HasNoPrecedences}
 use Rattle.lrspec.specs.tables.Table.{Lists, reductions}
 use Rattle.lrverdicts.specs.declared.conflicts.Entry.{Entry}

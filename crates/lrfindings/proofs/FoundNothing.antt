@@ -22,7 +22,7 @@ none_listed b [] nothing moved = refl
 none_listed b (e ∷ es) nothing moved =
     let none : map told (e ∷ es) ≡ [] = no_more (map told (e ∷ es)) (rw (nothing.0, nothing.1) at moved) in absurd cc
 
-module _ {T : Type 0} (f : Findings T) where
+module _ (f : Findings) where
   -- the conflicts of the table are left where no token has a precedence, as it is where there is no graph
   pub nothing_found :
       {X : Type 0} (o : Option X) (b : Table) (plain : Type 0) → IfNone o (ListsNothing b) → IfNone o plain

@@ -12,6 +12,7 @@ use Rattle.lrparts.specs.declared.errors.GrammarError.TheVariants as error
 use Rattle.lrparts.specs.Refusals.{IsRefusedBy}
 use Rattle.lrtable.specs.Refusals.{IsBuildRefusal, TellsOne}
 use Rattle.lryacc.specs.declared.numbering.FileGrammar.{FileGrammar}
+use Rattle.lrgrammar.specs.Symbols.{number_of}
 use Rattle.lrfindings.specs.FileGrammars.{IsGrammarOfFile, parts_in_force}
 use Rattle.lrfindings.specs.FindErrors.{IsNothingFound, parts_error, build_error}
 use Rattle.lrfindings.specs.declared.findings.FindError.{FindError}
@@ -20,10 +21,9 @@ use Rattle.lrfindings.specs.Findings.{DecidesNothing}
 
 -- a production that is told is one with which accepting is contested
 told_production :
-    {T : Type 0} (number : T → ℕ) (g : Grammar) (k : StateTableErrorKind T) → TellsOne number (IsLeastAcceptContested g) k
-    → (p : ℕ) × IsAcceptContested g p
-told_production number g (AcceptReduceConflict None) h = absurd h
-told_production number g (AcceptReduceConflict (Some p)) h = (number p.0, h.contested)
+    (g : Grammar) (k : StateTableErrorKind ℕ) → TellsOne number_of (IsLeastAcceptContested g) k → (p : ℕ) × IsAcceptContested g p
+told_production g (AcceptReduceConflict None) h = absurd h
+told_production g (AcceptReduceConflict (Some p)) h = (p.0, h.contested)
 
 module _ (max : ℕ) (file : FileGrammar) (b : Bool) where
   -- the parts are refused
@@ -42,11 +42,11 @@ module _ (max : ℕ) (file : FileGrammar) (b : Bool) where
 
   -- there is no graph with a table
   pub by_build :
-      {T : Type 0} (number : T → ℕ) (g : Grammar) (e : BuildError T) → IsGrammarOfFile max file b g → IsBuildRefusal number max g e
+      (g : Grammar) (e : BuildError ℕ) → IsGrammarOfFile max file b g → IsBuildRefusal number_of max g e
       → IsNothingFound max file b (build_error e)
-  by_build number g (build.Table e) made h = let (p, contested) = told_production number g e.kind h.other in (g, p, made, contested)
-  by_build number g build.TooLarge made h = inr (g, made, h)
-  by_build number g build.Memory made h = h
+  by_build g (build.Table e) made h = let (p, contested) = told_production g e.kind h.other in (g, p, made, contested)
+  by_build g build.TooLarge made h = inr (g, made, h)
+  by_build g build.Memory made h = h
 
   -- with its precedences or without them
   pub with_or_without :
@@ -56,7 +56,7 @@ module _ (max : ℕ) (file : FileGrammar) (b : Bool) where
 
 -- precedences are left out only where the table with them lists nothing
 pub kept_or_not :
-    {T : Type 0} (max : ℕ) (file : FileGrammar) (b : Bool) (r : Result (Findings T) FindError) → IfOk r (λ f. f.has_precedences ≡ false)
+    (max : ℕ) (file : FileGrammar) (b : Bool) (r : Result Findings FindError) → IfOk r (λ f. f.has_precedences ≡ false)
     → (b ≡ true → DecidesNothing max file) → IfOk r (λ f. (f.has_precedences ≡ b) ⊎ DecidesNothing max file)
 kept_or_not max file b (Err e) h nothing = tt
 kept_or_not max file true (Ok f) h nothing = inr (nothing refl)

@@ -24,7 +24,7 @@ parts_error error.Memory = Memory
 parts_error e = Refused e
 
 -- the error that tells why there is no graph with a table
-abbrev pub build_error : {T : Type 0} → BuildError T → FindError
+abbrev pub build_error : BuildError ℕ → FindError
 build_error (build.Table e) = NoTable
 build_error build.TooLarge = TooLarge
 build_error build.Memory = Memory

@@ -15,7 +15,7 @@ use Rattle.lrfindings.specs.declared.findings.Findings.{Findings}
 use Rattle.lrverdicts.specs.Listed.{told, listed}
 
 -- no conflict is found, and none that precedences resolve
-pub record FindNothing {T : Type 0} (f : Findings T) : Type 0 where
+pub record FindNothing (f : Findings) : Type 0 where
   pub conflicts : f.conflicts.items ≡ []
   pub left : f.left.items ≡ []
   pub resolved : f.resolved.items ≡ []
@@ -25,7 +25,7 @@ pub record FindNothing {T : Type 0} (f : Findings T) : Type 0 where
 -- has two trees, and always where the table lists nothing and no token has a precedence; the conflicts that are left open are
 -- those of the table where no token has a precedence, and else those that precedences leave open in the cells of the graph; and
 -- what is resolved is what precedences resolve there
-pub record AreFindings {T : Type 0} (max : ℕ) (file : FileGrammar) (f : Findings T) : Type 0 where
+pub record AreFindings (max : ℕ) (file : FileGrammar) (f : Findings) : Type 0 where
   pub grammar : IsGrammarOfFile max file f.has_precedences f.grm
   pub graph : Graph
   pub of_grammar : IsGraphOf f.grm graph

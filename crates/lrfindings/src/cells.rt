@@ -5,7 +5,7 @@
 //! own tokens. A production whose precedence would be that of such a line has the odd level below its tokens, whose level is
 //! even: so the table shifts, and both are left.
 
-ghost use Rattle.std.specs.Prelude.{◌≡◌, ◌++◌, ◌<◌, ◌≤◌, ℕ, false, [], length, map, is_some, option_map, slice_index_or, IfOk, OnOk};
+ghost use Rattle.std.specs.Prelude.{◌≡◌, ◌++◌, ◌^◌, ◌<◌, ℕ, false, [], length, map, is_some, option_map, slice_index_or, IfOk, OnOk};
 ghost use Rattle.std.specs.List.{cons_option, flat_map, range_with_len};
 ghost use Rattle.std.specs.List.Sorted.{IsPermutation};
 ghost use Rattle.lrspec.specs.grammars.Grammar as math;
@@ -16,6 +16,7 @@ ghost use Rattle.lritems.specs.ItemsOf.{set_of};
 ghost use Rattle.lrrows.specs.ReadGraphs.{IsReadable};
 ghost use Rattle.lrrows.specs.StateRows.{complete_items};
 ghost use Rattle.lrverdicts.specs.Listed.{told};
+ghost use Rattle.lrgrammar.specs.Symbols.{number_of};
 ghost use Rattle.lrfindings.specs.CellConflicts.{outcome_of, leaves_shift, leaves_reduction, decision, shift_stands, reductions_left, decided, resolved_of, resolved_by, resolved_at, resolved_in, conflicts_of, conflicts_by, conflicts_at, conflicts_left};
 ghost use Rattle.lrfindings.specs.StoredCells.{outcome_in, resolution, precedence_at, ArePrecedencesOf, complete, looking_at};
 
@@ -119,38 +120,35 @@ struct Precedences {
 }
 
 /// The precedences of the tokens of a grammar.
-fn of_tokens<T: IndexStorage>(
-    alloc: Global,
-    grm: &YaccGrammar<T>,
-) -> Result<Vec<Option<Precedence>>, AllocError>
+fn of_tokens(alloc: Global, grm: &YaccGrammar<u32>) -> Result<Vec<Option<Precedence>>, AllocError>
     ensures { IfOk result (λ v. (t : ℕ) →
         precedence_at v.items t ≡ math.token_precedence grm.now t) }
 {
     let mut precedences = Vec::new(alloc);
     for token in 0..usize::from(grm.tokens_len()) {
-        precedences.push(grm.token_precedence(TIdx(T::from_usize(token).unwrap())))?;
+        precedences.push(grm.token_precedence(TIdx(u32::from_usize(token).unwrap())))?;
     }
     Ok(precedences)
 }
 
 /// The precedences of the productions of a grammar.
-fn of_productions<T: IndexStorage>(
+fn of_productions(
     alloc: Global,
-    grm: &YaccGrammar<T>,
+    grm: &YaccGrammar<u32>,
 ) -> Result<Vec<Option<Precedence>>, AllocError>
     ensures { IfOk result (λ v. (p : ℕ) →
         precedence_at v.items p ≡ math.production_precedence grm.now p) }
 {
     let mut precedences = Vec::new(alloc);
     for production in 0..usize::from(grm.prods_len()) {
-        precedences.push(grm.prod_precedence(PIdx(T::from_usize(production).unwrap())))?;
+        precedences.push(grm.prod_precedence(PIdx(u32::from_usize(production).unwrap())))?;
     }
     Ok(precedences)
 }
 
 impl Precedences {
     /// Those of a grammar.
-    fn new<T: IndexStorage>(alloc: Global, grm: &YaccGrammar<T>) -> Result<Precedences, AllocError>
+    fn new(alloc: Global, grm: &YaccGrammar<u32>) -> Result<Precedences, AllocError>
         ensures { IfOk result (ArePrecedencesOf grm.now) }
     {
         Ok(Precedences {
@@ -308,13 +306,13 @@ impl Reduction<'_> {
 }
 
 /// The complete items of a closed state but for that of the start production, upwards.
-fn reductions_of<'a, T: IndexStorage>(
-    grm: &YaccGrammar<T>,
-    closed: &'a Itemset<T>,
+fn reductions_of<'a>(
+    grm: &YaccGrammar<u32>,
+    closed: &'a Itemset<u32>,
 ) -> Result<Vec<Reduction<'a>>, AllocError>
-    requires { Fits grm.now (set_of T.number closed.now) }
+    requires { Fits grm.now (set_of number_of closed.now) }
     ensures { IfOk result (λ v. map complete v.items
-        ≡ complete_items grm.now (set_of T.number closed.now)) }
+        ≡ complete_items grm.now (set_of number_of closed.now)) }
 {
     let mut reductions = Vec::new(grm.allocator());
     for (key, tokens) in &closed.items {
@@ -368,20 +366,20 @@ fn add_conflicts(
 }
 
 /// Whether a state shifts a token.
-fn shifts<T: IndexStorage>(graph: &StateGraph<T>, state: StIdx<T>, token: usize) -> bool
-    requires { token ≤ T.MAX }
-    ensures { result ≡ is_some (edge graph.now (T.number state.0) (math.Token token)) }
+fn shifts(graph: &StateGraph<u32>, state: StIdx<u32>, token: usize) -> bool
+    requires { token < 2 ^ 32 }
+    ensures { result ≡ is_some (edge graph.now state.0 (math.Token token)) }
 {
-    let tidx = TIdx(T::from_usize(token).unwrap());
+    let tidx = TIdx(u32::from_usize(token).unwrap());
     graph.edge(state, Symbol::Token(tidx)).is_some()
 }
 
 /// What is looked at.
 #[derive(Clone, Copy)]
-struct Looked<'a, T: IndexStorage> {
+struct Looked<'a> {
     rules: Rules<'a>,
-    grm: &'a YaccGrammar<T>,
-    graph: &'a StateGraph<T>,
+    grm: &'a YaccGrammar<u32>,
+    graph: &'a StateGraph<u32>,
 }
 
 /// What is found in the cells of a table.
@@ -491,25 +489,25 @@ impl Cells {
 
     /// Adds what is found at a token in a state with these complete items; the list is made that of the productions by which
     /// the state could reduce there.
-    fn add_token<T: IndexStorage>(
+    fn add_token(
         &mut self,
-        looked: Looked<'_, T>,
-        state: StIdx<T>,
+        looked: Looked<'_>,
+        state: StIdx<u32>,
         reductions: &[Reduction<'_>],
         productions: &mut Vec<usize>,
         token: usize,
     ) -> Result<(), AllocError>
         requires precedences { ArePrecedencesOf looked.grm.now looked.rules.precedences.now }
-        requires fits { Fits looked.grm.now (closed_of looked.graph.now (T.number state.0)) }
-        requires upwards { AreUpwards (closed_of looked.graph.now (T.number state.0)) }
+        requires fits { Fits looked.grm.now (closed_of looked.graph.now state.0) }
+        requires upwards { AreUpwards (closed_of looked.graph.now state.0) }
         requires reductions { map complete reductions.now
-            ≡ complete_items looked.grm.now (closed_of looked.graph.now (T.number state.0)) }
-        requires small { token ≤ T.MAX }
+            ≡ complete_items looked.grm.now (closed_of looked.graph.now state.0) }
+        requires small { token < 2 ^ 32 }
         ensures left { OnOk result (map told self.new.left.items ≡ map told self.old.left.items
-            ++ conflicts_at looked.entry.grm.now looked.entry.graph.now (T.number state.0) token) }
+            ++ conflicts_at looked.entry.grm.now looked.entry.graph.now state.0 token) }
         ensures resolved { OnOk result (map resolution self.new.decisions.resolved.items
             ≡ map resolution self.old.decisions.resolved.items
-            ++ resolved_at looked.entry.grm.now looked.entry.graph.now (T.number state.0) token) }
+            ++ resolved_at looked.entry.grm.now looked.entry.graph.now state.0 token) }
     {
         list_at(productions, reductions, token)?;
         if productions.is_empty() {
@@ -525,21 +523,17 @@ impl Cells {
     }
 
     /// Adds what is found in the cells of a state.
-    fn add_state<T: IndexStorage>(
-        &mut self,
-        looked: Looked<'_, T>,
-        state: StIdx<T>,
-    ) -> Result<(), AllocError>
+    fn add_state(&mut self, looked: Looked<'_>, state: StIdx<u32>) -> Result<(), AllocError>
         requires precedences { ArePrecedencesOf looked.grm.now looked.rules.precedences.now }
         requires graph { IsReadable looked.grm.now looked.graph.now }
-        requires below { T.number state.0 < length looked.graph.now }
+        requires below { state.0 < length looked.graph.now }
         ensures left { OnOk result (map told self.new.left.items ≡ map told self.old.left.items
-            ++ flat_map (conflicts_at looked.entry.grm.now looked.entry.graph.now
-            (T.number state.0)) (range_with_len 0 (math.token_count looked.entry.grm.now))) }
+            ++ flat_map (conflicts_at looked.entry.grm.now looked.entry.graph.now state.0)
+            (range_with_len 0 (math.token_count looked.entry.grm.now))) }
         ensures resolved { OnOk result (map resolution self.new.decisions.resolved.items
             ≡ map resolution self.old.decisions.resolved.items
-            ++ flat_map (resolved_at looked.entry.grm.now looked.entry.graph.now
-            (T.number state.0)) (range_with_len 0 (math.token_count looked.entry.grm.now))) }
+            ++ flat_map (resolved_at looked.entry.grm.now looked.entry.graph.now state.0)
+            (range_with_len 0 (math.token_count looked.entry.grm.now))) }
     {
         let reductions = reductions_of(looked.grm, looked.graph.closed_state(state))?;
         if reductions.is_empty() {
@@ -560,7 +554,7 @@ impl Cells {
 }
 
 /// What is found in the cells of a graph.
-fn cells_in<T: IndexStorage>(alloc: Global, looked: Looked<'_, T>) -> Result<Cells, AllocError>
+fn cells_in(alloc: Global, looked: Looked<'_>) -> Result<Cells, AllocError>
     requires precedences { ArePrecedencesOf looked.grm.now looked.rules.precedences.now }
     requires graph { IsReadable looked.grm.now looked.graph.now }
     ensures left { IfOk result (λ c. map told c.left.items
@@ -576,11 +570,11 @@ fn cells_in<T: IndexStorage>(alloc: Global, looked: Looked<'_, T>) -> Result<Cel
 }
 
 /// What is found in the cells of a graph, in the order of the file.
-pub(crate) fn cells_of<'a, T: IndexStorage>(
+pub(crate) fn cells_of<'a>(
     alloc: Global,
     file: &'a FileGrammar,
-    grm: &'a YaccGrammar<T>,
-    graph: &'a StateGraph<T>,
+    grm: &'a YaccGrammar<u32>,
+    graph: &'a StateGraph<u32>,
 ) -> Result<CellFindings, AllocError>
     requires { IsGraphOf grm.now graph.now }
     ensures left { IfOk result (λ c.

@@ -1,12 +1,13 @@
 //! What is found in the grammar of a file.
 
-ghost use Rattle.std.specs.Prelude.{◌≡◌, ◌⊎◌, [], length, map, Bool, IsTrue, IfOk, IfErr, IfNone, IfSome, false};
+ghost use Rattle.std.specs.Prelude.{◌≡◌, ◌⊎◌, ◌-◌, ◌^◌, [], length, map, Bool, IsTrue, IfOk, IfErr, IfNone, IfSome, false};
 ghost use Rattle.std.specs.List.Sorted.{IsPermutation};
 ghost use Rattle.lrspec.specs.merging.Graph.{Graph, IsGraphOf};
 ghost use Rattle.lrspec.specs.tables.Built.{IsBuilt};
 ghost use Rattle.lrspec.specs.tables.LrTables.{HasNoPrecedences, ListsNothing};
 ghost use Rattle.lrtable.specs.Refusals.{IsBuildRefusal};
 ghost use Rattle.lrverdicts.specs.Listed.{told};
+ghost use Rattle.lrgrammar.specs.Symbols.{number_of};
 ghost use Rattle.lrfindings.specs.CellConflicts.{conflicts_left, resolved_in};
 ghost use Rattle.lrfindings.specs.StoredCells.{resolution};
 ghost use Rattle.lrfindings.specs.declared.findings.FindError.TheVariants.{Memory};
@@ -17,7 +18,6 @@ use crate::cells::{CellFindings, Resolved, cells_of};
 use crate::parts::grammar_of;
 use crate::useless::UselessPrecedences;
 use lrgrammar::grammar::{GrammarError, YaccGrammar};
-use lrgrammar::idx::IndexStorage;
 use lrtable::{BuildError, Minimiser, StateGraph, StateTable, from_yacc, from_yacc_if_contested};
 use lrverdicts::{Entry, entries_of, is_unambiguous};
 use lryacc::FileGrammar;
@@ -25,16 +25,16 @@ use std::alloc::{AllocError, Global};
 
 /// What is found in the grammar of a file.
 #[derive(Drop)]
-pub struct Findings<T: IndexStorage> {
+pub struct Findings {
     /// Whether the grammar has the precedences of the file.
     pub has_precedences: bool,
     /// The grammar.
-    pub grm: YaccGrammar<T>,
+    pub grm: YaccGrammar<u32>,
     /// The state graph of the grammar. None where it wasn't wanted, no token has a precedence and no entries meet in a cell of its
     /// table, so that nothing is searched in it.
-    pub graph: Option<StateGraph<T>>,
+    pub graph: Option<StateGraph<u32>>,
     /// The table of the graph.
-    pub table: StateTable<T>,
+    pub table: StateTable<u32>,
     /// How many states they have.
     pub states: usize,
     /// The conflicts of the table, in the order of the file.
@@ -50,7 +50,7 @@ pub struct Findings<T: IndexStorage> {
     pub is_unambiguous: bool,
 }
 
-impl<T: IndexStorage> Findings<T> {
+impl Findings {
     /// Whether nothing meets in a cell, whatever precedences say.
     fn is_nothing(&self) -> bool
         ensures { IsTrue result → FindNothing self.now }
@@ -62,7 +62,7 @@ impl<T: IndexStorage> Findings<T> {
 /// Why nothing is found in the grammar of a file.
 #[derive(Debug, Drop, thiserror::Error)]
 pub enum FindError {
-    /// The grammar, or its graph, is too large for the index type.
+    /// The grammar, or its graph, is too large for a `u32`.
     #[error("the grammar is too large")]
     TooLarge,
     /// The grammar is refused.
@@ -101,12 +101,12 @@ impl From<GrammarError> for FindError {
     }
 }
 
-impl<T: IndexStorage> From<BuildError<T>> for FindError {
+impl From<BuildError<u32>> for FindError {
     ghost use Rattle.lrfindings.specs.FindErrors.{build_error};
 
     ghost from_gives = { λ error e. e ≡ build_error error };
 
-    fn from(error: BuildError<T>) -> FindError {
+    fn from(error: BuildError<u32>) -> FindError {
         match error {
             BuildError::Table(_) => FindError::NoTable,
             BuildError::TooLarge => FindError::TooLarge,
@@ -117,16 +117,16 @@ impl<T: IndexStorage> From<BuildError<T>> for FindError {
 
 /// The graph of a grammar, where it is wanted, a token has a precedence, or entries meet in a cell of the table; the table; and
 /// how many states they have. The error is that of `from_yacc`.
-fn tabled<T: IndexStorage>(
-    grm: &YaccGrammar<T>,
+fn tabled(
+    grm: &YaccGrammar<u32>,
     wants_graph: bool,
-) -> Result<(Option<StateGraph<T>>, StateTable<T>, usize), BuildError<T>>
+) -> Result<(Option<StateGraph<u32>>, StateTable<u32>, usize), BuildError<u32>>
     ensures built { IfOk result (λ b. (h : Graph) × IsBuilt grm.now h b.1
         × IfSome b.0 (λ g. g ≡ h)) }
     ensures plain { IfOk result (λ b. IfNone b.0 (HasNoPrecedences grm.now)) }
     ensures without { IfOk result (λ b. IfNone b.0 (ListsNothing b.1)) }
     ensures states { IfOk result (λ b. b.2 ≡ length b.1.actions) }
-    ensures refused { IfErr result (IsBuildRefusal T.number T.MAX grm.now) }
+    ensures refused { IfErr result (IsBuildRefusal number_of (2 ^ 32 - 1) grm.now) }
 {
     if !wants_graph && !grm.has_precedences() {
         return from_yacc_if_contested(grm.allocator(), grm, Minimiser::Pager);
@@ -137,11 +137,11 @@ fn tabled<T: IndexStorage>(
 }
 
 /// What is found in the cells of a table with these conflicts, where precedences may decide in them.
-fn found_in_cells<T: IndexStorage>(
+fn found_in_cells(
     alloc: Global,
     file: &FileGrammar,
-    grm: &YaccGrammar<T>,
-    graph: Option<&StateGraph<T>>,
+    grm: &YaccGrammar<u32>,
+    graph: Option<&StateGraph<u32>>,
     conflicts: &[Entry],
     may_decide: bool,
 ) -> Result<CellFindings, AllocError>
@@ -160,17 +160,17 @@ fn found_in_cells<T: IndexStorage>(
 }
 
 /// What is found in the grammar of a file, with its precedences or without them.
-fn find_with<T: IndexStorage>(
+fn find_with(
     alloc: Global,
     file: &FileGrammar,
     has_precedences: bool,
     wants_graph: bool,
-) -> Result<Findings<T>, FindError>
-    ensures found { IfOk result (AreFindings T.MAX file.now) }
+) -> Result<Findings, FindError>
+    ensures found { IfOk result (AreFindings (2 ^ 32 - 1) file.now) }
     ensures asked { IfOk result (λ f. f.has_precedences ≡ has_precedences) }
-    ensures refused { IfErr result (IsNothingFound T.MAX file.now has_precedences) }
+    ensures refused { IfErr result (IsNothingFound (2 ^ 32 - 1) file.now has_precedences) }
 {
-    let grm = grammar_of::<T>(alloc, file, has_precedences)?;
+    let grm = grammar_of(alloc, file, has_precedences)?;
     let may_decide = grm.has_precedences();
     let (graph, table, states) = tabled(&grm, wants_graph)?;
     let is_unambiguous = is_unambiguous(&grm, &table);
@@ -198,18 +198,18 @@ fn find_with<T: IndexStorage>(
 
 /// What is found in the grammar of a file, with its precedences or without them; without them also where there are no
 /// conflicts and they resolve nothing. There is a graph where it is wanted, and where there are conflicts or some are resolved.
-/// `TooLarge` where the index type is too small for the grammar or its graph.
-pub fn find<T: IndexStorage>(
+/// `TooLarge` where a `u32` is too small for the grammar or its graph.
+pub fn find(
     alloc: Global,
     file: &FileGrammar,
     has_precedences: bool,
     wants_graph: bool,
-) -> Result<Findings<T>, FindError>
-    ensures found { IfOk result (AreFindings T.MAX file.now) }
+) -> Result<Findings, FindError>
+    ensures found { IfOk result (AreFindings (2 ^ 32 - 1) file.now) }
     ensures kept { IfOk result (λ f.
-        (f.has_precedences ≡ has_precedences) ⊎ DecidesNothing T.MAX file.now) }
+        (f.has_precedences ≡ has_precedences) ⊎ DecidesNothing (2 ^ 32 - 1) file.now) }
     ensures left_out { has_precedences ≡ false → IfOk result (λ f. f.has_precedences ≡ false) }
-    ensures refused { IfErr result (λ e. (b : Bool) × IsNothingFound T.MAX file.now b e) }
+    ensures refused { IfErr result (λ e. (b : Bool) × IsNothingFound (2 ^ 32 - 1) file.now b e) }
 {
     let found = find_with(alloc, file, has_precedences, wants_graph)?;
     if !found.is_unambiguous && found.is_nothing() {

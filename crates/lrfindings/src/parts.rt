@@ -1,13 +1,12 @@
 //! The grammar of a file by its parts, with its precedences or without them.
 
-ghost use Rattle.std.specs.Prelude.{◌≡◌, map, IfOk, IfErr};
+ghost use Rattle.std.specs.Prelude.{◌≡◌, ◌-◌, ◌^◌, map, IfOk, IfErr};
 ghost use Rattle.std.specs.String.{string_bytes};
 ghost use Rattle.lrtext.specs.StoredParts.{parts_of, token_of, part_production_of};
 ghost use Rattle.lrparts.specs.Refusals.{IsRefusedBy};
 ghost use Rattle.lrfindings.specs.FileGrammars.{IsGrammarOfFile, parts_in_force, without_precedence, without_precedences};
 
 use lrgrammar::grammar::{GrammarError, GrammarParts, PartProd, PartToken, YaccGrammar};
-use lrgrammar::idx::IndexStorage;
 use lryacc::FileGrammar;
 use std::alloc::{AllocError, Global};
 
@@ -66,13 +65,14 @@ fn bare(alloc: Global, parts: &GrammarParts) -> Result<GrammarParts, AllocError>
 }
 
 /// The grammar of a file, with its precedences or without them.
-pub(crate) fn grammar_of<T: IndexStorage>(
+pub(crate) fn grammar_of(
     alloc: Global,
     file: &FileGrammar,
     has_precedences: bool,
-) -> Result<YaccGrammar<T>, GrammarError>
-    ensures made { IfOk result (IsGrammarOfFile T.MAX file.now has_precedences) }
-    ensures refused { IfErr result (IsRefusedBy T.MAX (parts_in_force file.now has_precedences)) }
+) -> Result<YaccGrammar<u32>, GrammarError>
+    ensures made { IfOk result (IsGrammarOfFile (2 ^ 32 - 1) file.now has_precedences) }
+    ensures refused { IfErr result
+        (IsRefusedBy (2 ^ 32 - 1) (parts_in_force file.now has_precedences)) }
 {
     if has_precedences {
         return YaccGrammar::from_parts(alloc, &file.parts);

@@ -11,7 +11,6 @@ use crate::pages::{Card, Page, add_count};
 use crate::symbols::DOT;
 use lrdiagnostics::{Mark, add_escaped_name};
 use lrfindings::{Entry, is_among};
-use lrgrammar::idx::IndexStorage;
 use lrshown::{
     Ambiguity, Evidence, Example, Loss, Outlook, Step, candidates_of, list_of, rule_name, start_of,
     text_of,
@@ -90,7 +89,7 @@ pub(crate) fn end_card(page: &mut Text, first: &Entry) {
     );
 }
 
-impl<T: IndexStorage> Page<'_, T> {
+impl Page<'_> {
     /// Adds what meets, and the tokens at which it does.
     fn add_title(&self, page: &mut Text, first: &Entry, entries: &[Entry]) {
         let kind = if first.other.is_some() {

@@ -4,7 +4,6 @@ use crate::pages::Page;
 use crate::symbols::number_of;
 use lrdiagnostics::add_escaped_name;
 use lrgrammar::grammar::{AssocKind, PartSymbol, PartToken};
-use lrgrammar::idx::IndexStorage;
 use lrshown::{body_of, rule_name};
 use lrwriter::Text;
 use lryacc::FileGrammar;
@@ -31,7 +30,7 @@ fn line_word(file: &FileGrammar, level: u64, kind: AssocKind) -> &'static str {
     }
 }
 
-impl<T: IndexStorage> Page<'_, T> {
+impl Page<'_> {
     /// Adds a token: its name, and what else is said of it: its level, or that it is none of the file. Levels are twice as many
     /// as in the file.
     fn add_token_line(&self, page: &mut Text, token: &PartToken) {

@@ -14,7 +14,6 @@ use crate::script::SCRIPT;
 use crate::style::STYLE;
 use lrdiagnostics::{Mark, Message, Source, add_escaped_name};
 use lrfindings::{Entry, Findings};
-use lrgrammar::idx::IndexStorage;
 use lrshown::Evidence;
 use lrwriter::Text;
 use lryacc::FileGrammar;
@@ -62,13 +61,13 @@ pub struct Card<'a> {
 
 /// What a page is made of.
 #[derive(Copy)]
-pub struct Page<'a, T: IndexStorage> {
+pub struct Page<'a> {
     /// The file.
     pub source: &'a Source<'a>,
     /// Its grammar.
     pub file: &'a FileGrammar,
     /// What was found in that.
-    pub found: &'a Findings<T>,
+    pub found: &'a Findings,
     /// The words of the verdict.
     pub verdict: &'a str,
     /// Whether there are no conflicts but such as are expected.
@@ -105,7 +104,7 @@ pub struct Page<'a, T: IndexStorage> {
     pub ghost told: { AreProvedWords found.now.grm found.now.table verdict.now },
 }
 
-impl<T: IndexStorage> Clone for Page<'_, T> {
+impl Clone for Page<'_> {
     ghost is_clone = { λ x y. y ≡ x };
 
     ghost is_infallible = { λ _. ⊤ };
@@ -115,7 +114,7 @@ impl<T: IndexStorage> Clone for Page<'_, T> {
     }
 }
 
-impl<T: IndexStorage> Page<'_, T> {
+impl Page<'_> {
     /// Adds all that stands before what is shown.
     fn add_head(&self, page: &mut Text) {
         page.add(HEAD);

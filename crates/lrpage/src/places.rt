@@ -2,7 +2,6 @@
 
 use crate::pages::Page;
 use lrdiagnostics::{Mark, ShownLine, add_escaped, add_escaped_name};
-use lrgrammar::idx::IndexStorage;
 use lrwriter::Text;
 use lryacc::Span;
 use std::alloc::AllocError;
@@ -65,7 +64,7 @@ impl Row {
     }
 }
 
-impl<T: IndexStorage> Page<'_, T> {
+impl Page<'_> {
     /// Adds how the line of a place begins, and answers it.
     fn begin_row(&self, page: &mut Text, class: &str, at: usize) -> Result<Row, AllocError> {
         let line = ShownLine::new(page.allocator(), self.source, at)?;

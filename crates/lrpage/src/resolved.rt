@@ -9,7 +9,6 @@ use crate::cards::{Head, OPEN, end_card};
 use crate::pages::Page;
 use lrdiagnostics::{Mark, add_escaped_name};
 use lrfindings::Entry;
-use lrgrammar::idx::IndexStorage;
 use lrshown::{Ambiguity, Loss};
 use lrwriter::Text;
 use std::alloc::AllocError;
@@ -35,7 +34,7 @@ pub struct ResolvedCard<'a> {
     pub is_cut_off: bool,
 }
 
-impl<T: IndexStorage> Page<'_, T> {
+impl Page<'_> {
     /// Adds that no sentence is lost at any entry of a card by what the table does there.
     fn add_resolved_kept_tag(&self, page: &mut Text, _card: &ResolvedCard<'_>)
         requires proved { AreShownKept self.now.found.now.grm self.now.found.now.graph

@@ -14,19 +14,19 @@ use std::alloc::{AllocError, Global};
 
 /// What is needed beside a page to show its states.
 #[derive(Drop)]
-struct States<'a, T: IndexStorage> {
-    graph: &'a StateGraph<T>,
+struct States<'a> {
+    graph: &'a StateGraph<u32>,
     /// By rule of the graph, its number in the file.
     rules: Vec<usize>,
 }
 
-impl<T: IndexStorage> Page<'_, T> {
+impl Page<'_> {
     /// By rule of the graph, its number in the file. Productions have those of the file.
     fn rules_of_graph(&self, alloc: Global) -> Result<Vec<usize>, AllocError> {
         let grm = &self.found.grm;
         let mut rules = vec![in alloc; 0; usize::from(grm.rules_len())]?;
         for (production, prod) in self.file.parts.prods.iter().enumerate() {
-            if let Some(number) = T::from_usize(production) {
+            if let Some(number) = u32::from_usize(production) {
                 if production < usize::from(grm.prods_len()) {
                     let rule = usize::from(grm.prod_to_rule(PIdx(number)));
                     if let Some(place) = rules.get_mut(rule) {
@@ -57,9 +57,9 @@ impl<T: IndexStorage> Page<'_, T> {
     }
 }
 
-impl<T: IndexStorage> States<'_, T> {
+impl States<'_> {
     /// The number of a symbol of the graph for the script.
-    fn number_of(&self, symbol: Symbol<T>) -> usize {
+    fn number_of(&self, symbol: Symbol<u32>) -> usize {
         number_of(match symbol {
             Symbol::Token(token) => PartSymbol::Token(usize::from(token)),
             Symbol::Rule(rule) => {
@@ -69,8 +69,8 @@ impl<T: IndexStorage> States<'_, T> {
     }
 
     /// Adds the items of the core of a state: each as a production and a dot.
-    fn add_core(&self, page: &mut Text, state: StIdx<T>)
-        requires { T.number state.0 < length self.now.graph.now }
+    fn add_core(&self, page: &mut Text, state: StIdx<u32>)
+        requires { state.0 < length self.now.graph.now }
     {
         let mut is_first = true;
         for key in self.graph.core_state(state).items.keys() {
@@ -84,8 +84,8 @@ impl<T: IndexStorage> States<'_, T> {
     }
 
     /// Adds the edges of a state: each as a symbol and a state.
-    fn add_edges(&self, page: &mut Text, state: StIdx<T>)
-        requires { T.number state.0 < length self.now.graph.now }
+    fn add_edges(&self, page: &mut Text, state: StIdx<u32>)
+        requires { state.0 < length self.now.graph.now }
     {
         let mut is_first = true;
         for (symbol, target) in self.graph.edges(state) {
@@ -99,7 +99,7 @@ impl<T: IndexStorage> States<'_, T> {
     }
 
     /// Adds a state: its items and its edges.
-    fn add_state(&self, page: &mut Text, state: StIdx<T>) {
+    fn add_state(&self, page: &mut Text, state: StIdx<u32>) {
         if usize::from(state) < usize::from(self.graph.all_states_len()) {
             self.add_core(page, state);
             page.add_char('\t');

@@ -3,7 +3,6 @@
 use crate::pages::Page;
 use lrdiagnostics::add_escaped_name;
 use lrgrammar::grammar::PartSymbol;
-use lrgrammar::idx::IndexStorage;
 use lrshown::{body_of, rule_name, token_name};
 use lrwriter::Text;
 
@@ -18,7 +17,7 @@ pub(crate) fn number_of(symbol: PartSymbol) -> usize {
     }
 }
 
-impl<T: IndexStorage> Page<'_, T> {
+impl Page<'_> {
     /// Adds the name of a token.
     pub(crate) fn add_token(&self, page: &mut Text, token: usize) {
         add_escaped_name(page, token_name(self.file, token));

@@ -8,7 +8,6 @@ use crate::symbols::DOT;
 use lrdiagnostics::add_escaped_name;
 use lrfindings::Entry;
 use lrgrammar::grammar::PartSymbol;
-use lrgrammar::idx::IndexStorage;
 use lrshown::{Ambiguity, Loss, Step, TwoTrees, text_of};
 use lrwriter::Text;
 
@@ -81,7 +80,7 @@ fn add_steps(page: &mut Text, steps: &[Step]) {
     }
 }
 
-impl<T: IndexStorage> Page<'_, T> {
+impl Page<'_> {
     /// Adds a token, marked or not, and a blank.
     fn add_token_of_text(&self, page: &mut Text, token: usize, is_marked: bool) {
         if is_marked {

@@ -2,14 +2,13 @@
 
 use crate::pages::Page;
 use lrdiagnostics::{Message, add_escaped_name};
-use lrgrammar::idx::IndexStorage;
 use lrwriter::Text;
 use std::alloc::AllocError;
 
 /// How many places of a warning are shown at the most before it is opened.
 const SHOWN: usize = 20;
 
-impl<T: IndexStorage> Page<'_, T> {
+impl Page<'_> {
     /// Adds what is told of places: its words, and the lines of the places, of which the first ones are seen at once.
     fn add_warning(&self, page: &mut Text, message: &Message) -> Result<(), AllocError> {
         page.add("<div class=\"part\"><p>");

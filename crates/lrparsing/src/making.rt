@@ -56,7 +56,7 @@ impl Parser {
     ) -> Result<Parser, FindError>
         ensures { IfOk result (IsParserOf file has_precedences steps) }
     {
-        let Findings { grm, table, .. } = find::<u32>(alloc, &file, has_precedences, false)?;
+        let Findings { grm, table, .. } = find(alloc, &file, has_precedences, false)?;
         let machine = Machine::new(grm, table, steps);
         Ok(Parser {
             spellings: spellings_of(alloc, &file, text, machine.tokens_len())?,

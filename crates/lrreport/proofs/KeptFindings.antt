@@ -13,7 +13,7 @@ use Rattle.lrfindings.proofs.ListedNothing.{lists_nothing}
 use Rattle.lrshown.specs.declared.evidence.Evidence.{Evidence}
 use Rattle.lrreport.specs.LeftOpen.{AreLeftOpen}
 
-module _ {T : Type 0} (max : ℕ) (file : FileGrammar) (f : Findings T) (a : AreFindings max file f) where
+module _ (max : ℕ) (file : FileGrammar) (f : Findings) (a : AreFindings max file f) where
   -- the conflicts that are left open
   pub are_left : AreLeftOpen f.grm a.graph f.left.items
   are_left = record {

@@ -73,7 +73,7 @@ impl Choice {
 #[derive(Drop)]
 pub(crate) struct Checked<'a> {
     pub(crate) told: Told<'a>,
-    pub(crate) found: &'a Findings<u32>,
+    pub(crate) found: &'a Findings,
 }
 
 /// What a table does by an action in the cell of an entry.

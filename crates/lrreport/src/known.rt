@@ -109,7 +109,7 @@ fn evidence_by(
 /// that splits at a conflict nothing is told: it may stop where a text has two trees.
 fn accepted_by(
     parser: &Parser,
-    found: &Findings<u32>,
+    found: &Findings,
     evidence: &[Evidence],
     resolved: &[Evidence],
     effort: Effort,
@@ -139,7 +139,7 @@ fn accepted_by(
 /// A sentence with two trees at what precedences resolve, where they resolve all conflicts.
 fn decided_of(
     alloc: Global,
-    found: &Findings<u32>,
+    found: &Findings,
     options: Options,
 ) -> Result<Option<Ambiguity>, AllocError>
     requires { IfSome found.now.graph (IsGraphOf found.now.grm) }
@@ -158,7 +158,7 @@ fn decided_of(
 fn known_resolved(
     alloc: Global,
     read: Read<'_>,
-    found: &Findings<u32>,
+    found: &Findings,
     effort: Effort,
     options: Options,
 ) -> Result<Vec<Evidence>, AllocError>
@@ -186,7 +186,7 @@ fn known_resolved(
 pub(crate) fn known_of(
     alloc: Global,
     read: Read<'_>,
-    found: &Findings<u32>,
+    found: &Findings,
     options: Options,
 ) -> Result<Known, AllocError>
     requires graph { MatchOption found.now.graph (FindNothing found.now) (IsGraphOf found.now.grm) }

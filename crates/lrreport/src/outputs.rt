@@ -194,7 +194,7 @@ fn lines(
 pub(crate) fn text_on_findings(
     alloc: Global,
     read: Read<'_>,
-    found: &Findings<u32>,
+    found: &Findings,
     known: &Known,
     verdict: Verdict,
     options: Options,
@@ -248,7 +248,7 @@ pub(crate) fn text_on_findings(
 pub(crate) fn page_on_findings(
     alloc: Global,
     read: Read<'_>,
-    found: &Findings<u32>,
+    found: &Findings,
     known: &Known,
     verdict: Verdict,
     options: Options,

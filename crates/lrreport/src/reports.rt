@@ -210,7 +210,7 @@ impl Outcome {
 fn outcome_on_findings(
     alloc: Global,
     read: Read<'_>,
-    found: &Findings<u32>,
+    found: &Findings,
     options: Options,
 ) -> Result<Outcome, AllocError>
     requires found { AreFindings (2 ^ 32 - 1) read.file.now found.now }
@@ -273,7 +273,7 @@ fn outcome_of(alloc: Global, read: Read<'_>, options: Options) -> Result<Outcome
     let has_states = options.output == Output::States || options.detail.states;
     let wants_graph = options.makes_page || has_states;
     let has_precedences = !options.ignores_precedences;
-    let found = find::<u32>(alloc, read.file, has_precedences, wants_graph)?;
+    let found = find(alloc, read.file, has_precedences, wants_graph)?;
     Ok(outcome_on_findings(alloc, read, &found, options)?)
 }
 

@@ -2,10 +2,10 @@
 
 ghost use Rattle.std.specs.Prelude.{◌≡◌, map, IfOk};
 ghost use Rattle.lrconflicts.specs.StoredMoves.{move_of, moves_stored};
+ghost use Rattle.lrgrammar.specs.Symbols.{number_of};
 ghost use Rattle.lrshown.specs.Steps.{move_by, moves_by, first_of, is_same_step, shifts};
 
 use lrconflicts::Move;
-use lrgrammar::idx::IndexStorage;
 use std::alloc::{AllocError, Global};
 
 /// A step by which trees are put together, from the leaves on.
@@ -65,8 +65,8 @@ impl TwoTrees {
 }
 
 /// The step that a move is.
-pub fn step_of<T: IndexStorage>(action: Move<T>) -> Step
-    ensures { move_by result ≡ move_of T.number action }
+pub fn step_of(action: Move<u32>) -> Step
+    ensures { move_by result ≡ move_of number_of action }
 {
     match action {
         Move::Shift => Step::Shift,
@@ -75,8 +75,8 @@ pub fn step_of<T: IndexStorage>(action: Move<T>) -> Step
 }
 
 /// The steps that moves are.
-pub fn steps_of<T: IndexStorage>(alloc: Global, moves: &[Move<T>]) -> Result<Vec<Step>, AllocError>
-    ensures { IfOk result (λ steps. moves_by steps.items ≡ moves_stored T.number moves.now) }
+pub fn steps_of(alloc: Global, moves: &[Move<u32>]) -> Result<Vec<Step>, AllocError>
+    ensures { IfOk result (λ steps. moves_by steps.items ≡ moves_stored number_of moves.now) }
 {
     let mut steps = Vec::new(alloc);
     for action in moves {

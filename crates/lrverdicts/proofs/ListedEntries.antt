@@ -10,25 +10,26 @@ use Rattle.lrgrammar.specs.declared.idx.TIdx.{TIdx}
 use Rattle.lrspec.specs.tables.Table.{Lists}
 use Rattle.lrrows.specs.StoredLists.{stored_shift_reduce, stored_shift_reduces, stored_reduce_reduce, stored_reduce_reduces}
 use Rattle.lrverdicts.specs.declared.conflicts.Entry.{Entry}
+use Rattle.lrgrammar.specs.Symbols.{number_of}
 use Rattle.lrverdicts.specs.Listed.{Listing, told, listed, shift_listing, reduction_listing}
 
 -- those of the first list, and then those of the second, are those of both
 pub both_added :
-    {T : Type 0} (number : T → ℕ) (k : Lists) (ms : List (TIdx T × PIdx T × StIdx T)) (ps : List (TIdx T × PIdx T × PIdx T × StIdx T))
+    (k : Lists) (ms : List (TIdx ℕ × PIdx ℕ × StIdx ℕ)) (ps : List (TIdx ℕ × PIdx ℕ × PIdx ℕ × StIdx ℕ))
     (old mid new : List Listing)
-    → stored_shift_reduces number ms ≡ k.shift_reduce → stored_reduce_reduces number ps ≡ k.reduce_reduce
-    → mid ≡ old ++ map (λ c. shift_listing (stored_shift_reduce number c)) ms
-    → new ≡ mid ++ map (λ c. reduction_listing (stored_reduce_reduce number c)) ps
+    → stored_shift_reduces number_of ms ≡ k.shift_reduce → stored_reduce_reduces number_of ps ≡ k.reduce_reduce
+    → mid ≡ old ++ map (λ c. shift_listing (stored_shift_reduce number_of c)) ms
+    → new ≡ mid ++ map (λ c. reduction_listing (stored_reduce_reduce number_of c)) ps
     → new ≡ old ++ listed k
-both_added number k ms ps old mid new i j e f =
+both_added k ms ps old mid new i j e f =
     rw (
       f,
       e,
       ← i,
       ← j,
-      map-map shift_listing (stored_shift_reduce number) ms,
-      map-map reduction_listing (stored_reduce_reduce number) ps,
-      append_assoc old (map (λ c. shift_listing (stored_shift_reduce number c)) ms) (map (λ c. reduction_listing (stored_reduce_reduce number c)) ps),
+      map-map shift_listing (stored_shift_reduce number_of) ms,
+      map-map reduction_listing (stored_reduce_reduce number_of) ps,
+      append_assoc old (map (λ c. shift_listing (stored_shift_reduce number_of c)) ms) (map (λ c. reduction_listing (stored_reduce_reduce number_of c)) ps),
     ) refl
 
 -- entries stay those of a list when they are sorted

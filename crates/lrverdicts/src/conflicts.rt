@@ -3,11 +3,12 @@
 ghost use Rattle.std.specs.Prelude.{◌≡◌, ◌++◌, map, Contains, IsTrue, IfOk, OnOk};
 ghost use Rattle.std.specs.List.Sorted.{IsPermutation};
 ghost use Rattle.lrspec.specs.tables.Table.{lists_of};
+ghost use Rattle.lrgrammar.specs.Symbols.{number_of};
 ghost use Rattle.lrverdicts.specs.Listed.{Listing, MeetsLike, told, listed, shift_listing, reduction_listing};
 ghost use Rattle.lrrows.specs.StoredLists.{stored_shift_reduce, stored_reduce_reduce};
 
 use lrcells::statetable::{Conflicts, StateTable};
-use lrgrammar::idx::{IndexStorage, PIdx, StIdx, TIdx};
+use lrgrammar::idx::{PIdx, StIdx, TIdx};
 use lryacc::{FileGrammar, Span};
 use std::alloc::{AllocError, Global};
 
@@ -66,8 +67,8 @@ trait Listed: Copy {
 }
 
 /// A shift/reduce conflict: token, production and state.
-impl<T: IndexStorage> Listed for (TIdx<T>, PIdx<T>, StIdx<T>) {
-    ghost listing = { λ c. shift_listing (stored_shift_reduce T.number c) };
+impl Listed for (TIdx<u32>, PIdx<u32>, StIdx<u32>) {
+    ghost listing = { λ c. shift_listing (stored_shift_reduce number_of c) };
 
     fn entry(self, file: &FileGrammar) -> Entry {
         let (token, production, state) = self;
@@ -83,8 +84,8 @@ impl<T: IndexStorage> Listed for (TIdx<T>, PIdx<T>, StIdx<T>) {
 }
 
 /// A reduce/reduce conflict: token, both productions, and state.
-impl<T: IndexStorage> Listed for (TIdx<T>, PIdx<T>, PIdx<T>, StIdx<T>) {
-    ghost listing = { λ c. reduction_listing (stored_reduce_reduce T.number c) };
+impl Listed for (TIdx<u32>, PIdx<u32>, PIdx<u32>, StIdx<u32>) {
+    ghost listing = { λ c. reduction_listing (stored_reduce_reduce number_of c) };
 
     fn entry(self, file: &FileGrammar) -> Entry {
         let (token, production, other, state) = self;
@@ -115,10 +116,10 @@ fn push_listed<C: Listed>(
 }
 
 /// Adds both lists.
-fn push_conflicts<T: IndexStorage>(
+fn push_conflicts(
     entries: &mut Vec<Entry>,
     file: &FileGrammar,
-    conflicts: &Conflicts<T>,
+    conflicts: &Conflicts<u32>,
 ) -> Result<(), AllocError>
     ensures { OnOk result (map told entries.new.items
         ≡ map told entries.old.items ++ listed conflicts.now) }
@@ -129,10 +130,10 @@ fn push_conflicts<T: IndexStorage>(
 }
 
 /// The entries of both lists of a table, each once.
-pub fn entries_of<T: IndexStorage>(
+pub fn entries_of(
     alloc: Global,
     file: &FileGrammar,
-    table: &StateTable<T>,
+    table: &StateTable<u32>,
 ) -> Result<Vec<Entry>, AllocError>
     ensures { IfOk result (λ entries.
         IsPermutation (listed (lists_of table.now)) (map told entries.items)) }

@@ -10,7 +10,6 @@ ghost use Rattle.lrverdicts.specs.VerdictTexts.{kind_text, counts_text, expected
 use crate::conflicts::Entry;
 use lrcells::statetable::StateTable;
 use lrgrammar::grammar::YaccGrammar;
-use lrgrammar::idx::IndexStorage;
 use lryacc::Expected;
 use std::fmt;
 
@@ -67,7 +66,7 @@ pub enum Verdict {
 }
 
 /// Whether a table shows that its grammar is unambiguous: it lists no conflict, and no token has a precedence.
-pub fn is_unambiguous<T: IndexStorage>(grm: &YaccGrammar<T>, table: &StateTable<T>) -> bool
+pub fn is_unambiguous(grm: &YaccGrammar<u32>, table: &StateTable<u32>) -> bool
     requires { IsTableFor grm.now table.now }
     ensures proved { IsTrue result → IsUnambiguous grm.now }
     ensures told { HasNoPrecedences grm.now → ListsNothing table.now → IsTrue result }

@@ -8,7 +8,7 @@ use Rattle.lrfindings.proofs.CellsInTurn.{AreGivenBefore}
 use Rattle.lrfindings.proofs.cells.cells_in.Given as goal
 
 abbrev pub invariant-loop-state : goal.invariant-loop-state
-invariant-loop-state g l =
+invariant-loop-state l =
     let grm = l.looked.grm.now in
     let h = l.looked.graph.now in
     let tokens = range_with_len 0 (token_count grm) in

@@ -6,4 +6,4 @@ use Rattle.lrtext.specs.StoredParts.{precedence_of}
 use Rattle.lrfindings.proofs.cells.of_productions.Given as goal
 
 abbrev pub invariant-loop-production : goal.invariant-loop-production
-invariant-loop-production g l = map (option_map precedence_of) l.precedences.items ≡ map (production_precedence l.grm) (range_with_len 0 l.production)
+invariant-loop-production l = map (option_map precedence_of) l.precedences.items ≡ map (production_precedence l.grm) (range_with_len 0 l.production)

@@ -6,4 +6,4 @@ use Rattle.lrtext.specs.StoredParts.{precedence_of}
 use Rattle.lrfindings.proofs.cells.of_tokens.Given as goal
 
 abbrev pub invariant-loop-token : goal.invariant-loop-token
-invariant-loop-token g l = map (option_map precedence_of) l.precedences.items ≡ map (token_precedence l.grm) (range_with_len 0 l.token)
+invariant-loop-token l = map (option_map precedence_of) l.precedences.items ≡ map (token_precedence l.grm) (range_with_len 0 l.token)

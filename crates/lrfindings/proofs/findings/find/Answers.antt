@@ -1,4 +1,4 @@
-use Rattle.std.proofs.Common.{◌≡◌, ℕ, true, false, subst}
+use Rattle.std.proofs.Common.{◌≡◌, ℕ, ◌-◌, ◌^◌, true, false, subst}
 use Rattle.lryacc.specs.declared.numbering.FileGrammar.{FileGrammar}
 use Rattle.lrfindings.specs.declared.findings.Findings.{Findings}
 use Rattle.lrfindings.specs.FileGrammars.{IsGrammarOfFile}
@@ -10,11 +10,11 @@ use Rattle.lrfindings.proofs.NothingFound.{with_or_without, kept_or_not}
 use Rattle.lrfindings.proofs.findings.find.Goals as goal
 
 pub returns-then-is_nothing-clause-refused : goal.returns-then-is_nothing-clause-refused
-returns-then-is_nothing-clause-refused g c = with_or_without g.T.IndexStorage.MAX c.args.file.now false _ c.find_with-then-is_nothing.ensures.refused
+returns-then-is_nothing-clause-refused c = with_or_without (2 ^ 32 - 1) c.args.file.now false _ c.find_with-then-is_nothing.ensures.refused
 
 -- with the precedences nothing was found
 none_with :
-    {T : Type 0} (max : ℕ) (file : FileGrammar) (f : Findings T) → AreFindings max file f → FindNothing f → f.has_precedences ≡ true
+    (max : ℕ) (file : FileGrammar) (f : Findings) → AreFindings max file f → FindNothing f → f.has_precedences ≡ true
     → DecidesNothing max file
 none_with max file f are nothing with = record {
   grammar = f.grm;
@@ -29,8 +29,8 @@ none_with max file f are nothing with = record {
 }
 
 pub returns-then-is_nothing-clause-kept : goal.returns-then-is_nothing-clause-kept
-returns-then-is_nothing-clause-kept g c =
-    let max = g.T.IndexStorage.MAX in
+returns-then-is_nothing-clause-kept c =
+    let max = 2 ^ 32 - 1 in
     let found = c.in_ok-found.found in
     kept_or_not max c.args.file.now c.args.has_precedences _ c.find_with-then-is_nothing.ensures.asked
     (λ asked. none_with max c.args.file.now found c.in_ok-found.ensures.found (c.is_nothing.ensures c.if-is_nothing.true) (subst (λ b. found.has_precedences ≡ b) asked c.in_ok-found.ensures.asked))

@@ -1,4 +1,4 @@
-use Rattle.std.proofs.Common.{◌≡◌, ◌∙◌, true, false, map, option_map}
+use Rattle.std.proofs.Common.{◌≡◌, ◌∙◌, ◌-◌, ◌^◌, false, map}
 use Rattle.std.specs.List.Sorted.{IsPermutation}
 use Rattle.lrspec.specs.tables.LrTables.{HasNoPrecedences}
 use Rattle.lrspec.specs.tables.Table.{lists_of}
@@ -13,10 +13,10 @@ use Rattle.lrfindings.proofs.NothingFound.{by_parts, by_build}
 use Rattle.lrfindings.proofs.findings.find_with.Goals as goal
 
 pub is_unambiguous-is_unambiguous-requires : goal.is_unambiguous-is_unambiguous-requires
-is_unambiguous-is_unambiguous-requires g c = let (h, built, kept) = c.in_ok-graph.ensures.built in built.table_for
+is_unambiguous-is_unambiguous-requires c = let (h, built, kept) = c.in_ok-graph.ensures.built in built.table_for
 
 pub returns-clause-found : goal.returns-clause-found
-returns-clause-found g c =
+returns-clause-found c =
     let (h, built, kept) = c.in_ok-graph.ensures.built in
     let cells = c.in_ok-cells.ensures in
     let grm = c.in_ok-grm.grm in
@@ -50,8 +50,8 @@ returns-clause-found g c =
 
 -- the parts are refused
 pub returns-in_err-grm-clause-refused : goal.returns-in_err-grm-clause-refused
-returns-in_err-grm-clause-refused g c =
-    let max = g.T.IndexStorage.MAX in
+returns-in_err-grm-clause-refused c =
+    let max = 2 ^ 32 - 1 in
     let file = c.args.file.now in
     let b = c.args.has_precedences in
     let e = c.in_err-grm.field-0.0 in
@@ -59,10 +59,10 @@ returns-in_err-grm-clause-refused g c =
 
 -- there is no graph with a table
 pub returns-in_err-graph-clause-refused : goal.returns-in_err-graph-clause-refused
-returns-in_err-graph-clause-refused g c =
-    let max = g.T.IndexStorage.MAX in
+returns-in_err-graph-clause-refused c =
+    let max = 2 ^ 32 - 1 in
     let file = c.args.file.now in
     let b = c.args.has_precedences in
     let e = c.in_err-graph.field-0.0 in
     error_passed (IsNothingFound max file b) _ (build_error e) c.from_residual-in_err-graph.ensures.1
-    (by_build max file b g.T.IndexStorage.number c.in_ok-grm.grm e c.in_ok-grm.ensures.made c.in_err-graph.ensures.refused)
+    (by_build max file b c.in_ok-grm.grm e c.in_ok-grm.ensures.made c.in_err-graph.ensures.refused)

@@ -23,7 +23,7 @@ use Rattle.lrreport.proofs.KeptFindings.{are_left, so_many_resolved, known_witho
 use Rattle.lrreport.proofs.reports.outcome_on_findings.Goals as goal
 
 -- the entries are those of the graph's table
-listed : (max : ℕ) (file : FileGrammar) (f : Findings ℕ) (a : AreFindings max file f) → AreListedIn f.grm a.graph f.conflicts.items
+listed : (max : ℕ) (file : FileGrammar) (f : Findings) (a : AreFindings max file f) → AreListedIn f.grm a.graph f.conflicts.items
 listed max file f a = rw (← a.table.reduce_reduce, ← a.table.shift_reduce) a.conflicts
 
 pub known_of-requires-clause-graph : goal.known_of-requires-clause-graph

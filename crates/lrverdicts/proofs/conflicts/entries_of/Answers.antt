@@ -6,7 +6,7 @@ use Rattle.lrverdicts.proofs.conflicts.entries_of.Goals as goal
 use Rattle.lrverdicts.proofs.conflicts.entries_of.Goals.{in-Some+in_ok-push_conflicts, in_default}
 
 pub returns : goal.returns
-returns g c =
+returns c =
     let all : map told c.match-conflicts.entries.items ≡ listed (lists_of c.args.table.now) =
     elim c.match-conflicts.branch [
       | in-Some+in_ok-push_conflicts w ↦ rw (w.entries-is, w.in_ok-push_conflicts.ensures, c.new-entries.ensures.items, w.in-Some.ensures.lists) refl

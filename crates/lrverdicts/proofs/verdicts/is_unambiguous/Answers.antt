@@ -4,7 +4,7 @@ use Rattle.lrspec.proofs.tables.ExactWithoutPrecedences.{recognises_without_prec
 use Rattle.lrverdicts.proofs.verdicts.is_unambiguous.Goals as goal
 
 pub returns-in-None-clause-proved : goal.returns-in-None-clause-proved
-returns-in-None-clause-proved g c told =
+returns-in-None-clause-proved c told =
     let grm = c.args.grm.now in
     let table = c.requires in
     let plain : HasNoPrecedences grm = (no_precedences grm).1 (λ some. let k = c.has_precedences.ensures.1 some in cc) in

@@ -7,36 +7,36 @@ use Rattle.lrfindings.proofs.CellsInTurn.{nothing_listed, no_conflicts_in, none_
 use Rattle.lrfindings.proofs.cells.Cells.add_state.Goals as goal
 
 pub reductions_of-requires : goal.reductions_of-requires
-reductions_of-requires g c = rw c.closed_state.ensures.items (c.requires.graph.closed _ c.requires.below)
+reductions_of-requires c = rw c.closed_state.ensures.items (c.requires.graph.closed _ c.requires.below)
 
 pub add_token-requires-clause-fits : goal.add_token-requires-clause-fits
-add_token-requires-clause-fits g c = c.requires.graph.closed _ c.requires.below
+add_token-requires-clause-fits c = c.requires.graph.closed _ c.requires.below
 
 pub loop-token-preserved : goal.loop-token-preserved
-loop-token-preserved g c =
+loop-token-preserved c =
     let grm = c.args.looked.grm.now in
     let h = c.args.looked.graph.now in
-    let s = g.T.IndexStorage.number c.args.state.0 in
+    let s = c.args.state.0 in
     record {
       left = given_next (conflicts_at grm h s) c.loop-token.token _ _ _ c.loop-token.invariant.left c.in_ok-add_token.ensures.left;
       resolved = given_next (resolved_at grm h s) c.loop-token.token _ _ _ c.loop-token.invariant.resolved c.in_ok-add_token.ensures.resolved;
     }
 
 pub returns-then-is_empty-clause-left : goal.returns-then-is_empty-clause-left
-returns-then-is_empty-clause-left g c =
+returns-then-is_empty-clause-left c =
     let grm = c.args.looked.grm.now in
     let h = c.args.looked.graph.now in
-    let s = g.T.IndexStorage.number c.args.state.0 in
+    let s = c.args.state.0 in
     let rs = c.in_ok-reductions.reductions in
     let items : map complete rs.items ≡ complete_items grm (closed_of h s) = c.in_ok-reductions.ensures ∙ ap (complete_items grm) c.closed_state.ensures.items in
     let none : map complete rs.items ≡ [] = ap (map complete) (nothing_listed rs.items _ c.is_empty.result c.is_empty.ensures c.if-is_empty.true rs.ok.0) in
     no_conflicts_in grm h s (map complete rs.items) c.closed_state.ensures.upwards (c.requires.graph.closed _ c.requires.below) items none _ _
 
 pub returns-then-is_empty-clause-resolved : goal.returns-then-is_empty-clause-resolved
-returns-then-is_empty-clause-resolved g c =
+returns-then-is_empty-clause-resolved c =
     let grm = c.args.looked.grm.now in
     let h = c.args.looked.graph.now in
-    let s = g.T.IndexStorage.number c.args.state.0 in
+    let s = c.args.state.0 in
     let rs = c.in_ok-reductions.reductions in
     let items : map complete rs.items ≡ complete_items grm (closed_of h s) = c.in_ok-reductions.ensures ∙ ap (complete_items grm) c.closed_state.ensures.items in
     let none : map complete rs.items ≡ [] = ap (map complete) (nothing_listed rs.items _ c.is_empty.result c.is_empty.ensures c.if-is_empty.true rs.ok.0) in

@@ -6,8 +6,8 @@ use Rattle.lrfindings.specs.StoredCells.{resolution}
 use Rattle.lrfindings.proofs.cells.Cells.add_state.Given as goal
 
 abbrev pub invariant-loop-token : goal.invariant-loop-token
-invariant-loop-token g l =
-    let s = g.T.IndexStorage.number l.state.0 in
+invariant-loop-token l =
+    let s = l.state.0 in
     record {
       left :
           map told l.self.left.items

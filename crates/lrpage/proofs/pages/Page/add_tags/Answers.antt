@@ -4,7 +4,7 @@ use Rattle.lrshown.specs.DecidedEntries.{IsShownDecided}
 use Rattle.lrpage.proofs.pages.Page.add_tags.Goals as goal
 
 pub add_tag-requires : goal.add_tag-requires
-add_tag-requires g c =
+add_tag-requires c =
     let found = c.args.self.now.found.now in
     let is_shown = IsShownDecided found.grm found.graph in
     record {

@@ -5,4 +5,4 @@ use Rattle.lrpage.specs.KeptEntries.{IsShownKept}
 use Rattle.lrpage.proofs.pages.Page.are_kept.Given as goal
 
 abbrev pub invariant-loop-entry : goal.invariant-loop-entry
-invariant-loop-entry g l = All (IsShownKept l.self.found.now.grm l.self.found.now.graph l.self.found.now.table) (take l.entry-index l.entries)
+invariant-loop-entry l = All (IsShownKept l.self.found.now.grm l.self.found.now.graph l.self.found.now.table) (take l.entry-index l.entries)
