@@ -1,5 +1,5 @@
 -- places of set bits, one after another, and what is done for each
-use Rattle.std.proofs.Common.{◌≡◌, ℕ, ◌<◌, Bool, true, false, List, [], ◌∷◌, length, sym, ◌∙◌, subst, ◌⊎◌, inl, inr}
+use Rattle.std.proofs.Common.{◌≡◌, ℕ, ◌<◌, Bool, true, false, List, length, ◌∙◌, subst, ◌⊎◌, inl, inr}
 use Rattle.std.specs.Prelude.{IsTrue, Contains, slice_set}
 use Rattle.std.proofs.lemmas.Bool.{cases_lt, cases_eq}
 use Rattle.std.proofs.lemmas.List.{get_or_past, get_or-set_other, get_or-set_same}
@@ -13,28 +13,6 @@ AreDone P Q left = (k : ℕ) → P k → Q k ⊎ Among k left
 -- where all are left
 pub none_done : (P Q : ℕ → Type 0) (left : List ℕ) → ((k : ℕ) → P k → Contains left k) → AreDone P Q left
 none_done P Q left all k p = inr (among_from_contains k left (all k p))
-
--- one more, where what is so stays so
-pub one_done :
-    (P Q R : ℕ → Type 0) (t : ℕ) (left rest : List ℕ) → left ≡ t ∷ rest → ((k : ℕ) → Q k → R k) → R t → AreDone P Q left → AreDone P R rest
-one_done P Q R t left rest e stays here done k p = elim (done k p) [
-  | inl q ↦ inl (stays k q)
-  | inr a ↦ still (rw e at a)
-]
-  where
-    still : Among k (t ∷ rest) → R k ⊎ Among k rest
-    still (inl same) = inl (subst R (sym same) here)
-    still (inr a) = inr a
-
--- none is left
-pub all_done : (P Q : ℕ → Type 0) (left : List ℕ) → left ≡ [] → AreDone P Q left → (k : ℕ) → P k → Q k
-all_done P Q left e done k p = elim (done k p) [
-  | inl q ↦ q
-  | inr a ↦ absurd (none_left (rw e at a))
-]
-  where
-    none_left : Among k [] → ⊥
-    none_left a = a
 
 -- a bit that is set is one of the bits
 pub set_within : (v : List Bool) (i : ℕ) → IsTrue (bit v i) → i < length v

@@ -5,13 +5,12 @@ use Rattle.std.specs.List.Sorted.{IsPermutation}
 use Rattle.std.specs.declared.vec.Vec.{Vec}
 use Rattle.std.specs.declared.alloc.Global.{Global}
 use Rattle.std.proofs.lemmas.Bool.{cases_eq}
-use Rattle.std.proofs.lemmas.Option.{slice_get_past}
 use Rattle.std.proofs.lemmas.List.{get_or_default, get_or-set_other, map-append}
 use Rattle.std.proofs.lemmas.List.Elements.{Contains-append_left, Contains-push}
 use Rattle.std.proofs.lemmas.List.Sorted.{IsPermutation-map, Contains-permutation}
 use Rattle.lrspec.specs.grammars.Grammar as math
-use Rattle.lrspec.specs.grammars.ItemSets.{Items, HasItem}
-use Rattle.lrspec.specs.merging.Graph.{Graph, closed_of, closed_or_none, edge}
+use Rattle.lrspec.specs.grammars.ItemSets.{HasItem}
+use Rattle.lrspec.specs.merging.Graph.{Graph, closed_of, edge}
 use Rattle.lrspec.proofs.grammars.ListMembers.{among_from_contains, contains_from_among}
 use Rattle.lrbits.specs.Bits.{bit}
 use Rattle.lrgrammar.specs.declared.idx.StIdx.{StIdx}
@@ -208,10 +207,3 @@ pub row_is :
 row_is h lists u n row k same l e =
     let is : row ≡ get_or lists u row = rw same at e in
     subst (λ (v : Vec (Symbol ℕ × StIdx ℕ) Global). IsRowOf h u (row_of number_of v.items)) (sym is) (k.rows u row l)
-
--- past the end of the graph no state has an item
-pub no_item : (h : Graph) (s p d : ℕ) → length h ≤ s → HasItem (closed_of h s) p d → ⊥
-no_item h s p d l has =
-    let none : closed_of h s ≡ [] = ap closed_or_none (slice_get_past h s l) in
-    let Has : Items → Type 0 = λ a. HasItem a p d in
-    let no = subst Has none has in absurd cc

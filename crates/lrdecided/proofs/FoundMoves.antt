@@ -1,11 +1,10 @@
 -- nodes to which moves lead, one after another
-use Rattle.std.proofs.Common.{◌≡◌, ℕ, zero, suc, ◌+◌, ◌-◌, ◌<◌, ◌≤◌, List, [], ◌∷◌, ◌++◌, length, map, get_or, take, drop, Option, None, Some, refl, sym, ap, subst, ◌∙◌, ◌⊎◌, inl, inr, arith}
+use Rattle.std.proofs.Common.{◌≡◌, ℕ, zero, suc, ◌+◌, ◌-◌, ◌<◌, ◌≤◌, List, [], ◌∷◌, length, map, get_or, take, drop, Option, None, Some, refl, sym, ap, subst, ◌∙◌, ◌⊎◌, inl, inr, arith}
 use Rattle.std.specs.Prelude.{Contains, slice_get}
 use Rattle.std.specs.Option.{option_map}
 use Rattle.std.specs.declared.vec.Vec.{Vec}
 use Rattle.std.specs.declared.alloc.Global.{Global}
 use Rattle.std.proofs.lemmas.Bool.{cases_lt}
-use Rattle.std.proofs.lemmas.List.{map-append}
 use Rattle.std.proofs.lemmas.Option.{slice_get_past}
 use Rattle.lrspec.specs.grammars.Grammar.{Symbol, Rule, Grammar, body_of, rest, IsProductionOf, productions_of, body_or_none}
 use Rattle.lrspec.specs.merging.Graph.{Graph}
@@ -18,15 +17,9 @@ use Rattle.lrdecided.specs.Beginnings.{node_with}
 use Rattle.lrdecided.specs.Moved.{HasNodes, HasExpansions, HasOutside, HasAllOutside, AreMoves, expansion}
 use Rattle.lrdecided.specs.Nodes.{Side, Node, swap}
 use Rattle.lrdecided.specs.Rules as rule
-use Rattle.lrdecided.specs.Rules.{IsSettled, Proceeds}
+use Rattle.lrdecided.specs.Rules.{Proceeds}
 use Rattle.lrdecided.specs.StoredNodes.{states_of, nodes_of}
 use Rattle.lrdecided.proofs.CollectedInTurn.{first_or_behind, none_contained}
-
--- the symbols of a body and those behind the first of a list
-pub body_and_rest :
-    {X Y : Type 0} (f : X → Y) (body xs all : List X) (b : List Y) → all ≡ body ++ take (length xs - 1) (drop 1 xs) → map f body ≡ b → map f all ≡ b ++ drop 1 (map f xs)
-body_and_rest f body xs all b e is =
-    ap (map f) e ∙ map-append f body (take (length xs - 1) (drop 1 xs)) ∙ ap (λ l. l ++ map f (take (length xs - 1) (drop 1 xs))) is ∙ ap (λ l. b ++ l) (sliced f xs 1 (map f xs) refl)
 
 -- a turn for each production of a rule: the nodes of the first of them are there
 abbrev pub HasFirst : Grammar → Node → List ℕ → ℕ → List Node → Type 0

@@ -1,12 +1,12 @@
 -- certificates in the making: what is settled stays so as nodes are added, and which nodes cover one that is cut
-use Rattle.std.proofs.Common.{ℕ, true, List, [], ◌++◌, take, drop, refl, sym, append-nil}
+use Rattle.std.proofs.Common.{ℕ, true, List, ◌++◌, take, drop, refl, sym}
 use Rattle.std.specs.Prelude.{Contains}
 use Rattle.std.proofs.lemmas.List.{take-append-drop}
 use Rattle.lrspec.specs.grammars.Grammar.{Grammar}
 use Rattle.lrspec.specs.merging.Graph.{Graph}
 use Rattle.lrspec.proofs.grammars.ListMembers.{among_from_contains, contains_from_among, among_front}
 use Rattle.lrdecided.specs.Nodes as nodes
-use Rattle.lrdecided.specs.Nodes.{Side, SideCovers, Covers}
+use Rattle.lrdecided.specs.Nodes.{Side, SideCovers}
 use Rattle.lrdecided.specs.Rules as rule
 use Rattle.lrdecided.specs.Rules.{IsSettled, Proceeds}
 
@@ -30,10 +30,6 @@ proceeds_still k (rule.Proceeds.back d e states i j before go) = rule.Proceeds.b
 proceeds_still k (rule.Proceeds.close z differ go) =
     rule.Proceeds.close z differ (λ p d r y i e. let (states, kept, member) = go p d r y i e in (states, kept, k _ member))
 proceeds_still k (rule.Proceeds.swapped p) = rule.Proceeds.swapped (proceeds_still k p)
-
--- a side covers itself
-pub side_itself : (a : Side) → SideCovers a a
-side_itself a = record { production = refl; dot = refl; beyond = []; begins = sym (append-nil a.symbols); all = λ e. (refl, e) }
 
 -- and cut to a beginning of its symbols it covers the whole
 pub side_cut : (n : ℕ) (a : Side) → SideCovers (record a { symbols = take n a.symbols; is_cut = true }) a

@@ -1,29 +1,20 @@
 -- nodes that are impossible, by the bits of the tokens with which their symbols begin
-use Rattle.std.proofs.Common.{◌≡◌, ℕ, Bool, true, false, suc, ◌-◌, ◌<◌, List, [], ◌∷◌, map, length, Option, Some, refl, sym, ◌∙◌, ap, subst, arith}
+use Rattle.std.proofs.Common.{◌≡◌, ℕ, Bool, true, false, suc, ◌-◌, ◌<◌, List, Option, Some, sym, ◌∙◌, ap, subst, arith}
 use Rattle.std.specs.Prelude.{IsTrue, ◌↔◌, not}
-use Rattle.lrspec.specs.grammars.Grammar.{Symbol, Grammar}
+use Rattle.lrspec.specs.grammars.Grammar.{Grammar}
 use Rattle.lrbits.specs.Bits.{bit, Intersect}
 use Rattle.lrdecided.specs.Agreements as agreement
 use Rattle.lrdecided.specs.Agreements.{Spends}
 use Rattle.lrdecided.specs.Beginnings.{BeginsWithin, HasMore}
 use Rattle.lrdecided.specs.Nodes as nodes
 use Rattle.lrdecided.specs.Rules as rule
-use Rattle.lrdecided.specs.Rules.{CannotBegin, IsImpossible}
-
--- symbols do not begin with a token whose bit is not set
-pub unset_token : {g : Grammar} {y : List Symbol} (v : List Bool) (t : ℕ) → BeginsWithin g y v → bit v t ≡ false → CannotBegin g y t
-unset_token v t b e = record { not_empty = b.not_empty; not_first = λ f. let yes = b.begins t f in absurd cc }
+use Rattle.lrdecided.specs.Rules.{IsImpossible}
 
 -- ways whose tokens differ
 pub no_common_token :
     (g : Grammar) (a : nodes.Node) (v w : List Bool) → BeginsWithin g a.one.symbols v → BeginsWithin g a.other.symbols w
     → (Intersect v w → ⊥) → HasMore a.left → IsImpossible g a
 no_common_token g a v w b c n (l, s) = rule.IsImpossible.apart s b.not_empty c.not_empty (λ t f h. n (t, b.begins t f, c.begins t h))
-
--- a list of none is empty
-pub none_of_length : {X Y : Type 0} (f : X → Y) (xs : List X) → length xs ≡ 0 → map f xs ≡ []
-none_of_length f [] e = refl
-none_of_length f (x ∷ xs) e = absurd (omega (arith, e))
 
 -- an answer that two vectors share no bit
 pub share_none : (v w : List Bool) (b : Bool) → IsTrue (not b) → IsTrue b ↔ Intersect v w → Intersect v w → ⊥

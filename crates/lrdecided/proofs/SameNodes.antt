@@ -1,9 +1,8 @@
 -- nodes that are the same
-use Rattle.std.proofs.Common.{◌≡◌, ℕ, ◌+◌, ◌<◌, ◌≤◌, Bool, List, [], ◌∷◌, ◌++◌, length, map, get_or, take, sym, ap, ◌∙◌, subst, Option, arith}
+use Rattle.std.proofs.Common.{◌≡◌, ℕ, ◌+◌, ◌<◌, ◌≤◌, List, [], ◌∷◌, ◌++◌, length, map, get_or, take, sym, ap, ◌∙◌, subst, Option, arith}
 use Rattle.std.specs.Prelude.{All, Contains}
 use Rattle.std.proofs.lemmas.List.Elements.{All-more, All-map, All-contains}
 use Rattle.std.proofs.lemmas.List.{map_more, take_all, get_or-map, length-map}
-use Rattle.lrspec.specs.grammars.Grammar.{Symbol}
 use Rattle.lrdecided.specs.Nodes.{Side, Node}
 
 -- one more that is the same
@@ -15,14 +14,6 @@ same_more f xs ys i d e l m before here =
 
 pub same_all : {X Y : Type 0} (f : X → Y) (xs ys : List X) (i : ℕ) → length xs ≤ i → length ys ≤ i → map f (take i xs) ≡ map f (take i ys) → map f xs ≡ map f ys
 same_all f xs ys i l m e = sym (ap (map f) (take_all i xs l)) ∙ e ∙ ap (map f) (take_all i ys m)
-
--- sides with the same parts
-pub same_side : (x y : Side) → x.production ≡ y.production → x.dot ≡ y.dot → x.symbols ≡ y.symbols → x.is_cut ≡ y.is_cut → x ≡ y
-same_side x y p d s c =
-    ap (λ (q : ℕ). record x { production = q }) p
-    ∙ ap (λ (e : ℕ). record x { production = y.production; dot = e }) d
-    ∙ ap (λ (l : List Symbol). record x { production = y.production; dot = y.dot; symbols = l }) s
-    ∙ ap (λ (b : Bool). record y { is_cut = b }) c
 
 -- nodes with the same parts
 pub same_node : (a b : Node) → a.one ≡ b.one → a.other ≡ b.other → a.states ≡ b.states → a.next ≡ b.next → a.left ≡ b.left → a ≡ b

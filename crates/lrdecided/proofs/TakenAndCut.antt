@@ -1,16 +1,11 @@
 -- nodes whose ways take tokens, and are cut
-use Rattle.std.proofs.Common.{◌≡◌, ℕ, zero, suc, ◌<◌, true, List, [], ◌∷◌, ◌++◌, length, map, get_or, take, drop, Option, None, refl, sym, ap, subst, arith}
+use Rattle.std.proofs.Common.{◌≡◌, ℕ, zero, suc, ◌<◌, true, List, [], ◌∷◌, length, map, get_or, take, drop, Option, None, refl, sym, ap, subst, arith}
 use Rattle.lrspec.specs.grammars.Grammar.{Symbol, Token, Grammar}
 use Rattle.lrdecided.specs.Agreements.{Spends}
 use Rattle.lrdecided.specs.Nodes.{Side, Node, SideCovers, Covers, with_symbols}
 use Rattle.lrdecided.specs.Rules as rule
 use Rattle.lrdecided.specs.Rules.{IsSettled}
 use Rattle.lrdecided.proofs.GrowingLists.{side_cut}
-
--- the symbols behind the first
-pub removed : {X Y : Type 0} (f : X → Y) (xs : List X) → map f (take 0 xs ++ drop 1 xs) ≡ drop 1 (map f xs)
-removed f [] = refl
-removed f (x ∷ xs) = refl
 
 -- the first symbol, and those behind it
 pub first_is : {X Y : Type 0} (f : X → Y) (xs : List X) (x : X) → 0 < length xs → x ≡ get_or xs 0 x → map f xs ≡ f x ∷ drop 1 (map f xs)

@@ -1,5 +1,5 @@
 -- what is asked of others where a position is won
-use Rattle.std.proofs.Common.{◌≡◌, ℕ, List, [], ◌∷◌, length, map, get_or, None, Some, refl, sym, subst, ap, arith}
+use Rattle.std.proofs.Common.{◌≡◌, ℕ, List, [], ◌∷◌, length, map, get_or, None, refl, sym, subst, ap, arith}
 use Rattle.std.specs.Prelude.{Contains}
 use Rattle.lrspec.specs.grammars.Grammar.{Symbol, Token, Grammar, body_of, rest}
 use Rattle.lrspec.specs.merging.Graph.{Graph}
@@ -104,9 +104,6 @@ begins_by_reductions g h s t firsts asked p q d a e is k all =
 pub first_mark :
     (a : Position) (m : Mark) (x : Symbol) → a.theirs ≡ x ∷ [] → a.ours.mark ≡ None → m ≡ record { place = 0; symbol = x; under = x; state = a.state } → IsMarkOf a m
 first_mark a m x e none is = game.IsMarkOf.first e none is
-
-pub next_mark : (a : Position) (m : Mark) → a.ours.mark ≡ Some m → m.place ≡ 0 → IsMarkOf a m
-next_mark a m some bottom = game.IsMarkOf.next some bottom
 
 -- one symbol alone
 pub one_alone : {X Y : Type 0} (f : X → Y) (xs : List X) (x : X) → length xs ≡ 1 → x ≡ get_or xs 0 x → map f xs ≡ f x ∷ []

@@ -8,10 +8,6 @@ use Rattle.lrexchange.specs.Asked.{IsCutTo, EndsWith, AsksThem, AsksBoth, AsksUs
 use Rattle.lrexchange.specs.Exchanges.{at}
 use Rattle.lrexchange.specs.Positions.{Mark, Ours, Turn, Even, Position, IsCut, OursCut}
 
--- a list doesn't end with a longer one
-pub no_longer_end : (stack end : List Symbol) → length stack < length end → EndsWith stack end None
-no_longer_end stack end l front e = absurd (omega (arith, l, ap length e, length-append front end))
-
 -- nor with one that is not left behind as many
 pub no_other_end : (stack end : List Symbol) (n : ℕ) → n + length end ≡ length stack → drop n stack ≢ end → EndsWith stack end None
 no_other_end stack end n l differ front e =

@@ -12,14 +12,6 @@ pub same_position :
 same_position t u s r x z y w e f i j =
     ap (λ (a : Turn). the_position a s x y) e ∙ ap (λ (n : ℕ). the_position u n x y) f ∙ ap (λ (v : List Symbol). the_position u r v y) i ∙ ap (the_position u r z) j
 
--- marks with the same parts
-abbrev pub the_mark : ℕ → Symbol → Symbol → ℕ → Mark
-the_mark k x y s = record { place = k; symbol = x; under = y; state = s }
-
-pub same_mark : (k l : ℕ) (x z y w : Symbol) (s r : ℕ) → k ≡ l → x ≡ z → y ≡ w → s ≡ r → the_mark k x y s ≡ the_mark l z w r
-same_mark k l x z y w s r e f i j =
-    ap (λ (n : ℕ). the_mark n x y s) e ∙ ap (λ (v : Symbol). the_mark l v y s) f ∙ ap (λ (v : Symbol). the_mark l z v s) i ∙ ap (the_mark l z w) j
-
 -- ours by their parts
 abbrev pub the_ours : List Symbol → Option Mark → Ours
 the_ours ys o = record { symbols = ys; mark = o }

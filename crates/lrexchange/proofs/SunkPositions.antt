@@ -1,11 +1,11 @@
 -- beginnings that both stacks have, symbol after symbol
 use Rattle.std.proofs.Common.{◌≡◌, ℕ, ◌+◌, ◌<◌, ◌≤◌, List, [], ◌∷◌, ◌++◌, length, map, get_or, take, drop, Option, None, Some, refl, sym, subst, ap, ◌∙◌, arith}
-use Rattle.std.proofs.lemmas.List.{append-nil, length-take-le, take-append-drop, take-append-le, length-append, take_more, get_or-map}
+use Rattle.std.proofs.lemmas.List.{append-nil, length-take-le, take-append-drop, take-append-le, take_more, get_or-map}
 use Rattle.lrspec.specs.grammars.Grammar.{Symbol}
 use Rattle.lrspec.specs.merging.Graph.{Graph, edge}
 use Rattle.lrexchange.specs.Positions as pos
 use Rattle.lrexchange.specs.Positions.{Mark, Ours, Position, Follows, Sinks, raised, raised_mark}
-use Rattle.lrexchange.specs.Sinking.{IsCommon, AreBeforeMark, MaySink}
+use Rattle.lrexchange.specs.Sinking.{IsCommon, AreBeforeMark}
 use Rattle.lrexchange.proofs.SamePositions.{the_ours, same_ours}
 
 -- one more edge
@@ -46,13 +46,6 @@ first_before y k v some e l = record {
       let there : Some k ≡ Some m = sym some ∙ f in
       let same : k ≡ m = cc in
       subst (λ (i : Mark). length v ≤ i.place) same l;
-}
-
--- our symbols as far as these go
-pub may_sink : (y : Ours) (v : List Symbol) (n : ℕ) → AreBeforeMark y v → n ≤ length v → MaySink y n
-may_sink y v n k l = record {
-  within = omega (arith, l, ap length k.begins, length-append v k.others);
-  below = λ m e. omega (arith, l, k.below m e);
 }
 
 pub same_first : (y : Ours) (v : List Symbol) (n : ℕ) → AreBeforeMark y v → n ≤ length v → take n v ≡ take n y.symbols

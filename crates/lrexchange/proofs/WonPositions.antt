@@ -103,16 +103,9 @@ pub first_won :
 first_won g h old new n won added e k l =
     subst (λ (ps : List Position). IsWonAt g h ps k) (sym added.1) (won_before g h old added.0 won k (omega (arith, l, e)))
 
--- all are won of none
-pub none_won : (g : Grammar) (h : Graph) (positions : List Position) → positions ≡ [] → AreWon g h positions
-none_won g h positions none k a e = absurd cc
-
 -- no positions are added, or one, or some and then others
 pub adds_none : (positions : List Position) → AddsPositions positions positions
 adds_none positions = ([], sym (append-nil positions))
-
-pub adds_one : (old new : List Position) (a : Position) → new ≡ old ++ a ∷ [] → AddsPositions old new
-adds_one old new a e = (a ∷ [], e)
 
 pub adds_more : (old between new : List Position) → AddsPositions old between → AddsPositions between new → AddsPositions old new
 adds_more old between new first then =

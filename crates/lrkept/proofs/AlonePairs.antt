@@ -10,7 +10,6 @@ use Rattle.lrspec.proofs.grammars.BodyFacts.{rule_unique, below_of_production, b
 use Rattle.lrclosing.proofs.SymbolsBehindDots.{left_at, sliced}
 use Rattle.lrkept.specs.Acyclicity.{HasAlone, IsAcyclic}
 use Rattle.lrkept.specs.Pairs.{StandsAlone, AreAlone, HasAloneOf, KeepsPairs, ArePairsOf, IsAddedAt, CanBeRanked, LeadFromBelow}
-use Rattle.lrkept.proofs.Peeled.{none_listed}
 
 -- an element of a list is there whatever is read past its end
 pub element : {X : Type 0} (xs : List X) (i : ℕ) (d y : X) → i < length xs → get_or xs i d ≡ y → y ≡ get_or xs i y
@@ -127,12 +126,6 @@ module _ (g : Grammar) (p r : ℕ) where
 pub record ArePairsSoFar (g : Grammar) (n : ℕ) (pairs : List (ℕ × ℕ)) : Type 0 where
   pub alone : AreAlone g pairs
   pub all : (p : ℕ) → p < n → HasAloneOf g p pairs
-
-pub begin_pairs : (g : Grammar) (pairs : List (ℕ × ℕ)) → pairs ≡ [] → ArePairsSoFar g 0 pairs
-begin_pairs g pairs e = record {
-  alone = λ r s c. absurd (none_listed (r, s) (subst (λ l. Contains l (r, s)) e c));
-  all = λ p l. absurd (omega (arith, l));
-}
 
 pub next_pairs :
     (g : Grammar) (n p : ℕ) (old new : List (ℕ × ℕ)) → p ≡ n → ArePairsSoFar g n old → (AreAlone g old → AreAlone g new) → KeepsPairs old new → HasAloneOf g p new

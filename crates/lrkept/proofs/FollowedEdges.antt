@@ -1,5 +1,5 @@
 -- where the edges on symbols lead from a state
-use Rattle.std.proofs.Common.{◌≡◌, ℕ, List, [], ◌∷◌, ◌++◌, Option, None, Some, refl, sym, ap, ◌∙◌, ◌↔◌, append_assoc, append-nil}
+use Rattle.std.proofs.Common.{◌≡◌, ℕ, List, [], ◌∷◌, ◌++◌, Option, None, Some, refl, sym, ap, ◌∙◌, append_assoc, append-nil}
 use Rattle.std.specs.Option.{option_and_then}
 use Rattle.lrspec.specs.grammars.Grammar.{Symbol}
 use Rattle.lrspec.specs.merging.Graph as graph
@@ -61,10 +61,3 @@ leads_parts {h} z (x ∷ xs) {s} l =
     let (u, longer, e) = leads_parts (z ++ x ∷ []) xs (rw (append_assoc z (x ∷ []) xs) l) in
     let (r, before, k) = leads_over longer z x refl in
     (r, before, ap (option_and_then (λ v. follow h v xs)) k ∙ e)
-
--- so they lead there exactly if the edges do
-pub leads_by_edges : {h : Graph} {z : List Symbol} {r s : ℕ} (xs : List Symbol) → Leads h z r → Leads h (z ++ xs) s ↔ (follow h r xs ≡ Some s)
-leads_by_edges {h} {z} {r} {s} xs l = (
-  λ k. let (u, there, e) = leads_parts z xs k in rw (leads_once l there) e,
-  λ e. leads_on xs l e,
-)

@@ -5,31 +5,16 @@ use Rattle.std.proofs.lemmas.List.{get_or_default}
 use Rattle.lrspec.specs.grammars.Grammar.{Grammar, IsGrammar}
 use Rattle.lrspec.specs.merging.Graph.{Graph, IsGraphOf}
 use Rattle.lrspec.specs.tables.Table as table
-use Rattle.lrspec.specs.tables.Table.{Table, Action, IsContender, IsTableOf, action_of}
+use Rattle.lrspec.specs.tables.Table.{Table, IsContender, IsTableOf}
 use Rattle.lrconflicts.specs.Moves.{Move, Reduce, candidate_of}
-use Rattle.lrlosses.specs.Losses.{Takes}
 use Rattle.lrkept.specs.declared.keeping.Exactness.{Exactness}
 use Rattle.lrkept.specs.declared.keeping.Exactness.TheVariants as known
-use Rattle.lrkept.specs.Kept.{IsLoser, IsKept, AreKept, AreKeptButAtErrors}
+use Rattle.lrkept.specs.Kept.{IsLoser, AreKept, AreKeptButAtErrors}
 use Rattle.lrkept.specs.Keeping.{IsKeptAs, IsKnownOf, AreKnownOf, IsCellKeptAs, IsStateKeptAs, IsKnownOfBoth}
 use Rattle.lrdecided.specs.Contenders.{HasContenders}
 use Rattle.lrdecided.proofs.DecidedCells.{next_below}
 use Rattle.lrdecided.proofs.SameNodes.{all_more}
 use Rattle.lrkept.proofs.Losers.{token_contended}
-
--- what the cell takes is kept
-pub taken_kept : (g : Grammar) (h : Graph) (b : Table) (s t : ℕ) (m : Move) → Takes (action_of b s t) m → IsKept g h b s t m
-taken_kept g h b s t m takes v text others along next f = record { move = m; others = others; taken = takes; finishes = f }
-
--- a move that is kept is so whatever is known
-pub any_of_kept : (e : Exactness) (g : Grammar) (h : Graph) (b : Table) (s t : ℕ) (m : Move) → IsKept g h b s t m → IsKeptAs e g h b s t m
-any_of_kept known.Exact g h b s t m k = k
-any_of_kept known.ButAtErrors g h b s t m k = λ differ. k
-any_of_kept known.Open g h b s t m k = tt
-
--- at an error it is kept but at errors
-pub at_error : (g : Grammar) (h : Graph) (b : Table) (s t : ℕ) (m : Move) → action_of b s t ≡ table.Action.Error → IsKeptAs known.ButAtErrors g h b s t m
-at_error g h b s t m e differ = absurd (differ e)
 
 -- the reduction by the start production doesn't contend
 pub by_start : (e : Exactness) (g : Grammar) (h : Graph) (b : Table) (s t : ℕ) (m : Move) → m ≡ Reduce g.start_production → IsKnownOf e g h b s t m
@@ -37,19 +22,6 @@ by_start e g h b s t m is contends = absurd (differs (subst (λ n. IsContender g
   where
     differs : IsContender g h s t (candidate_of (Reduce g.start_production)) → ⊥
     differs (table.IsContender.reduce differ looks) = differ refl
-
--- what is known of both
-pub with_exact : (e : Exactness) → IsKnownOfBoth known.Exact e e
-with_exact e = record { of_one = λ g h b s t m k. any_of_kept e g h b s t m k; of_other = λ g h b s t m k. k }
-
-pub with_open : (one other : Exactness) → IsKnownOfBoth one other known.Open
-with_open one other = record { of_one = λ g h b s t m k. tt; of_other = λ g h b s t m k. tt }
-
-pub errors_with_exact : IsKnownOfBoth known.ButAtErrors known.Exact known.ButAtErrors
-errors_with_exact = record { of_one = λ g h b s t m k. k; of_other = λ g h b s t m k. any_of_kept known.ButAtErrors g h b s t m k }
-
-pub errors_with_errors : IsKnownOfBoth known.ButAtErrors known.ButAtErrors known.ButAtErrors
-errors_with_errors = record { of_one = λ g h b s t m k. k; of_other = λ g h b s t m k. k }
 
 module _ (one other both : Exactness) (k : IsKnownOfBoth one other both) (g : Grammar) (h : Graph) (b : Table) (s : ℕ) where
   -- a turn for each move

@@ -16,10 +16,6 @@ use Rattle.lrreport.specs.declared.causes.Meeting.{Meeting}
 use Rattle.lrreport.proofs.Groups.{in_group}
 use Rattle.lrreport.specs.Causes.{entries_in, states_of, AreAlike, IsMet, IsOneCause, MeetTogether}
 
--- an entry meets like itself
-pub meets_like_itself : (e : Entry) → MeetsLike e e
-meets_like_itself e = record { state = refl; production = refl; other = refl }
-
 -- what an entry tells that meets like the first one
 like_first : (first e : Entry) → MeetsLike first e → told e ≡ (e.token, first.production, first.other, first.state)
 like_first first e like = rw (like.state, like.production, like.other) refl
