@@ -9,8 +9,9 @@ use Rattle.std.proofs.lemmas.Bool.Decides.{nat_tests}
 use Rattle.std.proofs.lemmas.List.Elements.{All-more, All-map}
 use Rattle.lrfindings.specs.declared.cells.Resolved.{Resolved}
 use Rattle.lrfindings.specs.declared.findings.Findings.{Findings}
-use Rattle.lrentries.specs.Cells.{cell_cmp, HasCell, LacksCell}
-use Rattle.lrentries.specs.Losses.{Cell, cell_of, listed_cells, ResolvesPairs}
+use Rattle.lrfindings.specs.Cells.{Cell, cell_cmp}
+use Rattle.lrentries.specs.Cells.{HasCell, LacksCell}
+use Rattle.lrentries.specs.Losses.{cell_of, listed_cells, ResolvesPairs}
 
 -- a number is in its own place
 same_number : (n : ℕ) → nat_cmp n n ≡ Equal

@@ -6,6 +6,7 @@ use Rattle.lrspec.specs.tables.Table.{Table}
 use Rattle.lrlosses.specs.Losses.{Place, StopsAt}
 use Rattle.lrcharts.specs.Ways.{HasNoTreeLeft}
 use Rattle.lrverdicts.specs.declared.conflicts.Entry.{Entry}
+use Rattle.lrfindings.specs.Cells.{Cell}
 use Rattle.lrfindings.specs.declared.findings.Findings.{Findings}
 use Rattle.lrshown.specs.declared.losses.Loss.{Loss}
 use Rattle.lrshown.specs.Losses.{IsLostAt}
@@ -21,10 +22,6 @@ pub record StopsWithoutShift (g : Grammar) (h : Graph) (b : Table) (l : Loss) : 
 -- what the table does where the sentence goes wrong is to blame for that: behind that step no tree of it is left
 abbrev pub IsDoomed : Grammar → Table → Loss → Type 0
 IsDoomed g b l = HasNoTreeLeft g b l.tokens.items (l.made + 1)
-
--- a cell: its state and token
-abbrev pub Cell : Type 0
-Cell = ℕ × ℕ
 
 -- the cell of an entry
 abbrev pub cell_of : Entry → Cell

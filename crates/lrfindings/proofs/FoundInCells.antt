@@ -1,12 +1,11 @@
 -- what is found in the cells of a graph, and where no precedence decides
-use Rattle.std.proofs.Common.{◌≡◌, ◌∙◌, ℕ, Bool, true, false, IsTrue, ◌↔◌, Bor, List, [], ◌∷◌, map, Option, None, Some, option_map, refl, sym, subst}
+use Rattle.std.proofs.Common.{◌≡◌, ◌∙◌, ℕ, Bool, true, false, IsTrue, ◌↔◌, Bor, List, [], ◌∷◌, map, Option, None, Some, option_map, refl, sym, ap, subst}
 use Rattle.std.specs.Prelude.{IfNone, IfSome}
 use Rattle.std.specs.List.{Any, flat_map, range_with_len}
 use Rattle.std.specs.Option.{IsSome}
 use Rattle.std.proofs.lemmas.Bool.{false_from_ne_true}
 use Rattle.lrspec.proofs.tables.NoPrecedences.{no_precedences}
 use Rattle.std.specs.List.Sorted.{IsPermutation}
-use Rattle.std.proofs.lemmas.List.Sorted.{IsPermutation-refl}
 use Rattle.lrspec.specs.grammars.Grammar.{Grammar, token_count}
 use Rattle.lrspec.specs.merging.Graph.{Graph, closed_of}
 use Rattle.lrspec.specs.tables.LrTables.{HasNoPrecedences}
@@ -17,7 +16,9 @@ use Rattle.lrfindings.specs.declared.cells.Outcome.{Outcome}
 use Rattle.lrfindings.specs.declared.cells.Outcome.TheVariants.{Open}
 use Rattle.lrfindings.specs.declared.cells.Resolved.{Resolved}
 use Rattle.lrfindings.specs.CellConflicts.{outcome, decided, resolved_by, resolved_at, resolved_in}
+use Rattle.lrfindings.specs.ReachedStates.{IsReachedIn, AreResolved}
 use Rattle.lrfindings.specs.StoredCells.{resolution}
+use Rattle.lrfindings.proofs.PartedByReach.{of_nothing}
 use Rattle.lrfindings.proofs.CellsInTurn.{nothing_given}
 
 -- what holds of the graph behind a reference holds of the graph, where there is one
@@ -61,8 +62,8 @@ pub some_if_true : (g : Grammar) (b : Bool) → IsTrue b ↔ Any IsSome g.token_
 some_if_true g b test is plain = (no_precedences g).0 plain (test.0 is)
 
 -- nothing is found resolved there
-pub none_is_resolved : (g : Grammar) (h : Graph) (xs : List Resolved) → HasNoPrecedences g → xs ≡ [] → IsPermutation (resolved_in g h) (map resolution xs)
-none_is_resolved g h xs plain none = rw (nothing_resolved g h plain, none) (IsPermutation-refl [])
+pub none_is_resolved : (g : Grammar) (h : Graph) (xs : List Resolved) → HasNoPrecedences g → xs ≡ [] → AreResolved g h (map resolution xs)
+none_is_resolved g h xs plain none = of_nothing (IsReachedIn g h) _ _ _ (nothing_resolved g h plain) (ap (map resolution) none)
 
 -- the conflicts of the table are left
 pub all_are_left : (k : Lists) (es ls : List Entry) → IsPermutation (listed k) (map told es) → ls ≡ es → IsPermutation (listed k) (map told ls)
@@ -71,6 +72,6 @@ all_are_left k es ls moved same = rw same moved
 -- it is by what is decided in the cells, or there is nothing to decide
 pub resolved_either :
     (g : Grammar) (h : Graph) (xs : List Resolved) (b : Bool) → IsTrue b ↔ Any IsSome g.token_precedences
-    → (b ≡ false → xs ≡ []) → (b ≡ true → IsPermutation (resolved_in g h) (map resolution xs)) → IsPermutation (resolved_in g h) (map resolution xs)
+    → (b ≡ false → xs ≡ []) → (b ≡ true → AreResolved g h (map resolution xs)) → AreResolved g h (map resolution xs)
 resolved_either g h xs true test none some = some refl
 resolved_either g h xs false test none some = none_is_resolved g h xs (plain_if_false g false test refl) (none refl)

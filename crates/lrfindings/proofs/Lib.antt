@@ -1,6 +1,9 @@
 -- precedences that are listed; the walks over a cell, and over cells; what is found without precedences, and without a graph;
 -- tables that list nothing, and why nothing is found
 pub mod StoredPrecedences
+pub mod ReachedMarks
+pub mod PartedByReach
+pub mod TakenShifts
 pub mod CellWalks
 pub mod CellsInTurn
 pub mod FoundInCells

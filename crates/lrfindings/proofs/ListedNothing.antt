@@ -15,7 +15,7 @@ both f g [] (y ∷ ys) e = absurd cc
 both f g (x ∷ xs) ys e = absurd cc
 
 -- what has the elements of a list without any has none
-pub empty_by : {X Y : Type 0} (f : Y → X) (xs : List X) (ys : List Y) → IsPermutation xs (map f ys) → ys ≡ [] → xs ≡ []
+empty_by : {X Y : Type 0} (f : Y → X) (xs : List X) (ys : List Y) → IsPermutation xs (map f ys) → ys ≡ [] → xs ≡ []
 empty_by f xs ys moved none =
     let back : IsPermutation (map f ys) xs = IsPermutation-sym _ _ moved in
     no_more _ (subst (λ zs. IsPermutation (map f zs) xs) none back)

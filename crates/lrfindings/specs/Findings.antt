@@ -8,7 +8,7 @@ use Rattle.lrspec.specs.tables.LrTables.{HasNoPrecedences, ListsNothing}
 use Rattle.lrspec.specs.tables.Recognition.{IsUnambiguous}
 use Rattle.lrspec.specs.tables.Table.{Table, IsTableOf, lists_of}
 use Rattle.lryacc.specs.declared.numbering.FileGrammar.{FileGrammar}
-use Rattle.lrfindings.specs.CellConflicts.{conflicts_left, resolved_in}
+use Rattle.lrfindings.specs.ReachedStates.{AreLeft, AreResolved}
 use Rattle.lrfindings.specs.StoredCells.{resolution}
 use Rattle.lrfindings.specs.FileGrammars.{IsGrammarOfFile}
 use Rattle.lrfindings.specs.declared.findings.Findings.{Findings}
@@ -23,8 +23,8 @@ pub record FindNothing (f : Findings) : Type 0 where
 -- the grammar is that of the file, with indices up to the greatest; graph, table and conflicts are the
 -- grammar's, and there is a graph unless nothing is found; it is told to be unambiguous only where no sentence
 -- has two trees, and always where the table lists nothing and no token has a precedence; the conflicts that are left open are
--- those of the table where no token has a precedence, and else those that precedences leave open in the cells of the graph; and
--- what is resolved is what precedences resolve there
+-- those of the table where no token has a precedence, and else those that precedences leave open in the states of the graph that
+-- are reached; and what is resolved is what precedences resolve there
 pub record AreFindings (max : ℕ) (file : FileGrammar) (f : Findings) : Type 0 where
   pub grammar : IsGrammarOfFile max file f.has_precedences f.grm
   pub graph : Graph
@@ -37,14 +37,13 @@ pub record AreFindings (max : ℕ) (file : FileGrammar) (f : Findings) : Type 0 
   pub conflicts : IsPermutation (listed (lists_of f.table)) (map told f.conflicts.items)
   pub left_listed :
       HasNoPrecedences f.grm → IsPermutation (listed (lists_of f.table)) (map told f.left.items)
-  pub left :
-      ¬ (HasNoPrecedences f.grm) → IsPermutation (conflicts_left f.grm graph) (map told f.left.items)
-  pub resolved : IsPermutation (resolved_in f.grm graph) (map resolution f.resolved.items)
+  pub left : ¬ (HasNoPrecedences f.grm) → AreLeft f.grm graph (map told f.left.items)
+  pub resolved : AreResolved f.grm graph (map resolution f.resolved.items)
   pub unambiguous : IsTrue f.is_unambiguous → IsUnambiguous f.grm
   pub known : HasNoPrecedences f.grm → ListsNothing f.table → IsTrue f.is_unambiguous
 
--- the precedences of the file decide nothing: with them its grammar has a table that lists no conflict, and in the cells of its
--- graph they leave none open and resolve none
+-- the precedences of the file decide nothing: with them its grammar has a table that lists no conflict, and in the states of its
+-- graph that are reached they leave none open and resolve none
 pub record DecidesNothing (max : ℕ) (file : FileGrammar) : Type 0 where
   pub grammar : Grammar
   pub graph : Graph
@@ -53,5 +52,5 @@ pub record DecidesNothing (max : ℕ) (file : FileGrammar) : Type 0 where
   pub of_grammar : IsGraphOf grammar graph
   pub of_graph : IsTableOf grammar graph table
   pub nothing : ListsNothing table
-  pub left : ¬ (HasNoPrecedences grammar) → conflicts_left grammar graph ≡ []
-  pub resolved : resolved_in grammar graph ≡ []
+  pub left : ¬ (HasNoPrecedences grammar) → AreLeft grammar graph []
+  pub resolved : AreResolved grammar graph []

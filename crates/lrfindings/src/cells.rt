@@ -5,7 +5,7 @@
 //! own tokens. A production whose precedence would be that of such a line has the odd level below its tokens, whose level is
 //! even: so the table shifts, and both are left.
 
-ghost use Rattle.std.specs.Prelude.{◌≡◌, ◌++◌, ◌^◌, ◌<◌, ℕ, false, [], length, map, is_some, option_map, slice_index_or, IfOk, OnOk};
+ghost use Rattle.std.specs.Prelude.{◌≡◌, ◌++◌, ◌^◌, ◌<◌, ℕ, false, [], length, map, is_some, option_map, Some, slice_index_or, IfOk, OnOk};
 ghost use Rattle.std.specs.List.{cons_option, flat_map, range_with_len};
 ghost use Rattle.std.specs.List.Sorted.{IsPermutation};
 ghost use Rattle.lrspec.specs.grammars.Grammar as math;
@@ -18,8 +18,10 @@ ghost use Rattle.lrrows.specs.StateRows.{complete_items};
 ghost use Rattle.lrverdicts.specs.Listed.{told};
 ghost use Rattle.lrgrammar.specs.Symbols.{number_of};
 ghost use Rattle.lrfindings.specs.CellConflicts.{outcome_of, leaves_shift, leaves_reduction, decision, shift_stands, reductions_left, decided, resolved_of, resolved_by, resolved_at, resolved_in, conflicts_of, conflicts_by, conflicts_at, conflicts_left};
+ghost use Rattle.lrfindings.specs.ReachedStates.{is_taken_away, IsReached, AreOfReached, AreLeft, AreResolved};
 ghost use Rattle.lrfindings.specs.StoredCells.{outcome_in, resolution, precedence_at, ArePrecedencesOf, complete, looking_at};
 
+use crate::reached::{left_in, reached, resolved_in};
 use crate::useless::{Deciding, UselessPrecedences};
 use lrgrammar::grammar::{AssocKind, PartProd, PartSymbol, Precedence, YaccGrammar};
 use lrgrammar::idx::{IndexStorage, PIdx, StIdx, Symbol, TIdx};
@@ -63,7 +65,7 @@ pub struct Resolved {
 
 /// What precedences make of a shift and a reduction.
 #[derive(Clone, Copy, PartialEq, Eq)]
-enum Outcome {
+pub(crate) enum Outcome {
     /// One wins, or neither.
     Won(Winner),
     /// They are of one `%precedence` line.
@@ -170,7 +172,7 @@ impl Precedences {
 
 impl Outcome {
     /// Whether the shift stands.
-    fn leaves_shift(self) -> bool
+    pub(crate) fn leaves_shift(self) -> bool
         ensures { result ≡ leaves_shift self }
     {
         !matches!(self, Outcome::Won(Winner::Reduce | Winner::Neither))
@@ -434,6 +436,31 @@ impl Cells {
         })
     }
 
+    /// What was found in the states that are reached.
+    fn in_reached(self, graph: &StateGraph<u32>) -> Result<Cells, AllocError>
+        requires some { 0 < length graph.now }
+        requires targets { (s u : ℕ) (x : math.Symbol) → edge graph.now s x ≡ Some u
+            → u < length graph.now }
+        ensures left { IfOk result (λ c. AreOfReached
+            (IsReached (is_taken_away (map resolution self.decisions.resolved.items)) graph.now)
+            (λ e. e.3) (map told self.left.items) (map told c.left.items)) }
+        ensures resolved { IfOk result (λ c. AreOfReached
+            (IsReached (is_taken_away (map resolution self.decisions.resolved.items)) graph.now)
+            (λ r. r.0.3) (map resolution self.decisions.resolved.items)
+            (map resolution c.decisions.resolved.items)) }
+    {
+        let Cells { decisions, left } = self;
+        let Decisions { resolved, deciding } = decisions;
+        let alloc = *left.allocator();
+        let marks = reached(alloc, graph, resolved.as_slice())?;
+        let left = left_in(alloc, &marks, left.as_slice())?;
+        let resolved = resolved_in(alloc, &marks, resolved.as_slice())?;
+        Ok(Cells {
+            decisions: Decisions { resolved, deciding },
+            left,
+        })
+    }
+
     /// What was found, in the order of the file.
     fn in_order(self, file: &FileGrammar) -> Result<CellFindings, AllocError>
         ensures left { IfOk result (λ c.
@@ -569,7 +596,7 @@ fn cells_in(alloc: Global, looked: Looked<'_>) -> Result<Cells, AllocError>
     Ok(cells)
 }
 
-/// What is found in the cells of a graph, in the order of the file.
+/// What is found in the cells of the states of a graph that are reached, in the order of the file.
 pub(crate) fn cells_of<'a>(
     alloc: Global,
     file: &'a FileGrammar,
@@ -577,10 +604,9 @@ pub(crate) fn cells_of<'a>(
     graph: &'a StateGraph<u32>,
 ) -> Result<CellFindings, AllocError>
     requires { IsGraphOf grm.now graph.now }
-    ensures left { IfOk result (λ c.
-        IsPermutation (conflicts_left grm.now graph.now) (map told c.left.items)) }
+    ensures left { IfOk result (λ c. AreLeft grm.now graph.now (map told c.left.items)) }
     ensures resolved { IfOk result (λ c.
-        IsPermutation (resolved_in grm.now graph.now) (map resolution c.resolved.items)) }
+        AreResolved grm.now graph.now (map resolution c.resolved.items)) }
 {
     grm.in_order();
     let precedences = Precedences::new(alloc, grm)?;
@@ -592,5 +618,7 @@ pub(crate) fn cells_of<'a>(
         grm,
         graph,
     };
-    cells_in(alloc, looked)?.in_order(file)
+    let cells = cells_in(alloc, looked)?.in_reached(graph)?;
+    let found = cells.in_order(file)?;
+    Ok(found)
 }

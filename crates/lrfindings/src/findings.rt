@@ -1,14 +1,13 @@
 //! What is found in the grammar of a file.
 
 ghost use Rattle.std.specs.Prelude.{◌≡◌, ◌⊎◌, ◌-◌, ◌^◌, [], length, map, Bool, IsTrue, IfOk, IfErr, IfNone, IfSome, false};
-ghost use Rattle.std.specs.List.Sorted.{IsPermutation};
 ghost use Rattle.lrspec.specs.merging.Graph.{Graph, IsGraphOf};
 ghost use Rattle.lrspec.specs.tables.Built.{IsBuilt};
 ghost use Rattle.lrspec.specs.tables.LrTables.{HasNoPrecedences, ListsNothing};
 ghost use Rattle.lrtable.specs.Refusals.{IsBuildRefusal};
 ghost use Rattle.lrverdicts.specs.Listed.{told};
 ghost use Rattle.lrgrammar.specs.Symbols.{number_of};
-ghost use Rattle.lrfindings.specs.CellConflicts.{conflicts_left, resolved_in};
+ghost use Rattle.lrfindings.specs.ReachedStates.{AreLeft, AreResolved};
 ghost use Rattle.lrfindings.specs.StoredCells.{resolution};
 ghost use Rattle.lrfindings.specs.declared.findings.FindError.TheVariants.{Memory};
 ghost use Rattle.lrfindings.specs.Findings.{AreFindings, FindNothing, DecidesNothing};
@@ -40,9 +39,9 @@ pub struct Findings {
     /// The conflicts of the table, in the order of the file.
     pub conflicts: Vec<Entry>,
     /// The conflicts that are left open where each reduction is tried by itself against a shift, as Bison does, in the order of the
-    /// file: those of the table where no token has a precedence.
+    /// file: those of the table where no token has a precedence, and else those in states to which a shift or a goto still leads.
     pub left: Vec<Entry>,
-    /// What precedences resolve, in the order of the file.
+    /// What precedences resolve in such states, in the order of the file.
     pub resolved: Vec<Resolved>,
     /// Which precedences resolve nothing, all of them where none is in force; and which tokens are in no rule.
     pub useless: UselessPrecedences,
@@ -147,9 +146,9 @@ fn found_in_cells(
 ) -> Result<CellFindings, AllocError>
     requires { IfSome graph (λ h. IsGraphOf grm.now h.now) }
     ensures left { IsTrue may_decide → IfSome graph.entry (λ h. IfOk result (λ c.
-        IsPermutation (conflicts_left grm.now h.now) (map told c.left.items))) }
+        AreLeft grm.now h.now (map told c.left.items))) }
     ensures resolved { IsTrue may_decide → IfSome graph.entry (λ h. IfOk result (λ c.
-        IsPermutation (resolved_in grm.now h.now) (map resolution c.resolved.items))) }
+        AreResolved grm.now h.now (map resolution c.resolved.items))) }
     ensures all_left { may_decide ≡ false → IfOk result (λ c. c.left.items ≡ conflicts.now) }
     ensures none_resolved { may_decide ≡ false → IfOk result (λ c. c.resolved.items ≡ []) }
 {

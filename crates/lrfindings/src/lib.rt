@@ -5,6 +5,7 @@ mod cells;
 mod findings;
 mod names;
 mod parts;
+mod reached;
 mod texts;
 mod useless;
 

@@ -1,12 +1,12 @@
 -- what a conclusion keeps of findings
-use Rattle.std.proofs.Common.{◌≡◌, ◌∙◌, ℕ, List, [], map, length, ap, sym}
+use Rattle.std.proofs.Common.{◌≡◌, ℕ, List, [], map, length, ap, sym}
 use Rattle.std.proofs.lemmas.List.{length-map}
-use Rattle.std.proofs.lemmas.List.Sorted.{length_permutation}
 use Rattle.std.specs.Prelude.{IsTrue}
 use Rattle.lrspec.specs.tables.LrTables.{HasNoPrecedences}
 use Rattle.lryacc.specs.declared.numbering.FileGrammar.{FileGrammar}
 use Rattle.lrfindings.specs.declared.findings.Findings.{Findings}
-use Rattle.lrfindings.specs.CellConflicts.{resolved_in}
+use Rattle.lrfindings.specs.CellConflicts.{Resolution}
+use Rattle.lrfindings.specs.ReachedStates.{AreResolved}
 use Rattle.lrfindings.specs.StoredCells.{resolution}
 use Rattle.lrfindings.specs.Findings.{AreFindings}
 use Rattle.lrfindings.proofs.ListedNothing.{lists_nothing}
@@ -22,8 +22,8 @@ module _ (max : ℕ) (file : FileGrammar) (f : Findings) (a : AreFindings max fi
   }
 
   -- how many are resolved
-  pub so_many_resolved : length f.resolved.items ≡ length (resolved_in f.grm a.graph)
-  so_many_resolved = sym (length-map f.resolved.items resolution) ∙ length_permutation _ _ a.resolved
+  pub so_many_resolved : (rs : List Resolution) × AreResolved f.grm a.graph rs × (length f.resolved.items ≡ length rs)
+  so_many_resolved = (map resolution f.resolved.items, a.resolved, sym (length-map f.resolved.items resolution))
 
   -- where none is left and no token has a precedence it is known
   pub known_without : HasNoPrecedences f.grm → f.left.items ≡ [] → IsTrue f.is_unambiguous

@@ -16,7 +16,8 @@ use Rattle.lryacc.specs.declared.parsers.Parser.{Parser}
 use Rattle.lryacc.specs.FilesRead.{ComesTo}
 use Rattle.lryacc.specs.Parsers.{splits}
 use Rattle.lrverdicts.specs.Verdicts.{counts_of, IsVerdict}
-use Rattle.lrfindings.specs.CellConflicts.{resolved_in}
+use Rattle.lrfindings.specs.CellConflicts.{Resolution}
+use Rattle.lrfindings.specs.ReachedStates.{AreResolved}
 use Rattle.lrfindings.specs.FileGrammars.{IsGrammarOfFile}
 use Rattle.lrfindings.specs.Findings.{DecidesNothing}
 use Rattle.lrevidence.specs.Ambiguities.{HasTwoTrees, IsProved, PartsAtEntry}
@@ -77,7 +78,7 @@ conclusion_of file o =
 -- of the grammar of the file, with its precedences, unless these are left out, or the table with them lists nothing: the entries
 -- are the conflicts that are left open; the verdict is by their number, and by the one that is expected; "unambiguous" is told
 -- only where no sentence has two trees, which may be shown where there are conflicts too, and "no conflicts" never where none is left open and no token has a precedence; so many
--- are resolved as precedences decide in the cells; each sentence that is told of an entry has two trees, which part in its state,
+-- are resolved as precedences decide in the states that are reached; each sentence that is told of an entry has two trees, which part in its state,
 -- where its token comes; each that is told to be rejected is a sentence that the machine of the grammar's table rejects, since
 -- it goes wrong there; of each entry that is told to be decided no sentence has two trees that part there by what meets in it,
 -- and so many tokens of lookahead decide it; where the parser is told to accept every sentence, its machine accepts exactly the
@@ -92,7 +93,8 @@ pub record IsConcluded (left_out : Bool) (c : Conclusion) : Type 0 where
   pub kept : (c.has_precedences ≡ not left_out) ⊎ DecidesNothing max c.file
   pub of_grammar : IsGraphOf grammar graph
   pub left : AreLeftOpen grammar graph (map (λ e. e.entry) c.evidence.items)
-  pub resolved : c.resolved ≡ length (resolved_in grammar graph)
+  pub resolved :
+      (rs : List Resolution) × AreResolved grammar graph rs × (c.resolved ≡ length rs)
   pub verdict :
       IsVerdict shown (counts_of (map (λ e. e.entry) c.evidence.items)) c.expected c.verdict
   pub unambiguous : IsTrue shown → IsUnambiguous grammar

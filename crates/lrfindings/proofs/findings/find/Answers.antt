@@ -1,11 +1,12 @@
-use Rattle.std.proofs.Common.{◌≡◌, ℕ, ◌-◌, ◌^◌, true, false, subst}
+use Rattle.std.proofs.Common.{◌≡◌, ℕ, ◌-◌, ◌^◌, true, false, map, subst}
 use Rattle.lryacc.specs.declared.numbering.FileGrammar.{FileGrammar}
 use Rattle.lrfindings.specs.declared.findings.Findings.{Findings}
 use Rattle.lrfindings.specs.FileGrammars.{IsGrammarOfFile}
+use Rattle.lrfindings.specs.ReachedStates.{AreLeft, AreResolved}
 use Rattle.lrfindings.specs.Findings.{AreFindings, FindNothing, DecidesNothing}
 use Rattle.lrverdicts.specs.Listed.{told}
 use Rattle.lrfindings.specs.StoredCells.{resolution}
-use Rattle.lrfindings.proofs.ListedNothing.{empty_by, lists_nothing}
+use Rattle.lrfindings.proofs.ListedNothing.{lists_nothing}
 use Rattle.lrfindings.proofs.NothingFound.{with_or_without, kept_or_not}
 use Rattle.lrfindings.proofs.findings.find.Goals as goal
 
@@ -24,8 +25,8 @@ none_with max file f are nothing with = record {
   of_grammar = are.of_grammar;
   of_graph = are.table;
   nothing = lists_nothing f.table f.conflicts.items are.conflicts nothing.conflicts;
-  left = λ some. empty_by told _ f.left.items (are.left some) nothing.left;
-  resolved = empty_by resolution _ f.resolved.items are.resolved nothing.resolved;
+  left = λ some. subst (λ es. AreLeft f.grm are.graph (map told es)) nothing.left (are.left some);
+  resolved = subst (λ rs. AreResolved f.grm are.graph (map resolution rs)) nothing.resolved are.resolved;
 }
 
 pub returns-then-is_nothing-clause-kept : goal.returns-then-is_nothing-clause-kept

@@ -1,9 +1,8 @@
 use Rattle.std.proofs.Common.{◌≡◌, ◌∙◌, ◌-◌, ◌^◌, false, map}
-use Rattle.std.specs.List.Sorted.{IsPermutation}
 use Rattle.lrspec.specs.tables.LrTables.{HasNoPrecedences}
 use Rattle.lrspec.specs.tables.Table.{lists_of}
 use Rattle.lrverdicts.specs.Listed.{told}
-use Rattle.lrfindings.specs.CellConflicts.{conflicts_left, resolved_in}
+use Rattle.lrfindings.specs.ReachedStates.{AreLeft, AreResolved}
 use Rattle.lrfindings.specs.StoredCells.{resolution}
 use Rattle.lrfindings.proofs.FoundInCells.{of_kept, decides, decides_not, some_if_true, resolved_either, all_are_left}
 use Rattle.lrfindings.proofs.FoundNothing.{nothing_found}
@@ -39,10 +38,10 @@ returns-clause-found c =
       without = nothing_found _ graph c.in_ok-graph.table (HasNoPrecedences grm) c.in_ok-graph.ensures.without plain c.in_ok-conflicts.ensures
           all_left (λ is. cells.none_resolved (not is));
       left_listed = λ is. all_are_left (lists_of c.in_ok-graph.table) _ _ c.in_ok-conflicts.ensures (all_left is);
-      left = λ some. of_kept graph c.as_ref.result h (HasNoPrecedences grm) (λ k. IsPermutation (conflicts_left grm k) (map told left.items))
+      left = λ some. of_kept graph c.as_ref.result h (HasNoPrecedences grm) (λ k. AreLeft grm k (map told left.items))
           c.as_ref.ensures.value kept plain some (cells.left (decides grm c.has_precedences-may_decide.result test some));
       resolved = resolved_either grm h resolved.items c.has_precedences-may_decide.result test cells.none_resolved
-          (λ decided. of_kept graph c.as_ref.result h (HasNoPrecedences grm) (λ k. IsPermutation (resolved_in grm k) (map resolution resolved.items))
+          (λ decided. of_kept graph c.as_ref.result h (HasNoPrecedences grm) (λ k. AreResolved grm k (map resolution resolved.items))
           c.as_ref.ensures.value kept plain (some_if_true grm c.has_precedences-may_decide.result test decided) (cells.resolved decided));
       unambiguous = c.is_unambiguous-is_unambiguous.ensures.proved;
       known = c.is_unambiguous-is_unambiguous.ensures.told;

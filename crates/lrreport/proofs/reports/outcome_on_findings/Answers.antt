@@ -87,7 +87,9 @@ returns-clause-proved c = record {
   kept = c.requires.kept;
   of_grammar = c.requires.found.of_grammar;
   left = rw c.in_ok-known.ensures.left (are_left _ _ c.args.found.now c.requires.found);
-  resolved = omega (arith, c.len.ensures, c.args.found.now.resolved.ok.0) ∙ so_many_resolved _ _ c.args.found.now c.requires.found;
+  resolved =
+      let (rs, are, many) = so_many_resolved _ _ c.args.found.now c.requires.found in
+      (rs, are, omega (arith, c.len.ensures, c.args.found.now.resolved.ok.0) ∙ many);
   verdict = subst (λ counts. IsVerdict c.args.found.now.is_unambiguous counts c.beside-expected.result c.of-verdict.result) c.in_ok-known.ensures.counts c.of-verdict.ensures;
   unambiguous = c.requires.found.unambiguous;
   yet_unambiguous = c.in_ok-known.ensures.unambiguous;
