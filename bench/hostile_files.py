@@ -65,7 +65,7 @@ VERDICT = re.compile(
     r"(unambiguous \(proved\): no sentence has two trees|no conflicts"
     r"|(as expected: |ambiguous \(proved\): )?\d+ (shift|reduce)/reduce conflicts?(, \d+ reduce/reduce conflicts?)?"
     rf"(, {TEXT}|(; \d+ .+ expected)?(; ambiguous \(proved\): {TEXT}|, (not|none) known to be ambiguous)?))"
-    r"(, \d+ rejects? sentences)?(; \d+( more)? resolved by precedence)?"
+    r"(, \d+ with a rejected sentence)?(; \d+( more)? resolved by precedence)?"
     r"(, which (lose no sentence|reject sentences only by %nonassoc) \(proved\))?"
     r"(; the parser (accepts every sentence|rejects sentences only by %nonassoc) \(proved\))?"
     r"(; without precedences ambiguous \(proved\))?"

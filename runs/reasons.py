@@ -312,8 +312,8 @@ def check_groups(told, alone):
 def check_line(answer):
     """The line tells for how many entries a text is told that is rejected."""
     lost = sum(it["lost"] is not None for it in answer.alone["conflicts"])
-    words = f", {lost} rejects sentences" if lost == 1 else f", {lost} reject sentences" if lost else ""
-    told = re.search(r", \d+ rejects? sentences|$", answer.line)[0]
+    words = f", {lost} with a rejected sentence" if lost else ""
+    told = re.search(r", \d+ with a rejected sentence|$", answer.line)[0]
     hold(told == words, f"{lost} conflicts reject sentences, but the line is: {answer.line}")
     check_words_of_decided(answer)
 

@@ -60,6 +60,8 @@ pub(crate) struct NewLevels {
 pub(crate) enum Advice {
     /// To move an action that stands in the middle of a production.
     MoveAction,
+    /// To leave states unmerged that have no such conflict.
+    Unmerge,
     /// So that the parser accepts what it rejects, not by levels; where the conflict is ambiguous too, those may do it that reduce.
     Accept { may_reduce: bool },
     /// By so many tokens of lookahead, not by levels.
@@ -116,14 +118,19 @@ fn add_tokens(words: &mut Words, file: &FileGrammar, tokens: &[usize]) {
 }
 
 impl Told<'_> {
+    /// The word for a line that makes no group.
+    fn plain_line(&self) -> &'static str {
+        match self.options.dialect {
+            Dialect::Bison => "%precedence",
+            Dialect::Grmtools => "%nonassoc",
+        }
+    }
+
     /// Adds that tokens get a level by a line that makes no group.
     fn add_plain_level(&self, words: &mut Words, tokens: &[usize]) {
         add_tokens(words, self.file, tokens);
         words.add_all("a level by");
-        words.add(match self.options.dialect {
-            Dialect::Bison => "%precedence",
-            Dialect::Grmtools => "%nonassoc",
-        });
+        words.add(self.plain_line());
     }
 
     /// Adds that tokens get one level.
@@ -165,11 +172,13 @@ impl Told<'_> {
 
     /// Adds that the production gets a level in a place, and tokens one below it.
     fn add_prec_and_line(&self, words: &mut Words, tokens: &[usize], place: Place) {
-        words.add_all("to keep the shift, give this production a level by %prec");
-        words.add_all(match place {
-            Place::Above => "in a line above all others, and",
-            Place::Below => "and",
-        });
+        words.add_all("to keep the shift, give this production %prec NAME, NAME a level by");
+        words.add(self.plain_line());
+        if let Place::Above = place {
+            words.add_all("in a line above all others");
+        }
+        words.add_piece(",");
+        words.add("and");
         add_tokens(words, self.file, tokens);
         words.add_all(match place {
             Place::Above => "one in a line below them",
@@ -195,7 +204,9 @@ impl Told<'_> {
             }
             Way::Below { can_reduce } => self.add_line(words, tokens, Place::Below, can_reduce),
             Way::Prec { can_reduce } => {
-                words.add_all("give this production a level by %prec:");
+                words.add_all("give this production %prec NAME, and NAME a level by");
+                words.add(self.plain_line());
+                words.add_piece(":");
                 add_places(words, Place::Above, can_reduce);
             }
             Way::PrecAndLine { place } => self.add_prec_and_line(words, tokens, place),
@@ -216,11 +227,12 @@ impl Told<'_> {
             Advice::MoveAction => words.add_all(
                 "this action must run before it is known which alternative it is: put it at the end, or into a rule of its own",
             ),
+            Advice::Unmerge => words.add_all("%define lr.type ielr keeps these states apart"),
             Advice::Accept { may_reduce } => {
                 words.add_all(if *may_reduce {
                     "levels that keep the shift would not mend it, and those that reduce may reject other sentences:"
                 } else {
-                    "where it is not ambiguous, levels would not mend it:"
+                    "levels would not mend it:"
                 });
                 self.add_other_parser(words);
             }

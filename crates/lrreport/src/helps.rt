@@ -63,6 +63,16 @@ pub(crate) fn cut_off(evidence: &[Evidence]) -> usize {
     count
 }
 
+/// Whether only merged states have each of the entries.
+fn are_merged(meeting: &[Evidence]) -> bool {
+    for evidence in meeting {
+        if !evidence.is_merged() {
+            return false;
+        }
+    }
+    true
+}
+
 impl Told<'_> {
     /// Whether an author can give a token a level.
     fn can_have_level(&self, token: usize) -> bool {
@@ -341,6 +351,8 @@ impl<'a> Trials<'_, 'a> {
         // rules of these names stand for actions in the middle of productions
         if rule.starts_with("$@") || rule.starts_with('@') {
             Some(Advice::MoveAction)
+        } else if told.options.dialect == Dialect::Bison && are_merged(meeting) {
+            Some(Advice::Unmerge)
         } else if let Some(tokens) = tokens_of_each(meeting) {
             Some(Advice::Decide(tokens))
         } else if have_loss(meeting) {

@@ -271,21 +271,21 @@ impl Told<'_> {
         notes.push_labelled(text, label, &words);
     }
 
-    /// Adds that only merged states have an entry, where no list of symbols makes it real at its own token.
-    fn push_if_merged(&self, text: &mut Text, notes: Notes, entry: &Entry, example: &Example) {
-        if example.token == entry.token {
+    /// Adds that only merged states have an entry, where that is so.
+    fn push_if_merged(&self, text: &mut Text, notes: Notes, evidence: &Evidence) {
+        if !evidence.is_merged() {
             return;
         }
         let mut words = Words::new(text.allocator());
         words.add_all("only merged states have this conflict: a canonical LR(1) table has none at");
-        words.add(self.token_name(entry.token));
+        words.add(self.token_name(evidence.entry.token));
         notes.push(text, &words);
     }
 
     /// Adds after what an entry is real, how far the search went that found no sentence with two trees, and how the text goes on.
     fn push_example(&self, text: &mut Text, notes: Notes, evidence: &Evidence, example: &Example) {
         let (file, symbols) = (self.file, example.list.as_slice());
-        self.push_if_merged(text, notes, &evidence.entry, example);
+        self.push_if_merged(text, notes, evidence);
         let mut why = Words::new(text.allocator());
         if !evidence.is_decided() {
             why.add_all("not known to be ambiguous");
@@ -297,7 +297,7 @@ impl Told<'_> {
             }
         }
         why.add_all("both are possible");
-        if example.token != evidence.entry.token {
+        if evidence.is_merged() {
             why.add_all("at another token");
         }
         add_start(&mut why, file, start_of(file, symbols.first().copied()));

@@ -86,10 +86,8 @@ fn push_unknown(line: &mut Text, decided: usize, all: usize)
 fn push_rejecting(line: &mut Text, count: usize)
     ensures { Adds line.old line.new (rejecting_words count) }
 {
-    if count == 1 {
-        line.add(", 1 rejects sentences");
-    } else if count != 0 {
-        write!(line, ", {count} reject sentences");
+    if count != 0 {
+        write!(line, ", {count} with a rejected sentence");
     }
 }
 

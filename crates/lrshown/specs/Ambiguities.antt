@@ -1,5 +1,5 @@
 -- sentences with two trees
-use Rattle.std.specs.Prelude.{◌≡◌, ◌≢◌, ℕ, ◌-◌, ◌&&◌, ◌||◌, Bool, false, List, ◌++◌, All, Option, Some, None, IfSome, is_some, slice_get}
+use Rattle.std.specs.Prelude.{◌≡◌, ◌≢◌, ℕ, ◌-◌, ◌==◌, ◌&&◌, ◌||◌, not, Bool, false, List, ◌++◌, All, Option, Some, None, IfSome, is_some, slice_get}
 use Rattle.std.specs.Option.{ForSome, option_map_or}
 use Rattle.lrspec.specs.grammars.Grammar.{Symbol, Grammar}
 use Rattle.lrspec.specs.grammars.Trees.{Tree}
@@ -83,6 +83,10 @@ has_sentence e = is_some e.ambiguity
 -- whether one is known whose trees part by what meets in it
 abbrev pub has_own_sentence : Evidence → Bool
 has_own_sentence e = option_map_or (λ a. is_of a.value e.entry) e.ambiguity false
+
+-- whether only merged states have it: what meets in it is real at another token alone
+abbrev pub is_merged : Evidence → Bool
+is_merged e = option_map_or (λ x. not (x.value.token == e.entry.token)) e.example false
 
 -- how many tokens of what is shown stand before the dot
 abbrev pub shown_dot : FileGrammar → Ambiguity → ℕ

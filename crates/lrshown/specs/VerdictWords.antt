@@ -75,9 +75,7 @@ verdict_on verdict shown evidence =
 
 -- for so many a sentence is known that the parser rejects
 abbrev pub rejecting_words : ℕ → List ℕ
-rejecting_words n =
-    if n == 0 then []
-    else (if n == 1 then codes ", 1 rejects sentences" else codes ", " ++ decimal n ++ codes " reject sentences")
+rejecting_words n = if n == 0 then [] else codes ", " ++ decimal n ++ codes " with a rejected sentence"
 
 -- a verdict with what is known of the conflicts, where texts were looked for
 abbrev pub known_verdict : Verdict → Bool → List Evidence → Bool → List ℕ

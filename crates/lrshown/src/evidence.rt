@@ -1,7 +1,7 @@
 //! What is known of conflicts.
 
 ghost use Rattle.std.specs.Prelude.{◌≡◌, IsTrue, IsSome, Some};
-ghost use Rattle.lrshown.specs.Ambiguities.{has_own_sentence};
+ghost use Rattle.lrshown.specs.Ambiguities.{has_own_sentence, is_merged};
 ghost use Rattle.lrshown.specs.DecidedEntries.{is_decided, tokens_of};
 ghost use Rattle.lrshown.specs.Losses.{rejects};
 
@@ -62,6 +62,16 @@ impl Evidence {
     {
         match &self.ambiguity {
             Some(ambiguity) => ambiguity.is_of(&self.entry),
+            None => false,
+        }
+    }
+
+    /// Whether only merged states have the entry: what meets in it is known to be real at another token alone.
+    pub fn is_merged(&self) -> bool
+        ensures { result ≡ is_merged self.now }
+    {
+        match &self.example {
+            Some(example) => example.token != self.entry.token,
             None => false,
         }
     }
