@@ -9,7 +9,7 @@ has to be gone, and no other may have come; and of a drawn grammar just the same
 as before, which `lrt run` tells. Where Bison is installed, all conflicts are with a shift, and the IELR automaton has as many,
 this has to be so behind the help too. What the help for `%expect` says has to make the file one as expected.
 
-Each help that fails is told with its grammar; ends with status 1 where there is one. What is drawn is the same in each run.
+Each help that fails is told with its grammar; ends with status 1 where there is one, or where no help was applied. What is drawn is the same in each run.
 """
 
 import argparse
@@ -32,7 +32,7 @@ from drawn_grammars import drawn_text
 NEW = "HELPED"  # A token for `%prec` that stands in no rule.
 LONGEST = 6
 STEPS = 1_000
-EXPECTED = re.compile(r"^help: if the table does what is wanted, say (%expect \d+)$", re.MULTILINE)
+EXPECTED = re.compile(r"^help: .*say (%expect \d+)$", re.MULTILINE)
 BLOCK = re.compile(r"^conflict: .*?(?=^$)", re.MULTILINE | re.DOTALL)
 HELP = re.compile(r"^ *= help: (.*)$", re.MULTILINE)
 
@@ -52,20 +52,24 @@ PROPOSALS = [
     ),
     (r"give (.+) one level by %left or %right to resolve it", [BELOW, "%left {0}"], None),
     (r"give (.+) one level by %left or %right to resolve it", [BELOW, "%right {0}"], None),
-    (r"to keep the shift, give (.+) one level by %right, below all others", [BELOW, "%right {0}"], None),
-    (r"give (?!this)(.+) a level by (%\w+): above all others to keep the shift.*", [ABOVE, "{1} {0}"], None),
-    (r"give (?!this)(.+) a level by (%\w+): below all others to keep the shift.*", [BELOW, "{1} {0}"], None),
+    (r"to keep the shift, give (.+) one level by %right, in a line below all others", [BELOW, "%right {0}"], None),
+    (r"give (?!this)(.+) a level by (%\w+): in a line above all others to keep the shift.*", [ABOVE, "{1} {0}"], None),
+    (r"give (?!this)(.+) a level by (%\w+): in a line below all others to keep the shift.*", [BELOW, "{1} {0}"], None),
     (r"give (?!this)(.+) a level by (%\w+): .*, above them to reduce", [ABOVE, "{1} {0}"], None),
     (r"give (?!this)(.+) a level by (%\w+): .*, below them to reduce", [BELOW, "{1} {0}"], None),
-    (r"give this production a level by %prec: above all others to keep the shift.*", [ABOVE, f"%precedence {NEW}"], NEW),
-    (r"give this production a level by %prec: .*, below them to reduce", [BELOW, f"%precedence {NEW}"], NEW),
     (
-        r"to keep the shift, give this production a level by %prec and (.+) one in a line below it",
+        r"give this production %prec NAME, and NAME a level by %\w+: in a line above all others to keep the shift.*",
+        [ABOVE, f"%precedence {NEW}"],
+        NEW,
+    ),
+    (r"give this production %prec NAME, and NAME a level by %\w+: .*, below them to reduce", [BELOW, f"%precedence {NEW}"], NEW),
+    (
+        r"to keep the shift, give this production %prec NAME, NAME a level by %\w+, and (.+) one in a line below it",
         [BELOW, f"%precedence {NEW}", "%precedence {0}"],
         NEW,
     ),
     (
-        r"to keep the shift, give this production a level by %prec above all others, and (.+) one below them",
+        r"to keep the shift, give this production %prec NAME, NAME a level by %\w+ in a line above all others, and (.+) one in a line below them",
         [ABOVE, f"%precedence {NEW}", BELOW, "%precedence {0}"],
         NEW,
     ),
@@ -144,7 +148,7 @@ class Checker:
         if not shutil.which("bison"):
             return None
         self.path.write_text(re.sub(r"^%expect.*$", "", text, flags=re.MULTILINE), errors="surrogateescape")
-        words = ["bison", "-Wno-all", "-Wconflicts-sr", "-Wconflicts-rr", "-Dlr.type=ielr", "-o", "/dev/null", str(self.path)]
+        words = ["bison", "-Wno-all", "-Wconflicts-sr", "-Wconflicts-rr", "-Dlr.type=ielr", "-o", f"{self.path}.c", str(self.path)]
         told = subprocess.run(words, capture_output=True, text=True, errors="replace").stderr
         return sum(int(it) for it in re.findall(r"(\d+) (?:shift|reduce)/reduce conflict", told))
 
@@ -213,7 +217,7 @@ def main():
                 if tokens:
                     print("   " + text.replace("\n", "\n   "))
     print(f"{count} helps were applied, {bad} of them are bad")
-    sys.exit(1 if bad else 0)
+    sys.exit(1 if bad or not count else 0)
 
 
 if __name__ == "__main__":
