@@ -1,5 +1,5 @@
 -- what is found at a token in a state, and in one state after another
-use Rattle.std.proofs.Common.{◌≡◌, ◌∙◌, ℕ, zero, suc, ◌+◌, ◌<◌, Bool, true, false, IsTrue, ◌↔◌, is_some, List, [], ◌∷◌, ◌++◌, length, eq-eqb, refl, sym, ap, append_assoc, arith}
+use Rattle.std.proofs.Common.{◌≡◌, ◌∙◌, ℕ, zero, suc, ◌+◌, ◌<◌, Bool, true, false, IsTrue, ◌↔◌, is_some, Option, None, List, [], ◌∷◌, ◌++◌, length, eq-eqb, refl, sym, ap, append_assoc, arith}
 use Rattle.std.specs.Prelude.{◌==◌}
 use Rattle.std.specs.List.{flat_map, range_with_len}
 use Rattle.std.proofs.lemmas.Bool.{eqb-true}
@@ -14,7 +14,7 @@ use Rattle.lrrows.proofs.ReductionsOf.{reductions_are}
 use Rattle.lrverdicts.specs.Listed.{Listing}
 use Rattle.lrfindings.specs.declared.cells.Outcome.{Outcome}
 use Rattle.lrfindings.specs.declared.cells.Precedences.{Precedences}
-use Rattle.lrfindings.specs.CellConflicts.{Resolution, outcome, reductions_left, shift_stands, decided, resolved_of, conflicts_by, conflicts_at, resolved_by, resolved_at}
+use Rattle.lrfindings.specs.CellConflicts.{Resolution, outcome, reductions_left, shift_stands, decided, resolved_of, conflicts_by, conflicts_at, made_by, made_at, resolved_by, resolved_at}
 use Rattle.lrfindings.specs.StoredCells.{outcome_in, ArePrecedencesOf, looking_at}
 
 -- the outcomes by precedences of a grammar are the grammar's
@@ -42,6 +42,15 @@ module _ (o q : ℕ → Outcome) (same : (p : ℕ) → o p ≡ q p) where
   pub same_resolved : (s t : ℕ) (b : Bool) (ps : List ℕ) → resolved_by o s t b ps ≡ resolved_by q s t b ps
   same_resolved s t false ps = refl
   same_resolved s t true ps = ap (resolved_of s t) (same_decided ps)
+
+  pub same_made : (b : Bool) (ps : List ℕ) → made_by o b ps ≡ made_by q b ps
+  same_made false ps = refl
+  same_made true ps = rw (same_left ps, same_stands ps) refl
+
+-- without reductions none is made
+pub none_made : (o : ℕ → Outcome) (b : Bool) → None ≡ made_by o b []
+none_made o true = refl
+none_made o false = refl
 
 -- without reductions nothing is left, and nothing resolved
 pub no_conflicts : (o : ℕ → Outcome) (s t : ℕ) (b : Bool) → conflicts_by o s t b [] ≡ []
@@ -81,6 +90,15 @@ module _
         → new ≡ before ++ resolved_by o s t b ps → new ≡ before ++ resolved_at g h s t
     resolved_added o b before new same shifts added =
         added ∙ ap (λ ls. before ++ ls) (same_resolved o (outcome g t) same s t b ps ∙ rw (are, shifts) refl)
+
+    -- what is made in the cell is made at its token
+    pub made_there :
+        (o : ℕ → Outcome) (b : Bool) (made : Option ℕ) → ((p : ℕ) → o p ≡ outcome g t p) → b ≡ is_some (edge h s (Token t))
+        → made ≡ made_by o b ps → made ≡ made_at g h s t
+    made_there o b made same shifts is = is ∙ same_made o (outcome g t) same b ps ∙ rw (are, shifts) refl
+
+    pub none_made_at : ps ≡ [] → None ≡ made_at g h s t
+    none_made_at none = rw (sym are ∙ none) (none_made (outcome g t) (is_some (edge h s (Token t))))
 
     -- without reductions nothing is left at the token, and nothing resolved
     pub no_conflicts_at : ps ≡ [] → conflicts_at g h s t ≡ []

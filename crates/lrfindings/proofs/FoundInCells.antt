@@ -29,6 +29,11 @@ of_kept None r h plain P e kept is not holds = absurd (not is)
 of_kept (Some g) None h plain P e kept is not holds = absurd cc
 of_kept (Some g) (Some b) h plain P e kept is not holds = let same : b.now ≡ g = cc in subst P (same ∙ kept) holds
 
+-- what follows of something follows where that holds
+pub given_some : (r : Option (Bor Graph)) (A : Type 0) (P : Graph → Type 0) → IfSome r (λ b. A → P b.now) → A → IfSome r (λ b. P b.now)
+given_some None A P h a = tt
+given_some (Some b) A P h a = h a
+
 module _ (o : ℕ → Outcome) (open_all : (p : ℕ) → o p ≡ Open) where
   nothing_decided : (ps : List ℕ) → decided o ps ≡ []
   nothing_decided [] = refl

@@ -22,6 +22,13 @@ none_listed b [] nothing moved = refl
 none_listed b (e ∷ es) nothing moved =
     let none : map told (e ∷ es) ≡ [] = no_more (map told (e ∷ es)) (rw (nothing.0, nothing.1) at moved) in absurd cc
 
+-- without a graph no token has a precedence, and no conflict is listed
+pub none_both :
+    {X : Type 0} (o : Option X) (b : Table) (plain : Type 0) (es : List Entry) → IfNone o plain → IfNone o (ListsNothing b)
+    → IsPermutation (listed (lists_of b)) (map told es) → IfNone o (plain × (es ≡ []))
+none_both None b plain es is nothing moved = (is, none_listed b es nothing moved)
+none_both (Some x) b plain es is nothing moved = tt
+
 module _ (f : Findings) where
   -- the conflicts of the table are left where no token has a precedence, as it is where there is no graph
   pub nothing_found :

@@ -4,6 +4,8 @@ pub mod StoredPrecedences
 pub mod ReachedMarks
 pub mod PartedByReach
 pub mod TakenShifts
+pub mod ReducedPairs
+pub mod NeverReduced
 pub mod CellWalks
 pub mod CellsInTurn
 pub mod FoundInCells

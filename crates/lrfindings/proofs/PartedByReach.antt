@@ -9,7 +9,7 @@ use Rattle.lrspec.specs.merging.Graph.{Graph}
 use Rattle.lrgrammar.specs.Bits.{bit}
 use Rattle.lrspec.specs.grammars.Grammar.{Grammar}
 use Rattle.lrverdicts.specs.Listed.{Listing}
-use Rattle.lrfindings.specs.CellConflicts.{Resolution, conflicts_left, resolved_in}
+use Rattle.lrfindings.specs.CellConflicts.{Resolution, conflicts_left, reduced_by_states, resolved_in}
 use Rattle.lrfindings.specs.ReachedStates.{IsReached, IsReachedIn, is_taken_away, AreMarked, AreOfReached, AreLeft, AreResolved}
 
 -- in another order they are still those
@@ -62,3 +62,10 @@ module _ (g : Grammar) (h : Graph) (rs : List Resolution) (all : rs ≡ resolved
   -- and so is what of it is in states that are reached
   pub resolved_by : (these : List Resolution) → AreOfReached (IsReached (is_taken_away rs) h) (λ r. r.0.3) rs these → AreResolved g h these
   resolved_by these are = subst (λ l. AreOfReached (IsReached (is_taken_away l) h) (λ r. r.0.3) l these) all are
+
+  -- so are the states with the productions by which they reduce
+  pub reduced_by :
+      (ms these : List (ℕ × ℕ)) → ms ≡ reduced_by_states g h → AreOfReached (IsReached (is_taken_away rs) h) (λ m. m.0) ms these
+      → AreOfReached (IsReachedIn g h) (λ m. m.0) (reduced_by_states g h) these
+  reduced_by ms these e are =
+      subst (λ l. AreOfReached (IsReachedIn g h) (λ m. m.0) l these) e (subst (λ l. AreOfReached (IsReached (is_taken_away l) h) (λ m. m.0) ms these) all are)

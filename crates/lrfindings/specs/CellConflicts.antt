@@ -1,10 +1,11 @@
 -- what precedences make of cells, where each reduction is tried against the shift as long as it stands
-use Rattle.std.specs.Prelude.{ℕ, ◌+◌, ◌%◌, ◌==◌, ◌&&◌, if◌then◌else◌, Bool, true, false, List, [], ◌∷◌, ◌++◌, Option, None, Some, is_some, length, map}
-use Rattle.std.specs.List.{cons_option, flat_map, range_with_len}
+use Rattle.std.specs.Prelude.{ℕ, ◌+◌, ◌%◌, ◌==◌, ◌&&◌, if◌then◌else◌, Bool, true, false, List, [], ◌∷◌, ◌++◌, Option, None, Some, is_some, filter, length, map, option_to_list, slice_get}
+use Rattle.std.specs.List.{cons_option, flat_map, list_any, range_with_len}
 use Rattle.lrspec.specs.grammars.Grammar.{Token, Precedence, Grammar, token_count, token_precedence, production_precedence}
 use Rattle.lrspec.specs.merging.Graph.{Graph, closed_of, edge}
 use Rattle.lrspec.specs.tables.Table as table
 use Rattle.lrspec.specs.tables.Table.{Action, decide, reductions}
+use Rattle.lrrows.specs.StateRows.{complete_items}
 use Rattle.lrverdicts.specs.Listed.{Listing}
 use Rattle.lrfindings.specs.declared.cells.Outcome.{Outcome}
 use Rattle.lrfindings.specs.declared.cells.Outcome.TheVariants.{Won, Tie, Open}
@@ -107,6 +108,28 @@ resolved_by o s t true ps = resolved_of s t (decided o ps)
 -- that of the cell of the graph
 abbrev pub resolved_at : Grammar → Graph → ℕ → ℕ → List Resolution
 resolved_at g h s t = resolved_by (outcome g t) s t (is_some (edge h s (Token t))) (reductions g (closed_of h s) t)
+
+-- the reduction that is made in the cell, by the same: the first one that is left, where no shift stands
+abbrev pub made_by : (ℕ → Outcome) → Bool → List ℕ → Option ℕ
+made_by o false ps = slice_get ps 0
+made_by o true ps = if shift_stands o ps then None else slice_get (reductions_left o ps) 0
+
+-- that of the cell of the graph
+abbrev pub made_at : Grammar → Graph → ℕ → ℕ → Option ℕ
+made_at g h s t = made_by (outcome g t) (is_some (edge h s (Token t))) (reductions g (closed_of h s) t)
+
+-- those that are made in the cells of a state
+abbrev pub made_in : Grammar → Graph → ℕ → List ℕ
+made_in g h s = flat_map (λ t. option_to_list (made_at g h s t)) (range_with_len 0 (token_count g))
+
+-- each production of the complete items of a state by which it reduces in one of its cells
+abbrev pub reduced_in : Grammar → Graph → ℕ → List ℕ
+reduced_in g h s =
+    filter (λ p. list_any (λ q. q == p) (made_in g h s)) (map (λ c. c.0) (complete_items g (closed_of h s)))
+
+-- the states of a graph with the productions by which they reduce
+abbrev pub reduced_by_states : Grammar → Graph → List (ℕ × ℕ)
+reduced_by_states g h = flat_map (λ s. map (λ p. (s, p)) (reduced_in g h s)) (range_with_len 0 (length h))
 
 -- those of all cells of a graph, by state and token
 abbrev pub of_cells : {X : Type 0} → (ℕ → ℕ → List X) → Grammar → Graph → List X

@@ -1,13 +1,13 @@
 -- the states to which a parser can come where precedences take shifts away
-use Rattle.std.specs.Prelude.{◌≡◌, ℕ, ◌==◌, ◌&&◌, not, Bool, true, List, ◌++◌, Some, All}
+use Rattle.std.specs.Prelude.{◌≡◌, ◌≢◌, ℕ, ◌<◌, ◌==◌, ◌&&◌, not, Bool, true, List, ◌++◌, Some, All, Contains, length}
 use Rattle.std.specs.List.{list_any}
 use Rattle.std.specs.List.Sorted.{IsPermutation}
-use Rattle.lrspec.specs.grammars.Grammar.{Symbol, Rule, Token, Grammar}
+use Rattle.lrspec.specs.grammars.Grammar.{Symbol, Rule, Token, Grammar, token_count}
 use Rattle.lrspec.specs.merging.Graph.{Graph, edge}
 use Rattle.lrpager.specs.Collecting.{IsMarked}
 use Rattle.lrverdicts.specs.Listed.{Listing}
 use Rattle.lrfindings.specs.declared.cells.Outcome.TheVariants.{Won}
-use Rattle.lrfindings.specs.CellConflicts.{Resolution, leaves_shift, conflicts_left, resolved_in}
+use Rattle.lrfindings.specs.CellConflicts.{Resolution, leaves_shift, conflicts_left, made_at, resolved_in}
 
 -- whether a resolution takes the shift of the token away in the state: the reduction wins, or neither
 abbrev pub takes_away : ℕ → ℕ → Resolution → Bool
@@ -57,3 +57,17 @@ AreLeft g h these = AreOfReached (IsReachedIn g h) (λ e. e.3) (conflicts_left g
 -- what precedences resolve in the states that are reached
 abbrev pub AreResolved : Grammar → Graph → List Resolution → Type 0
 AreResolved g h these = AreOfReached (IsReachedIn g h) (λ r. r.0.3) (resolved_in g h) these
+
+-- whether none of these states reduces by the production, which is not the start production
+abbrev pub is_unreduced : ℕ → List (ℕ × ℕ) → ℕ → Bool
+is_unreduced first reduced p = not (p == first) && not (list_any (λ m. m.1 == p) reduced)
+
+-- no state that is reached reduces by the production, at whatever token
+abbrev pub IsNeverReduced : Grammar → Graph → ℕ → Type 0
+IsNeverReduced g h p =
+    (s t : ℕ) → IsReachedIn g h s → s < length h → t < token_count g → made_at g h s t ≢ Some p
+
+-- the productions by which no state reduces that is reached, but for the start production
+pub record AreNeverReduced (g : Grammar) (h : Graph) (ps : List ℕ) : Type 0 where
+  pub only : All (IsNeverReduced g h) ps
+  pub all : (p : ℕ) → p < length g.productions → p ≢ g.start_production → IsNeverReduced g h p → Contains ps p

@@ -5,8 +5,8 @@
 //! own tokens. A production whose precedence would be that of such a line has the odd level below its tokens, whose level is
 //! even: so the table shifts, and both are left.
 
-ghost use Rattle.std.specs.Prelude.{◌≡◌, ◌++◌, ◌^◌, ◌<◌, ℕ, false, [], length, map, is_some, option_map, Some, slice_index_or, IfOk, OnOk};
-ghost use Rattle.std.specs.List.{cons_option, flat_map, range_with_len};
+ghost use Rattle.std.specs.Prelude.{◌≡◌, ◌==◌, ◌++◌, ◌^◌, ◌<◌, ℕ, false, [], filter, length, map, is_some, option_map, option_to_list, Some, slice_index_or, IfOk, OnOk};
+ghost use Rattle.std.specs.List.{cons_option, flat_map, list_any, range_with_len};
 ghost use Rattle.std.specs.List.Sorted.{IsPermutation};
 ghost use Rattle.lrspec.specs.grammars.Grammar as math;
 ghost use Rattle.lrspec.specs.grammars.ItemSets.{AreUpwards, Fits};
@@ -17,11 +17,11 @@ ghost use Rattle.lrrows.specs.ReadGraphs.{IsReadable};
 ghost use Rattle.lrrows.specs.StateRows.{complete_items};
 ghost use Rattle.lrverdicts.specs.Listed.{told};
 ghost use Rattle.lrgrammar.specs.Symbols.{number_of};
-ghost use Rattle.lrfindings.specs.CellConflicts.{outcome_of, leaves_shift, leaves_reduction, decision, shift_stands, reductions_left, decided, resolved_of, resolved_by, resolved_at, resolved_in, conflicts_of, conflicts_by, conflicts_at, conflicts_left};
-ghost use Rattle.lrfindings.specs.ReachedStates.{is_taken_away, IsReached, AreOfReached, AreLeft, AreResolved};
+ghost use Rattle.lrfindings.specs.CellConflicts.{outcome_of, leaves_shift, leaves_reduction, decision, shift_stands, reductions_left, decided, resolved_of, resolved_by, resolved_at, resolved_in, conflicts_of, conflicts_by, conflicts_at, conflicts_left, made_by, made_at, reduced_in, reduced_by_states};
+ghost use Rattle.lrfindings.specs.ReachedStates.{is_taken_away, IsReached, AreOfReached, AreLeft, AreResolved, is_unreduced, AreNeverReduced};
 ghost use Rattle.lrfindings.specs.StoredCells.{outcome_in, resolution, precedence_at, ArePrecedencesOf, complete, looking_at};
 
-use crate::reached::{left_in, reached, resolved_in};
+use crate::reached::{left_in, reached, reduced_in, resolved_in, unreduced_of};
 use crate::useless::{Deciding, UselessPrecedences};
 use lrgrammar::grammar::{AssocKind, PartProd, PartSymbol, Precedence, YaccGrammar};
 use lrgrammar::idx::{IndexStorage, PIdx, StIdx, Symbol, TIdx};
@@ -391,6 +391,8 @@ pub(crate) struct CellFindings {
     pub(crate) resolved: Vec<Resolved>,
     /// The conflicts that are left open.
     pub(crate) left: Vec<Entry>,
+    /// The productions by which no state reduces.
+    pub(crate) unreduced: Vec<usize>,
     /// What of the file takes no part in the decisions, and what of its tokens in no rule.
     pub(crate) useless: UselessPrecedences,
 }
@@ -404,10 +406,12 @@ impl CellFindings {
     ) -> Result<CellFindings, AllocError>
         ensures left { IfOk result (λ c. c.left.items ≡ conflicts.now) }
         ensures resolved { IfOk result (λ c. c.resolved.items ≡ []) }
+        ensures unreduced { IfOk result (λ c. c.unreduced.items ≡ []) }
     {
         Ok(CellFindings {
             resolved: Vec::new(alloc),
             left: conflicts.iter().copied().collect(alloc)?,
+            unreduced: Vec::new(alloc),
             useless: Deciding::new(alloc, file)?.useless(file)?,
         })
     }
@@ -419,6 +423,37 @@ struct Cells {
     decisions: Decisions,
     /// The conflicts that are left.
     left: Vec<Entry>,
+    /// The states with the productions by which they reduce.
+    reduced: Vec<(usize, usize)>,
+}
+
+/// Adds the production by which a cell reduces, if it does.
+fn push_made(made: &mut Vec<usize>, production: Option<usize>) -> Result<(), AllocError>
+    ensures { OnOk result (made.new.items ≡ made.old.items ++ option_to_list production) }
+{
+    if let Some(production) = production {
+        made.push(production)?;
+    }
+    Ok(())
+}
+
+/// Adds the state with each production of its complete items that is one of these, by which it reduces.
+fn add_reduced(
+    reduced: &mut Vec<(usize, usize)>,
+    state: usize,
+    reductions: &[Reduction<'_>],
+    made: &[usize],
+) -> Result<(), AllocError>
+    ensures { OnOk result (reduced.new.items ≡ reduced.old.items ++ map (λ p. (state, p))
+        (filter (λ p. list_any (λ q. q == p) made.now) (map (λ r. r.production) reductions.now))) }
+{
+    for reduction in reductions {
+        if !made.contains(&reduction.production) {
+            continue;
+        }
+        reduced.push((state, reduction.production))?;
+    }
+    Ok(())
 }
 
 impl Cells {
@@ -426,6 +461,7 @@ impl Cells {
     fn new(alloc: Global, file: &FileGrammar) -> Result<Cells, AllocError>
         ensures left { IfOk result (λ c. c.left.items ≡ []) }
         ensures resolved { IfOk result (λ c. c.decisions.resolved.items ≡ []) }
+        ensures reduced { IfOk result (λ c. c.reduced.items ≡ []) }
     {
         Ok(Cells {
             decisions: Decisions {
@@ -433,6 +469,7 @@ impl Cells {
                 deciding: Deciding::new(alloc, file)?,
             },
             left: Vec::new(alloc),
+            reduced: Vec::new(alloc),
         })
     }
 
@@ -448,29 +485,46 @@ impl Cells {
             (IsReached (is_taken_away (map resolution self.decisions.resolved.items)) graph.now)
             (λ r. r.0.3) (map resolution self.decisions.resolved.items)
             (map resolution c.decisions.resolved.items)) }
+        ensures reduced { IfOk result (λ c. AreOfReached
+            (IsReached (is_taken_away (map resolution self.decisions.resolved.items)) graph.now)
+            (λ m. m.0) self.reduced.items c.reduced.items) }
     {
-        let Cells { decisions, left } = self;
+        let Cells {
+            decisions,
+            left,
+            reduced,
+        } = self;
         let Decisions { resolved, deciding } = decisions;
         let alloc = *left.allocator();
         let marks = reached(alloc, graph, resolved.as_slice())?;
         let left = left_in(alloc, &marks, left.as_slice())?;
+        let reduced = reduced_in(alloc, &marks, reduced.as_slice())?;
         let resolved = resolved_in(alloc, &marks, resolved.as_slice())?;
         Ok(Cells {
             decisions: Decisions { resolved, deciding },
             left,
+            reduced,
         })
     }
 
     /// What was found, in the order of the file.
-    fn in_order(self, file: &FileGrammar) -> Result<CellFindings, AllocError>
+    fn in_order(
+        self,
+        file: &FileGrammar,
+        grm: &YaccGrammar<u32>,
+    ) -> Result<CellFindings, AllocError>
         ensures left { IfOk result (λ c.
             IsPermutation (map told self.left.items) (map told c.left.items)) }
         ensures resolved { IfOk result (λ c. IsPermutation
             (map resolution self.decisions.resolved.items) (map resolution c.resolved.items)) }
+        ensures unreduced { IfOk result (λ c. c.unreduced.items
+            ≡ filter (is_unreduced grm.now.start_production self.reduced.items)
+            (range_with_len 0 (length grm.now.productions))) }
     {
         let Cells {
             decisions,
             mut left,
+            reduced,
         } = self;
         let Decisions {
             mut resolved,
@@ -481,18 +535,20 @@ impl Cells {
         Ok(CellFindings {
             resolved,
             left,
+            unreduced: unreduced_of(grm, reduced.as_slice())?,
             useless: deciding.useless(file)?,
         })
     }
 
-    /// Adds what is found in a cell, with a shift or without, and with these reductions.
+    /// Adds what is found in a cell, with a shift or without, and with these reductions. The answer is the production by which the
+    /// cell reduces, if it does.
     fn add_cell(
         &mut self,
         rules: Rules<'_>,
         cell: Cell,
         shifts: bool,
         reductions: &[usize],
-    ) -> Result<(), AllocError>
+    ) -> Result<Option<usize>, AllocError>
         ensures left { OnOk result (map told self.new.left.items ≡ map told self.old.left.items
             ++ conflicts_by (outcome_in rules.entry.precedences.now cell.token)
             cell.state cell.token shifts reductions.now) }
@@ -500,22 +556,26 @@ impl Cells {
             ≡ map resolution self.old.decisions.resolved.items
             ++ resolved_by (outcome_in rules.entry.precedences.now cell.token)
             cell.state cell.token shifts reductions.now) }
+        ensures made { IfOk result (λ o. o
+            ≡ made_by (outcome_in rules.entry.precedences.now cell.token) shifts reductions.now) }
+        ensures reduced { OnOk result (self.new.reduced.items ≡ self.old.reduced.items) }
     {
         if !shifts {
-            return add_conflicts(&mut self.left, rules.file, cell, false, reductions);
+            add_conflicts(&mut self.left, rules.file, cell, false, reductions)?;
+            return Ok(reductions.first().copied());
         }
         let left = self.decisions.try_reductions(rules, cell, reductions)?;
-        add_conflicts(
-            &mut self.left,
-            rules.file,
-            cell,
-            left.stands,
-            left.reductions.as_slice(),
-        )
+        let (stands, reductions) = (left.stands, left.reductions.as_slice());
+        add_conflicts(&mut self.left, rules.file, cell, stands, reductions)?;
+        Ok(if stands {
+            None
+        } else {
+            reductions.first().copied()
+        })
     }
 
     /// Adds what is found at a token in a state with these complete items; the list is made that of the productions by which
-    /// the state could reduce there.
+    /// the state could reduce there. The answer is the one by which it does.
     fn add_token(
         &mut self,
         looked: Looked<'_>,
@@ -523,7 +583,7 @@ impl Cells {
         reductions: &[Reduction<'_>],
         productions: &mut Vec<usize>,
         token: usize,
-    ) -> Result<(), AllocError>
+    ) -> Result<Option<usize>, AllocError>
         requires precedences { ArePrecedencesOf looked.grm.now looked.rules.precedences.now }
         requires fits { Fits looked.grm.now (closed_of looked.graph.now state.0) }
         requires upwards { AreUpwards (closed_of looked.graph.now state.0) }
@@ -535,18 +595,21 @@ impl Cells {
         ensures resolved { OnOk result (map resolution self.new.decisions.resolved.items
             ≡ map resolution self.old.decisions.resolved.items
             ++ resolved_at looked.entry.grm.now looked.entry.graph.now state.0 token) }
+        ensures made { IfOk result (λ o. o
+            ≡ made_at looked.entry.grm.now looked.entry.graph.now state.0 token) }
+        ensures reduced { OnOk result (self.new.reduced.items ≡ self.old.reduced.items) }
     {
         list_at(productions, reductions, token)?;
         if productions.is_empty() {
-            return Ok(());
+            return Ok(None);
         }
         let cell = Cell {
             state: usize::from(state),
             token,
         };
         let shifts = shifts(looked.graph, state, token);
-        self.add_cell(looked.rules, cell, shifts, productions.as_slice())?;
-        Ok(())
+        let made = self.add_cell(looked.rules, cell, shifts, productions.as_slice())?;
+        Ok(made)
     }
 
     /// Adds what is found in the cells of a state.
@@ -561,21 +624,32 @@ impl Cells {
             ≡ map resolution self.old.decisions.resolved.items
             ++ flat_map (resolved_at looked.entry.grm.now looked.entry.graph.now state.0)
             (range_with_len 0 (math.token_count looked.entry.grm.now))) }
+        ensures reduced { OnOk result (self.new.reduced.items ≡ self.old.reduced.items
+            ++ map (λ p. (state.0, p))
+            (reduced_in looked.entry.grm.now looked.entry.graph.now state.0)) }
     {
         let reductions = reductions_of(looked.grm, looked.graph.closed_state(state))?;
         if reductions.is_empty() {
             return Ok(());
         }
-        let mut productions = Vec::new(looked.grm.allocator());
+        let alloc = looked.grm.allocator();
+        let (mut productions, mut made) = (Vec::new(alloc), Vec::new(alloc));
         for token in 0..usize::from(looked.grm.tokens_len()) {
-            self.add_token(
+            let production = self.add_token(
                 looked,
                 state,
                 reductions.as_slice(),
                 &mut productions,
                 token,
             )?;
+            push_made(&mut made, production)?;
         }
+        add_reduced(
+            &mut self.reduced,
+            usize::from(state),
+            reductions.as_slice(),
+            made.as_slice(),
+        )?;
         Ok(())
     }
 }
@@ -588,6 +662,8 @@ fn cells_in(alloc: Global, looked: Looked<'_>) -> Result<Cells, AllocError>
         ≡ conflicts_left looked.entry.grm.now looked.entry.graph.now) }
     ensures resolved { IfOk result (λ c. map resolution c.decisions.resolved.items
         ≡ resolved_in looked.entry.grm.now looked.entry.graph.now) }
+    ensures reduced { IfOk result (λ c. c.reduced.items
+        ≡ reduced_by_states looked.entry.grm.now looked.entry.graph.now) }
 {
     let mut cells = Cells::new(alloc, looked.rules.file)?;
     for state in looked.graph.iter_stidxs() {
@@ -607,6 +683,8 @@ pub(crate) fn cells_of<'a>(
     ensures left { IfOk result (λ c. AreLeft grm.now graph.now (map told c.left.items)) }
     ensures resolved { IfOk result (λ c.
         AreResolved grm.now graph.now (map resolution c.resolved.items)) }
+    ensures unreduced { IfOk result (λ c.
+        AreNeverReduced grm.now graph.now c.unreduced.items) }
 {
     grm.in_order();
     let precedences = Precedences::new(alloc, grm)?;
@@ -619,6 +697,6 @@ pub(crate) fn cells_of<'a>(
         graph,
     };
     let cells = cells_in(alloc, looked)?.in_reached(graph)?;
-    let found = cells.in_order(file)?;
+    let found = cells.in_order(file, grm)?;
     Ok(found)
 }

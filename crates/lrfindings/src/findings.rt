@@ -1,13 +1,13 @@
 //! What is found in the grammar of a file.
 
-ghost use Rattle.std.specs.Prelude.{◌≡◌, ◌⊎◌, ◌-◌, ◌^◌, [], length, map, Bool, IsTrue, IfOk, IfErr, IfNone, IfSome, false};
+ghost use Rattle.std.specs.Prelude.{◌≡◌, ◌≢◌, ◌⊎◌, ◌-◌, ◌^◌, [], length, map, Bool, IsTrue, IfOk, IfErr, IfNone, IfSome, false};
 ghost use Rattle.lrspec.specs.merging.Graph.{Graph, IsGraphOf};
 ghost use Rattle.lrspec.specs.tables.Built.{IsBuilt};
 ghost use Rattle.lrspec.specs.tables.LrTables.{HasNoPrecedences, ListsNothing};
 ghost use Rattle.lrtable.specs.Refusals.{IsBuildRefusal};
 ghost use Rattle.lrverdicts.specs.Listed.{told};
 ghost use Rattle.lrgrammar.specs.Symbols.{number_of};
-ghost use Rattle.lrfindings.specs.ReachedStates.{AreLeft, AreResolved};
+ghost use Rattle.lrfindings.specs.ReachedStates.{AreLeft, AreNeverReduced, AreResolved};
 ghost use Rattle.lrfindings.specs.StoredCells.{resolution};
 ghost use Rattle.lrfindings.specs.declared.findings.FindError.TheVariants.{Memory};
 ghost use Rattle.lrfindings.specs.Findings.{AreFindings, FindNothing, DecidesNothing};
@@ -43,6 +43,8 @@ pub struct Findings {
     pub left: Vec<Entry>,
     /// What precedences resolve in such states, in the order of the file.
     pub resolved: Vec<Resolved>,
+    /// The productions by which no such state reduces, in their order: conflicts, and what precedences resolve, have other actions.
+    pub unreduced: Vec<usize>,
     /// Which precedences resolve nothing, all of them where none is in force; and which tokens are in no rule.
     pub useless: UselessPrecedences,
     /// Whether the table shows that no sentence has two trees.
@@ -151,9 +153,18 @@ fn found_in_cells(
         AreResolved grm.now h.now (map resolution c.resolved.items))) }
     ensures all_left { may_decide ≡ false → IfOk result (λ c. c.left.items ≡ conflicts.now) }
     ensures none_resolved { may_decide ≡ false → IfOk result (λ c. c.resolved.items ≡ []) }
+    ensures unreduced { IfSome graph.entry (λ h. (may_decide ≡ false → conflicts.now ≢ [])
+        → IfOk result (λ c. AreNeverReduced grm.now h.now c.unreduced.items)) }
+    ensures plain { may_decide ≡ false → conflicts.now ≡ []
+        → IfOk result (λ c. c.unreduced.items ≡ []) }
 {
     match graph {
         Some(graph) if may_decide => cells_of(alloc, file, grm, graph),
+        Some(graph) if !conflicts.is_empty() => {
+            let mut cells = CellFindings::without_decisions(alloc, file, conflicts)?;
+            cells.unreduced = cells_of(alloc, file, grm, graph)?.unreduced;
+            Ok(cells)
+        }
         _ => CellFindings::without_decisions(alloc, file, conflicts),
     }
 }
@@ -179,6 +190,7 @@ fn find_with(
     let CellFindings {
         resolved,
         left,
+        unreduced,
         useless,
     } = cells;
     Ok(Findings {
@@ -190,6 +202,7 @@ fn find_with(
         conflicts,
         left,
         resolved,
+        unreduced,
         useless,
         is_unambiguous,
     })

@@ -1,7 +1,8 @@
 //! To which states a parser can come where precedences take shifts away: a depth-first search from the start state, along the edges
 //! that stay. As Bison does it, the other states are left out, with what meets in them.
 
-ghost use Rattle.std.specs.Prelude.{◌≡◌, ℕ, ◌<◌, filter, map, length, Some, IfOk, OnOk};
+ghost use Rattle.std.specs.Prelude.{◌≡◌, ◌==◌, ℕ, ◌<◌, filter, map, length, Some, IfOk, OnOk};
+ghost use Rattle.std.specs.List.{list_any, range_with_len};
 ghost use Rattle.lrspec.specs.grammars.Grammar as math;
 ghost use Rattle.lrspec.specs.merging.Graph as graphs;
 ghost use Rattle.lrspec.specs.merging.Graph.{edge};
@@ -12,10 +13,11 @@ ghost use Rattle.lrgrammar.specs.SymbolLaws.{symbol_cmp};
 ghost use Rattle.lrgraphs.specs.GraphOf.{edges_of};
 ghost use Rattle.lrpager.specs.Collecting.{IsMarked, MarksOnly};
 ghost use Rattle.lrfindings.specs.Cells.{has_cell};
-ghost use Rattle.lrfindings.specs.ReachedStates.{is_taken_away, stays, StaysTo, AreMarked};
+ghost use Rattle.lrfindings.specs.ReachedStates.{is_taken_away, stays, StaysTo, AreMarked, is_unreduced};
 ghost use Rattle.lrfindings.specs.StoredCells.{resolution};
 
 use crate::cells::{Outcome, Resolved};
+use lrgrammar::grammar::YaccGrammar;
 use lrgrammar::idx::{StIdx, Symbol};
 use lrgrammar::vob::Vob;
 use lrgraphs::stategraph::StateGraph;
@@ -173,4 +175,60 @@ pub(crate) fn resolved_in(
         }
     }
     Ok(kept)
+}
+
+/// The states that are marked with the productions by which they reduce.
+pub(crate) fn reduced_in(
+    alloc: Global,
+    marks: &Vob,
+    reduced: &[(usize, usize)],
+) -> Result<Vec<(usize, usize)>, AllocError>
+    ensures { IfOk result (λ v. v.items ≡ filter (λ m. bit marks.now m.0) reduced.now) }
+{
+    let mut kept = Vec::new(alloc);
+    for one in reduced {
+        if is_marked(marks, one.0) {
+            kept.push(*one)?;
+        }
+    }
+    Ok(kept)
+}
+
+/// A bit for each production of a grammar: whether a state reduces by it.
+fn reduced_bits(grm: &YaccGrammar<u32>, reduced: &[(usize, usize)]) -> Result<Vob, AllocError>
+    ensures { IfOk result (λ v. (p : ℕ) → p < length grm.now.productions
+        → bit v p ≡ list_any (λ m. m.1 == p) reduced.now) }
+{
+    let mut bits = Vob::from_elem(grm.allocator(), false, usize::from(grm.prods_len()))?;
+    for one in reduced {
+        if one.1 >= bits.len() {
+            continue;
+        }
+        bits.set(one.1, true);
+    }
+    Ok(bits)
+}
+
+/// The productions of a grammar by which none of the states reduces, but for the start production.
+pub(crate) fn unreduced_of(
+    grm: &YaccGrammar<u32>,
+    reduced: &[(usize, usize)],
+) -> Result<Vec<usize>, AllocError>
+    ensures { IfOk result (λ v. v.items
+        ≡ filter (is_unreduced grm.now.start_production reduced.now)
+        (range_with_len 0 (length grm.now.productions))) }
+{
+    let bits = reduced_bits(grm, reduced)?;
+    let start = usize::from(grm.start_prod());
+    let mut unreduced = Vec::new(grm.allocator());
+    for production in 0..usize::from(grm.prods_len()) {
+        if production == start {
+            continue;
+        }
+        if is_marked(&bits, production) {
+            continue;
+        }
+        unreduced.push(production)?;
+    }
+    Ok(unreduced)
 }

@@ -1,5 +1,6 @@
 use Rattle.lrrows.proofs.ReadableGraphs.{readable_graph}
-use Rattle.lrfindings.proofs.PartedByReach.{in_another_order, left_by, resolved_by}
+use Rattle.lrfindings.proofs.PartedByReach.{in_another_order, left_by, reduced_by, resolved_by}
+use Rattle.lrfindings.proofs.NeverReduced.{never_reduced}
 use Rattle.lrfindings.proofs.cells.cells_of.Goals as goal
 
 pub cells_in-requires-clause-graph : goal.cells_in-requires-clause-graph
@@ -20,3 +21,9 @@ pub returns-clause-resolved : goal.returns-clause-resolved
 returns-clause-resolved c =
     in_another_order _ c.in_ok-found.ensures.resolved
     (resolved_by c.args.grm.now c.args.graph.now _ c.in_ok-cells_in.ensures.resolved _ c.in_ok-cells.ensures.resolved)
+
+pub returns-clause-unreduced : goal.returns-clause-unreduced
+returns-clause-unreduced c =
+    never_reduced c.args.grm.now c.args.graph.now _
+    (reduced_by c.args.grm.now c.args.graph.now _ c.in_ok-cells_in.ensures.resolved _ _ c.in_ok-cells_in.ensures.reduced c.in_ok-cells.ensures.reduced) _
+    c.in_ok-found.ensures.unreduced

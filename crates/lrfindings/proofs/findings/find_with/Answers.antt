@@ -1,11 +1,11 @@
-use Rattle.std.proofs.Common.{◌≡◌, ◌∙◌, ◌-◌, ◌^◌, false, map}
+use Rattle.std.proofs.Common.{◌≡◌, ◌∙◌, ◌-◌, ◌^◌, [], false, map, sym}
 use Rattle.lrspec.specs.tables.LrTables.{HasNoPrecedences}
 use Rattle.lrspec.specs.tables.Table.{lists_of}
 use Rattle.lrverdicts.specs.Listed.{told}
-use Rattle.lrfindings.specs.ReachedStates.{AreLeft, AreResolved}
+use Rattle.lrfindings.specs.ReachedStates.{AreLeft, AreNeverReduced, AreResolved}
 use Rattle.lrfindings.specs.StoredCells.{resolution}
-use Rattle.lrfindings.proofs.FoundInCells.{of_kept, decides, decides_not, some_if_true, resolved_either, all_are_left}
-use Rattle.lrfindings.proofs.FoundNothing.{nothing_found}
+use Rattle.lrfindings.proofs.FoundInCells.{of_kept, decides, decides_not, given_some, plain_if_false, some_if_true, resolved_either, all_are_left}
+use Rattle.lrfindings.proofs.FoundNothing.{nothing_found, none_both}
 use Rattle.lrspec.proofs.texts.ResultsPassedOn.{error_passed}
 use Rattle.lrfindings.specs.FindErrors.{IsNothingFound, parts_error, build_error}
 use Rattle.lrfindings.proofs.NothingFound.{by_parts, by_build}
@@ -43,6 +43,12 @@ returns-clause-found c =
       resolved = resolved_either grm h resolved.items c.has_precedences-may_decide.result test cells.none_resolved
           (λ decided. of_kept graph c.as_ref.result h (HasNoPrecedences grm) (λ k. AreResolved grm k (map resolution resolved.items))
           c.as_ref.ensures.value kept plain (some_if_true grm c.has_precedences-may_decide.result test decided) (cells.resolved decided));
+      unreduced = λ some. of_kept graph c.as_ref.result h (HasNoPrecedences grm × (c.in_ok-conflicts.conflicts.items ≡ []))
+          (λ k. AreNeverReduced grm k c.in_ok-cells.cells.unreduced.items) c.as_ref.ensures.value kept
+          (none_both graph c.in_ok-graph.table (HasNoPrecedences grm) c.in_ok-conflicts.conflicts.items plain c.in_ok-graph.ensures.without c.in_ok-conflicts.ensures) some
+          (given_some c.as_ref.result _ _ cells.unreduced
+          (λ no none. some (plain_if_false grm c.has_precedences-may_decide.result test no, sym c.as_slice-listed.ensures.value ∙ none)));
+      plain = λ is. cells.plain (not is.0) (c.as_slice-listed.ensures.value ∙ is.1);
       unambiguous = c.is_unambiguous-is_unambiguous.ensures.proved;
       known = c.is_unambiguous-is_unambiguous.ensures.told;
     }
