@@ -177,6 +177,9 @@ pub(crate) fn json_of_unread(
         json.end_array();
     }
     add_faults_of(&mut json, unread);
+    json.key("never_reduced");
+    json.begin_array();
+    json.end_array();
     add_grammar_of(&mut json, unread.file, has_grammar);
     if has_states {
         json.key("automaton");
@@ -421,6 +424,8 @@ impl<'a> Checked<'a> {
         json.key("errors");
         json.begin_array();
         json.end_array();
+        json.key("never_reduced");
+        told.add_unreduced_productions(json);
         add_grammar_of(json, Some(told.file), has_grammar);
         self.add_automaton(json);
     }

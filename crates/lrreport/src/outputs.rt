@@ -28,7 +28,7 @@ use crate::options::{Options, Output};
 use crate::told::Told;
 use lrdiagnostics::{Layout, TOLD, add_shown};
 use lrevidence::Ambiguity;
-use lrfindings::{Findings, UselessPrecedences, Verdict};
+use lrfindings::{Findings, Verdict};
 use lrwriter::Text;
 use lryacc::Fault;
 use std::alloc::{AllocError, Global};
@@ -44,12 +44,7 @@ pub(crate) fn most_told(options: Options) -> usize
 }
 
 /// What is told of a file, and how.
-fn told_of<'a>(
-    read: Read<'a>,
-    useless: &'a UselessPrecedences,
-    known: &'a Known,
-    options: Options,
-) -> Told<'a>
+fn told_of<'a>(read: Read<'a>, found: &'a Findings, known: &'a Known, options: Options) -> Told<'a>
     ensures source { result.source.now.name.now ≡ read.entry.source.now.name.now }
     ensures steps { result.options.steps ≡ options.steps }
     ensures columns { result.options.lines.columns ≡ options.lines.columns }
@@ -68,7 +63,8 @@ fn told_of<'a>(
         evidence: known.evidence.as_slice(),
         resolved: known.resolved.as_slice(),
         kept: known.kept.as_slice(),
-        useless,
+        useless: &found.useless,
+        unreduced: found.unreduced.as_slice(),
         options: Options {
             expected: options.beside(read.expected).shift_reduce,
             ..options
@@ -220,7 +216,7 @@ pub(crate) fn text_on_findings(
         known.now.exactness)) (string_bytes s)) }
 {
     let checked = Checked {
-        told: told_of(read, &found.useless, known, options),
+        told: told_of(read, found, known, options),
         found,
     };
     let decided = known.decided.as_ref();
@@ -272,7 +268,7 @@ pub(crate) fn page_on_findings(
         return Ok(None);
     }
     let checked = Checked {
-        told: told_of(read, &found.useless, known, options),
+        told: told_of(read, found, known, options),
         found,
     };
     let words = checked.verdict_words(alloc, verdict, known.decided.as_ref(), false)?;

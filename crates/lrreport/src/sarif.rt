@@ -121,17 +121,21 @@ pub(crate) fn sarif_of_unread(alloc: Global, unread: Unread<'_>) -> Result<Strin
 }
 
 impl Told<'_> {
-    /// Adds which tokens are in no rule, or in useless ones alone, and which precedences resolve nothing.
+    /// Adds which tokens are in no rule, or in useless ones alone, which precedences resolve nothing, and which productions are never
+    /// reduced.
     fn add_without_use(&self, results: &mut Results<'_>, faults: &[Fault]) {
         let alloc = results.json.allocator();
         let (mut unused, mut useless) = (Vec::new(alloc), Vec::new(alloc));
+        let mut unreduced = Vec::new(alloc);
         if self.add_unused(&mut unused).is_err()
             || self.add_useless(&mut useless, faults).is_err()
+            || self.add_unreduced(&mut unreduced).is_err()
         {
             return results.json.give_up();
         }
         results.add_all(Rule::UnusedToken, "warning", unused.as_slice());
         results.add_all(Rule::UselessPrecedence, "warning", useless.as_slice());
+        results.add_all(Rule::NeverReduced, "warning", unreduced.as_slice());
     }
 }
 

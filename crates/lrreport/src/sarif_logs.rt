@@ -12,16 +12,18 @@ pub(crate) enum Rule {
     Warning,
     UselessPrecedence,
     UnusedToken,
+    NeverReduced,
 }
 
 /// All of them.
-const RULES: [Rule; 6] = [
+const RULES: [Rule; 7] = [
     Rule::ShiftReduce,
     Rule::ReduceReduce,
     Rule::Error,
     Rule::Warning,
     Rule::UselessPrecedence,
     Rule::UnusedToken,
+    Rule::NeverReduced,
 ];
 
 impl Rule {
@@ -34,6 +36,7 @@ impl Rule {
             Rule::Warning => "warning",
             Rule::UselessPrecedence => "useless-precedence",
             Rule::UnusedToken => "unused-token",
+            Rule::NeverReduced => "never-reduced",
         }
     }
 
@@ -47,6 +50,7 @@ impl Rule {
                 "A part of the grammar has no use, or not the one that it seems to have.",
             Rule::UselessPrecedence => "A precedence resolves nothing.",
             Rule::UnusedToken => "A token is in no rule, or in useless ones alone.",
+            Rule::NeverReduced => "A production is never reduced, because of conflicts.",
         }
     }
 }

@@ -35,6 +35,8 @@ pub(crate) struct Told<'a> {
     pub(crate) kept: &'a [Entry],
     /// Which precedences resolve nothing, and which tokens are in no rule.
     pub(crate) useless: &'a UselessPrecedences,
+    /// The productions by which no state reduces.
+    pub(crate) unreduced: &'a [usize],
     pub(crate) options: Options,
     /// The parser for which the file is written.
     pub(crate) parser: &'a Parser,

@@ -1,4 +1,5 @@
-//! What a file is warned of: by its reading, of precedences that resolve nothing, and of tokens that are in no rule.
+//! What a file is warned of: by its reading, of precedences that resolve nothing, of tokens that are in no rule, and of productions
+//! that are never reduced.
 
 use crate::json_parts::add_place;
 use crate::json_texts::JsonText;
@@ -120,6 +121,29 @@ impl<'a> Told<'a> {
         )
     }
 
+    /// The productions that are never reduced. A parser that splits at conflicts reduces by each of them.
+    fn unreduced(&self) -> &'a [usize] {
+        if self.parser.splits() {
+            &[]
+        } else {
+            self.unreduced
+        }
+    }
+
+    /// Adds a message of the productions that are never reduced.
+    pub(crate) fn add_unreduced(&self, messages: &mut Vec<Message>) -> Result<(), AllocError> {
+        let mut places = Vec::new(*messages.allocator());
+        for production in self.unreduced() {
+            places.push(self.place(*production))?;
+        }
+        add_message(
+            messages,
+            places,
+            "a production is never reduced, because of conflicts",
+            "productions are never reduced, because of conflicts",
+        )
+    }
+
     /// What the file is warned of, in its order.
     pub(crate) fn warnings(
         &self,
@@ -129,6 +153,7 @@ impl<'a> Told<'a> {
         let mut messages = messages_of(alloc, self.source, faults)?;
         self.add_unused(&mut messages)?;
         self.add_useless(&mut messages, faults)?;
+        self.add_unreduced(&mut messages)?;
         messages.sort_by_key(place_of)?;
         Ok(messages)
     }
@@ -174,6 +199,15 @@ impl<'a> Told<'a> {
             if let Some(named) = self.file.named_precedence(*production) {
                 self.add_useless_one(json, "prec", named.token, named.place);
             }
+        }
+        json.end_array();
+    }
+
+    /// Adds the productions that are never reduced.
+    pub(crate) fn add_unreduced_productions(&self, json: &mut JsonText) {
+        json.begin_array();
+        for production in self.unreduced() {
+            self.add_production(json, *production);
         }
         json.end_array();
     }
