@@ -46,6 +46,7 @@ RULES = {
     "warning": "A part of the grammar has no use, or not the one that it seems to have.",
     "useless-precedence": "A precedence resolves nothing.",
     "unused-token": "A token is in no rule, or in useless ones alone.",
+    "never-reduced": "A production is never reduced, because of conflicts.",
 }
 RULE_HELP = "Without --sarif lrcheck shows the lines, all that is known of them, and what helps."
 
