@@ -70,4 +70,6 @@ IsNeverReduced g h p =
 -- the productions by which no state reduces that is reached, but for the start production
 pub record AreNeverReduced (g : Grammar) (h : Graph) (ps : List ℕ) : Type 0 where
   pub only : All (IsNeverReduced g h) ps
-  pub all : (p : ℕ) → p < length g.productions → p ≢ g.start_production → IsNeverReduced g h p → Contains ps p
+  pub all :
+      (p : ℕ) → p < length g.productions → p ≢ g.start_production → IsNeverReduced g h p
+      → Contains ps p
