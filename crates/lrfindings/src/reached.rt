@@ -4,13 +4,10 @@
 ghost use Rattle.std.specs.Prelude.{◌≡◌, ◌==◌, ℕ, ◌<◌, filter, map, length, Some, IfOk, OnOk};
 ghost use Rattle.std.specs.List.{list_any, range_with_len};
 ghost use Rattle.lrspec.specs.grammars.Grammar as math;
-ghost use Rattle.lrspec.specs.merging.Graph as graphs;
 ghost use Rattle.lrspec.specs.merging.Graph.{edge};
 ghost use Rattle.lrgrammar.specs.Bits.{bit};
 ghost use Rattle.lrgrammar.specs.declared.idx.Symbol.{Symbol};
 ghost use Rattle.lrgrammar.specs.Symbols.{number_of, symbol_of};
-ghost use Rattle.lrgrammar.specs.SymbolLaws.{symbol_cmp};
-ghost use Rattle.lrgraphs.specs.GraphOf.{edges_of};
 ghost use Rattle.lrpager.specs.Collecting.{IsMarked, MarksOnly};
 ghost use Rattle.lrfindings.specs.Cells.{has_cell};
 ghost use Rattle.lrfindings.specs.ReachedStates.{is_taken_away, stays, StaysTo, AreMarked, is_unreduced};
@@ -23,7 +20,7 @@ use lrgrammar::vob::Vob;
 use lrgraphs::stategraph::StateGraph;
 use lrverdicts::Entry;
 use std::alloc::{AllocError, Global};
-use std::collections::{BTreeMap, BTreeSet};
+use std::collections::BTreeSet;
 
 /// The states and tokens of the shifts that precedences take away.
 fn taken_away(alloc: Global, resolved: &[Resolved]) -> Result<BTreeSet<(usize, usize)>, AllocError>
@@ -63,16 +60,6 @@ fn mark(marks: &mut Vob, todo: &mut Vec<StIdx<u32>>, state: StIdx<u32>) -> Resul
     Ok(())
 }
 
-/// The edges of a state. The order of their symbols is known by the numbers of these.
-fn edges_from(graph: &StateGraph<u32>, from: StIdx<u32>) -> &BTreeMap<Symbol<u32>, StIdx<u32>>
-    requires { from.0 < length graph.now }
-    ensures edges { edges_of number_of (λ u. u.0) result.now.entries
-        ≡ graphs.edges_of graph.entry.now from.0 }
-    ensures order { (a b : Symbol ℕ) → ⟦<Symbol<u32> as Ord>⟧.cmp a b ≡ symbol_cmp number_of a b }
-{
-    graph.edges(from)
-}
-
 /// Marks the states to which the edges of a state lead that stay.
 fn mark_targets(
     marks: &mut Vob,
@@ -90,7 +77,7 @@ fn mark_targets(
     ensures only { OnOk result (MarksOnly (StaysTo (has_cell taken.now) graph.now from.0)
         marks.old (map (λ u. u.0) todo.old.items) marks.new (map (λ u. u.0) todo.new.items)) }
 {
-    for (symbol, to) in edges_from(graph, from) {
+    for (symbol, to) in graph.edges(from) {
         if stays(taken, from, *symbol) {
             mark(marks, todo, *to)?;
         }

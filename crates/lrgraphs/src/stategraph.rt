@@ -148,11 +148,13 @@ impl<T: IndexStorage> StateGraph<T> {
         find_edge(&state.edges, sym)
     }
 
-    /// The edges of the state, which is one of the graph: to which state each leads, by symbol.
+    /// The edges of the state, which is one of the graph: to which state each leads, by symbol. Rules come before tokens, each by
+    /// number.
     pub fn edges(&self, stidx: StIdx<T>) -> &BTreeMap<Symbol<T>, StIdx<T>>
         requires { T.number stidx.0 < length self.now }
-        ensures { edges_of T.number (λ u. T.number u.0) result.now.entries
+        ensures edges { edges_of T.number (λ u. T.number u.0) result.now.entries
             ≡ math.edges_of self.now (T.number stidx.0) }
+        ensures order { (a b : Symbol T) → ⟦<Symbol<T> as Ord>⟧.cmp a b ≡ symbol_cmp T.number a b }
     {
         &self.states[usize::from(stidx)].edges
     }

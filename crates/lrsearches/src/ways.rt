@@ -2,9 +2,6 @@
 
 ghost use Rattle.std.specs.Prelude.{◌≡◌, ◌<◌, length, All, IfOk, OnOk};
 ghost use Rattle.lrspec.specs.merging.Graph.{IsGraphOf};
-ghost use Rattle.lrspec.specs.merging.Graph as math;
-ghost use Rattle.lrgrammar.specs.SymbolLaws.{symbol_cmp};
-ghost use Rattle.lrgraphs.specs.GraphOf.{edges_of};
 ghost use Rattle.lrsearches.specs.StoredWays.{AreIncoming, AreFingerprints, AreWaysOf, LeadsBelow, AddsEdgesOf};
 
 use crate::rows::empty_rows;
@@ -15,7 +12,6 @@ use lrgrammar::idx::{IndexStorage, PIdx, SIdx, StIdx, Symbol};
 use lrgraphs::stategraph::StateGraph;
 use lritems::fingerprints::itemset_fingerprint;
 use std::alloc::AllocError;
-use std::collections::BTreeMap;
 
 /// What is made once of a grammar and its graph: its FIRST sets, the items before each rule, the edges into each state, how far
 /// each state is from the start state, and what tells cores apart.
@@ -49,19 +45,6 @@ impl<T: IndexStorage> Ways<T> {
     }
 }
 
-/// The edges of the state. The order of their symbols is known by the numbers of these.
-fn edges_from<'a, T: IndexStorage>(
-    graph: &'a StateGraph<T>,
-    stidx: StIdx<T>,
-) -> &'a BTreeMap<Symbol<T>, StIdx<T>>
-    requires { T.number stidx.0 < length graph.now }
-    ensures edges { edges_of T.number (λ u. T.number u.0) result.now.entries
-        ≡ math.edges_of graph.entry.now (T.number stidx.0) }
-    ensures order { (a b : Symbol T) → ⟦<Symbol<T> as Ord>⟧.cmp a b ≡ symbol_cmp T.number a b }
-{
-    graph.edges(stidx)
-}
-
 /// Adds the edges of the state to those that lead into each state.
 fn add_edges<T: IndexStorage>(
     incoming: &mut Vec<Vec<(Symbol<T>, StIdx<T>)>>,
@@ -74,7 +57,7 @@ fn add_edges<T: IndexStorage>(
     ensures { OnOk result (AddsEdgesOf T.number graph.now (T.number stidx.0)
         incoming.old.items incoming.new.items) }
 {
-    for (symbol, target) in edges_from(graph, stidx) {
+    for (symbol, target) in graph.edges(stidx) {
         incoming[usize::from(*target)].push((*symbol, stidx))?;
     }
     Ok(())
@@ -111,7 +94,7 @@ fn add_targets<T: IndexStorage>(
     ensures within { OnOk result (All (λ e. T.number e.0.0 < length graph.now) reached.new.items) }
 {
     let distance = from.1.saturating_add(1);
-    for (_, target) in edges_from(graph, from.0) {
+    for (_, target) in graph.edges(from.0) {
         let place = usize::from(*target);
         if distances[place].is_none() {
             distances[place] = Some(distance);

@@ -13,7 +13,7 @@ pub loop-symbol-init : goal.loop-symbol-init
 loop-symbol-init c =
     let i = c.into_iter-symbol-iterator.ensures.into_iter_gives in
     begin_edges c.args.graph.now c.args.from.0 c.args.to.0 (λ x. HasSpan c.args.chart.now x c.args.place (c.args.place + 1)) _
-    (ap (edges_of number_of (λ (u : StIdx ℕ). number_of u.0)) i.0 ∙ c.edges-symbol-items.ensures)
+    (ap (edges_of number_of (λ (u : StIdx ℕ). number_of u.0)) i.0 ∙ c.edges-symbol-items.ensures.edges)
 
 pub loop-symbol-preserved-then-ne : goal.loop-symbol-preserved-then-ne
 loop-symbol-preserved-then-ne c =

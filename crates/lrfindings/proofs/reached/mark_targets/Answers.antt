@@ -16,11 +16,11 @@ loop-symbol-init c =
     let h = c.args.graph.now in
     let s = c.args.from.0 in
     let i = c.into_iter-symbol-iterator.ensures.into_iter_gives in
-    let same = ap (edges_of number_of (λ (u : StIdx ℕ). number_of u.0)) i.0 ∙ c.edges_from-symbol-items.ensures.edges in
+    let same = ap (edges_of number_of (λ (u : StIdx ℕ). number_of u.0)) i.0 ∙ c.edges-symbol-items.ensures.edges in
     record {
       found =
           rw i.0
-          (found_all number_of _ c.edges_from-symbol-items.ensures.order _ _ (math.edges_of h s) c.edges_from-symbol-items.ensures.edges i.6);
+          (found_all number_of _ c.edges-symbol-items.ensures.order _ _ (math.edges_of h s) c.edges-symbol-items.ensures.edges i.6);
       only = marks_none _ _ _;
       followed = begin_followed (has_cell c.args.taken.now) h s _ _ same;
     }

@@ -1,6 +1,5 @@
-use Rattle.std.proofs.Common.{refl, append-nil}
+use Rattle.std.proofs.Common.{append-nil}
 use Rattle.lrspec.specs.merging.Graph as math
-use Rattle.lrgraphs.proofs.EdgeFacts.{by_kinds}
 use Rattle.lrgraphs.proofs.DistinctSymbols.{distinct_entries}
 use Rattle.lrrows.proofs.GotoEntries.{goto_row_is, gotos_within, gotos_some, gotos_upwards}
 use Rattle.lrrows.proofs.cells.make_gotos.Goals as goal
@@ -8,14 +7,12 @@ use Rattle.lrrows.proofs.cells.make_gotos.Goals as goal
 pub returns-clause-entries : goal.returns-clause-entries
 returns-clause-entries g c =
     let number = g.T.IndexStorage.number in
-    let ordered = g.met.T.IndexStorage.ordered in
     let grm = c.args.grm.now in
     let h = c.args.sg.now in
     let s = number c.args.stidx.0 in
     let es = c.edges-edges.result.now.entries in
-    let by_number = by_kinds number _ (λ r s. ordered r.0 s.0) (λ r t. refl) (λ t r. refl) (λ t u. ordered t.0 u.0) in
-    let upwards = rw c.edges-edges.ensures at (gotos_upwards number (λ u. number u.0) _ by_number es c.len.ensures.ordered) in
-    let distinct = rw c.edges-edges.ensures at (distinct_entries number (λ u. number u.0) _ by_number es c.len.ensures.ordered) in
+    let upwards = rw c.edges-edges.ensures.edges at (gotos_upwards number (λ u. number u.0) _ c.edges-edges.ensures.order es c.len.ensures.ordered) in
+    let distinct = rw c.edges-edges.ensures.edges at (distinct_entries number (λ u. number u.0) _ c.edges-edges.ensures.order es c.len.ensures.ordered) in
     let made = rw (c.in-None.ensures.steps.0, append-nil) at c.loop-symbol.invariant in
     rw made (record { upwards = upwards; within = gotos_within grm h s c.requires.graph distinct; some = gotos_some (math.edges_of h s) })
 

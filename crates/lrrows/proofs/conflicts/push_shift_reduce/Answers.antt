@@ -3,7 +3,6 @@ use Rattle.lrspec.specs.grammars.Grammar.{token_count}
 use Rattle.lrspec.specs.merging.Graph.{closed_of}
 use Rattle.lrspec.specs.tables.Table.{reductions}
 use Rattle.lrgraphs.specs.GraphOf.{edges_of}
-use Rattle.lrgraphs.proofs.EdgeFacts.{by_kinds}
 use Rattle.lrgraphs.proofs.DistinctSymbols.{distinct_entries}
 use Rattle.lrrows.specs.StateRows.{first_of}
 use Rattle.lrrows.specs.StoredLists.{stored_shift_reduce, stored_shift_reduces}
@@ -37,11 +36,9 @@ least g c within =
 pub loop-symbol-init : goal.loop-symbol-init
 loop-symbol-init g c =
     let number = g.T.IndexStorage.number in
-    let ordered = g.met.T.IndexStorage.ordered in
-    let by_number = by_kinds number _ (λ r s. ordered r.0 s.0) (λ r t. refl) (λ t r. refl) (λ t u. ordered t.0 u.0) in
-    let distinct = rw c.edges-edges.ensures at (distinct_entries number (λ u. number u.0) _ by_number c.edges-edges.result.now.entries c.len.ensures.ordered) in
+    let distinct = rw c.edges-edges.ensures.edges at (distinct_entries number (λ u. number u.0) _ c.edges-edges.ensures.order c.edges-edges.result.now.entries c.len.ensures.ordered) in
     let within = state_tokens_within c.args.grm.now c.args.sg.now (number c.args.stidx.0) c.requires.graph distinct in
-    rw (c.into_iter-symbol-iterator.ensures.into_iter_gives.0, c.edges-edges.ensures) record { added = refl; within = within }
+    rw (c.into_iter-symbol-iterator.ensures.into_iter_gives.0, c.edges-edges.ensures.edges) record { added = refl; within = within }
 
 pub offset_bounds-least-from : goal.offset_bounds-least-from
 offset_bounds-least-from g c =
@@ -102,11 +99,9 @@ loop-symbol-preserved g c =
 pub returns : goal.returns
 returns g c =
     let number = g.T.IndexStorage.number in
-    let ordered = g.met.T.IndexStorage.ordered in
     let es = c.edges-edges.result.now.entries in
-    let by_number = by_kinds number _ (λ r s. ordered r.0 s.0) (λ r t. refl) (λ t r. refl) (λ t u. ordered t.0 u.0) in
-    let distinct = rw c.edges-edges.ensures at (distinct_entries number (λ u. number u.0) _ by_number es c.len.ensures.ordered) in
-    let up = rw c.edges-edges.ensures at (tokens_ascend number (λ u. number u.0) _ by_number es c.len.ensures.ordered) in
+    let distinct = rw c.edges-edges.ensures.edges at (distinct_entries number (λ u. number u.0) _ c.edges-edges.ensures.order es c.len.ensures.ordered) in
+    let up = rw c.edges-edges.ensures.edges at (tokens_ascend number (λ u. number u.0) _ c.edges-edges.ensures.order es c.len.ensures.ordered) in
     let made = rw (c.in-None.ensures.steps.0, append-nil) at c.loop-symbol.invariant.added in
     record {
       entries = made ∙ ap (λ xs. stored_shift_reduces number c.args.conflicts.now.items ++ xs)

@@ -26,7 +26,7 @@ loop-symbol-init g c =
     record {
       many = many;
       filling =
-          rw (i.0, c.edges-symbol-items.ensures)
+          rw (i.0, c.edges-symbol-items.ensures.edges)
           (filling_none (λ u. number u.0) n whole c.in_ok-targets.targets.items
           (λ t l. ap (λ os. get_or os t None) items ∙ get_or-replicate n t None None l));
     }

@@ -6,7 +6,6 @@ use Rattle.lrspec.specs.merging.Graph.{edge}
 use Rattle.lrspec.specs.tables.Table.{bit_or_none}
 use Rattle.lrgrammar.specs.declared.idx.StIdx.{StIdx}
 use Rattle.lrgraphs.specs.GraphOf.{edges_of}
-use Rattle.lrgraphs.proofs.EdgeFacts.{by_kinds}
 use Rattle.lrgraphs.proofs.DistinctSymbols.{distinct_entries}
 use Rattle.lrrows.specs.StateRows.{first_at}
 use Rattle.lrrows.proofs.MarkedTokens.{edge_turn}
@@ -16,11 +15,9 @@ use Rattle.lrrows.proofs.used.used_tokens.Goals as goal
 pub loop-symbol-init : goal.loop-symbol-init
 loop-symbol-init g c =
     let number = g.T.IndexStorage.number in
-    let ordered = g.met.T.IndexStorage.ordered in
-    let by_number = by_kinds number _ (λ r s. ordered r.0 s.0) (λ r t. refl) (λ t r. refl) (λ t u. ordered t.0 u.0) in
-    let distinct = rw c.edges-edges.ensures at (distinct_entries number (λ u. number u.0) _ by_number c.edges-edges.result.now.entries c.len.ensures.ordered) in
+    let distinct = rw c.edges-edges.ensures.edges at (distinct_entries number (λ u. number u.0) _ c.edges-edges.ensures.order c.edges-edges.result.now.entries c.len.ensures.ordered) in
     let within = state_tokens_within c.args.grm.now c.args.sg.now (number c.args.stidx.0) c.requires.graph distinct in
-    rw (c.into_iter-symbol-iterator.ensures.into_iter_gives.0, c.edges-edges.ensures)
+    rw (c.into_iter-symbol-iterator.ensures.into_iter_gives.0, c.edges-edges.ensures.edges)
     record {
       bits = c.in_ok-used.ensures.bits;
       within = within;

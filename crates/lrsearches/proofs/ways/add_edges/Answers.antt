@@ -14,8 +14,8 @@ loop-symbol-init g c =
     let s = number c.args.stidx.0 in
     let i = c.into_iter-symbol-iterator.ensures.into_iter_gives in
     record {
-      found = rw i.0 (found_all number _ c.edges_from-symbol-items.ensures.order _ _ (math.edges_of c.args.graph.now s) c.edges_from-symbol-items.ensures.edges i.6);
-      adding = rw (i.0, c.edges_from-symbol-items.ensures.edges) (begin_adding number c.args.graph.now s c.args.incoming.now.items (math.edges_of c.args.graph.now s) (λ v. refl));
+      found = rw i.0 (found_all number _ c.edges-symbol-items.ensures.order _ _ (math.edges_of c.args.graph.now s) c.edges-symbol-items.ensures.edges i.6);
+      adding = rw (i.0, c.edges-symbol-items.ensures.edges) (begin_adding number c.args.graph.now s c.args.incoming.now.items (math.edges_of c.args.graph.now s) (λ v. refl));
     }
 
 pub index_mut-requires : goal.index_mut-requires

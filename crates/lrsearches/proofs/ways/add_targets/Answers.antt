@@ -12,7 +12,7 @@ loop-target-init g c =
     let s = number c.args.from.0.0 in
     let i = c.into_iter-target-iterator.ensures.into_iter_gives in
     record {
-      found = rw i.0 (found_all number _ c.edges_from-target-items.ensures.order _ _ (math.edges_of c.args.graph.now s) c.edges_from-target-items.ensures.edges i.6);
+      found = rw i.0 (found_all number _ c.edges-target-items.ensures.order _ _ (math.edges_of c.args.graph.now s) c.edges-target-items.ensures.edges i.6);
       states = c.requires.states;
       within = c.requires.within;
     }

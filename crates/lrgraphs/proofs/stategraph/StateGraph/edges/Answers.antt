@@ -1,7 +1,7 @@
 -- symbols are ordered as their numbers
 use Rattle.std.proofs.Common.{refl}
 use Rattle.lrgraphs.proofs.EdgeFacts.{by_kinds}
-use Rattle.lrsearches.proofs.ways.edges_from.Goals as goal
+use Rattle.lrgraphs.proofs.stategraph.StateGraph.edges.Goals as goal
 
 pub returns-clause-order : goal.returns-clause-order
 returns-clause-order g c =
