@@ -57,8 +57,12 @@ impl<'a> Completes<'a> {
         let Some(completes) = self.of_states.get(usize::from(state)) else {
             return false;
         };
-        let mut completes = completes.iter();
-        completes.any(|complete| has_token(complete.tokens, token))
+        for complete in completes {
+            if has_token(complete.tokens, token) {
+                return true;
+            }
+        }
+        false
     }
 
     /// The productions of the items of the state that look at the token, upwards.

@@ -5,7 +5,7 @@
 //! can go along the body of a production of the rule, by edges that can be used, and comes to a state in which some cell says to
 //! reduce by this production. That is more than the machine can do, since it also looks at the next token.
 
-use crate::rules::{START, body_of, closed_of, rule_of};
+use crate::rules::{START, body_of, closed_of, empty_lists, rule_of};
 use lrgrammar::grammar::YaccGrammar;
 use lrgrammar::idx::{PIdx, StIdx, Symbol};
 use lrgraphs::StateGraph;
@@ -187,8 +187,7 @@ impl<'a> Search<'a> {
     ) -> Result<Search<'a>, AllocError> {
         let edges = Edges::of_graph(alloc, graph)?;
         let is_reached = Vec::from_elem(alloc, false, edges.states_len())?;
-        let mut waiting = Vec::new(alloc);
-        waiting.resize_with(edges.len(), || Vec::new(alloc))?;
+        let waiting = empty_lists(alloc, edges.len())?;
         let mut most = edges.len();
         for set in graph.iter_closed_states() {
             most = most.saturating_add(set.items.len());
@@ -279,14 +278,23 @@ impl<'a> Search<'a> {
         Ok(())
     }
 
+    /// Whether some cell of the state says to reduce by the production.
+    fn reduces(&self, state: StIdx<u32>, production: PIdx<u32>) -> bool {
+        for reduced in self.table.core_reduces(state) {
+            if reduced == production {
+                return true;
+            }
+        }
+        false
+    }
+
     /// At the end of a body the machine goes along its rule, if it reduces there.
     fn end(&mut self, walker: Walker) -> Result<(), AllocError> {
         let production = walker.production;
         let Some(rule) = rule_of(self.grm, production) else {
             return Ok(());
         };
-        let mut reduces = self.table.core_reduces(walker.at);
-        if !reduces.any(|other| other == production) {
+        if !self.reduces(walker.at, production) {
             return Ok(());
         }
         if let Some(number) = self.edges.number(walker.from, Symbol::Rule(rule)) {

@@ -71,22 +71,18 @@ impl<'a> Known<'a> {
         })
     }
 
-    /// How many tokens a shortest text of the symbol has.
-    fn tokens_of(&self, symbol: Symbol<u32>) -> usize {
-        match symbol {
-            Symbol::Token(_) => 1,
-            Symbol::Rule(rule) => match self.tokens.get(usize::from(rule)) {
-                Some(tokens) => *tokens,
-                None => MOST_TOKENS,
-            },
-        }
-    }
-
     /// How many tokens complete the symbols at least.
-    fn tokens_of_all(&self, symbols: &[Symbol<u32>]) -> usize {
+    fn tokens_of(&self, symbols: &[Symbol<u32>]) -> usize {
         let mut tokens: usize = 0;
         for symbol in symbols {
-            tokens = tokens.saturating_add(self.tokens_of(*symbol));
+            let of_symbol = match symbol {
+                Symbol::Token(_) => 1,
+                Symbol::Rule(rule) => match self.tokens.get(usize::from(*rule)) {
+                    Some(tokens) => *tokens,
+                    None => MOST_TOKENS,
+                },
+            };
+            tokens = tokens.saturating_add(of_symbol);
         }
         tokens
     }
@@ -100,7 +96,7 @@ impl<'a> Known<'a> {
         for (production, dot) in core.items.keys() {
             let body = body_of(self.grm, *production);
             if let Some(rest) = body.get(usize::from(*dot)..) {
-                least = least.min(self.tokens_of_all(rest));
+                least = least.min(self.tokens_of(rest));
             }
         }
         least

@@ -3,24 +3,18 @@
 
 use crate::known::Known;
 use crate::rules::{Item, START, body_of, closed_of, complete, rule_of};
-use lrgrammar::idx::{PIdx, StIdx, Symbol, TIdx};
+use lrgrammar::idx::{PIdx, SIdx, StIdx, Symbol, TIdx};
 use std::alloc::{AllocError, Global};
 use std::collections::BTreeSet;
 
-/// How many places are looked at.
-const MOST_PLACES: usize = 3_000;
+/// How many items in states are looked at.
+const MOST_NODES: usize = 3_000;
 
-/// An item in a state.
-#[derive(Clone, Copy, PartialEq, Eq, PartialOrd, Ord)]
-struct Place {
-    state: StIdx<u32>,
-    item: Item,
-}
-
-/// A place that was come to.
+/// An item in a state, which was come to.
 #[derive(Clone, Copy)]
 struct Node {
-    place: Place,
+    state: StIdx<u32>,
+    item: Item,
     /// The symbol over which the dot was moved back, if it was.
     over: Option<Symbol<u32>>,
     /// The number of the node of which it comes.
@@ -34,14 +28,16 @@ struct Search<'a> {
     token: TIdx<u32>,
     /// In the order in which they came.
     nodes: Vec<Node>,
-    seen: BTreeSet<Place>,
+    /// Their states and items.
+    seen: BTreeSet<(StIdx<u32>, PIdx<u32>, SIdx<u32>)>,
     lists: Vec<Vec<Symbol<u32>>>,
 }
 
 impl<'a> Search<'a> {
-    /// Adds a node, unless its place was come to before.
+    /// Adds a node, unless its item was come to in its state before.
     fn add(&mut self, node: Node) -> Result<(), AllocError> {
-        if self.nodes.len() < MOST_PLACES && self.seen.insert(node.place)? {
+        let Item { production, dot } = node.item;
+        if self.nodes.len() < MOST_NODES && self.seen.insert((node.state, production, dot))? {
             self.nodes.push(node)?;
         }
         Ok(())
@@ -54,22 +50,25 @@ impl<'a> Search<'a> {
 
     /// Adds the symbols over which dots were moved back from the candidate to the node.
     fn add_symbols(&self, list: &mut Vec<Symbol<u32>>, number: usize) -> Result<(), AllocError> {
-        let mut last = Some(number);
+        let mut last = number;
         for _ in 0..self.nodes.len() {
-            let Some(node) = last.and_then(|number| self.node(number)) else {
+            let Some(node) = self.node(last) else {
                 break;
             };
             if let Some(symbol) = node.over {
                 list.push(symbol)?;
             }
-            last = node.from;
+            let Some(from) = node.from else {
+                break;
+            };
+            last = from;
         }
         Ok(())
     }
 
     /// Keeps the shortest way to the state of the node, and from there to the cell.
     fn keep(&mut self, alloc: Global, number: usize, node: Node) -> Result<(), AllocError> {
-        let Some(mut list) = self.known.ways.list_to(alloc, node.place.state)? else {
+        let Some(mut list) = self.known.ways.list_to(alloc, node.state)? else {
             return Ok(());
         };
         self.add_symbols(&mut list, number)?;
@@ -81,12 +80,12 @@ impl<'a> Search<'a> {
 
     /// Looks at a node.
     fn look_at(&mut self, alloc: Global, number: usize, node: Node) -> Result<(), AllocError> {
-        if let Some(item) = node.place.item.moved_back() {
+        if let Some(item) = node.item.moved_back() {
             return self.go_back(number, node, item);
         }
         let grm = self.known.grm;
-        if node.place.item.production == grm.start_prod() {
-            if self.token == grm.eof_token_idx() && node.place.state == START {
+        if node.item.production == grm.start_prod() {
+            if self.token == grm.eof_token_idx() && node.state == START {
                 self.keep(alloc, number, node)?;
             }
             return Ok(());
@@ -97,13 +96,11 @@ impl<'a> Search<'a> {
     /// Goes back over the symbol before the dot.
     fn go_back(&mut self, number: usize, node: Node, item: Item) -> Result<(), AllocError> {
         let known = self.known;
-        let over = known.ways.symbol(node.place.state);
-        for state in known.ways.before(node.place.state) {
+        let over = known.ways.symbol(node.state);
+        for state in known.ways.before(node.state) {
             self.add(Node {
-                place: Place {
-                    state: *state,
-                    item,
-                },
+                state: *state,
+                item,
                 over,
                 from: Some(number),
             })?;
@@ -114,10 +111,9 @@ impl<'a> Search<'a> {
     /// Goes on from the beginning of a body to the items of the state that stand before its rule.
     fn close(&mut self, alloc: Global, number: usize, node: Node) -> Result<(), AllocError> {
         let known = self.known;
-        let state = node.place.state;
         let (Some(rule), Some(set)) = (
-            rule_of(known.grm, node.place.item.production),
-            closed_of(known.graph, state),
+            rule_of(known.grm, node.item.production),
+            closed_of(known.graph, node.state),
         ) else {
             return Ok(());
         };
@@ -147,10 +143,8 @@ impl<'a> Search<'a> {
         }
         if known.rules.are_nullable(rest) {
             self.add(Node {
-                place: Place {
-                    state: node.place.state,
-                    item,
-                },
+                state: node.state,
+                item,
                 over: None,
                 from: Some(number),
             })?;
@@ -177,14 +171,14 @@ pub(crate) fn lists_before<'a>(
         lists: Vec::new(alloc),
     };
     if let Some(item) = complete(known.grm, production) {
-        let place = Place { state, item };
         search.add(Node {
-            place,
+            state,
+            item,
             over: None,
             from: None,
         })?;
     }
-    for number in 0..MOST_PLACES {
+    for number in 0..MOST_NODES {
         let Some(node) = search.node(number) else {
             break;
         };

@@ -17,7 +17,7 @@ const MOST_ARRIVALS: usize = 4;
 const MOST_REDUCTIONS: usize = 500;
 
 /// What comes of a token.
-#[derive(Clone, Copy, PartialEq, Eq)]
+#[derive(Clone, Copy)]
 pub(crate) enum Outcome {
     /// It is shifted.
     Shifted,

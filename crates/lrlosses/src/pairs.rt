@@ -117,17 +117,22 @@ impl Pairs {
         if !self.seen.insert((machine.clone()?, stack.clone()?))? {
             return Ok(());
         }
-        self.push(
-            known,
-            Pair {
-                machine,
-                tree: stack,
-                origin,
-                reductions,
-                token,
-                tokens: self.tokens(origin),
-            },
-        )
+        let behind = match stack.last() {
+            Some(top) => known.tokens_behind(*top),
+            None => 0,
+        };
+        let tokens = self.tokens(origin);
+        let cost = tokens.saturating_add(behind);
+        self.queue.push(Reverse((cost, self.pairs.len())))?;
+        self.pairs.push(Pair {
+            machine,
+            tree: stack,
+            origin,
+            reductions,
+            token,
+            tokens,
+        })?;
+        Ok(())
     }
 
     /// How many tokens are read behind the cell's by a pair of that origin.
@@ -139,18 +144,6 @@ impl Pairs {
                 None => 0,
             },
         }
-    }
-
-    /// Adds a pair.
-    fn push(&mut self, known: &Known<'_>, pair: Pair) -> Result<(), AllocError> {
-        let behind = match pair.tree.last() {
-            Some(top) => known.tokens_behind(*top),
-            None => 0,
-        };
-        let cost = pair.tokens.saturating_add(behind);
-        self.queue.push(Reverse((cost, self.pairs.len())))?;
-        self.pairs.push(pair)?;
-        Ok(())
     }
 
     /// The numbers of the pairs by which the pair was come to, itself first, and that of their start.

@@ -13,7 +13,7 @@ use std::alloc::{AllocError, Global};
 pub(crate) const START: StIdx<u32> = StIdx(0);
 
 /// A production with a dot in its body.
-#[derive(Clone, Copy, PartialEq, Eq, PartialOrd, Ord)]
+#[derive(Clone, Copy)]
 pub(crate) struct Item {
     pub(crate) production: PIdx<u32>,
     pub(crate) dot: SIdx<u32>,
@@ -81,6 +81,15 @@ pub(crate) fn has_token(tokens: &Vob, token: TIdx<u32>) -> bool {
     place < tokens.len() && tokens.get(place)
 }
 
+/// So many empty lists.
+pub(crate) fn empty_lists<T: Drop>(alloc: Global, len: usize) -> Result<Vec<Vec<T>>, AllocError> {
+    let mut lists = Vec::with_capacity(alloc, len)?;
+    for _ in 0..len {
+        lists.push(Vec::new(alloc))?;
+    }
+    Ok(lists)
+}
+
 /// Where the rules of a grammar stand, and how they begin.
 #[derive(Drop)]
 pub(crate) struct Rules {
@@ -95,13 +104,10 @@ impl Rules {
     /// Those of a grammar.
     pub(crate) fn new(alloc: Global, grm: &YaccGrammar<u32>) -> Result<Rules, AllocError> {
         let mut rules = Rules {
-            uses: Vec::new(alloc),
+            uses: empty_lists(alloc, usize::from(grm.rules_len()))?,
             firsts: Vec::new(alloc),
             nullable: Vec::new(alloc),
         };
-        rules
-            .uses
-            .resize_with(usize::from(grm.rules_len()), || Vec::new(alloc))?;
         rules.add_firsts(grm)?;
         for number in 0..grm.prods_len().0 {
             rules.add_uses(PIdx(number), body_of(grm, PIdx(number)))?;
@@ -167,7 +173,12 @@ impl Rules {
 
     /// Whether all of the symbols derive nothing.
     pub(crate) fn are_nullable(&self, symbols: &[Symbol<u32>]) -> bool {
-        symbols.iter().all(|symbol| self.is_nullable(*symbol))
+        for symbol in symbols {
+            if !self.is_nullable(*symbol) {
+                return false;
+            }
+        }
+        true
     }
 
     /// Whether the token begins the symbols, one after another.

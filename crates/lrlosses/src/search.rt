@@ -177,25 +177,20 @@ impl<'a> Search<'a> {
 
     /// The first of the texts of the starts, with a shortest rest by the candidate, that is lost.
     fn behind_starts(&mut self) -> Result<Option<Written<u32>>, AllocError> {
+        let Candidate { token, action, .. } = self.candidate;
+        let (alloc, known) = (self.alloc, self.known);
         for number in 0..self.starts.len() {
-            let found = self.behind_start(number)?;
+            let Some(start) = self.starts.get(number) else {
+                break;
+            };
+            let list = known.list_of(alloc, &start.stack)?;
+            let text = copied(alloc, &start.text)?;
+            let found = self.completed(text, &list, token, action)?;
             if found.is_some() {
                 return Ok(found);
             }
         }
         Ok(None)
-    }
-
-    /// The text of a start, with a shortest rest by the candidate, if that is lost.
-    fn behind_start(&mut self, number: usize) -> Result<Option<Written<u32>>, AllocError> {
-        let Candidate { token, action, .. } = self.candidate;
-        let (alloc, known) = (self.alloc, self.known);
-        let Some(start) = self.starts.get(number) else {
-            return Ok(None);
-        };
-        let list = known.list_of(alloc, &start.stack)?;
-        let text = copied(alloc, &start.text)?;
-        self.completed(text, &list, token, action)
     }
 
     /// A shortest rest behind the list that begins with the token and goes on by the move.
@@ -301,9 +296,9 @@ impl<'a> Search<'a> {
         let (most, first) = (MOST_FIRST_READINGS, Some(action));
         let outcome = machine.take(token)?;
         self.work = self.work.saturating_add(machine.steps);
-        if outcome != Outcome::Shifted {
+        let Outcome::Shifted = outcome else {
             return Ok(());
-        }
+        };
         for reading in readings(known, &start.stack, token, first, most, &mut self.work)? {
             pairs.add(known, Origin::Start(number), token, &machine.stack, reading)?;
         }

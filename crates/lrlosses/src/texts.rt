@@ -1,6 +1,6 @@
 //! Shortest texts along edges that can be used.
 
-use crate::edges::Edges;
+use crate::edges::{Edge, Edges};
 use crate::rules::{START, body_of};
 use lrgrammar::grammar::YaccGrammar;
 use lrgrammar::idx::{PIdx, StIdx, Symbol, TIdx};
@@ -52,7 +52,13 @@ impl<'a> Writer<'a> {
 
     /// Writes a shortest text along the edge, or goes on along the body that it is made of; false where there is none.
     fn write(&mut self, state: StIdx<u32>, symbol: Symbol<u32>) -> Result<bool, AllocError> {
-        let Some(along) = self.edges.on(state, symbol).and_then(|edge| edge.along) else {
+        let Some(
+            Edge {
+                along: Some(along),
+                ..
+            },
+        ) = self.edges.on(state, symbol)
+        else {
             return Ok(false);
         };
         match (symbol, along.production) {
@@ -123,7 +129,13 @@ pub(crate) fn longer_text_along<'a>(
     let Some(state) = state_behind(edges, before) else {
         return Ok(None);
     };
-    let Some(production) = edges.on(state, *last).and_then(|edge| edge.longer) else {
+    let Some(
+        Edge {
+            longer: Some(production),
+            ..
+        },
+    ) = edges.on(state, *last)
+    else {
         return Ok(None);
     };
     let mut writer = Writer::new(alloc, grm, edges);

@@ -1,28 +1,14 @@
 //! Shortest ways to the states of a graph along edges that can be used: Dijkstra's algorithm (1959).
 
 use crate::edges::Edges;
-use crate::rules::START;
+use crate::rules::{START, empty_lists};
 use lrgrammar::idx::{StIdx, Symbol};
 use std::alloc::{AllocError, Global};
 use std::cmp::Reverse;
 use std::collections::BinaryHeap;
 
 /// How long a way is: first the tokens of a text along it, and then its edges.
-#[derive(Clone, Copy, Default, PartialEq, Eq, PartialOrd, Ord)]
-struct Length {
-    tokens: usize,
-    edges: usize,
-}
-
-impl Length {
-    /// With one edge more, along which a text has so many tokens.
-    fn and(self, tokens: usize) -> Length {
-        Length {
-            tokens: self.tokens.saturating_add(tokens),
-            edges: self.edges.saturating_add(1),
-        }
-    }
-}
+type Length = (usize, usize);
 
 /// The last edge on a shortest way to a state.
 #[derive(Clone, Copy)]
@@ -48,10 +34,9 @@ impl Ways {
         let len = edges.states_len();
         let mut ways = Ways {
             symbols: Vec::from_elem(alloc, None, len)?,
-            before: Vec::new(alloc),
+            before: empty_lists(alloc, len)?,
             arrivals: Vec::from_elem(alloc, None, len)?,
         };
-        ways.before.resize_with(len, || Vec::new(alloc))?;
         for number in 0..len {
             if let Ok(number) = u32::try_from(number) {
                 ways.add_edges(edges, StIdx(number))?;
@@ -78,7 +63,7 @@ impl Ways {
     /// Finds the ways.
     fn find(&mut self, alloc: Global, edges: &Edges) -> Result<(), AllocError> {
         let mut queue = BinaryHeap::new(alloc);
-        queue.push(Reverse((Length::default(), START)))?;
+        queue.push(Reverse(((0, 0), START)))?;
         // each edge brings a state into the queue once at most
         for _ in 0..=edges.len() {
             let Some(Reverse((length, state))) = queue.pop() else {
@@ -103,8 +88,9 @@ impl Ways {
             let Some(along) = edge.along else {
                 continue;
             };
-            let length = length.and(along.tokens);
-            if self.length(edge.to).is_none_or(|least| length < least) {
+            let (tokens, edges) = length;
+            let length = (tokens.saturating_add(along.tokens), edges.saturating_add(1));
+            if self.is_shorter(edge.to, length) {
                 if let Some(arrival) = self.arrivals.get_mut(usize::from(edge.to)) {
                     *arrival = Some(Arrival {
                         from: state,
@@ -117,6 +103,14 @@ impl Ways {
         Ok(())
     }
 
+    /// Whether that is shorter than each way to the state so far.
+    fn is_shorter(&self, state: StIdx<u32>, length: Length) -> bool {
+        match self.length(state) {
+            Some(least) => length < least,
+            None => true,
+        }
+    }
+
     /// How a shortest way comes to the state.
     fn arrival(&self, state: StIdx<u32>) -> Option<Arrival> {
         self.arrivals.get(usize::from(state)).copied().flatten()
@@ -125,7 +119,7 @@ impl Ways {
     /// How long a shortest way to the state is; None where there is none so far.
     fn length(&self, state: StIdx<u32>) -> Option<Length> {
         if state == START {
-            return Some(Length::default());
+            return Some((0, 0));
         }
         Some(self.arrival(state)?.length)
     }
@@ -133,7 +127,7 @@ impl Ways {
     /// How many tokens a shortest text to the state has; more than any where no way leads to it.
     pub(crate) fn tokens(&self, state: StIdx<u32>) -> usize {
         match self.length(state) {
-            Some(length) => length.tokens,
+            Some((tokens, _)) => tokens,
             None => usize::MAX,
         }
     }
