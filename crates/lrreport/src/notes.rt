@@ -512,16 +512,16 @@ impl Checked<'_> {
         requires entries { All (IsToldDecided self.now.found.now.grm self.now.found.now.graph)
             meeting.now }
     {
+        if own_sentences(meeting) == 2 {
+            if let Some((token, ambiguity)) = self.own_sentence_but_at(meeting, Some(first)) {
+                self.push_also(text, notes, token, ambiguity);
+            }
+        }
         if have_sentences(meeting) {
             self.push_each(text, notes, meeting);
         } else {
             self.push_decided_entries(text, notes, meeting);
             self.told.push_unknown(text, notes, meeting);
-        }
-        if own_sentences(meeting) == 2 {
-            if let Some((token, ambiguity)) = self.own_sentence_but_at(meeting, Some(first)) {
-                self.push_also(text, notes, token, ambiguity);
-            }
         }
     }
 
