@@ -1,5 +1,5 @@
 -- what the searches of a file share
-use Rattle.std.specs.Prelude.{◌≡◌, ℕ}
+use Rattle.std.specs.Prelude.{◌≡◌}
 use Rattle.lrspec.specs.merging.Graph.{Graph}
 use Rattle.lrspec.specs.tables.Conflicts.{AreReductionsContested}
 use Rattle.lrfindings.specs.declared.findings.Findings.{Findings}

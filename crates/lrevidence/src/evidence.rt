@@ -1,6 +1,6 @@
 //! Why there are conflicts.
 
-ghost use Rattle.std.specs.Prelude.{◌≡◌, ◌∷◌, [], ◌++◌, map, All, IfOk, IfSome, OnOk, MatchOption, option_map};
+ghost use Rattle.std.specs.Prelude.{◌≡◌, [], map, All, IfOk, IfSome, MatchOption, option_map};
 ghost use Rattle.lrspec.specs.merging.Graph.{IsGraphOf};
 ghost use Rattle.lrspec.specs.tables.Conflicts.{AreReductionsContested};
 ghost use Rattle.lrspec.specs.tables.Table.{IsTableOf};
@@ -330,29 +330,23 @@ fn known_of(
     Ok(evidence)
 }
 
-/// Adds what is known of entries.
-fn push_evidence(
-    list: &mut Vec<Evidence>,
+/// What is known of entries, in their order.
+fn evidence_of_all(
+    alloc: Global,
     searches: &mut Searches<'_>,
     entries: &[Entry],
     effort: Effort,
-) -> Result<(), AllocError>
-    requires one { AreOfOne searches.old }
-    requires proved { All (IsProved searches.old.reasons.grammar) list.old.items }
-    requires parts { All (PartsAtEntry searches.old.reasons.grammar searches.old.reasons.graph)
-        list.old.items }
-    requires lost { All (IsFoundAtEntry searches.old.losses) list.old.items }
-    requires decided { All (IsDecidedOf searches.old.decisions.grammar
-        searches.old.decisions.graph) list.old.items }
-    ensures entries { OnOk result (map (λ e. e.entry) list.new.items
-        ≡ map (λ e. e.entry) list.old.items ++ entries.now) }
-    ensures proved { OnOk result (All (IsProved searches.old.reasons.grammar) list.new.items) }
-    ensures parts { OnOk result (All
-        (PartsAtEntry searches.old.reasons.grammar searches.old.reasons.graph) list.new.items) }
-    ensures lost { OnOk result (All (IsFoundAtEntry searches.old.losses) list.new.items) }
-    ensures decided { OnOk result (All (IsDecidedOf searches.old.decisions.grammar
-        searches.old.decisions.graph) list.new.items) }
+) -> Result<Vec<Evidence>, AllocError>
+    requires { AreOfOne searches.old }
+    ensures entries { IfOk result (λ v. map (λ e. e.entry) v.items ≡ entries.now) }
+    ensures proved { IfOk result (λ v. All (IsProved searches.old.reasons.grammar) v.items) }
+    ensures parts { IfOk result (λ v. All
+        (PartsAtEntry searches.old.reasons.grammar searches.old.reasons.graph) v.items) }
+    ensures lost { IfOk result (λ v. All (IsFoundAtEntry searches.old.losses) v.items) }
+    ensures decided { IfOk result (λ v. All (IsDecidedOf searches.old.decisions.grammar
+        searches.old.decisions.graph) v.items) }
 {
+    let mut list = Vec::with_capacity(alloc, entries.len())?;
     let (mut told, mut unknown, mut sought): (usize, usize, usize) = (0, 0, 0);
     for entry in entries {
         let counts = effort.counts(list.as_slice(), entry);
@@ -377,7 +371,7 @@ fn push_evidence(
             sought = sought.saturating_add(1);
         }
     }
-    Ok(())
+    Ok(list)
 }
 
 /// What all searches of a file share.
@@ -433,9 +427,8 @@ pub fn evidence_for(
     let (Some(graph), false) = (&found.graph, entries.is_empty()) else {
         return Ok(Vec::new(alloc));
     };
-    let mut list = Vec::with_capacity(alloc, entries.len())?;
     let mut searches = searches_for(file, found, graph, effort)?;
-    push_evidence(&mut list, &mut searches, entries, effort)?;
+    let list = evidence_of_all(alloc, &mut searches, entries, effort)?;
     Ok(list)
 }
 

@@ -2,8 +2,8 @@ use Rattle.std.proofs.Common.{refl}
 use Rattle.lrevidence.proofs.FoundLosses.{are_lost, stop_so, are_apart, are_doomed}
 use Rattle.lrevidence.proofs.evidence.evidence_for.Goals as goal
 
-pub push_evidence-requires-clause-one : goal.push_evidence-requires-clause-one
-push_evidence-requires-clause-one c =
+pub evidence_of_all-requires : goal.evidence_of_all-requires
+evidence_of_all-requires c =
     let made = c.in_ok-searches.ensures in
     record {
       listed = rw (made.grammar, made.graph, made.found) (rw c.in-Some-false.is-0 at c.requires.listed);
@@ -13,24 +13,24 @@ push_evidence-requires-clause-one c =
     }
 
 pub returns-clause-proved : goal.returns-clause-proved
-returns-clause-proved c = rw c.in_ok-searches.ensures.grammar at c.in_ok-push_evidence.ensures.proved
+returns-clause-proved c = rw c.in_ok-searches.ensures.grammar at c.in_ok-list.ensures.proved
 
 pub returns-clause-parts : goal.returns-clause-parts
 returns-clause-parts c =
-    rw c.in-Some-false.is-0 (rw (c.in_ok-searches.ensures.grammar, c.in_ok-searches.ensures.graph) at c.in_ok-push_evidence.ensures.parts)
+    rw c.in-Some-false.is-0 (rw (c.in_ok-searches.ensures.grammar, c.in_ok-searches.ensures.graph) at c.in_ok-list.ensures.parts)
 
 pub returns-clause-lost : goal.returns-clause-lost
-returns-clause-lost c = are_lost _ _ (rw c.in_ok-searches.ensures.lost at c.in_ok-push_evidence.ensures.lost)
+returns-clause-lost c = are_lost _ _ (rw c.in_ok-searches.ensures.lost at c.in_ok-list.ensures.lost)
 
 pub returns-clause-stops : goal.returns-clause-stops
-returns-clause-stops c = rw c.in-Some-false.is-0 (stop_so _ _ (rw c.in_ok-searches.ensures.lost at c.in_ok-push_evidence.ensures.lost))
+returns-clause-stops c = rw c.in-Some-false.is-0 (stop_so _ _ (rw c.in_ok-searches.ensures.lost at c.in_ok-list.ensures.lost))
 
 pub returns-clause-pairs : goal.returns-clause-pairs
-returns-clause-pairs c = are_apart _ _ (rw c.in_ok-searches.ensures.lost at c.in_ok-push_evidence.ensures.lost)
+returns-clause-pairs c = are_apart _ _ (rw c.in_ok-searches.ensures.lost at c.in_ok-list.ensures.lost)
 
 pub returns-clause-doomed : goal.returns-clause-doomed
-returns-clause-doomed c = are_doomed _ _ (rw c.in_ok-searches.ensures.lost at c.in_ok-push_evidence.ensures.lost)
+returns-clause-doomed c = are_doomed _ _ (rw c.in_ok-searches.ensures.lost at c.in_ok-list.ensures.lost)
 
 pub returns-clause-decided : goal.returns-clause-decided
 returns-clause-decided c =
-    rw c.in-Some-false.is-0 (rw (c.in_ok-searches.ensures.decided, c.in_ok-searches.ensures.in_graph) at c.in_ok-push_evidence.ensures.decided)
+    rw c.in-Some-false.is-0 (rw (c.in_ok-searches.ensures.decided, c.in_ok-searches.ensures.in_graph) at c.in_ok-list.ensures.decided)
