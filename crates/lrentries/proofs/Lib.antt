@@ -1,4 +1,5 @@
--- cells, images, and what is decided
+-- sentences with two trees, cells, images, and what is decided
+pub mod NumberedTexts
 pub mod CellsInTurn
 pub mod Images
 pub mod FoundDecisions

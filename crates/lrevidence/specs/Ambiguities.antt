@@ -1,21 +1,10 @@
 -- sentences with two trees, and where these part
-use Rattle.std.specs.Prelude.{◌≢◌, ℕ, IfSome}
+use Rattle.std.specs.Prelude.{IfSome}
 use Rattle.lrspec.specs.grammars.Grammar.{Grammar}
 use Rattle.lrspec.specs.merging.Graph.{Graph}
-use Rattle.lrconflicts.specs.Moves.{Move}
-use Rattle.lrambiguity.specs.Partings.{PartAt}
-use Rattle.lrshown.specs.declared.ambiguities.Ambiguity.{Ambiguity}
 use Rattle.lrshown.specs.declared.evidence.Evidence.{Evidence}
-use Rattle.lrshown.specs.Steps.{moves_by}
+pub use Rattle.lrentries.specs.Ambiguities.{PartsAt}
 pub use Rattle.lrshown.specs.Ambiguities.{HasTwoTrees, IsProved, IsShown, AreShown, shown_dot}
-
--- both trees of a text are read alike up to the state `s`, in which the token `t` comes and they go on by different moves
-pub record PartsAt (g : Grammar) (h : Graph) (s t : ℕ) (a : Ambiguity) : Type 0 where
-  pub one : Move
-  pub other : Move
-  pub parts : PartAt g h s t one other a.tokens.items
-      (moves_by a.trees.before.items) (moves_by a.trees.one.items) (moves_by a.trees.other.items)
-  pub differ : one ≢ other
 
 -- those of a text that is told of an entry part in its state, where its token comes
 abbrev pub PartsAtEntry : Grammar → Graph → Evidence → Type 0

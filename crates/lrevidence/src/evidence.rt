@@ -13,12 +13,11 @@ ghost use Rattle.lrevidence.specs.Losses.{IsDoomedAtEntry, IsFoundAtEntry, IsLos
 ghost use Rattle.lrevidence.specs.DecidedEntries.{IsDecidedEntry, IsDecidedOf, IsToldDecided};
 ghost use Rattle.lrevidence.specs.Searches.{AreFor, AreOfOne};
 
-use crate::ambiguities::ambiguity_at;
 use crate::conflicts::conflict_of;
 use crate::examples::Numbering;
 use crate::searches::Searches;
 use crate::texts::{Shown, loss_found, shown_at};
-use lrentries::{Decisions, LossSearch};
+use lrentries::{Decisions, LossSearch, ambiguity_at};
 use lrfindings::{Entry, Findings, is_among};
 use lrreasons::{Conflict, Reasons};
 pub use lrshown::Evidence;

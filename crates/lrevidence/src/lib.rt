@@ -3,7 +3,6 @@
 #![tactic(auto)]
 
 mod accepting;
-mod ambiguities;
 mod conflicts;
 mod evidence;
 mod examples;

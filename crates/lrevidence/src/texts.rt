@@ -4,10 +4,10 @@ ghost use Rattle.std.specs.Prelude.{◌≡◌, ◌++◌, IfOk, IfSome};
 ghost use Rattle.lrevidence.specs.Ambiguities.{HasTwoTrees, PartsAt};
 ghost use Rattle.lrentries.specs.Losses.{IsFoundLoss, IsDoomedIn};
 
-use crate::ambiguities::ambiguity_by;
 use crate::searches::Searches;
 use lrcharts::accepting_moves;
 use lrconflicts::{Move, Written, other_move};
+use lrentries::ambiguity_by;
 use lrreasons::{Conflict, Outlook};
 use lrshown::{Ambiguity, Loss};
 use std::alloc::{AllocError, Global};

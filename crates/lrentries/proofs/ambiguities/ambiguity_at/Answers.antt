@@ -1,5 +1,5 @@
-use Rattle.lrevidence.proofs.NumberedTexts.{HasMovesOf, numbered, parts}
-use Rattle.lrevidence.proofs.ambiguities.ambiguity_at.Goals as goal
+use Rattle.lrentries.proofs.NumberedTexts.{HasMovesOf, numbered, parts}
+use Rattle.lrentries.proofs.ambiguities.ambiguity_at.Goals as goal
 
 has_moves : (c : goal.In_ok-ambiguity-in-Some) → HasMovesOf c.in-Some.proved c.in_ok-ambiguity-in-Some.field-0
 has_moves c = let known = c.in_ok-ambiguity-in-Some.ensures in record {

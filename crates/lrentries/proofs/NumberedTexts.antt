@@ -17,7 +17,7 @@ use Rattle.lrreasons.specs.Ambiguities.{IsProofOf}
 use Rattle.lrshown.specs.declared.ambiguities.Ambiguity.{Ambiguity}
 use Rattle.lrshown.specs.Steps.{moves_by}
 use Rattle.lrshown.specs.Ambiguities.{HasTwoTrees, HasTwoWays, PartAlike}
-use Rattle.lrevidence.specs.Ambiguities.{PartsAt}
+use Rattle.lrentries.specs.Ambiguities.{PartsAt}
 
 -- its steps are the moves of one that is proved
 pub record HasMovesOf (p : ProvedAmbiguity) (a : Ambiguity) : Type 0 where

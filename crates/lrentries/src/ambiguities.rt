@@ -7,9 +7,9 @@ ghost use Rattle.lrambiguity.specs.StoredAmbiguities.{IsAmbiguity};
 ghost use Rattle.lrshown.specs.Steps.{moves_by};
 ghost use Rattle.lrshown.specs.Ambiguities.{HasTwoTrees};
 ghost use Rattle.lrgrammar.specs.Symbols.{number_of};
-ghost use Rattle.lrevidence.specs.Ambiguities.{PartsAt};
+ghost use Rattle.lrentries.specs.Ambiguities.{PartsAt};
 
-use lrentries::numbers_of;
+use crate::numbers::numbers_of;
 use lrgrammar::idx::TIdx;
 use lrreasons::{Conflict, Form, Move, ProvedAmbiguity, Reasons};
 use lrshown::{Ambiguity, TwoTrees, steps_of};
@@ -75,7 +75,7 @@ fn numbered(alloc: Global, proved: &ProvedAmbiguity) -> Result<Ambiguity, AllocE
 }
 
 /// A sentence with two trees, which part at the conflict, where one is found in so many steps.
-pub(crate) fn ambiguity_at(
+pub fn ambiguity_at(
     alloc: Global,
     reasons: &Reasons<'_>,
     conflict: Conflict<u32>,
@@ -96,7 +96,7 @@ pub(crate) fn ambiguity_at(
 }
 
 /// A text with two trees, by the moves to both, if these part at the conflict.
-pub(crate) fn ambiguity_by(
+pub fn ambiguity_by(
     alloc: Global,
     reasons: &Reasons<'_>,
     conflict: Conflict<u32>,
