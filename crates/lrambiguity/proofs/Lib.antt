@@ -14,3 +14,5 @@ pub mod TwoTrees
 pub mod ReadOnce
 pub mod NextMoves
 pub mod DeadEnds
+-- ways on from stacks, and trees
+pub mod Finishing

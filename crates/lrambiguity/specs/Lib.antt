@@ -2,6 +2,8 @@
 pub mod Replays
 pub mod Inputs
 pub mod Derivations
+-- ways on from stacks
+pub mod Finishing
 -- items that stand in one another
 pub mod Nesting
 -- where trees part

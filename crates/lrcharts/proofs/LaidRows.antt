@@ -7,8 +7,8 @@ use Rattle.lrspec.specs.merging.Graph.{Graph}
 use Rattle.lrspec.specs.tables.Machine.{top}
 use Rattle.lrspec.proofs.tables.MachineStacks as stack
 use Rattle.lrspec.proofs.tables.MachineStacks.{IsStack, stack_length, start_body}
-use Rattle.lrkept.specs.Kept as way
-use Rattle.lrkept.specs.Kept.{Finishes}
+use Rattle.lrambiguity.specs.Finishing as way
+use Rattle.lrambiguity.specs.Finishing.{Finishes}
 use Rattle.lrconflicts.specs.Moves.{Move}
 use Rattle.lrcharts.specs.Charts.{HasSpan, Laid, IsClosed, HasStates, HasTokens, LacksWhole, symbols_of}
 use Rattle.lrtable.specs.RunAnswers.{text_of}

@@ -12,8 +12,8 @@ use Rattle.lrconflicts.specs.Moves.{moves_of, IsTreeBy}
 use Rattle.lrlosses.proofs.Rejections.{stands_where_reached}
 use Rattle.lrlosses.proofs.Sentences.{sentence_named}
 use Rattle.lrlosses.proofs.WholeTrees.{along_reads}
-use Rattle.lrkept.specs.Kept.{Finishes}
-use Rattle.lrkept.proofs.Finishing.{way_of_tree}
+use Rattle.lrambiguity.specs.Finishing.{Finishes}
+use Rattle.lrambiguity.proofs.Finishing.{way_of_tree}
 use Rattle.lrgrammar.specs.Symbols.{number_of}
 use Rattle.lrcharts.specs.declared.machine.Machine.{Machine}
 use Rattle.lrcharts.specs.Machines.{config_of, HasCome}

@@ -10,7 +10,7 @@ use Rattle.lrtable.specs.WorkingMachine.{stack_of}
 use Rattle.lrconflicts.specs.Moves.{Move, moves_of, IsTreeOfText}
 use Rattle.lrlosses.specs.Losses.{GoesAlong}
 use Rattle.lrgrammar.specs.Symbols.{number_of}
-use Rattle.lrkept.specs.Kept.{Finishes}
+use Rattle.lrambiguity.specs.Finishing.{Finishes}
 use Rattle.lrcharts.specs.declared.machine.Machine.{Machine}
 use Rattle.lrcharts.specs.Machines.{left_of}
 

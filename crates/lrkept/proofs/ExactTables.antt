@@ -21,9 +21,9 @@ use Rattle.lrlosses.proofs.Sentences.{sentence_named}
 use Rattle.lrkept.specs.Acyclicity.{IsAcyclic, nodes_within}
 use Rattle.lrkept.specs.Choices.{TakesAll}
 use Rattle.lrkept.specs.Kept.{IsLoser, IsKept, AreKept, AreKeptButAtErrors}
-use Rattle.lrkept.specs.Exactness.{IsExact, IsExactButAtErrors, StopsAtCrowdedError}
+use Rattle.lrlosses.specs.Exactness.{IsExact, IsExactButAtErrors, StopsAtCrowdedError}
 use Rattle.lrkept.proofs.NodeBounds.{sentence_nodes}
-use Rattle.lrkept.proofs.Finishing.{tree_of_way, way_of_tree}
+use Rattle.lrambiguity.proofs.Finishing.{tree_of_way, way_of_tree}
 use Rattle.lrkept.proofs.Losers.{all_taken, error_crowded, error_or_not}
 use Rattle.lrkept.proofs.Goings.{HasRead, nothing_read, reads, read_on, next_contends, whole_accepts, takes_or_not}
 

@@ -4,7 +4,8 @@ use Rattle.std.specs.Prelude.{slice_get}
 use Rattle.lrspec.specs.grammars.Grammar.{Symbol, Rule, Grammar}
 use Rattle.lrspec.specs.merging.Graph.{Graph}
 use Rattle.lrconflicts.specs.Moves.{Move, Reduce}
-use Rattle.lrkept.specs.Kept.{Finishes, GoesOn}
+use Rattle.lrambiguity.specs.Finishing.{Finishes}
+use Rattle.lrkept.specs.Kept.{GoesOn}
 use Rattle.lrexchange.specs.Positions.{Ahead, Position, Sinks}
 use Rattle.lrexchange.specs.Exchanges as exchange
 use Rattle.lrexchange.specs.Exchanges.{EachOwn, Proceeds, Retreats, IsLevel, IsSame, IsListed, AreWon}

@@ -4,7 +4,8 @@ use Rattle.lrspec.specs.grammars.Grammar.{Symbol, Grammar, IsGrammar, body_of}
 use Rattle.lrspec.specs.merging.Graph.{Graph, IsGraphOf}
 use Rattle.lrspec.proofs.tables.MachineStacks.{start_body}
 use Rattle.lrconflicts.specs.Moves.{Move}
-use Rattle.lrkept.specs.Kept.{Finishes, GoesOn}
+use Rattle.lrambiguity.specs.Finishing.{Finishes}
+use Rattle.lrkept.specs.Kept.{GoesOn}
 use Rattle.lrexchange.specs.Positions.{Even, Open, Position}
 use Rattle.lrexchange.specs.Exchanges.{Proceeds, AreWon}
 use Rattle.lrkept.proofs.OpenStacks.{open_item}

@@ -8,8 +8,9 @@ use Rattle.lrspec.specs.tables.Machine.{next_token}
 use Rattle.lrspec.proofs.grammars.BodyFacts.{symbol_at_dot}
 use Rattle.lrconflicts.specs.Moves.{Move, Shift, Reduce}
 use Rattle.lrlosses.specs.Losses.{Takes}
-use Rattle.lrkept.specs.Kept as way
-use Rattle.lrkept.specs.Kept.{Finishes, GoesWith, IsKept, GoesOn}
+use Rattle.lrambiguity.specs.Finishing as way
+use Rattle.lrambiguity.specs.Finishing.{Finishes}
+use Rattle.lrkept.specs.Kept.{GoesWith, IsKept, GoesOn}
 use Rattle.lrexchange.specs.Positions as position
 use Rattle.lrexchange.specs.Positions.{Ahead, Before, Behind, Position}
 use Rattle.lrexchange.specs.Exchanges as exchange

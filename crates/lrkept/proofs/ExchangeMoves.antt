@@ -9,8 +9,8 @@ use Rattle.lrspec.specs.tables.Table as table
 use Rattle.lrspec.specs.tables.Table.{IsContender}
 use Rattle.lrspec.specs.tables.Machine.{next_token}
 use Rattle.lrconflicts.specs.Moves.{Move, Shift, Reduce}
-use Rattle.lrkept.specs.Kept as way
-use Rattle.lrkept.specs.Kept.{Finishes}
+use Rattle.lrambiguity.specs.Finishing as way
+use Rattle.lrambiguity.specs.Finishing.{Finishes}
 use Rattle.lrexchange.specs.Positions.{Turn, Position}
 use Rattle.lrexchange.specs.Exchanges.{at, TakesReduction, TakesAllMoves}
 use Rattle.lrkept.proofs.OpenItemsStand.{leads_there, first_contends, shift_leads}

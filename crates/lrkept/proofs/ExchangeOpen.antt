@@ -5,8 +5,9 @@ use Rattle.lrspec.specs.grammars.Trees.{forest_leaves}
 use Rattle.lrspec.specs.merging.Graph as graph
 use Rattle.lrspec.specs.merging.Graph.{Graph, Leads, IsGraphOf}
 use Rattle.lrconflicts.specs.Moves.{Move, Reduce, forest_moves}
-use Rattle.lrkept.specs.Kept as way
-use Rattle.lrkept.specs.Kept.{Finishes, GoesOn}
+use Rattle.lrambiguity.specs.Finishing as way
+use Rattle.lrambiguity.specs.Finishing.{Finishes}
+use Rattle.lrkept.specs.Kept.{GoesOn}
 use Rattle.lrexchange.specs.Positions.{Even, Open, Ours, Position, pushed}
 use Rattle.lrexchange.specs.Exchanges.{at, EachReduced, EachReducedByBoth, IsDeep, AreWon}
 use Rattle.lrkept.proofs.OpenStacks.{Opens, closes, finish_body}

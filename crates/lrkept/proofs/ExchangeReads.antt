@@ -6,8 +6,9 @@ use Rattle.lrspec.specs.merging.Graph.{Graph, IsGraphOf}
 use Rattle.lrspec.specs.tables.Machine.{next_token}
 use Rattle.lrspec.proofs.grammars.BodyFacts.{push_same}
 use Rattle.lrconflicts.specs.Moves.{Move, Shift}
-use Rattle.lrkept.specs.Kept as way
-use Rattle.lrkept.specs.Kept.{Finishes, GoesOn}
+use Rattle.lrambiguity.specs.Finishing as way
+use Rattle.lrambiguity.specs.Finishing.{Finishes}
+use Rattle.lrkept.specs.Kept.{GoesOn}
 use Rattle.lrexchange.specs.Positions.{Turn, Even, Open, Ahead, Before, Behind, Mark, Position, IsCut}
 use Rattle.lrexchange.specs.Exchanges as exchange
 use Rattle.lrexchange.specs.Exchanges.{at, IsMarkOf, EachReduced, EachMarked, TakesReduction, AreWon}

@@ -4,8 +4,9 @@ use Rattle.std.proofs.lemmas.List.{take_all}
 use Rattle.lrspec.specs.grammars.Grammar.{Symbol, Rule, Grammar, body_of, IsProductionOf}
 use Rattle.lrspec.specs.merging.Graph.{Graph}
 use Rattle.lrconflicts.specs.Moves.{Move, Reduce}
-use Rattle.lrkept.specs.Kept as way
-use Rattle.lrkept.specs.Kept.{Finishes, GoesOn}
+use Rattle.lrambiguity.specs.Finishing as way
+use Rattle.lrambiguity.specs.Finishing.{Finishes}
+use Rattle.lrkept.specs.Kept.{GoesOn}
 use Rattle.lrexchange.specs.Positions as position
 use Rattle.lrexchange.specs.Positions.{Mark, Ours, Reduces, IsHidden, IsOurs, raised, raised_mark, pushed, IsCut, OursCut}
 

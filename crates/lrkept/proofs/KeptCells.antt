@@ -7,8 +7,8 @@ use Rattle.lrspec.specs.merging.Graph.{Graph, IsGraphOf}
 use Rattle.lrspec.specs.tables.Table as table
 use Rattle.lrspec.specs.tables.Table.{Table, IsContender, IsTableOf}
 use Rattle.lrconflicts.specs.Moves.{Move, Reduce, candidate_of}
-use Rattle.lrkept.specs.declared.keeping.Exactness.{Exactness}
-use Rattle.lrkept.specs.declared.keeping.Exactness.TheVariants as known
+use Rattle.lrlosses.specs.declared.exactness.Exactness.{Exactness}
+use Rattle.lrlosses.specs.declared.exactness.Exactness.TheVariants as known
 use Rattle.lrkept.specs.Kept.{IsLoser, AreKept, AreKeptButAtErrors}
 use Rattle.lrkept.specs.Keeping.{IsKeptAs, IsKnownOf, AreKnownOf, IsCellKeptAs, IsStateKeptAs, IsKnownOfBoth}
 use Rattle.lrdecided.specs.Contenders.{HasContenders}

@@ -8,8 +8,6 @@ pub mod NodeBounds
 pub mod AlonePairs
 -- numbers that are taken away, and ranks
 pub mod Peeled
--- ways on from stacks, and trees
-pub mod Finishing
 -- the item that is open on a stack, and forests that go before ways on
 pub mod OpenStacks
 -- what stands and looks on such stacks, and what contends where they lead

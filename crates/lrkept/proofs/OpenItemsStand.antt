@@ -21,8 +21,8 @@ use Rattle.lrspec.proofs.merging.StatesHoldWhatStands.{value_of_some}
 use Rattle.lrspec.proofs.tables.MachineStacks.{start_body}
 use Rattle.lrspec.proofs.tables.NextTokens.{child_looks}
 use Rattle.lrconflicts.specs.Moves.{Move, Shift, Reduce, candidate_of, forest_moves}
-use Rattle.lrkept.specs.Kept as way
-use Rattle.lrkept.specs.Kept.{Finishes}
+use Rattle.lrambiguity.specs.Finishing as way
+use Rattle.lrambiguity.specs.Finishing.{Finishes}
 use Rattle.lrkept.proofs.OpenStacks.{Opens, open_item, empty_or_last}
 
 -- the open item stood before the last symbol of the stack, with the symbol behind its dot

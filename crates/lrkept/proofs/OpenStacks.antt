@@ -7,8 +7,8 @@ use Rattle.lrspec.proofs.grammars.TreeFacts.{forest_split, forest_joined, leaves
 use Rattle.lrspec.proofs.tables.MachineStacks.{start_body}
 use Rattle.lrconflicts.specs.Moves.{Move, Shift, Reduce, moves_of, forest_moves}
 use Rattle.lrambiguity.proofs.ReadingSteps.{moves_pushed, node_moves}
-use Rattle.lrkept.specs.Kept as way
-use Rattle.lrkept.specs.Kept.{Finishes}
+use Rattle.lrambiguity.specs.Finishing as way
+use Rattle.lrambiguity.specs.Finishing.{Finishes}
 
 mutual
   -- what a tree derives may stand in the place of its symbol, where its moves and leaves come before

@@ -5,8 +5,8 @@ use Rattle.lrspec.specs.merging.Graph.{Graph}
 use Rattle.lrspec.specs.tables.Table as table
 use Rattle.lrspec.specs.tables.Table.{Table, IsContender, action_of}
 use Rattle.lrconflicts.specs.Moves.{Move, candidate_of}
-use Rattle.lrkept.specs.declared.keeping.Exactness.{Exactness}
-use Rattle.lrkept.specs.declared.keeping.Exactness.TheVariants as known
+use Rattle.lrlosses.specs.declared.exactness.Exactness.{Exactness}
+use Rattle.lrlosses.specs.declared.exactness.Exactness.TheVariants as known
 use Rattle.lrexchange.specs.Positions.{Position}
 use Rattle.lrkept.specs.declared.checking.Certificate.{Certificate}
 use Rattle.lrexchange.specs.StoredPositions.{positions_of}

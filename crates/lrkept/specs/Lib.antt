@@ -4,7 +4,7 @@ pub mod Acyclicity
 pub mod Pairs
 -- how a stack goes on, and which losers of cells are kept
 pub mod Kept
--- tables whose machine accepts exactly the sentences
+-- grammars for which what is kept makes tables exact
 pub mod Exactness
 -- cells that take all that contends for them
 pub mod Choices

@@ -10,7 +10,7 @@ ghost use Rattle.lrconflicts.specs.StoredMoves.{move_of, moves_stored};
 ghost use Rattle.lrsearches.specs.StoredWays.{AreWaysOf};
 ghost use Rattle.lrlosses.specs.Losses.{Takes};
 ghost use Rattle.lrgrammar.specs.Symbols.{number_of};
-ghost use Rattle.lrkept.specs.declared.keeping.Exactness.TheVariants as known;
+ghost use Rattle.lrlosses.specs.declared.exactness.Exactness.TheVariants as known;
 ghost use Rattle.lrkept.specs.Keeping.{IsWon, IsCertified, IsKeptAs, IsKnownOf, AreKnownOf, IsStateKeptAs, IsKnownOfBoth};
 
 use crate::checking::{Certificate, are_won, begins};
@@ -22,36 +22,10 @@ use lrdecided::{completes, contenders};
 use lrgrammar::grammar::YaccGrammar;
 use lrgrammar::idx::{IndexStorage, StIdx, TIdx};
 use lrgraphs::stategraph::StateGraph;
+use lrlosses::Exactness;
 use lrrows::action::Action;
 use lrsearches::Ways;
 use std::alloc::AllocError;
-
-/// What is known of the texts that the machine of a table accepts.
-#[derive(Clone, Copy, Debug, PartialEq, Eq)]
-pub enum Exactness {
-    /// It accepts exactly the sentences.
-    Exact,
-    /// It accepts sentences alone, and each that it doesn't accept stops at an error for which moves contend.
-    ButAtErrors,
-    /// It accepts sentences alone. That it accepts them all is not shown, and may not be so.
-    Open,
-}
-
-impl Exactness {
-    /// What is known of all, where this is known of some of them, and the other of the rest.
-    pub(crate) fn and(self, other: Exactness) -> Exactness
-        ensures { IsKnownOfBoth self other result }
-    {
-        match self {
-            Exactness::Exact => other,
-            Exactness::ButAtErrors => match other {
-                Exactness::Open => Exactness::Open,
-                _ => Exactness::ButAtErrors,
-            },
-            Exactness::Open => Exactness::Open,
-        }
-    }
-}
 
 /// The table of a grammar, with its graph and the ways into the states of that.
 #[derive(Clone, Copy)]
@@ -184,6 +158,20 @@ fn known_of(
     kept_as(automaton, cell, theirs, certificate, left)
 }
 
+/// What is known of all, where this is known of some of them, and the other of the rest.
+fn known_of_both(this: Exactness, other: Exactness) -> Exactness
+    ensures { IsKnownOfBoth this other result }
+{
+    match this {
+        Exactness::Exact => other,
+        Exactness::ButAtErrors => match other {
+            Exactness::Open => Exactness::Open,
+            _ => Exactness::ButAtErrors,
+        },
+        Exactness::Open => Exactness::Open,
+    }
+}
+
 /// What is known of all the moves in the cell.
 fn all_known_of(
     automaton: Automaton<'_>,
@@ -205,7 +193,7 @@ fn all_known_of(
     let mut known = Exactness::Exact;
     for theirs in moves {
         let of_this = known_of(automaton, cell, *theirs, certificate, left)?;
-        known = known.and(of_this);
+        known = known_of_both(known, of_this);
     }
     Ok(known)
 }
@@ -240,7 +228,7 @@ fn state_kept_as(
             certificate,
             left,
         )?;
-        known = known.and(of_this);
+        known = known_of_both(known, of_this);
         if known == Exactness::Open {
             return Ok(Exactness::Open);
         }
@@ -268,7 +256,7 @@ pub(crate) fn table_kept_as(
     for number in 0..automaton.graph.all_states_len().0.to_usize() {
         let state = StIdx(u32::from_usize(number).unwrap());
         let of_this = state_kept_as(automaton, state, certificate, left)?;
-        known = known.and(of_this);
+        known = known_of_both(known, of_this);
         if known == Exactness::Open {
             return Ok(Exactness::Open);
         }

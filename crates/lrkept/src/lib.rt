@@ -13,5 +13,5 @@ mod tables;
 
 pub use crate::acyclicity::is_acyclic;
 pub use crate::checking::Certificate;
-pub use crate::keeping::{Automaton, Exactness};
+pub use crate::keeping::Automaton;
 pub use crate::tables::{exactness, is_kept};

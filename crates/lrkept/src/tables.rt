@@ -6,19 +6,20 @@ ghost use Rattle.lrspec.specs.tables.Table.{IsTableOf};
 ghost use Rattle.lrconflicts.specs.StoredMoves.{move_of};
 ghost use Rattle.lrsearches.specs.StoredWays.{AreWaysOf};
 ghost use Rattle.lrgrammar.specs.Symbols.{number_of};
-ghost use Rattle.lrkept.specs.declared.keeping.Exactness.TheVariants as known;
+ghost use Rattle.lrlosses.specs.declared.exactness.Exactness.TheVariants as known;
 ghost use Rattle.lrkept.specs.Acyclicity.{IsAcyclic};
 ghost use Rattle.lrkept.specs.Choices.{TakesAll};
-ghost use Rattle.lrkept.specs.Exactness.{IsExact, IsExactButAtErrors};
+ghost use Rattle.lrlosses.specs.Exactness.{IsExact, IsExactButAtErrors};
 ghost use Rattle.lrkept.specs.Keeping.{IsWon};
 ghost use Rattle.lrkept.specs.Kept.{IsKept};
 
 use crate::acyclicity::is_acyclic;
 use crate::checking::Certificate;
 use crate::choices::takes_all;
-use crate::keeping::{Automaton, Exactness, kept_as, table_kept_as};
+use crate::keeping::{Automaton, kept_as, table_kept_as};
 use lrconflicts::Move;
 use lrgrammar::idx::{StIdx, TIdx};
+use lrlosses::Exactness;
 use std::alloc::AllocError;
 
 /// What is known of the texts that the machine of the table accepts. Searches look at as many positions as are left, and take them

@@ -8,3 +8,5 @@ pub mod Walks
 pub mod FoundLosses
 -- and how the code stores that
 pub mod StoredFinds
+-- tables whose machine accepts exactly the sentences
+pub mod Exactness

@@ -4,6 +4,7 @@
 mod checks;
 mod completes;
 mod edges;
+mod exactness;
 mod finding;
 mod known;
 mod lists;
@@ -18,6 +19,7 @@ mod walks;
 mod ways;
 
 pub use crate::checks::{Candidate, Find};
+pub use crate::exactness::Exactness;
 pub use crate::finding::Losses;
 pub use crate::losses::{Loss, check_lost};
 pub use crate::walks::Place;

@@ -3,9 +3,9 @@ use Rattle.std.specs.Prelude.{◌≡◌, Option, MatchOption}
 use Rattle.lrspec.specs.grammars.Grammar.{Grammar}
 use Rattle.lrspec.specs.merging.Graph.{Graph}
 use Rattle.lrspec.specs.tables.Table.{Table}
-pub use Rattle.lrkept.specs.declared.keeping.Exactness.{Exactness}
-pub use Rattle.lrkept.specs.declared.keeping.Exactness.TheVariants.{Exact, ButAtErrors, Open}
-pub use Rattle.lrkept.specs.Exactness.{IsExact, IsExactButAtErrors}
+pub use Rattle.lrlosses.specs.declared.exactness.Exactness.{Exactness}
+pub use Rattle.lrlosses.specs.declared.exactness.Exactness.TheVariants.{Exact, ButAtErrors, Open}
+pub use Rattle.lrlosses.specs.Exactness.{IsExact, IsExactButAtErrors}
 
 -- there is a graph, by which the machine rejects sentences only at errors for which more than one move contends: `%nonassoc`
 -- makes these

@@ -24,4 +24,4 @@ pub use crate::pairs::shown_trees;
 pub use crate::steps::{Step, TwoTrees, step_of, steps_of};
 pub use crate::trees::{Node, Tree, Visit};
 pub use lrdecided::Decided;
-pub use lrkept::Exactness;
+pub use lrlosses::Exactness;

@@ -10,7 +10,7 @@ pub loop-theirs-preserved : goal.loop-theirs-preserved
 loop-theirs-preserved c =
     record {
       won = c.in_ok-of_this.ensures.won;
-      known = move_more _ _ _ c.and-known.ensures c.args.automaton.grm.now c.args.automaton.graph.now c.args.automaton.table.now c.args.cell.0.0
+      known = move_more _ _ _ c.known_of_both-known.ensures c.args.automaton.grm.now c.args.automaton.graph.now c.args.automaton.table.now c.args.cell.0.0
           c.args.cell.1.0 (move_of number_of) c.args.moves.now c.loop-theirs.theirs-index _ c.loop-theirs-test.true
           c.loop-theirs.invariant.known c.in_ok-of_this.ensures.known;
     }

@@ -2,7 +2,7 @@
 use Rattle.std.proofs.lemmas.Result.{IfOk-weaker}
 use Rattle.lrconflicts.specs.StoredMoves.{move_of}
 use Rattle.lrgrammar.specs.Symbols.{number_of}
-use Rattle.lrkept.specs.declared.keeping.Exactness.TheVariants as known
+use Rattle.lrlosses.specs.declared.exactness.Exactness.TheVariants as known
 use Rattle.lrkept.proofs.KeptCells.{by_start}
 use Rattle.lrkept.proofs.keeping.known_of.Goals as goal
 

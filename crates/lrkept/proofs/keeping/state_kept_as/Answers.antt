@@ -31,7 +31,7 @@ loop-number-preserved c =
     let here = rw c.as_slice-in-loop-number.ensures.value at c.in_ok-of_this.ensures.known in
     record {
       won = c.in_ok-of_this.ensures.won;
-      known = token_more _ _ _ c.and-known.ensures grm h b s n moves (subst (λ t. HasContenders grm h s t moves) is c.in_ok-moves.ensures)
+      known = token_more _ _ _ c.known_of_both-known.ensures grm h b s n moves (subst (λ t. HasContenders grm h s t moves) is c.in_ok-moves.ensures)
           c.loop-number.invariant.known (subst (λ t. AreKnownOf c.in_ok-of_this.of_this grm h b s t moves) is here);
     }
 

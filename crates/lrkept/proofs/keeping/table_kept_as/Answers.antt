@@ -31,7 +31,7 @@ loop-number-preserved c =
     let is = index_number number_of _ n c.from_usize.result c.unwrap.result c.unwrap.ensures c.from_usize.ensures in
     record {
       won = c.in_ok-of_this.ensures.won;
-      known = state_more _ _ _ c.and-known.ensures grm h b n c.loop-number.invariant.known
+      known = state_more _ _ _ c.known_of_both-known.ensures grm h b n c.loop-number.invariant.known
           (subst (IsStateKeptAs c.in_ok-of_this.of_this grm h b) is c.in_ok-of_this.ensures.known);
     }
 

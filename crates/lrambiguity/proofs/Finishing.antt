@@ -9,8 +9,8 @@ use Rattle.lrconflicts.specs.Moves.{Move, Shift, Reduce, IsTreeBy}
 use Rattle.lrambiguity.specs.Replays.{Reads}
 use Rattle.lrambiguity.proofs.DeadEnds.{nothing_shifted, body_there, tree_read}
 use Rattle.lrambiguity.proofs.ReadingSteps.{read_shift, read_reduce, read_tree}
-use Rattle.lrkept.specs.Kept as way
-use Rattle.lrkept.specs.Kept.{Finishes}
+use Rattle.lrambiguity.specs.Finishing as way
+use Rattle.lrambiguity.specs.Finishing.{Finishes}
 
 -- a production has a rule
 rule_there : (ps : List Production) (p : ℕ) → p < length ps → (r : ℕ) × IsOfRule (slice_get ps p) r
