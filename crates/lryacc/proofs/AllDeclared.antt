@@ -12,7 +12,7 @@ use Rattle.lryacc.specs.declared.reader.Reader.{Reader}
 use Rattle.lryacc.specs.AllBodies.{ReachesRules, ReadsBodies, TakesSeparator}
 use Rattle.lryacc.specs.AllLexemes.{is_separator}
 use Rattle.lryacc.specs.Bodies.{IsBehindMark, IsBody, PassesNoDelimiter, Stays, delimiters_read}
-use Rattle.lryacc.specs.Declarations.{AreAllDeclared, declared_at, declared_by, declared_over, form_before, is_before_rules}
+use Rattle.lryacc.specs.Declarations.{AreAllDeclared, declared_at, declared_by, declared_over, form_before, is_before_rules, symbol_before}
 use Rattle.lryacc.specs.DeclarationsRead.{StatesAll, StatesDeclared, all_stated, declared_from, stated}
 use Rattle.lryacc.specs.Delimiters.{delimiters_before}
 use Rattle.lryacc.proofs.AllBodiesRead.{behind_first}
@@ -42,7 +42,7 @@ unfolding declared_over
 over-past text dialect lexemes from zero past = refl
 over-past text dialect lexemes from (suc n) past =
     let none : declared_at text dialect lexemes from ≡ [] =
-    ap (declared_by text dialect (form_before text dialect lexemes from) (is_before_rules lexemes from)) (slice_get_past lexemes from past) in
+    ap (declared_by text dialect (form_before text dialect lexemes from) (is_before_rules lexemes from) (symbol_before lexemes from)) (slice_get_past lexemes from past) in
     ap (λ (xs : List Statement). xs ++ declared_over text dialect lexemes (from + 1) n) none
     ∙ over-past text dialect lexemes (from + 1) n (omega (arith, past))
 

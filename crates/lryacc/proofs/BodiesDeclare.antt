@@ -15,7 +15,7 @@ use Rattle.lryacc.specs.declared.lexemes.LexemeKind.{LexemeKind}
 use Rattle.lryacc.specs.declared.lexemes.LexemeKind.TheVariants as kind
 use Rattle.lryacc.specs.Bodies.{IsBehindMark, IsBody, is_action, is_aside, is_in_bodies, is_mark, is_prec, is_symbol}
 use Rattle.lryacc.specs.Bodies.IsBody.{begins, symbol, action, aside, directive as other_directive, prec as named}
-use Rattle.lryacc.specs.Declarations.{declared_by, declared_over, directive_declares, form_before, form_behind, form_by, is_before_rules, lexeme_declares, number_declares, symbol_declares}
+use Rattle.lryacc.specs.Declarations.{declared_by, declared_over, directive_declares, form_before, form_behind, form_by, is_before_rules, lexeme_declares, number_declares, symbol_before, symbol_declares, text_declares, translated_declares}
 use Rattle.lryacc.specs.Delimiters.{delimiter_at, delimiter_of, delimiters_before}
 use Rattle.lryacc.specs.Directives.{form_of}
 use Rattle.lryacc.specs.NamedSymbols.{text_at}
@@ -23,21 +23,34 @@ use Rattle.lryacc.proofs.BodiesRead.{body_counts}
 use Rattle.lryacc.proofs.DeclarationsRead.{declared-next, form-next}
 use Rattle.lryacc.proofs.DelimitersPassed.{count-next}
 
--- whether symbols declare something behind a directive
+-- whether symbols, or what stands behind these, declare something behind a directive
 abbrev pub is_of_symbols : Form → Bool
+is_of_symbols form.Tokens = true
+is_of_symbols form.Rules = true
 is_of_symbols (form.Level kind) = true
 is_of_symbols form.Starts = true
 is_of_symbols _ = false
 
 symbols-none : (behind : Form) (lexeme : Lexeme) → is_of_symbols behind ≡ false → symbol_declares behind lexeme ≡ []
+symbols-none form.Rules lexeme is = cc
 symbols-none (form.Level kind) lexeme is = cc
 symbols-none form.Starts lexeme is = cc
 symbols-none _ lexeme is = refl
 
-late-none : (behind : Form) (number : Lexeme) → number_declares behind false number ≡ []
-late-none form.ShiftReduce number = refl
-late-none form.ReduceReduce number = refl
-late-none _ number = refl
+texts-none : (behind : Form) (before : Option Lexeme) (text : Lexeme) → is_of_symbols behind ≡ false → (text_declares behind before text ≡ []) × (translated_declares behind before text ≡ [])
+texts-none form.Tokens before text is = absurd (cc)
+texts-none form.Rules before text is = absurd (cc)
+texts-none (form.Level kind) before text is = absurd (cc)
+texts-none form.Starts before text is = absurd (cc)
+texts-none _ before text is = (refl, refl)
+
+late-none : (behind : Form) (before : Option Lexeme) (number : Lexeme) → is_of_symbols behind ≡ false → number_declares behind false before number ≡ []
+late-none form.Tokens before number is = cc
+late-none form.Rules before number is = cc
+late-none (form.Level kind) before number is = cc
+late-none form.ShiftReduce before number is = refl
+late-none form.ReduceReduce before number is = refl
+late-none _ before number is = refl
 
 -- a directive declares nothing, and neither do the symbols behind it
 pub record IsQuiet (own : Form) : Type 0 where
@@ -45,16 +58,16 @@ pub record IsQuiet (own : Form) : Type 0 where
   pub symbols : is_of_symbols own ≡ false
 
 -- a lexeme among rules declares nothing
-quiet-kind : (k : LexemeKind) (own behind : Form) (lexeme : Lexeme) → is_of_symbols behind ≡ false → (k ≡ kind.Directive → IsQuiet own) → (lexeme_declares k own behind false lexeme ≡ []) × (is_of_symbols (form_by k own behind) ≡ false)
-quiet-kind kind.Directive own behind lexeme is quiet = ((quiet refl).itself, (quiet refl).symbols)
-quiet-kind kind.Number own behind lexeme is quiet = (late-none behind lexeme, is)
-quiet-kind kind.Name own behind lexeme is quiet = (symbols-none behind lexeme is, is)
-quiet-kind (kind.Character byte) own behind lexeme is quiet = (symbols-none behind lexeme is, is)
-quiet-kind kind.Text own behind lexeme is quiet = (symbols-none behind lexeme is, is)
-quiet-kind kind.QuotedName own behind lexeme is quiet = (symbols-none behind lexeme is, is)
-quiet-kind kind.TranslatedText own behind lexeme is quiet = (refl, is)
-quiet-kind kind.Tag own behind lexeme is quiet = (refl, is)
-quiet-kind _ own behind lexeme is quiet = (refl, refl)
+quiet-kind : (k : LexemeKind) (own behind : Form) (before : Option Lexeme) (lexeme : Lexeme) → is_of_symbols behind ≡ false → (k ≡ kind.Directive → IsQuiet own) → (lexeme_declares k own behind false before lexeme ≡ []) × (is_of_symbols (form_by k own behind) ≡ false)
+quiet-kind kind.Directive own behind before lexeme is quiet = ((quiet refl).itself, (quiet refl).symbols)
+quiet-kind kind.Number own behind before lexeme is quiet = (late-none behind before lexeme is, is)
+quiet-kind kind.Name own behind before lexeme is quiet = (symbols-none behind lexeme is, is)
+quiet-kind (kind.Character byte) own behind before lexeme is quiet = (symbols-none behind lexeme is, is)
+quiet-kind kind.Text own behind before lexeme is quiet = ((texts-none behind before lexeme is).0, is)
+quiet-kind kind.QuotedName own behind before lexeme is quiet = (symbols-none behind lexeme is, is)
+quiet-kind kind.TranslatedText own behind before lexeme is quiet = ((texts-none behind before lexeme is).1, is)
+quiet-kind kind.Tag own behind before lexeme is quiet = (refl, is)
+quiet-kind _ own behind before lexeme is quiet = (refl, refl)
 
 late : (n : ℕ) → 1 ≤ n → nat_eq n 0 ≡ false
 late n some = ne_eqb n 0 (λ none. absurd (omega (arith, some, none)))
@@ -72,11 +85,12 @@ quiet-next : (text : List ℕ) (dialect : Dialect) (lexemes : List Lexeme) (from
 quiet-next text dialect lexemes from at lexeme here some quiet so_far =
     let own = form_of dialect (text_at text lexeme.span) in
     let behind = form_before text dialect lexemes at in
-    let one = quiet-kind lexeme.kind own behind lexeme so_far.symbols quiet in
+    let before = symbol_before lexemes at in
+    let one = quiet-kind lexeme.kind own behind before lexeme so_far.symbols quiet in
     let not_first : is_before_rules lexemes at ≡ false = late (delimiters_before lexemes at) some in
-    let none : declared_by text dialect behind (is_before_rules lexemes at) (slice_get lexemes at) ≡ [] =
-    ap (declared_by text dialect behind (is_before_rules lexemes at)) here
-    ∙ (ap (λ (b : Bool). lexeme_declares lexeme.kind own behind b lexeme) not_first ∙ one.0) in record {
+    let none : declared_by text dialect behind (is_before_rules lexemes at) before (slice_get lexemes at) ≡ [] =
+    ap (declared_by text dialect behind (is_before_rules lexemes at) before) here
+    ∙ (ap (λ (b : Bool). lexeme_declares lexeme.kind own behind b before lexeme) not_first ∙ one.0) in record {
       symbols = ap is_of_symbols (form-next text dialect lexemes at ∙ ap (form_behind text dialect behind) here) ∙ one.1;
       declared =
           sym (declared-next text dialect lexemes at lexeme here ∙ ap (λ (xs : List Statement). xs ++ ahead text dialect lexemes (at + 1)) none)

@@ -1,12 +1,13 @@
 -- declarations are read
 use Rattle.std.proofs.Common.{◌≡◌, ℕ, suc, ◌+◌, ◌-◌, arith, add-one, Bool, true, false, List, [], ◌∷◌, ◌++◌, append_assoc, append-nil, take, drop, take-append-drop, Option, None, Some, Result, Ok, Err, OnOk, length, refl, ap, sym, ◌∙◌, subst}
-use Rattle.std.specs.Prelude.{IfSome, MatchBool, MatchOption, codes, nat_eq, slice_get}
+use Rattle.std.specs.Prelude.{IfSome, MatchBool, MatchOption, codes, if◌then◌else◌, nat_eq, slice_get}
 use Rattle.std.specs.Option.{option_map}
 use Rattle.std.specs.Str.{bytes_eq}
 use Rattle.std.proofs.lemmas.Slice.Eq.{bytes_eq-Decides}
 use Rattle.std.proofs.lemmas.List.Elements.{filter-append}
 use Rattle.std.proofs.lemmas.Option.{slice_get_within}
 use Rattle.lryacc.specs.declared.contents.Statement.{Statement}
+use Rattle.lryacc.specs.declared.contents.Statement.TheVariants.{Alias, Code}
 use Rattle.lryacc.specs.declared.declarations.Said.{Said}
 use Rattle.lryacc.specs.declared.declarations.Said.TheVariants as said
 use Rattle.lryacc.specs.declared.dialects.Dialect.{Dialect}
@@ -18,8 +19,8 @@ use Rattle.lryacc.specs.declared.lexemes.LexemeKind.{LexemeKind}
 use Rattle.lryacc.specs.declared.lexemes.LexemeKind.TheVariants as kind
 use Rattle.lryacc.specs.declared.reader.Reader.{Reader}
 use Rattle.lryacc.specs.Bodies.{Passes, PassesNoDelimiter, SkipsKind, Stays, TakesKind, TakesSymbol, delimiters_read, is_symbol}
-use Rattle.lryacc.specs.Declarations.{counted_of, declared_at, declared_by, declared_over, directive_declares, form_before, form_behind, form_by, is_before_rules, is_counted, lexeme_declares, number_declares, symbol_declares}
-use Rattle.lryacc.specs.DeclarationsRead.{IsSaidBy, StatesDeclared, StatesListed, all_stated, declared_from, form_expected, form_here, is_of_numbers, is_silent, said_of, stated}
+use Rattle.lryacc.specs.Declarations.{alias_of, code_of, counted_of, declared_at, declared_by, declared_over, directive_declares, form_before, form_behind, form_by, if_symbol, is_before_rules, is_counted, is_number, lexeme_declares, number_declares, symbol_by, symbol_declares, text_declares, translated_declares}
+use Rattle.lryacc.specs.DeclarationsRead.{IsSaidBy, StatesDeclared, StatesListed, TakesAlias, all_stated, declared_from, form_expected, form_here, is_declaring, is_of_codes, is_of_names, is_silent, said_of, stated, symbol_behind, symbol_here}
 use Rattle.lryacc.specs.Directives.{counted, form_of}
 use Rattle.lryacc.specs.NamedSymbols.{text_at}
 
@@ -41,7 +42,7 @@ declared-next text dialect lexemes at lexeme here =
 -- what a lexeme of that kind declares that stands before a reader
 abbrev pub declares : Reader → LexemeKind → Lexeme → List Statement
 declares reader k lexeme =
-    lexeme_declares k (form_of reader.dialect (text_at reader.text.now lexeme.span)) (form_here reader) (is_before_rules reader.lexemes.now reader.at) lexeme
+    lexeme_declares k (form_of reader.dialect (text_at reader.text.now lexeme.span)) (form_here reader) (is_before_rules reader.lexemes.now reader.at) (symbol_here reader) lexeme
 
 -- the reader goes over it
 pub takes : (old new : Reader) (lexeme : Lexeme) → Passes old new → slice_get old.lexemes.now old.at ≡ Some lexeme → new.contents.statements ≡ old.contents.statements → all_stated old [] ≡ all_stated new (declares old lexeme.kind lexeme)
@@ -49,7 +50,7 @@ unfolding all_stated
 takes old new lexeme passes here same =
     let next = declared-next old.text.now old.dialect old.lexemes.now old.at lexeme here in
     let found : declared_at old.text.now old.dialect old.lexemes.now old.at ≡ declares old lexeme.kind lexeme =
-    ap (declared_by old.text.now old.dialect (form_here old) (is_before_rules old.lexemes.now old.at)) here in
+    ap (declared_by old.text.now old.dialect (form_here old) (is_before_rules old.lexemes.now old.at) (symbol_here old)) here in
     rw (passes.file.text, passes.file.lexemes, passes.file.dialect, passes.at, same)
     (ap (λ (xs : List Statement). stated old ++ xs)
     (next ∙ ap (λ (xs : List Statement). xs ++ declared_from old (old.at + 1)) found))
@@ -78,6 +79,9 @@ stays-stated {old} {new} owed stays same =
 
 pub form-stays : {old new : Reader} → Stays old new → form_here new ≡ form_here old
 form-stays {old} {new} stays = rw (stays.file.text, stays.file.lexemes, stays.file.dialect, stays.at) refl
+
+pub here-stays : {old new : Reader} → Stays old new → symbol_here new ≡ symbol_here old
+here-stays {old} {new} stays = rw (stays.file.lexemes, stays.at) refl
 
 pub stays-listed : {old new : Reader} → Stays old new → new.contents.statements ≡ old.contents.statements → StatesListed old new
 stays-listed stays same = record { declared = stays-stated [] stays same; form = form-stays stays }
@@ -112,18 +116,19 @@ listed-again one other = record { declared = other.declared ∙ one.declared; fo
 
 -- ---- lexemes that declare nothing
 
-silent-kind : (k : LexemeKind) (own behind : Form) (is_first : Bool) (lexeme : Lexeme) → is_silent k ≡ true → lexeme_declares k own behind is_first lexeme ≡ []
-silent-kind kind.Directive own behind is_first lexeme is = cc
-silent-kind kind.Number own behind is_first lexeme is = cc
-silent-kind kind.Name own behind is_first lexeme is = cc
-silent-kind (kind.Character byte) own behind is_first lexeme is = cc
-silent-kind kind.Text own behind is_first lexeme is = cc
-silent-kind kind.QuotedName own behind is_first lexeme is = cc
-silent-kind _ own behind is_first lexeme is = refl
+silent-kind : (k : LexemeKind) (own behind : Form) (is_first : Bool) (symbol : Option Lexeme) (lexeme : Lexeme) → is_silent k ≡ true → lexeme_declares k own behind is_first symbol lexeme ≡ []
+silent-kind kind.Directive own behind is_first symbol lexeme is = cc
+silent-kind kind.Number own behind is_first symbol lexeme is = cc
+silent-kind kind.Name own behind is_first symbol lexeme is = cc
+silent-kind (kind.Character byte) own behind is_first symbol lexeme is = cc
+silent-kind kind.Text own behind is_first symbol lexeme is = cc
+silent-kind kind.TranslatedText own behind is_first symbol lexeme is = cc
+silent-kind kind.QuotedName own behind is_first symbol lexeme is = cc
+silent-kind _ own behind is_first symbol lexeme is = refl
 
 pub silent-taken : {old new : Reader} {lexeme : Lexeme} (k : LexemeKind) → is_silent k ≡ true → TakesKind old new k lexeme → new.contents.statements ≡ old.contents.statements → StatesDeclared old new
 silent-taken {old} {new} {lexeme} k is taken same =
-    sym (takes-kind k taken same ∙ ap (all_stated new) (silent-kind k (form_of old.dialect (text_at old.text.now lexeme.span)) (form_here old) (is_before_rules old.lexemes.now old.at) lexeme is))
+    sym (takes-kind k taken same ∙ ap (all_stated new) (silent-kind k (form_of old.dialect (text_at old.text.now lexeme.span)) (form_here old) (is_before_rules old.lexemes.now old.at) (symbol_here old) lexeme is))
 
 -- what is passed over is a lexeme that could be taken
 taken-at : {old new : Reader} (k : LexemeKind) (found : Option Lexeme) → slice_get old.lexemes.now old.at ≡ found → option_map (λ (lexeme : Lexeme). lexeme.kind) found ≡ Some k → SkipsKind old new k → (lexeme : Lexeme) × TakesKind old new k lexeme
@@ -151,9 +156,9 @@ abbrev pub is_directive : LexemeKind → Bool
 is_directive kind.Directive = true
 is_directive _ = false
 
-nothing-kind : (k : LexemeKind) (own : Form) (is_first : Bool) (lexeme : Lexeme) → is_directive k ≡ false → lexeme_declares k own form.Nothing is_first lexeme ≡ []
-nothing-kind kind.Directive own is_first lexeme is = cc
-nothing-kind _ own is_first lexeme is = refl
+nothing-kind : (k : LexemeKind) (own : Form) (is_first : Bool) (symbol : Option Lexeme) (lexeme : Lexeme) → is_directive k ≡ false → lexeme_declares k own form.Nothing is_first symbol lexeme ≡ []
+nothing-kind kind.Directive own is_first symbol lexeme is = cc
+nothing-kind _ own is_first symbol lexeme is = refl
 
 nothing-form : (k : LexemeKind) (own : Form) → is_directive k ≡ false → form_by k own form.Nothing ≡ form.Nothing
 nothing-form kind.Directive own is = cc
@@ -163,7 +168,7 @@ pub nothing-taken : {old new : Reader} {lexeme : Lexeme} (k : LexemeKind) → is
 nothing-taken {old} {new} {lexeme} k is none taken same =
     let own = form_of old.dialect (text_at old.text.now lexeme.span) in
     let first = is_before_rules old.lexemes.now old.at in record {
-      declared = sym (takes-kind k taken same ∙ ap (all_stated new) (ap (λ (f : Form). lexeme_declares k own f first lexeme) none ∙ nothing-kind k own first lexeme is));
+      declared = sym (takes-kind k taken same ∙ ap (all_stated new) (ap (λ (f : Form). lexeme_declares k own f first (symbol_here old) lexeme) none ∙ nothing-kind k own first (symbol_here old) lexeme is));
       form = form-kind k taken ∙ (ap (form_by k own) none ∙ (nothing-form k own is ∙ sym none));
     }
 
@@ -180,39 +185,83 @@ nothing-takes k is none (Some lexeme) taken same = nothing-taken k is none taken
 
 -- ---- symbols
 
-symbol-kind : (k : LexemeKind) (own behind : Form) (is_first : Bool) (lexeme : Lexeme) → is_symbol k ≡ true → (lexeme_declares k own behind is_first lexeme ≡ symbol_declares behind lexeme) × (form_by k own behind ≡ behind)
-symbol-kind kind.Name own behind is_first lexeme is = (refl, refl)
-symbol-kind (kind.Character byte) own behind is_first lexeme is = (refl, refl)
-symbol-kind kind.Text own behind is_first lexeme is = (refl, refl)
-symbol-kind kind.QuotedName own behind is_first lexeme is = (refl, refl)
-symbol-kind _ own behind is_first lexeme is = absurd (cc)
+-- a text declares what symbols do where no names are declared
+text-kind : (behind : Form) (symbol : Option Lexeme) (text : Lexeme) → is_of_names behind ≡ false → text_declares behind symbol text ≡ symbol_declares behind text
+text-kind form.Tokens symbol text is = cc
+text-kind form.Rules symbol text is = cc
+text-kind _ symbol text is = refl
 
-pub symbol-taken : {old new : Reader} {lexeme : Lexeme} → TakesSymbol old new lexeme → new.contents.statements ≡ old.contents.statements → all_stated old [] ≡ all_stated new (symbol_declares (form_here old) lexeme)
-symbol-taken {old} {new} {lexeme} taken same =
+symbol-kind : (k : LexemeKind) (own behind : Form) (is_first : Bool) (symbol : Option Lexeme) (lexeme : Lexeme) → is_symbol k ≡ true → (k ≡ kind.Text → is_of_names behind ≡ false) → lexeme_declares k own behind is_first symbol lexeme ≡ symbol_declares behind lexeme
+symbol-kind kind.Name own behind is_first symbol lexeme is no_text = refl
+symbol-kind (kind.Character byte) own behind is_first symbol lexeme is no_text = refl
+symbol-kind kind.Text own behind is_first symbol lexeme is no_text = text-kind behind symbol lexeme (no_text refl)
+symbol-kind kind.QuotedName own behind is_first symbol lexeme is no_text = refl
+symbol-kind _ own behind is_first symbol lexeme is no_text = absurd (cc)
+
+form-symbol : (k : LexemeKind) (own behind : Form) → is_symbol k ≡ true → form_by k own behind ≡ behind
+form-symbol kind.Name own behind is = refl
+form-symbol (kind.Character byte) own behind is = refl
+form-symbol kind.Text own behind is = refl
+form-symbol kind.QuotedName own behind is = refl
+form-symbol _ own behind is = absurd (cc)
+
+pub symbol-taken : {old new : Reader} {lexeme : Lexeme} → TakesSymbol old new lexeme → (lexeme.kind ≡ kind.Text → is_of_names (form_here old) ≡ false) → new.contents.statements ≡ old.contents.statements → all_stated old [] ≡ all_stated new (symbol_declares (form_here old) lexeme)
+symbol-taken {old} {new} {lexeme} taken no_text same =
     takes old new lexeme taken.passes taken.here same
-    ∙ ap (all_stated new) (symbol-kind lexeme.kind (form_of old.dialect (text_at old.text.now lexeme.span)) (form_here old) (is_before_rules old.lexemes.now old.at) lexeme taken.is).0
+    ∙ ap (all_stated new) (symbol-kind lexeme.kind (form_of old.dialect (text_at old.text.now lexeme.span)) (form_here old) (is_before_rules old.lexemes.now old.at) (symbol_here old) lexeme taken.is no_text)
 
 pub symbol-form : {old new : Reader} {lexeme : Lexeme} → TakesSymbol old new lexeme → form_here new ≡ form_here old
 symbol-form {old} {new} {lexeme} taken =
     form-takes old new lexeme taken.passes taken.here
-    ∙ (symbol-kind lexeme.kind (form_of old.dialect (text_at old.text.now lexeme.span)) (form_here old) (is_before_rules old.lexemes.now old.at) lexeme taken.is).1
+    ∙ form-symbol lexeme.kind (form_of old.dialect (text_at old.text.now lexeme.span)) (form_here old) taken.is
 
 pub nothing-symbol : {old new : Reader} {lexeme : Lexeme} → form_here old ≡ form.Nothing → TakesSymbol old new lexeme → new.contents.statements ≡ old.contents.statements → StatesListed old new
 nothing-symbol {old} {new} {lexeme} none taken same = record {
-  declared = sym (symbol-taken taken same ∙ ap (λ (f : Form). all_stated new (symbol_declares f lexeme)) none);
+  declared = sym (symbol-taken taken (λ _. ap is_of_names none) same ∙ ap (λ (f : Form). all_stated new (symbol_declares f lexeme)) none);
   form = symbol-form taken;
 }
+
+-- it stands right before the reader then
+pub symbol-behind : {old new : Reader} {lexeme : Lexeme} → TakesSymbol old new lexeme → symbol_behind new ≡ Some lexeme
+symbol-behind {old} {new} {lexeme} taken =
+    let e : new.at - 1 ≡ old.at = omega (arith, taken.passes.at) in
+    rw (taken.passes.file.lexemes, e, taken.here, taken.is) refl
+
+pub behind-stays : {old new : Reader} → Stays old new → symbol_behind new ≡ symbol_behind old
+behind-stays {old} {new} stays = rw (stays.file.lexemes, stays.at) refl
+
+-- so a number or a text is said of it
+kind-here : (k : LexemeKind) (lexeme symbol : Lexeme) (before : Option Lexeme) → (if is_symbol k then Some lexeme else None) ≡ Some symbol → (if is_number k then if_symbol before else (if is_symbol k then Some lexeme else None)) ≡ Some symbol
+kind-here kind.Number lexeme symbol before is = absurd (cc)
+kind-here _ lexeme symbol before is = is
+
+by-behind : (found before : Option Lexeme) (symbol : Lexeme) → if_symbol found ≡ Some symbol → symbol_by found before ≡ Some symbol
+by-behind None before symbol is = absurd (cc)
+by-behind (Some lexeme) before symbol is = kind-here lexeme.kind lexeme symbol before is
+
+pub behind-here : (reader : Reader) (symbol : Lexeme) → symbol_behind reader ≡ Some symbol → symbol_here reader ≡ Some symbol
+behind-here reader symbol is =
+    by-behind (slice_get reader.lexemes.now (reader.at - 1)) (slice_get reader.lexemes.now (reader.at - 2)) symbol is
+
+-- a text is, too, behind its number
+pub number-here : {old new : Reader} {number : Lexeme} (symbol : Lexeme) → symbol_behind old ≡ Some symbol → TakesKind old new kind.Number number → symbol_here new ≡ Some symbol
+number-here {old} {new} {number} symbol is taken =
+    let e : new.at - 1 ≡ old.at = omega (arith, taken.passes.at) in
+    let f : new.at - 2 ≡ old.at - 1 = omega (arith, taken.passes.at) in
+    rw (taken.passes.file.lexemes, e, f, taken.here, taken.is) is
 
 -- what is said of it is what it declares
 said-symbol : (s : Said) (behind : Form) (symbol : Lexeme) → IsSaidBy s behind → symbol_declares behind symbol ≡ said_of s symbol
 said-symbol said.Operator behind symbol is = ap (λ (f : Form). symbol_declares f symbol) is.1
 said-symbol said.InLevel behind symbol is = ap (λ (f : Form). symbol_declares f symbol) is.1
 said-symbol said.Start behind symbol is = ap (λ (f : Form). symbol_declares f symbol) is
+said-symbol said.DeclaredToken behind symbol is = ap (λ (f : Form). symbol_declares f symbol) is
+said-symbol said.DeclaredRule behind symbol is = ap (λ (f : Form). symbol_declares f symbol) is
 said-symbol _ behind symbol is = ap (λ (f : Form). symbol_declares f symbol) is
 
-pub symbol-said : {old now : Reader} {lexeme : Lexeme} (new : Reader) (s : Said) → IsSaidBy s (form_here old) → TakesSymbol old now lexeme → now.contents.statements ≡ old.contents.statements → all_stated new [] ≡ all_stated now (said_of s lexeme) → StatesDeclared old new
-symbol-said {old} {now} {lexeme} new s is taken same says =
-    says ∙ sym (symbol-taken taken same ∙ ap (all_stated now) (said-symbol s (form_here old) lexeme is))
+pub symbol-said : {old now : Reader} {lexeme : Lexeme} (new : Reader) (s : Said) → IsSaidBy s (form_here old) → TakesSymbol old now lexeme → (lexeme.kind ≡ kind.Text → is_of_names (form_here old) ≡ false) → now.contents.statements ≡ old.contents.statements → all_stated new [] ≡ all_stated now (said_of s lexeme) → StatesDeclared old new
+symbol-said {old} {now} {lexeme} new s is taken no_text same says =
+    says ∙ sym (symbol-taken taken no_text same ∙ ap (all_stated now) (said-symbol s (form_here old) lexeme is))
 
 -- it is said behind the same directive
 pub said-still : {before behind : Form} (s : Said) → behind ≡ before → IsSaidBy s before → IsSaidBy s behind
@@ -222,28 +271,97 @@ said-still s same is = rw same is
 pub said-as : {s : Said} (known : Said) (behind : Form) → s ≡ known → IsSaidBy s behind → IsSaidBy known behind
 said-as {s} known behind e is = subst (λ (s : Said). IsSaidBy s behind) e is
 
+-- what declares names, and what doesn't
+pub said-names : (s : Said) (behind : Form) → IsSaidBy s behind → is_declaring s ≡ true → is_of_names behind ≡ true
+said-names said.DeclaredToken behind is declaring = ap is_of_names is
+said-names said.DeclaredRule behind is declaring = ap is_of_names is
+said-names _ behind is declaring = absurd (cc)
+
+pub said-plain : (s : Said) (behind : Form) → IsSaidBy s behind → is_declaring s ≡ false → is_of_names behind ≡ false
+said-plain said.DeclaredToken behind is plain = absurd (cc)
+said-plain said.DeclaredRule behind is plain = absurd (cc)
+said-plain said.Operator behind is plain = ap is_of_names is.1
+said-plain said.InLevel behind is plain = ap is_of_names is.1
+said-plain _ behind is plain = ap is_of_names is
+
+pub names-codes : (behind : Form) → is_of_names behind ≡ true → is_of_codes behind ≡ true
+names-codes form.Tokens is = refl
+names-codes form.Rules is = refl
+names-codes _ is = absurd (cc)
+
+-- ---- other names
+
+texts-alias : (behind : Form) (symbol : Option Lexeme) (text : Lexeme) → is_of_names behind ≡ true → (text_declares behind symbol text ≡ alias_of symbol text) × (translated_declares behind symbol text ≡ alias_of symbol text)
+texts-alias form.Tokens symbol text is = (refl, refl)
+texts-alias form.Rules symbol text is = (refl, refl)
+texts-alias _ symbol text is = absurd (cc)
+
+pub text-taken : {old new : Reader} {text : Lexeme} → is_of_names (form_here old) ≡ true → TakesKind old new kind.Text text → new.contents.statements ≡ old.contents.statements → TakesAlias old new text
+text-taken {old} {new} {text} is taken same = record {
+  declared = takes-kind kind.Text taken same ∙ ap (all_stated new) (texts-alias (form_here old) (symbol_here old) text is).0;
+  form = form-kind kind.Text taken;
+}
+
+pub translated-taken : {old new : Reader} {text : Lexeme} → is_of_names (form_here old) ≡ true → TakesKind old new kind.TranslatedText text → new.contents.statements ≡ old.contents.statements → TakesAlias old new text
+translated-taken {old} {new} {text} is taken same = record {
+  declared = takes-kind kind.TranslatedText taken same ∙ ap (all_stated new) (texts-alias (form_here old) (symbol_here old) text is).1;
+  form = form-kind kind.TranslatedText taken;
+}
+
+-- the reader stayed before it
+pub alias-behind : {old mid new : Reader} (text : Lexeme) → Stays old mid → mid.contents.statements ≡ old.contents.statements → TakesAlias mid new text → TakesAlias old new text
+alias-behind {old} {mid} {new} text stays same taken = record {
+  declared = sym (stays-stated [] stays same) ∙ (taken.declared ∙ ap (λ (s : Option Lexeme). all_stated new (alias_of s text)) (here-stays stays));
+  form = taken.form ∙ form-stays stays;
+}
+
+-- where one is taken
+pub alias-takes : {old mid : Reader} (new : Reader) (found : Option Lexeme) → is_of_names (form_here old) ≡ true → Stays old mid → mid.contents.statements ≡ old.contents.statements → MatchOption found (Stays mid new) (λ text. TakesKind mid new kind.TranslatedText text) → new.contents.statements ≡ mid.contents.statements → MatchOption found (StatesListed old new) (λ text. TakesAlias old new text)
+alias-takes new None is stays same still kept = listed-again (stays-listed stays same) (stays-listed still kept)
+alias-takes new (Some text) is stays same taken kept =
+    alias-behind text stays same (translated-taken (ap is_of_names (form-stays stays) ∙ is) taken kept)
+
+-- it is stated
+pub alias-stated : {old mid new : Reader} (symbol text : Lexeme) → symbol_here old ≡ Some symbol → TakesAlias old mid text → Stays mid new → new.contents.statements.items ≡ mid.contents.statements.items ++ Alias symbol text ∷ [] → StatesListed old new
+alias-stated {old} {mid} {new} symbol text here taken stays same = record {
+  declared = states (Alias symbol text) stays same ∙ sym (taken.declared ∙ ap (λ (s : Option Lexeme). all_stated mid (alias_of s text)) here);
+  form = form-stays stays ∙ taken.form;
+}
+
 -- ---- numbers
 
-numbers-none : (behind : Form) (is_first : Bool) (number : Lexeme) → is_of_numbers behind ≡ false → number_declares behind is_first number ≡ []
-numbers-none form.ShiftReduce is_first number is = cc
-numbers-none form.ReduceReduce is_first number is = cc
-numbers-none _ is_first number is = refl
+numbers-code : (behind : Form) (is_first : Bool) (symbol : Option Lexeme) (number : Lexeme) → is_of_codes behind ≡ true → number_declares behind is_first symbol number ≡ code_of symbol number
+numbers-code form.Tokens is_first symbol number is = refl
+numbers-code form.Rules is_first symbol number is = refl
+numbers-code (form.Level k) is_first symbol number is = refl
+numbers-code _ is_first symbol number is = absurd (cc)
 
-pub number-taken : {old new : Reader} {lexeme : Lexeme} → is_of_numbers (form_here old) ≡ false → TakesKind old new kind.Number lexeme → new.contents.statements ≡ old.contents.statements → StatesListed old new
-number-taken {old} {new} {lexeme} is taken same = record {
-  declared = sym (takes-kind kind.Number taken same ∙ ap (all_stated new) (numbers-none (form_here old) (is_before_rules old.lexemes.now old.at) lexeme is));
-  form = form-kind kind.Number taken;
+-- the number of a symbol
+pub number-taken : {old new : Reader} {number : Lexeme} (symbol : Lexeme) → is_of_codes (form_here old) ≡ true → symbol_here old ≡ Some symbol → TakesKind old new kind.Number number → new.contents.statements ≡ old.contents.statements → all_stated old [] ≡ all_stated new (Code symbol number ∷ [])
+number-taken {old} {new} {number} symbol is here taken same =
+    takes-kind kind.Number taken same
+    ∙ ap (all_stated new) (numbers-code (form_here old) (is_before_rules old.lexemes.now old.at) (symbol_here old) number is ∙ ap (λ (s : Option Lexeme). code_of s number) here)
+
+pub code-stated : {old mid new : Reader} {number : Lexeme} (symbol : Lexeme) → is_of_codes (form_here old) ≡ true → symbol_here old ≡ Some symbol → TakesKind old mid kind.Number number → mid.contents.statements ≡ old.contents.statements → Stays mid new → new.contents.statements.items ≡ mid.contents.statements.items ++ Code symbol number ∷ [] → StatesListed old new
+code-stated {old} {mid} {new} {number} symbol is here taken kept stays same = record {
+  declared = states (Code symbol number) stays same ∙ sym (number-taken symbol is here taken kept);
+  form = form-stays stays ∙ form-kind kind.Number taken;
 }
 
 -- how many conflicts are expected
-pub number-expected : {old now : Reader} {lexeme : Lexeme} (new : Reader) (is_of_shifts : Bool) → form_here old ≡ form_expected is_of_shifts → TakesKind old now kind.Number lexeme → now.contents.statements ≡ old.contents.statements → all_stated new [] ≡ all_stated now (number_declares (form_expected is_of_shifts) true lexeme) → delimiters_read old ≡ 0 → StatesDeclared old new
+expected-alone : (is_of_shifts : Bool) (symbol : Option Lexeme) (number : Lexeme) → number_declares (form_expected is_of_shifts) true symbol number ≡ number_declares (form_expected is_of_shifts) true None number
+expected-alone true symbol number = refl
+expected-alone false symbol number = refl
+
+pub number-expected : {old now : Reader} {lexeme : Lexeme} (new : Reader) (is_of_shifts : Bool) → form_here old ≡ form_expected is_of_shifts → TakesKind old now kind.Number lexeme → now.contents.statements ≡ old.contents.statements → all_stated new [] ≡ all_stated now (number_declares (form_expected is_of_shifts) true None lexeme) → delimiters_read old ≡ 0 → StatesDeclared old new
 number-expected {old} {now} {lexeme} new is_of_shifts is taken same says none =
     let first : is_before_rules old.lexemes.now old.at ≡ true = ap (λ (n : ℕ). nat_eq n 0) none in
     says
     ∙ sym (takes-kind kind.Number taken same
     ∙ ap (all_stated now)
-    (ap (λ (f : Form). number_declares f (is_before_rules old.lexemes.now old.at) lexeme) is
-    ∙ ap (λ (b : Bool). number_declares (form_expected is_of_shifts) b lexeme) first))
+    (ap (λ (f : Form). number_declares f (is_before_rules old.lexemes.now old.at) (symbol_here old) lexeme) is
+    ∙ (ap (λ (b : Bool). number_declares (form_expected is_of_shifts) b (symbol_here old) lexeme) first
+    ∙ expected-alone is_of_shifts (symbol_here old) lexeme)))
 
 -- ---- directives
 

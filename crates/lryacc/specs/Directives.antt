@@ -1,4 +1,4 @@
--- what directives declare of the conflicts, precedences and start symbols of a file
+-- what directives declare of the names, conflicts, precedences and start symbols of a file
 use Rattle.std.specs.Prelude.{ℕ, if◌then◌else◌, true, false, List, [], ◌∷◌, ◌++◌, codes}
 use Rattle.std.specs.Str.{bytes_eq}
 use Rattle.lryacc.specs.declared.contents.LevelKind.TheVariants as line
@@ -21,7 +21,10 @@ shared_words =
 -- those that Bison alone has
 abbrev pub bison_words : List (List ℕ × Form)
 bison_words =
-    (codes "%binary", form.Level line.Nonassoc)
+    (codes "%token", form.Tokens)
+    ∷ (codes "%term", form.Tokens)
+    ∷ (codes "%nterm", form.Rules)
+    ∷ (codes "%binary", form.Level line.Nonassoc)
     ∷ (codes "%precedence", form.Level line.Precedence)
     ∷ (codes "%expect_rr", form.ReduceReduce)
     ∷ (codes "%default-prec", form.DefaultPrecedence true)
@@ -48,6 +51,8 @@ form_of dialect word = form_in (words_of dialect) word
 
 -- of what can stand behind a directive, that which is declared here; all else counts for nothing
 abbrev pub counted : Form → Form
+counted form.Tokens = form.Tokens
+counted form.Rules = form.Rules
 counted (form.Level kind) = form.Level kind
 counted form.Starts = form.Starts
 counted (form.DefaultPrecedence is_on) = form.DefaultPrecedence is_on

@@ -1,10 +1,12 @@
 //! Declarations.
 
-ghost use Rattle.std.specs.Prelude.{◌≡◌, ◌∷◌, [], true, false, IfErr, IfSome, OnOk};
-ghost use Rattle.lryacc.specs.Bodies.{IsTold, PassesNoDelimiter, delimiters_read};
+ghost use Rattle.std.specs.Prelude.{◌≡◌, ◌∷◌, [], true, false, None, Some, IfErr, IfSome, MatchOption, OnOk};
+ghost use Rattle.lryacc.specs.declared.lexemes.LexemeKind.TheVariants.{Text};
+ghost use Rattle.lryacc.specs.Bodies.{IsTold, PassesNoDelimiter, Stays, TakesSymbol, delimiters_read};
 ghost use Rattle.lryacc.specs.Declarations.{counted_of, directive_declares, number_declares};
-ghost use Rattle.lryacc.specs.DeclarationsRead.{IsSaidBy, StatesDeclared, StatesListed, all_stated};
-ghost use Rattle.lryacc.specs.DeclarationsRead.{form_expected, form_here, is_of_numbers, said_of};
+ghost use Rattle.lryacc.specs.DeclarationsRead.{IsSaidBy, StatesDeclared, StatesListed, TakesAlias, all_stated};
+ghost use Rattle.lryacc.specs.DeclarationsRead.{form_expected, form_here, is_declaring, is_of_codes, is_of_names};
+ghost use Rattle.lryacc.specs.DeclarationsRead.{said_of, symbol_behind, symbol_here};
 ghost use Rattle.lryacc.specs.Directives.{counted, form_of};
 ghost use Rattle.lryacc.specs.NamedSymbols.{text_at};
 
@@ -33,7 +35,7 @@ fn unknown(directive: &[u8]) -> FaultKind {
 /// That so many conflicts are expected.
 fn expectation(is_of_shifts: bool, number: Lexeme) -> Statement
     ensures { counted_of (result ∷ [])
-        ≡ number_declares (form_expected is_of_shifts) true number }
+        ≡ number_declares (form_expected is_of_shifts) true None number }
 {
     if is_of_shifts {
         Statement::ExpectShiftReduce(number)
@@ -66,6 +68,13 @@ pub(crate) enum Said {
 }
 
 impl Said {
+    /// Whether it declares the symbol, which no text is by itself.
+    fn is_declaring(self) -> bool
+        ensures { result ≡ is_declaring self }
+    {
+        matches!(self, Said::DeclaredToken | Said::DeclaredRule)
+    }
+
     /// What should stand where a symbol is missing.
     fn wanted(self) -> Wanted {
         match self {
@@ -217,7 +226,24 @@ impl<'a> Reader<'a> {
         Ok(())
     }
 
-    /// Reads a tag, or a symbol and what stands behind it; false where neither stands here. A text is not declared by itself.
+    /// Takes a symbol of which that can be said: a text is not declared by itself.
+    fn take_listed(&mut self, said: Said) -> Option<Lexeme>
+        ensures taken { MatchOption result (Stays self.old self.new) (λ lexeme.
+            TakesSymbol self.old self.new lexeme) }
+        ensures text { IfSome result (λ lexeme. lexeme.kind ≡ Text → is_declaring said ≡ false) }
+        ensures statements { self.new.contents.statements ≡ self.old.contents.statements }
+    {
+        match self.here() {
+            Some(lexeme) if lexeme.kind == LexemeKind::Text && said.is_declaring() => None,
+            Some(lexeme) if lexeme.kind.is_of_symbol() => {
+                self.pass();
+                Some(lexeme)
+            }
+            _ => None,
+        }
+    }
+
+    /// Reads a tag, or a symbol and what stands behind it; false where neither stands here.
     fn listed_part(&mut self, said: Said, listing: &mut Listing) -> Result<bool, AllocError>
         requires { IsSaidBy said (form_here self.old) }
         ensures over { PassesNoDelimiter self.old self.new }
@@ -226,11 +252,7 @@ impl<'a> Reader<'a> {
         if self.take_tag(listing) {
             return Ok(true);
         }
-        let is_text = matches!(self.kind(), Some(LexemeKind::Text));
-        if is_text && matches!(said, Said::DeclaredToken | Said::DeclaredRule) {
-            return Ok(false);
-        }
-        let Some(symbol) = self.take_symbol() else {
+        let Some(symbol) = self.take_listed(said) else {
             return Ok(false);
         };
         self.say(said, symbol)?;
@@ -259,7 +281,8 @@ impl<'a> Reader<'a> {
 
     /// Reads symbols, at least one.
     pub(crate) fn said(&mut self, said: Said) -> Result<(), Halt>
-        requires { IsSaidBy said (form_here self.old) }
+        requires by { IsSaidBy said (form_here self.old) }
+        requires plain { is_declaring said ≡ false }
         ensures over { PassesNoDelimiter self.old self.new }
         ensures told { IfErr result (λ halt. IsTold halt self.new) }
         ensures said { OnOk result (StatesDeclared self.old self.new) }
@@ -277,7 +300,8 @@ impl<'a> Reader<'a> {
 
     /// Adds what is said of a symbol, and what stands behind it.
     fn say(&mut self, said: Said, symbol: Lexeme) -> Result<(), AllocError>
-        requires { IsSaidBy said (form_here self.old) }
+        requires by { IsSaidBy said (form_here self.old) }
+        requires behind { symbol_behind self.old ≡ Some symbol }
         ensures over { PassesNoDelimiter self.old self.new }
         ensures said { OnOk result (all_stated self.new []
             ≡ all_stated self.old (said_of said symbol)) }
@@ -294,9 +318,11 @@ impl<'a> Reader<'a> {
 
     /// Reads the number of a symbol, if one stands here.
     fn code(&mut self, symbol: Lexeme) -> Result<(), AllocError>
-        requires { is_of_numbers (form_here self.old) ≡ false }
+        requires codes { is_of_codes (form_here self.old) ≡ true }
+        requires behind { symbol_behind self.old ≡ Some symbol }
         ensures over { PassesNoDelimiter self.old self.new }
         ensures listed { OnOk result (StatesListed self.old self.new) }
+        ensures behind { OnOk result (symbol_here self.new ≡ Some symbol) }
     {
         match self.take(LexemeKind::Number) {
             Some(number) => self.state(Statement::Code(symbol, number)),
@@ -306,7 +332,8 @@ impl<'a> Reader<'a> {
 
     /// Reads the number of a symbol and the text that is another name of it, where they stand here.
     fn code_and_alias(&mut self, symbol: Lexeme) -> Result<(), AllocError>
-        requires { form_here self.old ≡ Form.Nothing }
+        requires names { is_of_names (form_here self.old) ≡ true }
+        requires behind { symbol_behind self.old ≡ Some symbol }
         ensures over { PassesNoDelimiter self.old self.new }
         ensures listed { OnOk result (StatesListed self.old self.new) }
     {
@@ -319,9 +346,10 @@ impl<'a> Reader<'a> {
 
     /// Takes a text that is another name of a symbol.
     fn take_alias(&mut self) -> Option<Lexeme>
-        requires { form_here self.old ≡ Form.Nothing }
+        requires { is_of_names (form_here self.old) ≡ true }
         ensures over { PassesNoDelimiter self.old self.new }
-        ensures listed { StatesListed self.old self.new }
+        ensures taken { MatchOption result (StatesListed self.old self.new) (λ text.
+            TakesAlias self.old self.new text) }
     {
         match self.take(LexemeKind::Text) {
             Some(text) => Some(text),

@@ -57,6 +57,8 @@ pub(crate) enum Form {
     BodyNumber,
     /// In a body: a tag.
     BodyTag,
+    /// Of grmtools: tokens.
+    TokenNames,
     /// Of grmtools: tokens that lexers pass over.
     PassedOver,
     /// Of grmtools: symbols that need not be in a rule.
@@ -149,8 +151,8 @@ static UNDERSCORED: [(&str, Form); 9] = [
 
 /// The names of the directives of grmtools, without `%`.
 static GRMTOOLS: [(&str, Form); 13] = [
-    ("token", Form::Tokens),
-    ("avoid_insert", Form::Tokens),
+    ("token", Form::TokenNames),
+    ("avoid_insert", Form::TokenNames),
     ("implicit_tokens", Form::PassedOver),
     ("left", Form::Level(LevelKind::Left)),
     ("right", Form::Level(LevelKind::Right)),

@@ -67,7 +67,7 @@ impl<'a> Reader<'a> {
             return Err(halt);
         };
         match self.form(directive) {
-            Some(Form::Tokens) => self.said(Said::Token),
+            Some(Form::TokenNames) => self.said(Said::Token),
             Some(Form::PassedOver) => self.said(Said::PassedOver),
             Some(Form::Level(kind)) => {
                 self.state(Statement::Level(kind))?;

@@ -31,8 +31,8 @@ returns-in-Types-clause-said c =
     on-ok-always c.listing-in-Types.result (StatesDeclared c.args.self.now c.listing-in-Types.new.self) (c.args.is_among_rules ≡ false → delimiters_read c.args.self.now ≡ 0)
     (tail-declared c.args.self.now c.take.new.self c.listing-in-Types.new.self c.listing-in-Types.result (directive-form c.in-Some-form.form form.Types c.in-Types.is c.in-Some-form.ensures c.in-Some.ensures.taken c.take.ensures.statements).0 c.listing-in-Types.ensures.said)
 
-pub said-requires : goal.said-requires
-said-requires c = (directive-form c.in-Some-form.form form.Starts c.in-Starts.is c.in-Some-form.ensures c.in-Some.ensures.taken c.take.ensures.statements).1
+pub said-requires-clause-by : goal.said-requires-clause-by
+said-requires-clause-by c = (directive-form c.in-Some-form.form form.Starts c.in-Starts.is c.in-Some-form.ensures c.in-Some.ensures.taken c.take.ensures.statements).1
 
 pub returns-in-Starts-clause-said : goal.returns-in-Starts-clause-said
 returns-in-Starts-clause-said c =

@@ -10,24 +10,24 @@ use Rattle.lryacc.specs.DeclarationsRead.{all_stated}
 use Rattle.lryacc.specs.declared.lexemes.LexemeKind.TheVariants as kind
 use Rattle.lryacc.proofs.reader.Reader.grmtools_declaration.Goals as goal
 
-pub said-requires : goal.said-requires
-said-requires c = (directive-some c.form.result form.Tokens (c.in-Some-Tokens.is ∙ ap (λ (f : Form). Some f) c.in-Some-Tokens.field-0-is) c.form.ensures c.in-Some.ensures.taken c.take.ensures.statements).1
+pub said-requires-clause-by : goal.said-requires-clause-by
+said-requires-clause-by c = (directive-some c.form.result form.TokenNames (c.in-Some-TokenNames.is ∙ ap (λ (f : Form). Some f) c.in-Some-TokenNames.field-0-is) c.form.ensures c.in-Some.ensures.taken c.take.ensures.statements).1
 
-pub returns-in-Some-Tokens-clause-said : goal.returns-in-Some-Tokens-clause-said
-returns-in-Some-Tokens-clause-said c =
+pub returns-in-Some-TokenNames-clause-said : goal.returns-in-Some-TokenNames-clause-said
+returns-in-Some-TokenNames-clause-said c =
     on-ok-always c.said.result (StatesDeclared c.args.self.now c.said.new.self) (delimiters_read c.args.self.now ≡ 0)
-    (tail-declared c.args.self.now c.take.new.self c.said.new.self c.said.result (directive-some c.form.result form.Tokens (c.in-Some-Tokens.is ∙ ap (λ (f : Form). Some f) c.in-Some-Tokens.field-0-is) c.form.ensures c.in-Some.ensures.taken c.take.ensures.statements).0 c.said.ensures.said)
+    (tail-declared c.args.self.now c.take.new.self c.said.new.self c.said.result (directive-some c.form.result form.TokenNames (c.in-Some-TokenNames.is ∙ ap (λ (f : Form). Some f) c.in-Some-TokenNames.field-0-is) c.form.ensures c.in-Some.ensures.taken c.take.ensures.statements).0 c.said.ensures.said)
 
-pub said-requires-in-Some-PassedOver : goal.said-requires-in-Some-PassedOver
-said-requires-in-Some-PassedOver c = (directive-some c.form.result form.PassedOver (c.in-Some-PassedOver.is ∙ ap (λ (f : Form). Some f) c.in-Some-PassedOver.field-0-is) c.form.ensures c.in-Some.ensures.taken c.take.ensures.statements).1
+pub said-requires-in-Some-PassedOver-clause-by : goal.said-requires-in-Some-PassedOver-clause-by
+said-requires-in-Some-PassedOver-clause-by c = (directive-some c.form.result form.PassedOver (c.in-Some-PassedOver.is ∙ ap (λ (f : Form). Some f) c.in-Some-PassedOver.field-0-is) c.form.ensures c.in-Some.ensures.taken c.take.ensures.statements).1
 
 pub returns-in-Some-PassedOver-clause-said : goal.returns-in-Some-PassedOver-clause-said
 returns-in-Some-PassedOver-clause-said c =
     on-ok-always c.said-in-Some-PassedOver.result (StatesDeclared c.args.self.now c.said-in-Some-PassedOver.new.self) (delimiters_read c.args.self.now ≡ 0)
     (tail-declared c.args.self.now c.take.new.self c.said-in-Some-PassedOver.new.self c.said-in-Some-PassedOver.result (directive-some c.form.result form.PassedOver (c.in-Some-PassedOver.is ∙ ap (λ (f : Form). Some f) c.in-Some-PassedOver.field-0-is) c.form.ensures c.in-Some.ensures.taken c.take.ensures.statements).0 c.said-in-Some-PassedOver.ensures.said)
 
-pub said-requires-in-Some-NotInRules : goal.said-requires-in-Some-NotInRules
-said-requires-in-Some-NotInRules c = (directive-some c.form.result form.NotInRules (c.in-Some-NotInRules.is ∙ ap (λ (f : Form). Some f) c.in-Some-NotInRules.field-0-is) c.form.ensures c.in-Some.ensures.taken c.take.ensures.statements).1
+pub said-requires-in-Some-NotInRules-clause-by : goal.said-requires-in-Some-NotInRules-clause-by
+said-requires-in-Some-NotInRules-clause-by c = (directive-some c.form.result form.NotInRules (c.in-Some-NotInRules.is ∙ ap (λ (f : Form). Some f) c.in-Some-NotInRules.field-0-is) c.form.ensures c.in-Some.ensures.taken c.take.ensures.statements).1
 
 pub returns-in-Some-NotInRules-clause-said : goal.returns-in-Some-NotInRules-clause-said
 returns-in-Some-NotInRules-clause-said c =
@@ -42,8 +42,8 @@ returns-in-Some-ShownText-clause-said c =
     on-ok-always c.shown_text.result (StatesDeclared c.args.self.now c.shown_text.new.self) (delimiters_read c.args.self.now ≡ 0)
     (tail-declared c.args.self.now c.take.new.self c.shown_text.new.self c.shown_text.result (directive-some c.form.result form.ShownText (c.in-Some-ShownText.is ∙ ap (λ (f : Form). Some f) c.in-Some-ShownText.field-0-is) c.form.ensures c.in-Some.ensures.taken c.take.ensures.statements).0 c.shown_text.ensures.said)
 
-pub said-requires-in-Some-Level : goal.said-requires-in-Some-Level
-said-requires-in-Some-Level c = (c.in-Some-Level.kind, form-stays c.state.ensures.stays ∙ (directive-some c.form.result (form.Level c.in-Some-Level.kind) (c.in-Some-Level.is ∙ ap (λ (f : Form). Some f) c.in-Some-Level.field-0-is) c.form.ensures c.in-Some.ensures.taken c.take.ensures.statements).1)
+pub said-requires-in-Some-Level-clause-by : goal.said-requires-in-Some-Level-clause-by
+said-requires-in-Some-Level-clause-by c = (c.in-Some-Level.kind, form-stays c.state.ensures.stays ∙ (directive-some c.form.result (form.Level c.in-Some-Level.kind) (c.in-Some-Level.is ∙ ap (λ (f : Form). Some f) c.in-Some-Level.field-0-is) c.form.ensures c.in-Some.ensures.taken c.take.ensures.statements).1)
 
 pub returns-in_ok-state-in-Some-Level-clause-said : goal.returns-in_ok-state-in-Some-Level-clause-said
 returns-in_ok-state-in-Some-Level-clause-said c =

@@ -1,23 +1,29 @@
 use Rattle.std.proofs.Common.{◌∙◌, ap, inl, inr, refl}
 use Rattle.lryacc.specs.declared.contents.Statement.TheVariants as says
 use Rattle.lryacc.specs.declared.declarations.Said.TheVariants as said
-use Rattle.lryacc.specs.DeclarationsRead.{all_stated, form_here, is_of_numbers}
-use Rattle.lryacc.proofs.DeclarationsRead.{form-stays, listed-none, said-as, said-still, states, tail-other}
+use Rattle.lryacc.specs.DeclarationsRead.{all_stated, form_here, is_of_codes, is_of_names}
+use Rattle.lryacc.proofs.DeclarationsRead.{behind-stays, form-stays, listed-none, said-as, said-still, states, tail-other}
 use Rattle.lryacc.proofs.NamesOfOne.{ok-then}
 use Rattle.lryacc.proofs.reader.Reader.say.Goals as goal
 
-pub code_and_alias-requires : goal.code_and_alias-requires
-code_and_alias-requires c =
-    let is = said-still c.args.said (form-stays c.state.ensures.stays) c.requires in
+pub code_and_alias-requires-clause-names : goal.code_and_alias-requires-clause-names
+code_and_alias-requires-clause-names c =
+    let is = said-still c.args.said (form-stays c.state.ensures.stays) c.requires.by in
     elim c.in-DeclaredToken.is [
-      | inl e ↦ said-as said.DeclaredToken (form_here c.state.new.self) e is
-      | inr e ↦ said-as said.DeclaredRule (form_here c.state.new.self) e is
+      | inl e ↦ ap is_of_names (said-as said.DeclaredToken (form_here c.state.new.self) e is)
+      | inr e ↦ ap is_of_names (said-as said.DeclaredRule (form_here c.state.new.self) e is)
     ]
 
-pub code-requires : goal.code-requires
-code-requires c =
-    let is = said-still c.args.said (form-stays c.state.ensures.stays) c.requires in
-    ap is_of_numbers (said-as said.Operator (form_here c.state.new.self) c.in-Operator.is is).1
+pub code_and_alias-requires-clause-behind : goal.code_and_alias-requires-clause-behind
+code_and_alias-requires-clause-behind c = behind-stays c.state.ensures.stays ∙ c.requires.behind
+
+pub code-requires-clause-codes : goal.code-requires-clause-codes
+code-requires-clause-codes c =
+    let is = said-still c.args.said (form-stays c.state.ensures.stays) c.requires.by in
+    ap is_of_codes (said-as said.Operator (form_here c.state.new.self) c.in-Operator.is is).1
+
+pub code-requires-clause-behind : goal.code-requires-clause-behind
+code-requires-clause-behind c = behind-stays c.state.ensures.stays ∙ c.requires.behind
 
 pub returns-in-DeclaredToken-clause-said : goal.returns-in-DeclaredToken-clause-said
 returns-in-DeclaredToken-clause-said c =
