@@ -5,6 +5,7 @@
 -- expected conflicts, the tokens before start rules, and the least sets of rules
 pub mod AddedProductions
 pub mod MapsOfFaults
+pub mod ToldFaults
 pub mod UsefulLemmas
 pub mod PlacedLemmas
 pub mod KeptLemmas

@@ -55,6 +55,11 @@ pub related-more : {A B : Type 0} (R : A → B → Type 0) (xs xs' : List A) (ys
 related-more {A} {B} R xs xs' ys ys' x y d e all one =
     subst (λ (zs : List A). AreRelated R zs ys') (sym d) (subst (λ (zs : List B). AreRelated R (xs ++ x ∷ []) zs) (sym e) (more_related x y all one))
 
+-- the image of one more
+pub image-more : {A B : Type 0} (f : A → B) (xs xs' : List A) (ys ys' : List B) (x : A) → xs' ≡ xs ++ x ∷ [] → ys' ≡ ys ++ f x ∷ [] → ys ≡ map f xs → ys' ≡ map f xs'
+image-more {A} {B} f xs xs' ys ys' x d e so_far =
+    e ∙ (ap (λ (zs : List B). zs ++ f x ∷ []) so_far ∙ (sym (map-append f xs (x ∷ [])) ∙ ap (map f) (sym d)))
+
 -- no place is added
 pub no-place : (all : Productions) → Adds all all []
 no-place all = record {

@@ -8,7 +8,12 @@ use Rattle.lryacc.specs.declared.numbering.FileGrammar.{FileGrammar}
 use Rattle.lryacc.specs.declared.places.Span.{Span}
 use Rattle.lryacc.specs.declared.productions.Productions.{Productions}
 
--- where a part of a body stands, if it is an action
+-- where a part of a body stands
+abbrev pub part_place : BodyPart → Span
+part_place (Symbol name) = name.span
+part_place (Action action name) = action.span
+
+-- the same, if it is an action
 abbrev pub action_place : BodyPart → List Span
 action_place (Symbol _) = []
 action_place (Action action name) = action.span ∷ []

@@ -1,5 +1,8 @@
 //! What a grammar file says, before its names have their meaning.
 
+ghost use Rattle.std.specs.Prelude.{◌≡◌};
+ghost use Rattle.lryacc.specs.ProductionPlaces.{part_place};
+
 use crate::faults::Fault;
 use crate::lexemes::Lexeme;
 use crate::places::Span;
@@ -65,7 +68,9 @@ pub(crate) enum BodyPart {
 
 impl BodyPart {
     /// Its place.
-    pub(crate) fn span(self) -> Span {
+    pub(crate) fn span(self) -> Span
+        ensures { result ≡ part_place self }
+    {
         match self {
             BodyPart::Symbol(lexeme) | BodyPart::Action(lexeme, _) => lexeme.span,
         }

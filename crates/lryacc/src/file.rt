@@ -11,7 +11,7 @@ ghost use Rattle.lryacc.specs.NamedSymbols.{AreApart, ArePartnered};
 ghost use Rattle.lryacc.specs.ProductionPlaces.{IsPlaced, file_places};
 ghost use Rattle.lryacc.specs.SaidTaken.{AreSaid};
 ghost use Rattle.lryacc.specs.Spans.{IsInside};
-ghost use Rattle.lryacc.specs.Told.{HasFaults, HasPlaces, told};
+ghost use Rattle.lryacc.specs.Told.{HasFaults, HasPlaces, IsToldOf, told};
 
 use crate::contents::Contents;
 use crate::dialects::{Dialect, dialect_of};
@@ -36,17 +36,20 @@ pub enum FileRead {
     Faults(Vec<Fault>),
 }
 
-/// The faults in the order of their places, one at each, with places in the text.
+/// The faults in the order of their places, the first one at each, with places in the text.
 fn in_order(alloc: Global, text: &[u8], faults: &[Fault]) -> Result<Vec<Fault>, AllocError>
     ensures inside { IfOk result (λ ordered.
         All (λ fault. IsInside fault.span text.now) ordered.items) }
+    ensures told { IfOk result (λ ordered. All (IsToldOf text.now faults.now) ordered.items) }
     ensures some { IfOk result (λ ordered. 0 < length faults.now → 0 < vec_len ordered) }
 {
     let mut by_place = BTreeMap::new(alloc);
-    for fault in faults.iter().rev() {
+    for fault in faults {
         let span = fault.span.within(text);
         let kind = fault.kind;
-        by_place.insert(span.start, Fault { kind, span })?;
+        if !by_place.contains_key(&span.start) {
+            by_place.insert(span.start, Fault { kind, span })?;
+        }
     }
     by_place.values().copied().collect(alloc)
 }

@@ -1,6 +1,7 @@
 //! What is told of useless rules and productions.
 
-ghost use Rattle.std.specs.Prelude.{◌≡◌, ◌+◌, length, OnOk, vec_len};
+ghost use Rattle.std.specs.Prelude.{◌≡◌, ◌+◌, ◌++◌, All, length, map, OnOk, vec_len};
+ghost use Rattle.lryacc.specs.Told.{IsUselessIn, fault_at};
 
 use crate::contents::Contents;
 use crate::dialects::Dialect;
@@ -15,7 +16,9 @@ use std::alloc::AllocError;
 
 /// Adds the same fault at each of the places.
 fn add_at(faults: &mut Vec<Fault>, kind: FaultKind, places: &[Span]) -> Result<(), AllocError>
-    ensures { OnOk result (vec_len faults.new ≡ vec_len faults.old + length places.now) }
+    ensures count { OnOk result (vec_len faults.new ≡ vec_len faults.old + length places.now) }
+    ensures added { OnOk result (faults.new.items
+        ≡ faults.old.items ++ map (fault_at kind) places.now) }
 {
     for span in places {
         faults.push(Fault { kind, span: *span })?;
@@ -36,6 +39,8 @@ impl<'a> Meaning<'a> {
             → vec_len useless.now.rules ≡ 0) }
         ensures productions { OnOk result (vec_len self.new.warnings ≡ 0
             → vec_len useless.now.productions ≡ 0) }
+        ensures warned { OnOk result (All (IsUselessIn self.new.warnings.items)
+            useless.now.productions.items) }
     {
         if !useless.rules.is_empty() || !useless.productions.is_empty() {
             self.tell_token_starts()?;

@@ -1,7 +1,7 @@
 //! The productions of bodies, and of the actions before their ends.
 
-ghost use Rattle.std.specs.Prelude.{◌≡◌, ◌+◌, [], ◌∷◌, ◌++◌, Some, flat_map, IfOk, OnOk, None};
-ghost use Rattle.lryacc.specs.ProductionPlaces.{Adds, action_place, action_places, body_places, parts_before_last};
+ghost use Rattle.std.specs.Prelude.{◌≡◌, ◌+◌, [], ◌∷◌, ◌++◌, Some, flat_map, map, IfOk, OnOk, None};
+ghost use Rattle.lryacc.specs.ProductionPlaces.{Adds, action_place, action_places, body_places, part_place, parts_before_last};
 ghost use Rattle.lryacc.specs.BodyProductions.{AddsProductions, AreOfActions, AreOfBodies, AreOfBody};
 ghost use Rattle.lryacc.specs.BodyProductions.{AreRelated, IsOfPart, IsOfPartBefore, IsRuleOfAction, symbol_parts};
 ghost use Rattle.lryacc.specs.NamedSymbols.{IsNamed};
@@ -26,7 +26,8 @@ struct PlacedSymbols {
 impl PlacedSymbols {
     /// No symbol.
     fn new(alloc: Global) -> PlacedSymbols
-        ensures { result.symbols.items ≡ [] }
+        ensures symbols { result.symbols.items ≡ [] }
+        ensures places { result.places.items ≡ [] }
     {
         PlacedSymbols {
             symbols: Vec::new(alloc),
@@ -36,7 +37,10 @@ impl PlacedSymbols {
 
     /// Adds a symbol that stands at a place.
     fn add(&mut self, symbol: PartSymbol, place: Span) -> Result<(), AllocError>
-        ensures { OnOk result (self.new.symbols.items ≡ self.old.symbols.items ++ symbol ∷ []) }
+        ensures symbols { OnOk result (self.new.symbols.items
+            ≡ self.old.symbols.items ++ symbol ∷ []) }
+        ensures places { OnOk result (self.new.places.items
+            ≡ self.old.places.items ++ place ∷ []) }
     {
         self.symbols.push(symbol)?;
         self.places.push(place)?;
@@ -133,8 +137,10 @@ impl<'m, 'a> Numbering<'m, 'a> {
     /// The symbols of a body, and their places.
     fn body(&self, alternative: &Alternative) -> Result<PlacedSymbols, NoProductions>
         requires { IsNumbered self.now }
-        ensures { IfOk result (λ body. AreRelated (IsOfPart (names_of self.now))
+        ensures symbols { IfOk result (λ body. AreRelated (IsOfPart (names_of self.now))
             (symbol_parts alternative.now) body.symbols.items) }
+        ensures places { IfOk result (λ body.
+            body.places.items ≡ map part_place (symbol_parts alternative.now)) }
     {
         let mut body = PlacedSymbols::new(self.allocator());
         for part in with_symbols(alternative) {

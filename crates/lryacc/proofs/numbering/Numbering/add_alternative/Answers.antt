@@ -23,7 +23,7 @@ returns-clause-added c =
         all = refl;
         actions = empty.are;
         rule = c.in_ok-rule_of.ensures;
-        symbols = c.in_ok-symbols.ensures;
+        symbols = c.in_ok-symbols.ensures.symbols;
         precedence = c.in_ok-named_precedence.ensures;
       };
     }
