@@ -11,7 +11,7 @@ ghost use Rattle.lrevidence.specs.Ambiguities.{HasTwoTrees, IsProved, PartsAtEnt
 ghost use Rattle.lrentries.specs.Losses.{ResolvesPairs};
 ghost use Rattle.lrevidence.specs.Losses.{IsDoomedAtEntry, IsFoundAtEntry, IsLostAtEntry, StopsAtEntry};
 ghost use Rattle.lrevidence.specs.DecidedEntries.{IsDecidedEntry, IsDecidedOf, IsToldDecided};
-ghost use Rattle.lrevidence.specs.Searches.{AreFor, AreOfOne};
+ghost use Rattle.lrevidence.specs.Searches.{AreFor, AreOfOne, IsKnownBy};
 
 use crate::conflicts::conflict_of;
 use crate::examples::Numbering;
@@ -184,12 +184,7 @@ fn with_texts(
     requires state { conflict.state.0 ≡ before.entry.state }
     requires token { conflict.token.0 ≡ before.entry.token }
     ensures entry { IfOk result (λ e. e.entry ≡ before.entry) }
-    ensures proved { IfOk result (IsProved searches.now.reasons.grammar) }
-    ensures parts { IfOk result
-        (PartsAtEntry searches.now.reasons.grammar searches.now.reasons.graph) }
-    ensures lost { IfOk result (IsFoundAtEntry searches.now.losses) }
-    ensures decided { IfOk result
-        (IsDecidedOf searches.now.decisions.grammar searches.now.decisions.graph) }
+    ensures known { IfOk result (IsKnownBy searches.now) }
 {
     let alloc = searches.allocator();
     let example = searches.reasons.example(conflict)?;
@@ -222,12 +217,7 @@ fn evidence_of(
     requires { AreOfOne searches.old }
     ensures same { searches.new ≡ searches.old }
     ensures entry { IfOk result (λ e. e.entry ≡ entry) }
-    ensures proved { IfOk result (IsProved searches.new.reasons.grammar) }
-    ensures parts { IfOk result
-        (PartsAtEntry searches.new.reasons.grammar searches.new.reasons.graph) }
-    ensures lost { IfOk result (IsFoundAtEntry searches.new.losses) }
-    ensures decided { IfOk result
-        (IsDecidedOf searches.new.decisions.grammar searches.new.decisions.graph) }
+    ensures known { IfOk result (IsKnownBy searches.new) }
 {
     let mut evidence = Evidence {
         entry,
@@ -273,19 +263,10 @@ fn with_loss(
     before: Evidence,
     pairs: usize,
 ) -> Result<Evidence, AllocError>
-    requires proved { IsProved searches.old.reasons.grammar before }
-    requires parts { PartsAtEntry searches.old.reasons.grammar searches.old.reasons.graph before }
-    requires lost { IsFoundAtEntry searches.old.losses before }
-    requires decided { IsDecidedOf searches.old.decisions.grammar searches.old.decisions.graph
-        before }
+    requires { IsKnownBy searches.old before }
     ensures same { searches.new ≡ searches.old }
     ensures entry { IfOk result (λ e. e.entry ≡ before.entry) }
-    ensures proved { IfOk result (IsProved searches.old.reasons.grammar) }
-    ensures parts { IfOk result
-        (PartsAtEntry searches.old.reasons.grammar searches.old.reasons.graph) }
-    ensures lost { IfOk result (IsFoundAtEntry searches.old.losses) }
-    ensures decided { IfOk result
-        (IsDecidedOf searches.old.decisions.grammar searches.old.decisions.graph) }
+    ensures known { IfOk result (IsKnownBy searches.old) }
 {
     let Some(conflict) = conflict_of(before.entry) else {
         return Ok(before);
@@ -314,12 +295,7 @@ fn known_of(
     requires { AreOfOne searches.old }
     ensures same { searches.new ≡ searches.old }
     ensures entry { IfOk result (λ e. e.entry ≡ entry) }
-    ensures proved { IfOk result (IsProved searches.new.reasons.grammar) }
-    ensures parts { IfOk result
-        (PartsAtEntry searches.new.reasons.grammar searches.new.reasons.graph) }
-    ensures lost { IfOk result (IsFoundAtEntry searches.new.losses) }
-    ensures decided { IfOk result
-        (IsDecidedOf searches.new.decisions.grammar searches.new.decisions.graph) }
+    ensures known { IfOk result (IsKnownBy searches.new) }
 {
     let evidence = evidence_of(searches, entry, wanted)?;
     let is_wanted = wanted.pairs > 0 && evidence.loss.is_none();
@@ -338,12 +314,7 @@ fn evidence_of_all(
 ) -> Result<Vec<Evidence>, AllocError>
     requires { AreOfOne searches.old }
     ensures entries { IfOk result (λ v. map (λ e. e.entry) v.items ≡ entries.now) }
-    ensures proved { IfOk result (λ v. All (IsProved searches.old.reasons.grammar) v.items) }
-    ensures parts { IfOk result (λ v. All
-        (PartsAtEntry searches.old.reasons.grammar searches.old.reasons.graph) v.items) }
-    ensures lost { IfOk result (λ v. All (IsFoundAtEntry searches.old.losses) v.items) }
-    ensures decided { IfOk result (λ v. All (IsDecidedOf searches.old.decisions.grammar
-        searches.old.decisions.graph) v.items) }
+    ensures known { IfOk result (λ v. All (IsKnownBy searches.old) v.items) }
 {
     let mut list = Vec::with_capacity(alloc, entries.len())?;
     let (mut told, mut unknown, mut sought): (usize, usize, usize) = (0, 0, 0);

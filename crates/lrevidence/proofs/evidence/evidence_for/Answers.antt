@@ -1,4 +1,5 @@
 use Rattle.std.proofs.Common.{refl}
+use Rattle.lrevidence.proofs.EvidenceInTurn.{all_proved, all_part, all_lost, all_decided}
 use Rattle.lrevidence.proofs.FoundLosses.{are_lost, stop_so, are_apart, are_doomed}
 use Rattle.lrevidence.proofs.evidence.evidence_for.Goals as goal
 
@@ -13,24 +14,24 @@ evidence_of_all-requires c =
     }
 
 pub returns-clause-proved : goal.returns-clause-proved
-returns-clause-proved c = rw c.in_ok-searches.ensures.grammar at c.in_ok-list.ensures.proved
+returns-clause-proved c = rw c.in_ok-searches.ensures.grammar at (all_proved c.in_ok-searches.searches c.in_ok-list.list.items c.in_ok-list.ensures.known)
 
 pub returns-clause-parts : goal.returns-clause-parts
 returns-clause-parts c =
-    rw c.in-Some-false.is-0 (rw (c.in_ok-searches.ensures.grammar, c.in_ok-searches.ensures.graph) at c.in_ok-list.ensures.parts)
+    rw c.in-Some-false.is-0 (rw (c.in_ok-searches.ensures.grammar, c.in_ok-searches.ensures.graph) at (all_part c.in_ok-searches.searches c.in_ok-list.list.items c.in_ok-list.ensures.known))
 
 pub returns-clause-lost : goal.returns-clause-lost
-returns-clause-lost c = are_lost _ _ (rw c.in_ok-searches.ensures.lost at c.in_ok-list.ensures.lost)
+returns-clause-lost c = are_lost _ _ (rw c.in_ok-searches.ensures.lost at (all_lost c.in_ok-searches.searches c.in_ok-list.list.items c.in_ok-list.ensures.known))
 
 pub returns-clause-stops : goal.returns-clause-stops
-returns-clause-stops c = rw c.in-Some-false.is-0 (stop_so _ _ (rw c.in_ok-searches.ensures.lost at c.in_ok-list.ensures.lost))
+returns-clause-stops c = rw c.in-Some-false.is-0 (stop_so _ _ (rw c.in_ok-searches.ensures.lost at (all_lost c.in_ok-searches.searches c.in_ok-list.list.items c.in_ok-list.ensures.known)))
 
 pub returns-clause-pairs : goal.returns-clause-pairs
-returns-clause-pairs c = are_apart _ _ (rw c.in_ok-searches.ensures.lost at c.in_ok-list.ensures.lost)
+returns-clause-pairs c = are_apart _ _ (rw c.in_ok-searches.ensures.lost at (all_lost c.in_ok-searches.searches c.in_ok-list.list.items c.in_ok-list.ensures.known))
 
 pub returns-clause-doomed : goal.returns-clause-doomed
-returns-clause-doomed c = are_doomed _ _ (rw c.in_ok-searches.ensures.lost at c.in_ok-list.ensures.lost)
+returns-clause-doomed c = are_doomed _ _ (rw c.in_ok-searches.ensures.lost at (all_lost c.in_ok-searches.searches c.in_ok-list.list.items c.in_ok-list.ensures.known))
 
 pub returns-clause-decided : goal.returns-clause-decided
 returns-clause-decided c =
-    rw c.in-Some-false.is-0 (rw (c.in_ok-searches.ensures.decided, c.in_ok-searches.ensures.in_graph) at c.in_ok-list.ensures.decided)
+    rw c.in-Some-false.is-0 (rw (c.in_ok-searches.ensures.decided, c.in_ok-searches.ensures.in_graph) at (all_decided c.in_ok-searches.searches c.in_ok-list.list.items c.in_ok-list.ensures.known))

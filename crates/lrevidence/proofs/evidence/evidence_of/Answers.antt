@@ -1,4 +1,5 @@
 use Rattle.lrevidence.proofs.ListedEntries.{is_listed}
+use Rattle.lrevidence.proofs.evidence.evidence_of.Goals.{then-wanted-gt0+in_ok-ambiguity+in-None, else-wanted-gt0}
 use Rattle.lrevidence.proofs.evidence.evidence_of.Goals as goal
 
 pub with_texts-requires-clause-one : goal.with_texts-requires-clause-one
@@ -20,3 +21,10 @@ example-requires-clause-listed c =
 
 pub example-requires-clause-contested : goal.example-requires-clause-contested
 example-requires-clause-contested c = rw c.in_ok-prepare.ensures c.requires.contested
+
+pub returns-clause-known : goal.returns-clause-known
+returns-clause-known c =
+    elim c.if-wanted-gt0.branch [
+      | then-wanted-gt0+in_ok-ambiguity+in-None w ↦ rw w.evidence-is (record { proved = tt; parts = tt; lost = tt; decided = tt })
+      | else-wanted-gt0 w ↦ rw w.evidence-is (record { proved = tt; parts = tt; lost = tt; decided = tt })
+    ]
