@@ -1,5 +1,5 @@
 -- what callers in C find in their buffers
-use Rattle.std.specs.Prelude.{◌≡◌, ℕ, Bool, List, ◌++◌, length, take, drop}
+use Rattle.std.specs.Prelude.{◌≡◌, ℕ, ◌⊎◌, Bool, true, List, ◌++◌, length, take, drop}
 use Rattle.std.specs.declared.alloc.Global.{Global}
 use Rattle.std.specs.declared.vec.Vec.{Vec}
 use Rattle.lrspec.specs.grammars.Grammar.{Grammar}
@@ -14,6 +14,7 @@ use Rattle.lryacc.specs.declared.numbering.FileGrammar.{FileGrammar}
 use Rattle.lryacc.specs.declared.parsers.Parser.{Parser}
 use Rattle.lryacc.specs.FilesRead.{ComesTo}
 use Rattle.lrfindings.specs.FileGrammars.{IsGrammarOfFile}
+use Rattle.lrfindings.specs.Findings.{DecidesNothing}
 
 -- a buffer into which as much of a list was put as it has room for
 abbrev pub put_in : {A : Type 0} → List A → List A → List A
@@ -40,6 +41,8 @@ pub record IsFlat (text numbers : List ℕ) : Type 0 where
   pub has_precedences : Bool
   pub grammar : Grammar
   pub of_file : IsGrammarOfFile max file has_precedences grammar
+  -- they are heeded, unless they decide nothing
+  pub heeded : (has_precedences ≡ true) ⊎ DecidesNothing max file
   pub graph : Graph
   pub table : Table
   pub of_grammar : IsGraphOf grammar graph
