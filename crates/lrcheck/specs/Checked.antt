@@ -1,5 +1,5 @@
 -- files that are checked in turn
-use Rattle.std.specs.Prelude.{◌≡◌, ◌≢◌, ◌⊎◌, ⊤, ℕ, List, [], ◌∷◌, ◌++◌, Option, IfSome, IfNone, max, string_bytes}
+use Rattle.std.specs.Prelude.{◌≡◌, ◌≢◌, ◌⊎◌, ⊤, ℕ, Bool, true, List, [], ◌∷◌, ◌++◌, Option, IfSome, IfNone, max, string_bytes}
 use Rattle.std.specs.Io.KnownBytes.{Appends}
 use Rattle.lrverdicts.specs.Verdicts.{status_of}
 use Rattle.lrreport.specs.declared.options.Options.{Options}
@@ -39,15 +39,19 @@ abbrev pub outcome_status : Outcome → ℕ
 outcome_status (Checked r) = r.status
 outcome_status (Unread e) = 2
 
--- files of these names are checked in turn: what is written of each stands behind what was written before, and the status is the
--- greatest of theirs and of their pages', which is 2 where one can't be written
-pub data AreChecked (options : Options) (contents : FileContents) (old : Option (List ℕ))
+-- the status of a file's page: 2 where one is asked for and can't be written
+abbrev pub IsPageStatus : Bool → ℕ → Type 0
+IsPageStatus asks status = (status ≡ 0) ⊎ ((asks ≡ true) × (status ≡ 2))
+
+-- files of these names are checked in turn, with a page of each or not: what is written of each stands behind what was written
+-- before, and the status is the greatest of theirs and of their pages'
+pub data AreChecked (options : Options) (contents : FileContents) (asks : Bool) (old : Option (List ℕ))
     : List (List ℕ) → Option (List ℕ) → ℕ → Type 0 where
-  none : AreChecked options contents old [] old 0
+  none : AreChecked options contents asks old [] old 0
   more :
       {names : List (List ℕ)} {before after : Option (List ℕ)} {status : ℕ} (name : List ℕ) (o : Outcome) (page : ℕ)
-      → AreChecked options contents old names before status
+      → AreChecked options contents asks old names before status
       → IsOutcomeOf options contents name o
       → Appends before after (text_of o)
-      → (page ≡ 0) ⊎ (page ≡ 2)
-      → AreChecked options contents old (names ++ name ∷ []) after (max (max (outcome_status o) status) page)
+      → IsPageStatus asks page
+      → AreChecked options contents asks old (names ++ name ∷ []) after (max (max (outcome_status o) status) page)

@@ -1,8 +1,8 @@
 //! Files that are read, checked and told of.
 
-ghost use Rattle.std.specs.Prelude.{◌≡◌, ◌⊎◌, ℕ, List, Option, None, IfOk, OnOk, IfSome, map, string_bytes};
+ghost use Rattle.std.specs.Prelude.{◌≡◌, ℕ, List, Option, None, IfOk, OnOk, IfSome, is_some, map, string_bytes};
 ghost use Rattle.std.specs.Io.KnownBytes.{Appends};
-ghost use Rattle.lrcheck.specs.Checked.{AreChecked, IsOutcomeOf, outcome_status, text_of};
+ghost use Rattle.lrcheck.specs.Checked.{AreChecked, IsOutcomeOf, IsPageStatus, outcome_status, text_of};
 
 use crate::pages::write_page;
 use crate::terminals::Progress;
@@ -139,7 +139,7 @@ fn tell<W: Write>(
 /// Writes the page of what came of a file, where there is one, to a path, if any; tells where that fails, and answers the exit
 /// status.
 fn tell_page(rt: &HostRuntime, outcome: &Outcome, path: Option<&str>) -> u8
-    ensures { (result ≡ 0) ⊎ (result ≡ 2) }
+    ensures { IsPageStatus (is_some path.entry) result }
 {
     let (Outcome::Checked(report), Some(path)) = (outcome, path) else {
         return 0;
@@ -167,8 +167,8 @@ pub(crate) fn check_all<F: Files, W: Write>(
     page: Option<&str>,
     mut progress: Progress,
 ) -> Result<u8, Stop>
-    ensures { IfOk result (AreChecked options (F.contents files.now) (W.contents output.old)
-        (map (λ name. name.now) names.now) (W.contents output.new)) }
+    ensures { IfOk result (AreChecked options (F.contents files.now) (is_some page.entry)
+        (W.contents output.old) (map (λ name. name.now) names.now) (W.contents output.new)) }
 {
     let mut status = 0;
     for k in 0..names.len() {
