@@ -39,7 +39,7 @@ abbrev pub outcome_status : Outcome → ℕ
 outcome_status (Checked r) = r.status
 outcome_status (Unread e) = 2
 
--- the status of a file's page: 2 where one is asked for and can't be written
+-- the status of a file's page: 0, or 2, which is only where a page is asked for
 abbrev pub IsPageStatus : Bool → ℕ → Type 0
 IsPageStatus asks status = (status ≡ 0) ⊎ ((asks ≡ true) × (status ≡ 2))
 
